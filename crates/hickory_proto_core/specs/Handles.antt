@@ -1,0 +1,39 @@
+-- What the handles may answer, and what stands after a request.
+use Rattle.std.specs.Prelude.{◌≡◌, List, [], ◌∷◌, ◌++◌, Result, Err}
+use Rattle.std.proofs.Common.{subst}
+use Rattle.hickory_proto_core.specs.Messages.{MessageValue}
+use Rattle.hickory_proto_core.specs.declared.dns_request.DnsRequest.{DnsRequest}
+use Rattle.hickory_proto_core.specs.declared.dns_request.DnsRequestOptions.{DnsRequestOptions}
+use Rattle.hickory_proto_core.specs.declared.recorded.Exchange.{Exchange}
+use Rattle.hickory_proto_core.specs.declared.net_error.NetError.{NetError}
+use Rattle.hickory_proto_core.specs.declared.net_error.NetError.TheVariants.{NoOutcome}
+
+-- what came back for a question: a response or an error
+abbrev pub OutcomeValue : Type 0
+OutcomeValue = Result MessageValue NetError
+
+-- a handle of type H before it, a request, what is answered, and the handle after it
+abbrev pub Step : Type 0 → Type 1
+Step H = H → DnsRequest → OutcomeValue → H → Type 0
+
+-- a script answers its first outcome and keeps the rest; an empty one answers that it has none
+abbrev pub ScriptStep : List OutcomeValue → DnsRequest → OutcomeValue → List OutcomeValue → Type 0
+ScriptStep [] request outcome after = (outcome ≡ Err NoOutcome) × (after ≡ [])
+ScriptStep (o ∷ os) request outcome after = (outcome ≡ o) × (after ≡ os)
+
+-- one handle leads by these exchanges to another: each question was sent with these options, and its outcome
+-- came back
+abbrev pub Leads : {H : Type 0} → Step H → DnsRequestOptions → H → List Exchange → H → Type 0
+Leads step options before [] after = after ≡ before
+Leads {H} step options before (x ∷ xs) after =
+    (mid : H) × (step before (record { query = x.query; options = options }) x.outcome mid) × Leads step options mid xs after
+
+-- exchanges after exchanges
+pub Leads-append : {H : Type 0} (step : Step H) (options : DnsRequestOptions) (before mid after : H) (xs ys : List Exchange) → Leads step options before xs mid → Leads step options mid ys after → Leads step options before (xs ++ ys) after
+Leads-append step options before mid after [] ys e l = subst (λ h. Leads step options h ys after) e l
+Leads-append step options before mid after (x ∷ xs) ys (next, sent, rest) l = (next, sent, Leads-append step options next mid after xs ys rest l)
+
+-- what a handle that keeps its exchanges shows
+pub record RecordedValue (H : Type 0) : Type 0 where
+  pub handle : H
+  pub exchanges : List Exchange

@@ -1,0 +1,5 @@
+pub mod Bounds
+pub mod Laws
+pub mod Lists
+pub mod OneHop
+pub mod Store

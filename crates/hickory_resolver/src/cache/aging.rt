@@ -1,0 +1,96 @@
+//! Outcomes whose times to live have counted down, aged in place.
+ghost use Rattle.std.specs.Prelude.{◌≡◌, ◌-◌, map};
+ghost use Rattle.std.specs.Option.{option_map};
+ghost use Rattle.hickory_proto_core.specs.Errors.{items_or_none};
+ghost use Rattle.hickory_resolver_model.specs.Cache.{age, aged_record, aged_records, aged_message, aged_forward, aged_negative, aged_error};
+
+use hickory_proto_core::{DnsError, ForwardNSData, Message, NetError, NoRecords, Record};
+
+// The seconds since a moment, as far as a TTL can count; none where the moment has not come yet.
+pub fn age(moment: u64, now: u64) -> u32
+    ensures { result ≡ age moment now }
+{
+    now.saturating_sub(moment).min(u32::MAX as u64) as u32
+}
+
+// Lowers the TTL of each record of the message.
+pub fn age_message(message: &mut Message, seconds: u32)
+    ensures { message.new ≡ aged_message seconds message.old }
+{
+    age_records(&mut message.answers, seconds);
+    age_records(&mut message.authorities, seconds);
+    age_records(&mut message.additionals, seconds);
+}
+
+// Lowers the times to live that a negative answer holds; other errors hold none.
+pub fn age_error(error: &mut NetError, seconds: u32)
+    ensures { error.new ≡ aged_error seconds error.old }
+{
+    if let NetError::Dns(DnsError::NoRecordsFound(negative)) = error {
+        age_negative(negative, seconds);
+    }
+}
+
+fn age_negative(negative: &mut NoRecords, seconds: u32)
+    ensures { negative.new ≡ aged_negative seconds negative.old }
+{
+    age_soa(&mut negative.soa, seconds);
+    age_ns(&mut negative.ns, seconds);
+    age_ttl(&mut negative.negative_ttl, seconds);
+    age_section(&mut negative.authorities, seconds);
+}
+
+fn age_soa(soa: &mut Option<Record>, seconds: u32)
+    ensures { soa.new ≡ option_map (aged_record seconds) soa.old }
+{
+    if let Some(soa) = soa {
+        soa.decrement_ttl(seconds);
+    }
+}
+
+fn age_ns(ns: &mut Option<Vec<ForwardNSData>>, seconds: u32)
+    ensures { items_or_none ns.new ≡ option_map (map (aged_forward seconds)) (items_or_none ns.old) }
+{
+    if let Some(forwards) = ns {
+        age_forwards(forwards, seconds);
+    }
+}
+
+fn age_ttl(ttl: &mut Option<u32>, seconds: u32)
+    ensures { ttl.new ≡ option_map (λ t. t - seconds) ttl.old }
+{
+    if let Some(ttl) = ttl {
+        *ttl = ttl.saturating_sub(seconds);
+    }
+}
+
+fn age_section(section: &mut Option<Vec<Record>>, seconds: u32)
+    ensures { items_or_none section.new ≡ option_map (aged_records seconds) (items_or_none section.old) }
+{
+    if let Some(records) = section {
+        age_records(records, seconds);
+    }
+}
+
+fn age_forwards(forwards: &mut Vec<ForwardNSData>, seconds: u32)
+    ensures { forwards.new.items ≡ map (aged_forward seconds) forwards.old.items }
+{
+    for aged in forwards.iter_mut() {
+        age_forward(aged, seconds);
+    }
+}
+
+fn age_forward(forward: &mut ForwardNSData, seconds: u32)
+    ensures { forward.new ≡ aged_forward seconds forward.old }
+{
+    forward.ns.decrement_ttl(seconds);
+    age_records(&mut forward.glue, seconds);
+}
+
+fn age_records(records: &mut Vec<Record>, seconds: u32)
+    ensures { records.new.items ≡ aged_records seconds records.old.items }
+{
+    for aged in records.iter_mut() {
+        aged.decrement_ttl(seconds);
+    }
+}

@@ -1,0 +1,175 @@
+-- A cache as the list of its entries, the oldest first (RFC 2181, sections 5.4.1, 8 and 10.1.1; RFC 2308,
+-- section 5).
+use Rattle.std.specs.Prelude.{◌≡◌, ◌⊎◌, ℕ, ◌+◌, ◌-◌, ◌≤◌, ◌^◌, Bool, not, ◌&&◌, ◌==◌, List, [], ◌∷◌, ◌++◌, length, map, filter, find, fold, min, remove, nat_lt, nat_le, Option, None, Some, Ok, Err, if◌then◌else◌}
+use Rattle.std.specs.Option.{option_map, option_map_or}
+use Rattle.std.specs.List.{list_any, position_or_len, IsDistinct}
+use Rattle.hickory_proto_core.specs.Records.{RecordValue}
+use Rattle.hickory_proto_core.specs.Messages.{MessageValue}
+use Rattle.hickory_proto_core.specs.Errors.{NoRecordsValue, ForwardValue}
+use Rattle.hickory_proto_core.specs.Handles.{OutcomeValue}
+use Rattle.hickory_proto_core.specs.Query.{query_eq}
+use Rattle.hickory_proto_core.specs.declared.query.Query.{Query}
+use Rattle.hickory_proto_core.specs.declared.net_error.NetError.{NetError}
+use Rattle.hickory_proto_core.specs.declared.net_error.NetError.TheVariants.{Message, Timeout, Proto, Dns, NoOutcome, Bounds, OutOfMemory}
+use Rattle.hickory_proto_core.specs.declared.net_error.DnsError.TheVariants.{ResponseCode, NoRecordsFound}
+use Rattle.hickory_resolver_model.specs.Bounds.{ConfigValue, clamped, positive_lifetime, negative_lifetime}
+
+-- an outcome that is kept for a question, when it was stored, and until when it is current (seconds)
+pub record Entry : Type 0 where
+  pub query : Query
+  pub outcome : OutcomeValue
+  pub moment : ℕ
+  pub deadline : ℕ
+
+-- what a caller sees of a cache
+pub record CacheValue : Type 0 where
+  pub capacity : ℕ
+  pub config : ConfigValue
+  pub entries : List Entry
+
+-- the sum of two moments, or the last moment that there is
+abbrev pub saturating_sum : ℕ → ℕ → ℕ
+saturating_sum a b = min (a + b) (2 ^ 64 - 1)
+
+abbrev pub is_for : Query → Entry → Bool
+is_for q e = query_eq q e.query
+
+-- an entry is current up to its deadline, the deadline included
+abbrev pub is_current : ℕ → Entry → Bool
+is_current now e = nat_le now e.deadline
+
+-- the current entry of a question
+abbrev pub current : Query → ℕ → List Entry → Option Entry
+current q now es = find (λ e. is_for q e && is_current now e) es
+
+-- the seconds since a moment, as far as a TTL can count; none where the moment has not come yet
+abbrev pub age : ℕ → ℕ → ℕ
+age moment now = min (now - moment) 4294967295
+
+-- records, and with them a message or a negative answer, whose TTLs are so many seconds lower, and 0 at the least
+abbrev pub aged_record : ℕ → RecordValue → RecordValue
+aged_record seconds r = record r { ttl = r.ttl - seconds }
+
+abbrev pub aged_records : ℕ → List RecordValue → List RecordValue
+aged_records seconds rs = map (aged_record seconds) rs
+
+abbrev pub aged_message : ℕ → MessageValue → MessageValue
+aged_message seconds m = record m {
+  answers = aged_records seconds m.answers;
+  authorities = aged_records seconds m.authorities;
+  additionals = aged_records seconds m.additionals;
+}
+
+abbrev pub aged_forward : ℕ → ForwardValue → ForwardValue
+aged_forward seconds f = record { ns = aged_record seconds f.ns; glue = aged_records seconds f.glue }
+
+abbrev pub aged_negative : ℕ → NoRecordsValue → NoRecordsValue
+aged_negative seconds n = record n {
+  soa = option_map (aged_record seconds) n.soa;
+  ns = option_map (map (aged_forward seconds)) n.ns;
+  negative_ttl = option_map (λ ttl. ttl - seconds) n.negative_ttl;
+  authorities = option_map (aged_records seconds) n.authorities;
+}
+
+abbrev pub aged_error : ℕ → NetError → NetError
+aged_error seconds (Dns (NoRecordsFound n)) = Dns (NoRecordsFound (aged_negative seconds n))
+aged_error seconds (Dns (ResponseCode code)) = Dns (ResponseCode code)
+aged_error seconds (Message text) = Message text
+aged_error seconds Timeout = Timeout
+aged_error seconds (Proto error) = Proto error
+aged_error seconds NoOutcome = NoOutcome
+aged_error seconds (Bounds error) = Bounds error
+aged_error seconds OutOfMemory = OutOfMemory
+
+abbrev pub aged_outcome : ℕ → OutcomeValue → OutcomeValue
+aged_outcome seconds (Ok m) = Ok (aged_message seconds m)
+aged_outcome seconds (Err e) = Err (aged_error seconds e)
+
+-- what an entry gives at a moment
+abbrev pub aged : ℕ → Entry → OutcomeValue
+aged now e = aged_outcome (age e.moment now) e.outcome
+
+-- what a look-up in the cache gives: nothing without a current entry, else what the entry gives, or want of memory
+-- for a copy of it
+abbrev pub IsGot : Option Entry → ℕ → Option OutcomeValue → Type 0
+IsGot None now got = got ≡ None
+IsGot (Some entry) now got = (got ≡ Some (aged now entry)) ⊎ (got ≡ Some (Err OutOfMemory))
+
+-- the list without the question's entry
+abbrev pub without : Query → List Entry → List Entry
+without q es = filter (λ e. not (is_for q e)) es
+
+abbrev pub least_deadline : List Entry → ℕ
+least_deadline [] = 0
+least_deadline (e ∷ es) = fold (λ d x. min d x.deadline) e.deadline es
+
+-- the list without the first entry of the least deadline
+abbrev pub without_earliest : List Entry → List Entry
+without_earliest es = remove es (position_or_len (λ e. e.deadline == least_deadline es) es)
+
+-- what stays when an entry for the question comes in: its old entry leaves, or where there is none and the cache is
+-- full, the entry of the least deadline
+abbrev pub room_for : ℕ → Query → List Entry → List Entry
+room_for capacity q es =
+    if list_any (is_for q) es then without q es
+    else (if nat_lt (length es) capacity then es else without_earliest es)
+
+-- the entry that an answer becomes, its TTLs clamped, and the one that a negative answer becomes
+abbrev pub positive_entry : ConfigValue → Query → MessageValue → ℕ → Entry
+positive_entry config q m now =
+    let kept = clamped config m in
+    record { query = q; outcome = Ok kept; moment = now; deadline = saturating_sum now (positive_lifetime config q kept) }
+
+abbrev pub negative_entry : ConfigValue → Query → NoRecordsValue → ℕ → Entry
+negative_entry config q n now =
+    record { query = q; outcome = Err (Dns (NoRecordsFound n)); moment = now; deadline = saturating_sum now (negative_lifetime config q n) }
+
+-- the entry that an outcome becomes, and none for an error other than a negative answer
+abbrev pub entry_of_error : ConfigValue → Query → NetError → ℕ → Option Entry
+entry_of_error config q (Dns (NoRecordsFound n)) now = Some (negative_entry config q n now)
+entry_of_error config q (Dns (ResponseCode code)) now = None
+entry_of_error config q (Message text) now = None
+entry_of_error config q Timeout now = None
+entry_of_error config q (Proto error) now = None
+entry_of_error config q NoOutcome now = None
+entry_of_error config q (Bounds error) now = None
+entry_of_error config q OutOfMemory now = None
+
+abbrev pub entry_of : ConfigValue → Query → OutcomeValue → ℕ → Option Entry
+entry_of config q (Ok m) now = Some (positive_entry config q m now)
+entry_of config q (Err error) now = entry_of_error config q error now
+
+-- a deadline that is not after that of the question's current entry, where there is one
+abbrev pub not_after_current : List Entry → ℕ → Entry → Entry
+not_after_current es now e = record e { deadline = option_map_or (λ c. min e.deadline c.deadline) (current e.query now es) e.deadline }
+
+-- the list with an entry put in as the newest
+abbrev pub put : ℕ → List Entry → Entry → List Entry
+put capacity es e = if capacity == 0 then es else room_for capacity e.query es ++ e ∷ []
+
+-- the cache after a store
+abbrev pub store : CacheValue → Query → OutcomeValue → ℕ → CacheValue
+store c q outcome now = record c { entries = option_map_or (put c.capacity c.entries) (entry_of c.config q outcome now) c.entries }
+
+-- the cache after a store whose deadline is not after that of the entry that was current
+abbrev pub store_clamped : CacheValue → Query → OutcomeValue → ℕ → CacheValue
+store_clamped c q outcome now =
+    record c { entries = option_map_or (λ e. put c.capacity c.entries (not_after_current c.entries now e)) (entry_of c.config q outcome now) c.entries }
+
+-- the cache without the question's entry
+abbrev pub drop_query : CacheValue → Query → CacheValue
+drop_query c q = record c { entries = without q c.entries }
+
+-- what holds of every cache: it is no longer than its capacity, and no two entries are for equal questions
+pub record IsCache (capacity : ℕ) (es : List Entry) : Type 0 where
+  pub short : length es ≤ capacity
+  pub apart : IsDistinct query_eq (map (λ e. e.query) es)
+
+-- an entry stands last: it is not the one that left
+abbrev pub IsNewest : Entry → List Entry → Type 0
+IsNewest e es = (others : List Entry) × (es ≡ others ++ e ∷ [])
+
+-- the question's entry afterwards is current no longer than the one that was current before
+abbrev pub NeverLater : Query → ℕ → List Entry → List Entry → Type 0
+NeverLater q now before after =
+    (was is : Entry) → current q now before ≡ Some was → find (is_for q) after ≡ Some is → is.deadline ≤ was.deadline

@@ -1,0 +1,65 @@
+-- Names that are answered without asking (RFC 6761, sections 6.3 and 6.4; RFC 7686, section 2). Nothing is read from
+-- the cache for them, and nothing is stored.
+use Rattle.std.specs.Prelude.{ℕ, Bool, true, ◌==◌, List, [], ◌∷◌, ◌++◌, replicate, codes, Option, Some, None, Ok, Err, if◌then◌else◌}
+use Rattle.std.specs.List.{list_any}
+use Rattle.std.specs.Option.{option_map_or}
+use Rattle.hickory_proto_core.specs.Name.{NameValue, is_zone_of, localhost}
+use Rattle.hickory_proto_core.specs.Codes.{type_code, class_code}
+use Rattle.hickory_proto_core.specs.Records.{RecordValue, DataValue, a_data, aaaa_data, ptr_data}
+use Rattle.hickory_proto_core.specs.Messages.{MessageValue, response_metadata}
+use Rattle.hickory_proto_core.specs.declared.query.Query.{Query}
+use Rattle.hickory_proto_core.specs.declared.dns_class.DNSClass.TheVariants as class
+use Rattle.hickory_proto_core.specs.declared.op_code.OpCode.TheVariants as op
+use Rattle.hickory_proto_core.specs.declared.response_code.ResponseCode.{ResponseCode}
+use Rattle.hickory_proto_core.specs.declared.response_code.ResponseCode.TheVariants.{NoError, NXDomain}
+use Rattle.hickory_proto_core.specs.declared.net_error.NetError.{NetError}
+use Rattle.hickory_proto_core.specs.declared.net_error.NetError.TheVariants.{Dns}
+use Rattle.hickory_proto_core.specs.declared.net_error.DnsError.TheVariants.{NoRecordsFound}
+use Rattle.hickory_resolver_model.specs.Bounds.{day}
+use Rattle.hickory_resolver_model.specs.Cache.{saturating_sum}
+use Rattle.hickory_resolver_model.specs.Lookup.{LookupValue, Reply}
+
+abbrev pub full_name : List (List ℕ) → NameValue
+full_name labels = record { labels = labels; fqdn = true }
+
+-- `localhost.` and the names of the loopback addresses 127.0.0.0/8 and ::1
+abbrev pub loopback_zones : List NameValue
+loopback_zones =
+    localhost ∷ full_name (codes "127" ∷ codes "in-addr" ∷ codes "arpa" ∷ [])
+    ∷ full_name (codes "1" ∷ (replicate 31 (codes "0") ++ codes "ip6" ∷ codes "arpa" ∷ [])) ∷ []
+
+abbrev pub is_loopback_name : NameValue → Bool
+is_loopback_name n = list_any (λ zone. is_zone_of zone n) loopback_zones
+
+-- what the loopback names have, by the code of the type: A, AAAA and PTR
+abbrev pub loopback_data : ℕ → Option DataValue
+loopback_data code =
+    if code == 1 then Some (a_data (127 ∷ 0 ∷ 0 ∷ 1 ∷ []))
+    else (if code == 28 then Some (aaaa_data (0 ∷ 0 ∷ 0 ∷ 0 ∷ 0 ∷ 0 ∷ 0 ∷ 1 ∷ []))
+    else (if code == 12 then Some (ptr_data localhost) else None))
+
+-- a fresh response to a question, with these answers
+abbrev pub answered : Query → List RecordValue → MessageValue
+answered q records = record { metadata = response_metadata 0 op.Query; queries = q ∷ []; answers = records; authorities = []; additionals = [] }
+
+-- one record of the question's name, for a day
+abbrev pub one_record : Query → DataValue → ℕ → LookupValue
+one_record q rdata now = record {
+  message = answered q (record { name = q.name; dns_class = class.IN; ttl = day; rdata = rdata } ∷ []);
+  valid_until = saturating_sum now day;
+}
+
+-- a negative answer of which nothing else is known
+abbrev pub no_records : Query → ResponseCode → NetError
+no_records q code =
+    Dns (NoRecordsFound (record { query = q; soa = None; ns = None; negative_ttl = None; response_code = code; authorities = None }))
+
+-- the reply to a question about a special name, in the class of the Internet: the loopback names have their addresses,
+-- and nothing else; names under `invalid.` and `onion.` do not exist. Names under `local.` are as any other
+abbrev pub special : Query → ℕ → Option Reply
+special q now =
+    if class_code q.query_class == 1
+    then (if is_loopback_name q.name then Some (option_map_or (λ rdata. Ok (one_record q rdata now)) (loopback_data (type_code q.query_type)) (Err (no_records q NoError)))
+    else (if is_zone_of (full_name (codes "invalid" ∷ [])) q.name then Some (Err (no_records q NXDomain))
+    else (if is_zone_of (full_name (codes "onion" ∷ [])) q.name then Some (Err (no_records q NXDomain)) else None)))
+    else None

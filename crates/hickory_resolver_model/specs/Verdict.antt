@@ -1,0 +1,85 @@
+-- Where a response leads the one who asked: it is accepted, or it is an alias of another name, or it has nothing that
+-- was asked for (RFC 1034, section 3.6.2; RFC 1035, section 7.3).
+use Rattle.std.specs.Prelude.{ℕ, Bool, true, false, not, ◌&&◌, ◌||◌, ◌==◌, List, [], ◌∷◌, ◌++◌, map, filter, min, if◌then◌else◌}
+use Rattle.hickory_proto_core.specs.Name.{NameValue, name_eq}
+use Rattle.hickory_proto_core.specs.Codes.{type_code, class_code}
+use Rattle.hickory_proto_core.specs.Records.{RecordValue}
+use Rattle.hickory_proto_core.specs.Messages.{MessageValue, some_record}
+use Rattle.hickory_proto_core.specs.Classes.{is_any, record_type_code}
+use Rattle.hickory_proto_core.specs.declared.query.Query.{Query}
+use Rattle.hickory_proto_core.specs.declared.dns_class.DNSClass.TheVariants as class
+use Rattle.hickory_resolver_model.specs.AliasWalk.{Walk, walk_of}
+
+-- a question on the way of a look-up, and the records that were preserved before it
+pub record Hop : Type 0 where
+  pub query : Query
+  pub preserved : List RecordValue
+
+-- the response is accepted, with these sections; or it leads to another hop; or it has nothing that was asked for
+pub data Verdict : Type 0 where
+  Found : MessageValue → Verdict
+  Alias : Hop → Verdict
+  Nothing : Verdict
+
+abbrev pub is_none : {A : Type 0} → List A → Bool
+is_none [] = true
+is_none (x ∷ xs) = false
+
+abbrev pub has_class : Query → RecordValue → Bool
+has_class q r = class_code q.query_class == class_code r.dns_class
+
+abbrev pub has_type : Query → RecordValue → Bool
+has_type q r = is_any q || (type_code q.query_type == record_type_code r)
+
+-- a record of the asked class and type (any, for ANY), owned by the asked name or by the last name of the walk
+abbrev pub is_match : Query → NameValue → RecordValue → Bool
+is_match q last r = has_class q r && has_type q r && (name_eq q.name r.name || name_eq last r.name)
+
+-- a match that the last name of the walk owns
+abbrev pub is_last_match : Query → NameValue → RecordValue → Bool
+is_last_match q last r = has_class q r && has_type q r && name_eq last r.name
+
+-- a CNAME record of the asked class
+abbrev pub is_intermediate : Query → RecordValue → Bool
+is_intermediate q r = has_class q r && (record_type_code r == 5)
+
+abbrev pub lowered : ℕ → RecordValue → RecordValue
+lowered ttl r = record r { ttl = min r.ttl ttl }
+
+abbrev pub all_records : MessageValue → List RecordValue
+all_records m = m.answers ++ m.authorities ++ m.additionals
+
+-- Some record matches, and either no alias was followed or no record was preserved.
+abbrev pub is_accepted : Hop → Walk → MessageValue → Bool
+is_accepted hop walk m = some_record (is_match hop.query walk.last) m && (is_none walk.places || is_none hop.preserved)
+
+-- The answers of an accepted response are filtered where records were preserved; and where an alias was followed, the last
+-- name owns a match, and intermediate records are not wanted.
+abbrev pub is_filtered : Bool → Hop → Walk → MessageValue → Bool
+is_filtered keep hop walk m = not (is_none hop.preserved) || (not (is_none walk.places) && some_record (is_last_match hop.query walk.last) m && not keep)
+
+-- the preserved records, then the matches and, where they are wanted, the intermediate records of this response, whose TTLs
+-- are at most that of the walk
+abbrev pub filtered_answers : Bool → Hop → Walk → MessageValue → List RecordValue
+filtered_answers keep hop walk m =
+    hop.preserved
+    ++ map (lowered walk.ttl) (filter (λ r. is_match hop.query walk.last r || (keep && is_intermediate hop.query r)) (all_records m))
+
+abbrev pub found_message : Bool → Hop → Walk → MessageValue → MessageValue
+found_message keep hop walk m = if is_filtered keep hop walk m then record m { answers = filtered_answers keep hop walk m } else m
+
+-- the next hop of an alias: the last name of the walk, in the class of the Internet; where they are wanted, the intermediate
+-- records of this response are preserved
+abbrev pub next_hop : Bool → Hop → Walk → MessageValue → Hop
+next_hop keep hop walk m = record {
+  query = record { name = walk.last; query_type = hop.query.query_type; query_class = class.IN };
+  preserved = hop.preserved ++ (if keep then map (lowered walk.ttl) (filter (is_intermediate hop.query) (all_records m)) else []);
+}
+
+abbrev pub walk_verdict : Bool → Hop → Walk → MessageValue → Verdict
+walk_verdict keep hop walk m =
+    if is_accepted hop walk m then Found (found_message keep hop walk m) else (if is_none walk.places then Nothing else Alias (next_hop keep hop walk m))
+
+-- the verdict on a response to a hop; `keep` says whether intermediate records are wanted
+abbrev pub verdict : Bool → Hop → MessageValue → Verdict
+verdict keep hop m = walk_verdict keep hop (walk_of hop.query m.answers) m

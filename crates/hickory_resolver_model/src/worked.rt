@@ -1,0 +1,14 @@
+//! Worked cases of the definitions.
+ghost use Rattle.hickory_resolver_model.specs.Statements.{Headline};
+ghost use Rattle.hickory_resolver_model.specs.Worked.{EvictionCases, LifetimeCases, AttemptCases, SpecialCases, AliasCases};
+ghost use Rattle.hickory_resolver_model.specs.WorkedLoop.{LoopCases};
+
+/// What the definitions say of small caches, bounds, names and messages.
+pub fn worked_cases()
+    ensures eviction { EvictionCases }
+    ensures lifetimes { LifetimeCases }
+    ensures attempts { AttemptCases }
+    ensures special { SpecialCases }
+    ensures aliases { AliasCases }
+    ensures loops { LoopCases }
+{}

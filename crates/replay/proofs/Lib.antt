@@ -1,0 +1,8 @@
+pub mod FieldLists
+pub mod LineLists
+pub mod Counts
+pub mod Allowed
+pub mod Said
+pub mod Taken
+pub mod UnderWay
+pub mod Steps

@@ -1,0 +1,9 @@
+pub mod Faults
+pub mod Lines
+pub mod Readers
+pub mod Requests
+pub mod Runs
+pub mod Script
+pub mod Scripts
+pub mod Statuses
+pub mod Texts

@@ -1,0 +1,128 @@
+-- The text that tells what happened: names, questions, records and errors, and the block of a request.
+use Rattle.std.specs.Prelude.{ℕ, false, not, ◌-◌, ◌&&◌, ◌==◌, ◌^◌, List, [], ◌++◌, length, codes, Option, None, Some, Ok, Err, if◌then◌else◌}
+use Rattle.std.specs.Fmt.{decimal, digits, format_spec, padded_integral}
+use Rattle.std.specs.List.{flat_map}
+use Rattle.std.specs.Net.Text.{ipv4_text, ipv6_text}
+use Rattle.hickory_proto_core.specs.Name.{NameValue}
+use Rattle.hickory_proto_core.specs.NameText.{name_text}
+use Rattle.hickory_proto_core.specs.Codes.{type_code, type_text, class_code, class_text, response_code, response_text}
+use Rattle.hickory_proto_core.specs.Records.{RecordValue, DataValue, a_data, aaaa_data, cname_data, ns_data, ptr_data, soa_data, srv_data, mx_data, txt_data, unknown_data, data_type}
+use Rattle.hickory_proto_core.specs.Errors.{NoRecordsValue}
+use Rattle.hickory_proto_core.specs.Classes.{first_query}
+use Rattle.hickory_proto_core.specs.declared.query.Query.{Query}
+use Rattle.hickory_proto_core.specs.declared.error.NameError.{NameError}
+use Rattle.hickory_proto_core.specs.declared.error.NameError.TheVariants as name_error
+use Rattle.hickory_proto_core.specs.declared.net_error.NetError.{NetError}
+use Rattle.hickory_proto_core.specs.declared.net_error.NetError.TheVariants.{Message, Timeout, Proto, Dns, NoOutcome, Bounds, OutOfMemory}
+use Rattle.hickory_proto_core.specs.declared.net_error.DnsError.TheVariants.{ResponseCode, NoRecordsFound}
+use Rattle.hickory_resolver_model.specs.Lookup.{LookupValue, Reply}
+use Rattle.replay.specs.Requests.{RequestValue}
+
+-- a name, where `@` stands for the relative name without labels
+abbrev pub shown_name : NameValue → List ℕ
+shown_name name = if (length name.labels == 0) && not name.fqdn then codes "@" else name_text name
+
+-- NAME CLASS TYPE
+abbrev pub question_text : Query → List ℕ
+question_text q =
+    shown_name q.name ++ codes " " ++ class_text (class_code q.query_class) ++ codes " " ++ type_text (type_code q.query_type)
+
+-- two hex digits for each byte, or `-` for no bytes
+abbrev pub hex_text : List ℕ → List ℕ
+hex_text bytes = flat_map (λ byte. padded_integral (format_spec 32 0 4 2 (2 ^ 64 - 1)) false [] (digits 16 false byte)) bytes
+
+abbrev pub bytes_text : List ℕ → List ℕ
+bytes_text bytes = if length bytes == 0 then codes "-" else hex_text bytes
+
+abbrev pub strings_text : List (List ℕ) → List ℕ
+strings_text strings = flat_map (λ string. codes " " ++ bytes_text string) strings
+
+-- a field of data: a space, and what it tells
+abbrev pub name_field : NameValue → List ℕ
+name_field name = codes " " ++ shown_name name
+
+abbrev pub number_field : ℕ → List ℕ
+number_field n = codes " " ++ decimal n
+
+-- the fields of the data
+abbrev pub data_text : DataValue → List ℕ
+data_text (a_data octets) = codes " " ++ ipv4_text octets
+data_text (aaaa_data segments) = codes " " ++ ipv6_text segments
+data_text (cname_data target) = name_field target
+data_text (ns_data target) = name_field target
+data_text (ptr_data target) = name_field target
+data_text (soa_data mname rname serial refresh retry expire minimum) =
+    name_field mname ++ name_field rname ++ number_field serial ++ number_field refresh ++ number_field retry ++ number_field expire ++ number_field minimum
+data_text (srv_data priority weight port target) = number_field priority ++ number_field weight ++ number_field port ++ name_field target
+data_text (mx_data preference exchange) = number_field preference ++ name_field exchange
+data_text (txt_data strings) = strings_text strings
+data_text (unknown_data code bytes) = codes " " ++ bytes_text bytes
+
+-- TTL CLASS TYPE
+abbrev pub kind_text : RecordValue → List ℕ
+kind_text r = decimal r.ttl ++ codes " " ++ class_text (class_code r.dns_class) ++ codes " " ++ type_text (type_code (data_type r.rdata))
+
+-- NAME TTL CLASS TYPE, and the fields of the data
+abbrev pub record_text : RecordValue → List ℕ
+record_text r = shown_name r.name ++ codes " " ++ kind_text r ++ data_text r.rdata
+
+-- how the faults of names are numbered
+abbrev pub name_error_text : NameError → List ℕ
+name_error_text name_error.EmptyLabel = codes "N1"
+name_error_text name_error.LabelTooLong = codes "N2"
+name_error_text name_error.NameTooLong = codes "N3"
+name_error_text name_error.BadCharacter = codes "N4"
+name_error_text name_error.BadEscape = codes "N5"
+name_error_text name_error.NotArpa = codes "N6"
+name_error_text name_error.OutOfMemory = codes "N7"
+
+-- for how many seconds a negative answer may be kept, where that is known
+abbrev pub ttl_text : Option ℕ → List ℕ
+ttl_text None = codes "-"
+ttl_text (Some seconds) = decimal seconds
+
+-- CODE TTL NAME CLASS TYPE
+abbrev pub no_records_text : NoRecordsValue → List ℕ
+no_records_text n =
+    codes "norecords " ++ response_text (response_code n.response_code) ++ codes " " ++ ttl_text n.negative_ttl ++ codes " " ++ question_text n.query
+
+-- what went wrong with a request. Bounds and want of memory end a run otherwise
+abbrev pub error_text : NetError → List ℕ
+error_text (Message text) = codes "message " ++ text.now
+error_text Timeout = codes "timeout"
+error_text (Proto error) = codes "name " ++ name_error_text error
+error_text (Dns (ResponseCode code)) = codes "code " ++ response_text (response_code code)
+error_text (Dns (NoRecordsFound none)) = no_records_text none
+error_text NoOutcome = codes "nooutcome"
+error_text (Bounds error) = codes "bounds"
+error_text OutOfMemory = codes "memory"
+
+-- a line: two spaces, a word and what it tells
+abbrev pub line_text : List ℕ → List ℕ → List ℕ
+line_text word told = codes "  " ++ word ++ codes " " ++ told ++ codes "\n"
+
+abbrev pub sent_text : List Query → List ℕ
+sent_text questions = flat_map (λ q. line_text (codes "sent") (question_text q)) questions
+
+abbrev pub section_text : List ℕ → List RecordValue → List ℕ
+section_text section records = flat_map (λ r. line_text section (record_text r)) records
+
+-- the question and the deadline, then the records of the sections
+abbrev pub lookup_text : LookupValue → List ℕ
+lookup_text l =
+    line_text (codes "ok") (question_text (first_query l.message.queries) ++ codes " until " ++ decimal l.valid_until)
+    ++ section_text (codes "answer") l.message.answers
+    ++ section_text (codes "authority") l.message.authorities
+    ++ section_text (codes "additional") l.message.additionals
+
+abbrev pub reply_text : Reply → List ℕ
+reply_text (Ok lookup) = lookup_text lookup
+reply_text (Err error) = line_text (codes "err") (error_text error)
+
+-- at MOMENT lookup NAME TYPE
+abbrev pub request_text : RequestValue → List ℕ
+request_text r = codes "at " ++ decimal r.now ++ codes " lookup " ++ r.name ++ codes " " ++ type_text (type_code r.record_type) ++ codes "\n"
+
+-- the block of a request: the request, each question that was sent for it, and the reply
+abbrev pub step_text : RequestValue → List Query → Reply → List ℕ
+step_text request sent reply = request_text request ++ sent_text sent ++ reply_text reply

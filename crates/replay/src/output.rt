@@ -1,0 +1,339 @@
+//! The text that tells what happened.
+ghost use Rattle.std.specs.Prelude.{◌≡◌, ◌++◌, OnOk, codes, map, string_bytes};
+ghost use Rattle.replay.specs.Texts.{error_text, line_text, lookup_text, name_error_text, question_text, record_text, reply_text, request_text, section_text, sent_text, step_text};
+
+use crate::script::Request;
+use hickory_proto_core::{
+    DnsError, Exchange, Name, NameError, NetError, NoRecords, Query, RData, Record,
+};
+use hickory_resolver::Lookup;
+use std::alloc::AllocError;
+use std::fmt;
+
+/// Adds the block of a request: the request, each question that was sent for it, and the reply.
+pub fn push_step(
+    text: &mut String,
+    request: &Request,
+    exchanges: &[Exchange],
+    reply: &Result<Lookup, NetError>,
+) -> Result<(), AllocError>
+    ensures { OnOk result (string_bytes text.new
+        ≡ string_bytes text.old ++ step_text request.entry.now (map (λ x. x.query) exchanges.now) reply.now) }
+{
+    push_request(text, request)?;
+    push_sent(text, exchanges)?;
+    push_reply(text, reply)
+}
+
+fn push_request(text: &mut String, request: &Request) -> Result<(), AllocError>
+    ensures { OnOk result (string_bytes text.new ≡ string_bytes text.old ++ request_text request.entry.now) }
+{
+    let (now, name, record_type) = (request.now, request.name.as_str(), request.record_type);
+    write!(text, "at {now} lookup {name} {record_type}\n")
+}
+
+fn push_sent(text: &mut String, exchanges: &[Exchange]) -> Result<(), AllocError>
+    ensures { OnOk result (string_bytes text.new
+        ≡ string_bytes text.old ++ sent_text (map (λ x. x.query) exchanges.now)) }
+{
+    for exchange in exchanges {
+        let question = ShownQuery(&exchange.query);
+        write!(text, "  sent {question}\n")?;
+    }
+    Ok(())
+}
+
+fn push_reply(text: &mut String, reply: &Result<Lookup, NetError>) -> Result<(), AllocError>
+    ensures { OnOk result (string_bytes text.new ≡ string_bytes text.old ++ reply_text reply.now) }
+{
+    match reply {
+        Ok(lookup) => push_lookup(text, lookup),
+        Err(error) => push_error(text, error),
+    }
+}
+
+fn push_lookup(text: &mut String, lookup: &Lookup) -> Result<(), AllocError>
+    ensures { OnOk result (string_bytes text.new ≡ string_bytes text.old ++ lookup_text lookup.now) }
+{
+    let question = ShownQuery(lookup.query());
+    let deadline = lookup.valid_until();
+    write!(text, "  ok {question} until {deadline}\n")?;
+    push_records(text, "answer", lookup.answers())?;
+    push_records(text, "authority", lookup.authorities())?;
+    push_records(text, "additional", lookup.additionals())
+}
+
+fn push_records(text: &mut String, section: &str, records: &[Record]) -> Result<(), AllocError>
+    ensures { OnOk result (string_bytes text.new
+        ≡ string_bytes text.old ++ section_text section.now records.now) }
+{
+    for found in records {
+        let shown = ShownRecord(found);
+        write!(text, "  {section} {shown}\n")?;
+    }
+    Ok(())
+}
+
+fn push_error(text: &mut String, error: &NetError) -> Result<(), AllocError>
+    ensures { OnOk result (string_bytes text.new
+        ≡ string_bytes text.old ++ line_text (codes "err") (error_text error.now)) }
+{
+    let shown = ShownError(error);
+    write!(text, "  err {shown}\n")
+}
+
+/// A name as it is printed: the relative name without labels is `@`.
+#[derive(Clone, Copy)]
+pub struct ShownName<'a>(pub &'a Name);
+
+impl fmt::Display for ShownName<'_> {
+    ghost use Rattle.std.specs.Prelude.{Some};
+    ghost use Rattle.replay.specs.Texts.{shown_name};
+
+    ghost output = { λ x. Some (shown_name x.0.now) };
+
+    fn fmt<W: fmt::Write>(&self, f: &mut fmt::Formatter<W>) -> fmt::Result {
+        let name = self.0;
+        if name.labels().is_empty() && !name.is_fqdn() {
+            return f.write_str("@");
+        }
+        write!(f, "{name}")
+    }
+}
+
+/// NAME CLASS TYPE
+#[derive(Clone, Copy)]
+pub struct ShownQuery<'a>(pub &'a Query);
+
+impl fmt::Display for ShownQuery<'_> {
+    ghost use Rattle.std.specs.Prelude.{Some};
+    ghost use Rattle.replay.specs.Texts.{question_text};
+
+    ghost output = { λ x. Some (question_text x.0.now) };
+
+    fn fmt<W: fmt::Write>(&self, f: &mut fmt::Formatter<W>) -> fmt::Result {
+        let name = ShownName(self.0.name());
+        let class = self.0.query_class();
+        let record_type = self.0.query_type();
+        write!(f, "{name} {class} {record_type}")
+    }
+}
+
+/// NAME TTL CLASS TYPE DATA
+#[derive(Clone, Copy)]
+pub struct ShownRecord<'a>(pub &'a Record);
+
+impl fmt::Display for ShownRecord<'_> {
+    ghost use Rattle.std.specs.Prelude.{Some};
+    ghost use Rattle.replay.specs.Texts.{record_text};
+
+    ghost output = { λ x. Some (record_text x.0.now) };
+
+    fn fmt<W: fmt::Write>(&self, f: &mut fmt::Formatter<W>) -> fmt::Result {
+        let found = self.0;
+        let name = ShownName(&found.name);
+        let kind = ShownKind(found);
+        let rdata = ShownData(&found.rdata);
+        write!(f, "{name} {kind}{rdata}")
+    }
+}
+
+/// TTL CLASS TYPE
+#[derive(Clone, Copy)]
+pub struct ShownKind<'a>(pub &'a Record);
+
+impl fmt::Display for ShownKind<'_> {
+    ghost use Rattle.std.specs.Prelude.{Some};
+    ghost use Rattle.replay.specs.Texts.{kind_text};
+
+    ghost output = { λ x. Some (kind_text x.0.now) };
+
+    fn fmt<W: fmt::Write>(&self, f: &mut fmt::Formatter<W>) -> fmt::Result {
+        let found = self.0;
+        let (ttl, class, record_type) = (found.ttl, found.dns_class, found.record_type());
+        write!(f, "{ttl} {class} {record_type}")
+    }
+}
+
+/// The fields of the data, a space before each: addresses, names, numbers, and bytes as hex digits.
+#[derive(Clone, Copy)]
+pub struct ShownData<'a>(pub &'a RData);
+
+impl fmt::Display for ShownData<'_> {
+    ghost use Rattle.std.specs.Prelude.{Some};
+    ghost use Rattle.hickory_proto_core.specs.Records.{data_of};
+    ghost use Rattle.replay.specs.Texts.{data_text};
+
+    ghost output = { λ x. Some (data_text (data_of x.0.now)) };
+
+    fn fmt<W: fmt::Write>(&self, f: &mut fmt::Formatter<W>) -> fmt::Result {
+        match self.0 {
+            RData::A(address) => write!(f, " {address}"),
+            RData::AAAA(address) => write!(f, " {address}"),
+            RData::CNAME(target) | RData::NS(target) | RData::PTR(target) => {
+                let target = ShownName(target);
+                write!(f, " {target}")
+            }
+            RData::SOA {
+                mname,
+                rname,
+                serial,
+                refresh,
+                retry,
+                expire,
+                minimum,
+            } => {
+                let (mname, rname) = (ShownName(mname), ShownName(rname));
+                write!(f, " {mname} {rname}")?;
+                write!(f, " {serial} {refresh} {retry} {expire} {minimum}")
+            }
+            RData::SRV {
+                priority,
+                weight,
+                port,
+                target,
+            } => {
+                let target = ShownName(target);
+                write!(f, " {priority} {weight} {port} {target}")
+            }
+            RData::MX {
+                preference,
+                exchange,
+            } => {
+                let exchange = ShownName(exchange);
+                write!(f, " {preference} {exchange}")
+            }
+            RData::TXT(strings) => {
+                let shown = ShownStrings(strings);
+                write!(f, "{shown}")
+            }
+            RData::Unknown { code: _, bytes } => {
+                let shown = ShownBytes(bytes);
+                write!(f, " {shown}")
+            }
+        }
+    }
+}
+
+/// Strings, a space before each.
+#[derive(Clone, Copy)]
+pub struct ShownStrings<'a>(pub &'a [Vec<u8>]);
+
+impl fmt::Display for ShownStrings<'_> {
+    ghost use Rattle.std.specs.Prelude.{Some};
+    ghost use Rattle.hickory_proto_core.specs.Name.{label_bytes};
+    ghost use Rattle.replay.specs.Texts.{strings_text};
+
+    ghost output = { λ x. Some (strings_text (label_bytes x.0.now)) };
+
+    fn fmt<W: fmt::Write>(&self, f: &mut fmt::Formatter<W>) -> fmt::Result {
+        for string in self.0 {
+            let shown = ShownBytes(string);
+            write!(f, " {shown}")?;
+        }
+        Ok(())
+    }
+}
+
+/// Bytes as hex digits, where `-` stands for no bytes.
+#[derive(Clone, Copy)]
+pub struct ShownBytes<'a>(pub &'a [u8]);
+
+impl fmt::Display for ShownBytes<'_> {
+    ghost use Rattle.std.specs.Prelude.{Some};
+    ghost use Rattle.replay.specs.Texts.{bytes_text};
+
+    ghost output = { λ x. Some (bytes_text x.0.now) };
+
+    fn fmt<W: fmt::Write>(&self, f: &mut fmt::Formatter<W>) -> fmt::Result {
+        if self.0.is_empty() {
+            return f.write_str("-");
+        }
+        for byte in self.0 {
+            write!(f, "{byte:02x}")?;
+        }
+        Ok(())
+    }
+}
+
+/// What an error is called.
+#[derive(Clone, Copy)]
+pub struct ShownError<'a>(pub &'a NetError);
+
+impl fmt::Display for ShownError<'_> {
+    ghost use Rattle.std.specs.Prelude.{Some};
+    ghost use Rattle.replay.specs.Texts.{error_text};
+
+    ghost output = { λ x. Some (error_text x.0.now) };
+
+    fn fmt<W: fmt::Write>(&self, f: &mut fmt::Formatter<W>) -> fmt::Result {
+        match self.0 {
+            NetError::Message(text) => write!(f, "message {text}"),
+            NetError::Timeout => f.write_str("timeout"),
+            NetError::Proto(error) => {
+                let code = name_error_code(*error);
+                write!(f, "name {code}")
+            }
+            NetError::Dns(DnsError::ResponseCode(code)) => write!(f, "code {code}"),
+            NetError::Dns(DnsError::NoRecordsFound(none)) => {
+                let shown = ShownNoRecords(none);
+                write!(f, "{shown}")
+            }
+            NetError::NoOutcome => f.write_str("nooutcome"),
+            NetError::Bounds(_) => f.write_str("bounds"),
+            NetError::OutOfMemory => f.write_str("memory"),
+        }
+    }
+}
+
+/// norecords CODE TTL NAME CLASS TYPE
+#[derive(Clone, Copy)]
+pub struct ShownNoRecords<'a>(pub &'a NoRecords);
+
+impl fmt::Display for ShownNoRecords<'_> {
+    ghost use Rattle.std.specs.Prelude.{Some};
+    ghost use Rattle.replay.specs.Texts.{no_records_text};
+
+    ghost output = { λ x. Some (no_records_text x.0.now) };
+
+    fn fmt<W: fmt::Write>(&self, f: &mut fmt::Formatter<W>) -> fmt::Result {
+        let none = self.0;
+        let code = none.response_code;
+        let ttl = ShownTtl(none.negative_ttl);
+        let question = ShownQuery(&none.query);
+        write!(f, "norecords {code} {ttl} {question}")
+    }
+}
+
+/// Seconds, or `-` where they are not known.
+#[derive(Clone, Copy)]
+pub struct ShownTtl(pub Option<u32>);
+
+impl fmt::Display for ShownTtl {
+    ghost use Rattle.std.specs.Prelude.{Some};
+    ghost use Rattle.replay.specs.Texts.{ttl_text};
+
+    ghost output = { λ x. Some (ttl_text x.0) };
+
+    fn fmt<W: fmt::Write>(&self, f: &mut fmt::Formatter<W>) -> fmt::Result {
+        match self.0 {
+            Some(seconds) => write!(f, "{seconds}"),
+            None => f.write_str("-"),
+        }
+    }
+}
+
+// The name of a fault of a name.
+fn name_error_code(error: NameError) -> &'static str
+    ensures { result.now ≡ name_error_text error }
+{
+    match error {
+        NameError::EmptyLabel => "N1",
+        NameError::LabelTooLong => "N2",
+        NameError::NameTooLong => "N3",
+        NameError::BadCharacter => "N4",
+        NameError::BadEscape => "N5",
+        NameError::NotArpa => "N6",
+        NameError::OutOfMemory => "N7",
+    }
+}

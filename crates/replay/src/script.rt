@@ -1,0 +1,226 @@
+//! Scripts: what an upstream answers, and what is asked of the resolver.
+ghost use Rattle.std.specs.Prelude.{◌≡◌, ◌⊎◌, ◌≤◌, ◌<◌, ◌++◌, ◌∷◌, List, [], None, Some, IfOk, IfErr, OnOk, IsOkUnless, is_ok};
+ghost use Rattle.replay.specs.Readers.{IsAnswered, IsTaken, Keeps, opened};
+ghost use Rattle.replay.specs.Scripts.{IsScript, response_value};
+ghost use Rattle.replay.specs.declared.line.Line.{Line};
+
+use crate::fault::{ScriptError, ScriptFault};
+use crate::fields::ScriptLines;
+use crate::line::{Line, read_line};
+use hickory_proto_core::dns_handle::Outcome;
+use hickory_proto_core::{
+    DnsResponse, Message, NetError, OpCode, Query, Record, RecordType, ResponseCode,
+};
+use std::alloc::Global;
+use std::marker::Model;
+
+/// What a script says: what the upstream answers, in order, each beside the question of its line; and
+/// the requests, in order.
+#[derive(Drop)]
+pub struct Script {
+    pub outcomes: Vec<(Query, Outcome)>,
+    pub requests: Vec<Request>,
+}
+
+/// A question for the resolver. The name is kept as it is written: whether it is one is found out when
+/// it is asked.
+#[derive(Debug, Drop)]
+pub struct Request {
+    /// The moment at which it is asked, in seconds.
+    pub now: u64,
+    pub name: String,
+    pub record_type: RecordType,
+}
+
+impl Model for Request {
+    ghost use Rattle.std.specs.Prelude.{string_bytes};
+    ghost use Rattle.replay.specs.Requests.{RequestValue};
+
+    ghost Value = { RequestValue };
+
+    ghost view = { λ r. record { now = r.now; name = string_bytes r.name; record_type = r.record_type } };
+}
+
+impl Model for Script {
+    ghost use Rattle.replay.specs.Scripts.{ScriptValue};
+
+    ghost Value = { ScriptValue };
+
+    ghost view = { λ s. record { outcomes = s.outcomes.items; requests = s.requests.items } };
+}
+
+/// Reads a script, or finds the first line with a fault.
+pub fn read_script(alloc: Global, script: &[u8]) -> Result<Script, ScriptError>
+    ensures { IsScript script.now result }
+{
+    let mut reader = Reader::new(alloc);
+    let mut number = 0;
+    for line in ScriptLines::new(script) {
+        number += 1;
+        match reader.read(line) {
+            Ok(()) => {}
+            Err(ScriptFault::OutOfMemory) => return Err(ScriptError::out_of_memory()),
+            Err(fault) => {
+                return Err(ScriptError {
+                    line: number,
+                    fault,
+                });
+            }
+        }
+    }
+    match reader.finish() {
+        Ok(script) => Ok(script),
+        Err(_) => Err(ScriptError::out_of_memory()),
+    }
+}
+
+// A reply that may still get records.
+#[derive(Drop)]
+struct OpenReply {
+    query: Query,
+    message: Message,
+}
+
+impl OpenReply {
+    ghost use Rattle.replay.specs.Readers.{answered};
+
+    fn add_answer(&mut self, answer: Record) -> Result<(), ScriptFault>
+        ensures ok { OnOk result (self.new ≡ answered self.old answer) }
+        ensures err { IsOkUnless result ScriptFault.OutOfMemory }
+    {
+        memory_only(self.message.add_answer(answer))
+    }
+}
+
+// What the lines so far said.
+#[derive(Drop)]
+struct Reader {
+    alloc: Global,
+    closed: Vec<(Query, Outcome)>,
+    open_reply: Option<OpenReply>,
+    requests: Vec<Request>,
+    latest: u64,
+}
+
+impl Model for Reader {
+    ghost use Rattle.replay.specs.Readers.{ReaderValue};
+
+    ghost Value = { ReaderValue };
+
+    ghost view = { λ r. record { closed = r.closed.items; open_reply = r.open_reply; requests = r.requests.items; latest = r.latest } };
+}
+
+impl Reader {
+    fn new(alloc: Global) -> Reader
+        ensures { result ≡ record { closed = []; open_reply = None; requests = []; latest = 0 } }
+    {
+        Reader {
+            alloc,
+            closed: Vec::new(alloc),
+            open_reply: None,
+            requests: Vec::new(alloc),
+            latest: 0,
+        }
+    }
+
+    // Reads a line, and keeps what it says.
+    fn read(&mut self, line: &[u8]) -> Result<(), ScriptFault>
+        ensures { (said : List Line) → Keeps self.old said → IsTaken said line.now result self.new }
+    {
+        let line = read_line(self.alloc, self.open_reply.is_some(), line)?;
+        match line {
+            Line::Blank => Ok(()),
+            Line::Reply(query, code) => self.add_reply(query, code),
+            Line::Answer(answer) => self.add_answer(answer),
+            Line::Request(request) => self.add_request(request),
+        }
+    }
+
+    fn add_reply(&mut self, query: Query, code: ResponseCode) -> Result<(), ScriptFault>
+        ensures ok { OnOk result (self.new
+            ≡ record self.old {
+              closed = self.old.closed ++ opened self.old.open_reply;
+              open_reply = Some (record { query = query; message = response_value query code [] });
+            }) }
+        ensures err { IsOkUnless result ScriptFault.OutOfMemory }
+    {
+        let message = response_of(self.alloc, &query, code)?;
+        self.close()?;
+        self.open_reply = Some(OpenReply { query, message });
+        Ok(())
+    }
+
+    fn add_answer(&mut self, answer: Record) -> Result<(), ScriptFault>
+        ensures { IsAnswered self.old answer result self.new }
+    {
+        let Some(reply) = &mut self.open_reply else {
+            return Err(ScriptFault::NoReply);
+        };
+        reply.add_answer(answer)
+    }
+
+    fn add_request(&mut self, request: Request) -> Result<(), ScriptFault>
+        ensures ok { OnOk result (self.new
+            ≡ record self.old { requests = self.old.requests ++ request ∷ []; latest = request.now }) }
+        ensures in_order { OnOk result (self.old.latest ≤ request.now) }
+        ensures err { IfErr result (λ fault. (fault ≡ ScriptFault.OutOfMemory) ⊎ ((fault ≡ ScriptFault.MomentBack) × (request.now < self.old.latest))) }
+    {
+        let now = request.now;
+        if now < self.latest {
+            return Err(ScriptFault::MomentBack);
+        }
+        self.requests.push(request)?;
+        self.latest = now;
+        Ok(())
+    }
+
+    // The open reply is one more outcome.
+    fn close(&mut self) -> Result<(), ScriptFault>
+        ensures ok { OnOk result (self.new
+            ≡ record self.old { closed = self.old.closed ++ opened self.old.open_reply; open_reply = None }) }
+        ensures err { IsOkUnless result ScriptFault.OutOfMemory }
+    {
+        match self.open_reply.take() {
+            None => Ok(()),
+            Some(OpenReply { query, message }) => {
+                let outcome = Ok(DnsResponse::from_message(message));
+                self.closed.push((query, outcome))?;
+                Ok(())
+            }
+        }
+    }
+
+    fn finish(self) -> Result<Script, ScriptFault>
+        ensures { IfOk result (λ s. s ≡ record { outcomes = self.closed ++ opened self.open_reply; requests = self.requests }) }
+    {
+        let mut reader = self;
+        reader.close()?;
+        Ok(Script {
+            outcomes: reader.closed,
+            requests: reader.requests,
+        })
+    }
+}
+
+// A response of this code to this question, with no records.
+fn response_of(alloc: Global, query: &Query, code: ResponseCode) -> Result<Message, ScriptFault>
+    ensures ok { IfOk result (λ m. m ≡ response_value query.now code []) }
+    ensures err { IsOkUnless result ScriptFault.OutOfMemory }
+{
+    let mut message = Message::response(alloc, 0, OpCode::Query);
+    message.metadata.response_code = code;
+    let question = query.clone()?;
+    memory_only(message.add_query(question))?;
+    Ok(message)
+}
+
+// What fails only for want of memory.
+fn memory_only(added: Result<(), NetError>) -> Result<(), ScriptFault>
+    ensures variant { is_ok result ≡ is_ok added }
+    ensures err { IsOkUnless result ScriptFault.OutOfMemory }
+{
+    match added {
+        Ok(()) => Ok(()),
+        Err(_) => Err(ScriptFault::OutOfMemory),
+    }
+}

@@ -1,0 +1,90 @@
+//! Runs a script against a caching client, and prints what happened.
+#![tactic(auto)]
+
+use replay::{ReplayError, replay_text};
+use std::process::ExitCode;
+use std::rt::{Env, Files};
+use std::{env, fmt, fs, io};
+
+fn main(rt: HostRuntime) -> ExitCode {
+    match run(&rt) {
+        Ok(()) => ExitCode::SUCCESS,
+        Err(error) => {
+            let status = error.status();
+            let _ = rt.eprintln(error);
+            ExitCode::from(status)
+        }
+    }
+}
+
+// Why the program ends with nothing, or only a beginning of the text, on standard output.
+#[derive(Debug, Drop)]
+enum RunError {
+    Usage,
+    Unreadable(String),
+    Replay(ReplayError),
+    Unwritable,
+}
+
+impl RunError {
+    fn status(&self) -> u8 {
+        match self {
+            RunError::Usage => 2,
+            RunError::Replay(error) => error.status(),
+            RunError::Unreadable(_) | RunError::Unwritable => 4,
+        }
+    }
+}
+
+impl fmt::Display for RunError {
+    fn fmt<W: fmt::Write>(&self, f: &mut fmt::Formatter<W>) -> fmt::Result {
+        match self {
+            RunError::Usage => f.write_str("usage: resolve_replay SCRIPT [HOSTS]"),
+            RunError::Unreadable(path) => write!(f, "cannot read {path}"),
+            RunError::Replay(error) => write!(f, "{error}"),
+            RunError::Unwritable => f.write_str("cannot write"),
+        }
+    }
+}
+
+impl From<ReplayError> for RunError {
+    fn from(error: ReplayError) -> RunError {
+        RunError::Replay(error)
+    }
+}
+
+// The whole text is made before any of it is written.
+fn run<R: AllocGlobal + Env + Files + Print>(rt: &R) -> Result<(), RunError> {
+    let path = script_path(rt)?;
+    let script = read(rt, path)?;
+    let text = replay_text(rt.alloc(), &script)?;
+    rt.print(text).map_err(|_| RunError::Unwritable)
+}
+
+// The one argument behind the program's name.
+fn script_path<R: AllocGlobal + Env>(rt: &R) -> Result<String, RunError> {
+    let mut arguments = match env::args(rt) {
+        Ok(arguments) => arguments.skip(1),
+        Err(error) => return Err(memory_or(error, RunError::Usage)),
+    };
+    match (arguments.next(), arguments.next()) {
+        (Some(path), None) => Ok(path),
+        _ => Err(RunError::Usage),
+    }
+}
+
+fn read<R: AllocGlobal + Files>(rt: &R, path: String) -> Result<Vec<u8>, RunError> {
+    match fs::read(rt, path.as_str()) {
+        Ok(bytes) => Ok(bytes),
+        Err(error) => Err(memory_or(error, RunError::Unreadable(path))),
+    }
+}
+
+// Want of memory, or the other error.
+fn memory_or(error: io::Error, other: RunError) -> RunError {
+    if error.kind() == io::ErrorKind::OutOfMemory {
+        RunError::Replay(ReplayError::Memory)
+    } else {
+        other
+    }
+}
