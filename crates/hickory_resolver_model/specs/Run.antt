@@ -1,5 +1,5 @@
 -- A run: a list of requests, one after another, over one cache; the exchanges of the whole run are cut into one piece for each.
-use Rattle.std.specs.Prelude.{◌≡◌, ◌⊎◌, ℕ, ◌≤◌, Bool, true, false, List, [], ◌∷◌, length, flat_map, Option, Some, None, Result, Ok, Err}
+use Rattle.std.specs.Prelude.{◌≡◌, ◌⊎◌, ℕ, ◌≤◌, Bool, true, false, List, [], ◌∷◌, length, map, flat_map, Option, Some, None, Result, Ok, Err}
 use Rattle.hickory_proto_core.specs.Name.{NameValue}
 use Rattle.hickory_proto_core.specs.NameText.{Spells, HasFault}
 use Rattle.hickory_proto_core.specs.NetErrors.{net_error_of}
@@ -137,27 +137,43 @@ pub record StepValue : Type 0 where
   pub exchanges : ℕ
   pub answered : Answered
 
-pub record IsStep (s : Settings) (before : CacheValue) (request : RequestValue) (piece : List Exchange) (step : StepValue) (after : CacheValue) : Type 0 where
+-- a step with what it was made of: the request, the cache before it, its piece of the exchanges, and its parts
+pub record Stage : Type 0 where
+  pub request : RequestValue
+  pub before : CacheValue
+  pub piece : List Exchange
   pub parts : List Part
-  pub served : IsServed (λ now. IsPartFor (setting_at s now)) s before request parts step.answered after
-  pub piece_is : piece ≡ asks_of_parts parts
-  pub now_is : step.now ≡ moment_of request
-  pub count_is : step.exchanges ≡ length piece
+  pub step : StepValue
 
--- Each request is served over the cache that the one before it left. A request that is answered want of memory is the last.
-abbrev pub Run : Settings → CacheValue → List RequestValue → List (List Exchange) → List StepValue → CacheValue → Type 0
-Run s before [] [] [] after = after ≡ before
-Run s before (request ∷ requests) (piece ∷ pieces) (step ∷ steps) after =
-    (mid : CacheValue) × IsStep s before request piece step mid
-    × (((ends_run step.answered ≡ true) × (pieces ≡ []) × (steps ≡ []) × (after ≡ mid))
-    ⊎ ((ends_run step.answered ≡ false) × Run s mid requests pieces steps after))
-Run s before _ _ _ after = ⊥
+-- the request is served, and asks exactly the questions of its piece
+pub record IsStage (s : Settings) (stage : Stage) (after : CacheValue) : Type 0 where
+  pub served : IsServed (λ now. IsPartFor (setting_at s now)) s stage.before stage.request stage.parts stage.step.answered after
+  pub piece_is : stage.piece ≡ asks_of_parts stage.parts
+  pub now_is : stage.step.now ≡ moment_of stage.request
+  pub count_is : stage.step.exchanges ≡ length stage.piece
 
--- A run over a handle: the exchanges are the pieces joined, they led the handle, each with these options, and the replies and the
--- cache are those of a run from an empty cache.
+-- One stage a request: each is served over the cache that the one before it left. A request that is answered want of memory is the last.
+abbrev pub AreStages : Settings → CacheValue → List RequestValue → List Stage → CacheValue → Type 0
+AreStages s before [] [] after = after ≡ before
+AreStages s before (request ∷ requests) (stage ∷ stages) after =
+    (mid : CacheValue) × (stage.request ≡ request) × (stage.before ≡ before) × IsStage s stage mid
+    × (((ends_run stage.step.answered ≡ true) × (stages ≡ []) × (after ≡ mid))
+    ⊎ ((ends_run stage.step.answered ≡ false) × AreStages s mid requests stages after))
+AreStages s before _ _ after = ⊥
+
+abbrev pub exchanges_of : List Stage → List Exchange
+exchanges_of stages = flat_map (λ stage. stage.piece) stages
+
+-- A run: the exchanges are cut into pieces, one a request, and the steps are those of the requests over these pieces.
+pub record Run (s : Settings) (empty : CacheValue) (requests : List RequestValue) (steps : List StepValue) (exchanges : List Exchange) (after : CacheValue) : Type 0 where
+  pub stages : List Stage
+  pub joined : exchanges_of stages ≡ exchanges
+  pub steps_are : map (λ stage. stage.step) stages ≡ steps
+  pub are : AreStages s empty requests stages after
+
+-- A run over a handle: the exchanges led the handle, each with these options, and the replies and the cache are those of a run from an
+-- empty cache.
 pub record IsRun {H : Type 0} (step : Step H) (options : DnsRequestOptions) (s : Settings) (empty : CacheValue) (handle : H) (requests : List RequestValue) (steps : List StepValue) (exchanges : List Exchange) (handle_after : H) (cache_after : CacheValue) : Type 0 where
-  pub pieces : List (List Exchange)
-  pub joined : flat_map (λ piece. piece) pieces ≡ exchanges
-  pub led : Leads step options handle exchanges handle_after
   pub starts_empty : empty.entries ≡ []
-  pub run : Run s empty requests pieces steps cache_after
+  pub led : Leads step options handle exchanges handle_after
+  pub run : Run s empty requests steps exchanges cache_after

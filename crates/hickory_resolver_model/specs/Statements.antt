@@ -15,7 +15,7 @@ use Rattle.hickory_resolver_model.specs.Lookup.{Reply}
 use Rattle.hickory_resolver_model.specs.Hops.{Start, IsReply}
 use Rattle.hickory_resolver_model.specs.Hosts.{IsStatic}
 use Rattle.hickory_resolver_model.specs.Calls.{Part, PartRelation, Setting, Client, IsStaticPart}
-use Rattle.hickory_resolver_model.specs.Run.{Settings, setting_at, RequestValue, moment_of, StepValue, Answered, LookedUp, Cleared, ends_run, IsServed, IsStep}
+use Rattle.hickory_resolver_model.specs.Run.{Settings, setting_at, RequestValue, moment_of, StepValue, Answered, LookedUp, Cleared, ends_run, IsServed, Stage, exchanges_of, Run}
 use Rattle.hickory_resolver_model.specs.Cacheless.{IsTable, Means, TellsAll}
 use Rattle.hickory_resolver_model.specs.Core.{Core, core, stored_core}
 use Rattle.hickory_resolver_model.specs.Covered.{Dated, dated, IsCovered, IsLoopback}
@@ -60,9 +60,9 @@ IsFresh s question asks result after =
 
 -- ---- transparency: a cache does not change an answer
 
--- an entry means what its question means under a table, whatever the way there
+-- an entry is what its question means under a table, however long the way there
 abbrev pub IsMeant : TableValue → Entry → Type 0
-IsMeant table e = (reply : Core) (n : ℕ) → Means table e.query reply n → stored_core e.outcome ≡ reply
+IsMeant table e = (n : ℕ) × Means table e.query (stored_core e.outcome) n
 
 abbrev pub AreMeant : TableValue → CacheValue → Type 0
 AreMeant table cache = AllByRecursion (IsMeant table) cache.entries
@@ -86,13 +86,20 @@ pub record IsWholeLookup (s : Start) (question : Query) (asks : List Exchange) (
 -- ---- the headline, of a run
 
 -- each attempt at one name and type sends at most eight questions
-abbrev pub AsksFew : List Part → Type 0
-AsksFew parts = AllByRecursion (λ p. length p.asks ≤ 8) parts
+abbrev pub AsksFew : Stage → Type 0
+AsksFew stage = AllByRecursion (λ p. length p.asks ≤ 8) stage.parts
 
 -- Where the asked type's least TTL is zero, an answer of the client has no record of that type that outlives what was received.
 abbrev pub IsFreshPart : ConfigValue → List Dated → ℕ → Part → Type 0
 IsFreshPart config sources now p =
     p.source ≡ Client → HasNoLeast config (type_code p.question.query_type) → IsFreshReply config sources (type_code p.question.query_type) now p.result
+
+-- no record outlives what an exchange of the same step or of an earlier one brought
+abbrev pub NothingOutlives : List Dated → List Stage → Type 0
+NothingOutlives earlier [] = Unit {0}
+NothingOutlives earlier (stage ∷ stages) =
+    let sources = earlier ++ dated stage.step.now stage.piece in
+    AllByRecursion (IsFreshPart stage.before.config sources stage.step.now) stage.parts × NothingOutlives sources stages
 
 -- a question of the client has a meaning of eight questions at most
 abbrev pub HasMeaning : TableValue → Part → Type 0
@@ -116,26 +123,22 @@ IsCacheless table s cache request (LookedUp reply) =
     × (core reply ≡ core cacheless)
 IsCacheless table s cache request (Cleared done) = Unit {0}
 
--- the three clauses of a step, want of memory aside in the last one
-pub record IsHeadlineStep (s : Settings) (earlier : List Dated) (exchanges : List Exchange) (before : CacheValue) (request : RequestValue) (piece : List Exchange) (step : StepValue) (after : CacheValue) : Type 0 where
-  pub is : IsStep s before request piece step after
-  pub at_most_eight : AsksFew is.parts
-  pub nothing_outlives : AllByRecursion (IsFreshPart before.config (earlier ++ dated step.now piece) step.now) is.parts
-  pub as_without_cache : (table : TableValue) → s.preserve_intermediates ≡ false → IsTable table → TellsAll table exchanges → AllByRecursion (HasMeaning table) is.parts
-      → (ends_run step.answered ≡ true) ⊎ IsCacheless table s before request step.answered
+-- the reply of a step is the cacheless resolver's, want of memory aside
+abbrev pub IsAsWithoutCache : TableValue → Settings → Stage → Type 0
+IsAsWithoutCache table s stage = (ends_run stage.step.answered ≡ true) ⊎ IsCacheless table s stage.before stage.request stage.step.answered
 
-abbrev pub AreHeadlineSteps : Settings → List Dated → List Exchange → CacheValue → List RequestValue → List (List Exchange) → List StepValue → CacheValue → Type 0
-AreHeadlineSteps s earlier exchanges before [] [] [] after = after ≡ before
-AreHeadlineSteps s earlier exchanges before (request ∷ requests) (piece ∷ pieces) (step ∷ steps) after =
-    (mid : CacheValue) × IsHeadlineStep s earlier exchanges before request piece step mid
-    × (((ends_run step.answered ≡ true) × (pieces ≡ []) × (steps ≡ []) × (after ≡ mid))
-    ⊎ ((ends_run step.answered ≡ false) × AreHeadlineSteps s (earlier ++ dated step.now piece) exchanges mid requests pieces steps after))
-AreHeadlineSteps s earlier exchanges before _ _ _ after = ⊥
+-- Where equal questions get equal outcomes (a table tells every exchange of the run), no chain needs a ninth question (in the whole run) and
+-- intermediate records are not preserved, every reply is the cacheless resolver's.
+abbrev pub AreAsWithoutCache : Settings → List Stage → Type 0
+AreAsWithoutCache s stages =
+    (table : TableValue) → s.preserve_intermediates ≡ false → IsTable table → TellsAll table (exchanges_of stages)
+    → AllByRecursion (λ stage. AllByRecursion (HasMeaning table) stage.parts) stages
+    → AllByRecursion (IsAsWithoutCache table s) stages
 
--- moments never go back
-abbrev pub NeverGoBack : ℕ → List RequestValue → Type 0
+-- the moments of steps never go back
+abbrev pub NeverGoBack : ℕ → List StepValue → Type 0
 NeverGoBack now [] = Unit {0}
-NeverGoBack now (request ∷ requests) = (now ≤ moment_of request) × NeverGoBack (moment_of request) requests
+NeverGoBack now (step ∷ steps) = (now ≤ step.now) × NeverGoBack step.now steps
 
 -- From a new resolver, over every run whose moments never go back, each attempt at one name and type sends at most eight questions; where the
 -- asked type's least TTL is zero, no upstream answer record of that type outlives its received TTL cut at the maximum; and where equal questions
@@ -143,5 +146,5 @@ NeverGoBack now (request ∷ requests) = (now ≤ moment_of request) × NeverGoB
 -- deadlines and headers aside.
 abbrev pub Headline : Settings → CacheValue → List RequestValue → List StepValue → List Exchange → CacheValue → Type 0
 Headline s empty requests steps exchanges after =
-    empty.entries ≡ [] → NeverGoBack 0 requests
-    → (pieces : List (List Exchange)) × (flat_map (λ piece. piece) pieces ≡ exchanges) × AreHeadlineSteps s [] exchanges empty requests pieces steps after
+    empty.entries ≡ [] → NeverGoBack 0 steps
+    → (run : Run s empty requests steps exchanges after) × AllByRecursion AsksFew run.stages × NothingOutlives [] run.stages × AreAsWithoutCache s run.stages
