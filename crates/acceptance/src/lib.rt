@@ -1,6 +1,8 @@
-//! Tests that cross crates: whole scripts, and the text that a run of each makes.
+//! Tests that cross crates: clients over handles, whole scripts, and the text that a run of each makes.
 #![tactic(auto)]
 
+#[cfg(test)]
+mod clients;
 #[cfg(test)]
 mod faults;
 #[cfg(test)]
