@@ -1,21 +1,23 @@
 -- The facts that are to stand on the client's look-up and on the run, each by its name.
-use Rattle.std.specs.Prelude.{◌≡◌, ◌⊎◌, ◌≤◌, ℕ, ◌+◌, Bool, true, false, List, [], ◌∷◌, ◌++◌, length, flat_map, None, Ok, Err}
+use Rattle.std.specs.Prelude.{◌≡◌, ◌⊎◌, ◌≤◌, ℕ, ◌+◌, Bool, true, false, List, [], ◌∷◌, ◌++◌, length, None, Ok, Err}
 use Rattle.std.specs.List.{AllByRecursion}
 use Rattle.hickory_proto_core.specs.Codes.{type_code}
 use Rattle.hickory_proto_core.specs.Records.{RecordValue}
 use Rattle.hickory_proto_core.specs.Classes.{record_type_code}
 use Rattle.hickory_proto_core.specs.Table.{TableValue}
 use Rattle.hickory_proto_core.specs.declared.query.Query.{Query}
+use Rattle.hickory_proto_core.specs.declared.dns_request.DnsRequestOptions.{DnsRequestOptions}
 use Rattle.hickory_proto_core.specs.declared.recorded.Exchange.{Exchange}
 use Rattle.hickory_proto_core.specs.declared.net_error.NetError.TheVariants.{OutOfMemory}
 use Rattle.hickory_resolver_model.specs.Bounds.{ConfigValue, bounds_for, positive_bounds}
 use Rattle.hickory_resolver_model.specs.Cache.{CacheValue, Entry}
-use Rattle.hickory_proto_core.specs.Handles.{OutcomeValue}
+use Rattle.hickory_proto_core.specs.Handles.{OutcomeValue, Step, Leads}
 use Rattle.hickory_resolver_model.specs.Lookup.{Reply}
 use Rattle.hickory_resolver_model.specs.Hops.{Start, IsReply}
+use Rattle.hickory_resolver_model.specs.Client.{ClientValue, start_of}
 use Rattle.hickory_resolver_model.specs.Hosts.{IsStatic}
 use Rattle.hickory_resolver_model.specs.Calls.{Part, PartRelation, Setting, Client, IsStaticPart}
-use Rattle.hickory_resolver_model.specs.Run.{Settings, setting_at, RequestValue, moment_of, StepValue, Answered, LookedUp, Cleared, ends_run, IsServed, Stage, exchanges_of, Run}
+use Rattle.hickory_resolver_model.specs.Run.{Settings, setting_at, RequestValue, StepValue, Answered, LookedUp, Cleared, ends_run, IsServed, Stage, exchanges_of, Run}
 use Rattle.hickory_resolver_model.specs.Cacheless.{IsTable, Means, TellsAll}
 use Rattle.hickory_resolver_model.specs.Core.{Core, core, stored_core}
 use Rattle.hickory_resolver_model.specs.Covered.{Dated, dated, IsCovered, IsLoopback}
@@ -75,13 +77,18 @@ IsTransparent s question asks result after =
     → (reply : Core) (n : ℕ) → Means table question reply n → n ≤ 8
     → ((result ≡ Err OutOfMemory) ⊎ (core result ≡ reply)) × AreMeant table after
 
--- ---- a look-up of the client, whole: its hops, and the two facts about them
+-- ---- a look-up of the client, whole
 
-pub record IsWholeLookup (s : Start) (question : Query) (asks : List Exchange) (result : Reply) (after : CacheValue) : Type 0 where
-  pub reply : IsReply s question asks result after
+-- The exchanges that it made led the handle, each with these options, and there are eight at most; the reply and the cache after it are those
+-- of the hops; and the two facts above hold of it.
+pub record IsWholeLookup {H : Type 0} (step : Step H) (options : DnsRequestOptions) (now : ℕ) (before : ClientValue H) (question : Query) (result : Reply) (after : ClientValue H) : Type 0 where
+  pub asks : List Exchange
+  pub led : Leads step options before.handle asks after.handle
   pub few : length asks ≤ 8
-  pub fresh : IsFresh s question asks result after
-  pub transparent : IsTransparent s question asks result after
+  pub reply : IsReply (start_of before now) question asks result after.cache
+  pub fresh : IsFresh (start_of before now) question asks result after.cache
+  pub transparent : IsTransparent (start_of before now) question asks result after.cache
+  pub option_stays : after.preserve_intermediates ≡ before.preserve_intermediates
 
 -- ---- the headline, of a run
 
