@@ -20,7 +20,7 @@ use Rattle.hickory_resolver_model.specs.Calls.{Part, PartRelation, Setting, Clie
 use Rattle.hickory_resolver_model.specs.Run.{Settings, setting_at, RequestValue, StepValue, Answered, LookedUp, Cleared, ends_run, IsServed, Stage, exchanges_of, Run}
 use Rattle.hickory_resolver_model.specs.Cacheless.{IsTable, Means, TellsAll}
 use Rattle.hickory_resolver_model.specs.Core.{Core, core, stored_core}
-use Rattle.hickory_resolver_model.specs.Covered.{Dated, dated, IsCovered, IsLoopback}
+use Rattle.hickory_resolver_model.specs.Covered.{Dated, dated, IsCovered, IsLoopback, greatest_ttl}
 
 -- ---- provenance: no record of the asked type outlives what was received (RFC 2181, section 8)
 
@@ -28,10 +28,12 @@ use Rattle.hickory_resolver_model.specs.Covered.{Dated, dated, IsCovered, IsLoop
 abbrev pub HasNoLeast : ConfigValue → ℕ → Type 0
 HasNoLeast config code = (positive_bounds (bounds_for config code)).0 ≡ 0
 
--- a record of the asked type among the answers, given at a moment by what may be used up to a deadline: it is a loopback record, or it
--- is covered and the deadline is not past the moment and its TTL
+-- a record of the asked type among the answers, given at a moment by what may be used up to a deadline: it is a loopback record; or it is
+-- covered, its TTL is at most the greatest, and the deadline is not past the moment and its TTL
 abbrev pub IsFreshRecord : ConfigValue → List Dated → ℕ → ℕ → ℕ → RecordValue → Type 0
-IsFreshRecord config sources code now deadline r = record_type_code r ≡ code → IsLoopback r ⊎ (IsCovered config sources now r × (deadline ≤ now + r.ttl))
+IsFreshRecord config sources code now deadline r =
+    record_type_code r ≡ code
+    → IsLoopback r ⊎ (IsCovered config sources now r × (r.ttl ≤ greatest_ttl config code) × (deadline ≤ now + r.ttl))
 
 abbrev pub AreFreshRecords : ConfigValue → List Dated → ℕ → ℕ → ℕ → List RecordValue → Type 0
 AreFreshRecords config sources code now deadline rs = AllByRecursion (IsFreshRecord config sources code now deadline) rs

@@ -1,0 +1,6 @@
+pub mod Covers
+pub mod Few
+pub mod Fresh
+pub mod Lists
+pub mod Stores
+pub mod Verdicts
