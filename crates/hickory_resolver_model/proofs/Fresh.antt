@@ -99,11 +99,11 @@ hit-fresh config sources q now e (Err error) own live zero fresh = tt
 
 -- ---- accepted responses
 
-abbrev Same : OutcomeValue → OutcomeValue → Type 0
+abbrev pub Same : OutcomeValue → OutcomeValue → Type 0
 Same a b = a ≡ b
 
 -- an answer is a response
-class-answer : (outcome : OutcomeValue) (response : MessageValue) → class_of outcome ≡ Answer response → outcome ≡ Ok response
+pub class-answer : (outcome : OutcomeValue) (response : MessageValue) → class_of outcome ≡ Answer response → outcome ≡ Ok response
 class-answer (Ok m) response h = by ((code == 0) || (code == 3)) (m.metadata.truncation || contains_answer m) h
   where
     code : ℕ

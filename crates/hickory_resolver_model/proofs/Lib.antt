@@ -1,8 +1,13 @@
 pub mod Chains
 pub mod Covers
 pub mod Few
+pub mod Folding
 pub mod Fresh
+pub mod Headlines
 pub mod Lists
+pub mod Meanings
+pub mod Responses
 pub mod Runs
 pub mod Stores
+pub mod Transparent
 pub mod Verdicts

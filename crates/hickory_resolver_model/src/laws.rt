@@ -1,5 +1,5 @@
 //! Laws of the definitions.
-ghost use Rattle.std.specs.Prelude.{◌≡◌, List, [], length, ◌≤◌};
+ghost use Rattle.std.specs.Prelude.{List, length, ◌≤◌};
 ghost use Rattle.hickory_proto_core.specs.Name.{NameValue};
 ghost use Rattle.hickory_proto_core.specs.Records.{RecordValue};
 ghost use Rattle.hickory_proto_core.specs.declared.query.Query.{Query};
@@ -10,8 +10,7 @@ ghost use Rattle.hickory_resolver_model.specs.Cache.{CacheValue};
 ghost use Rattle.hickory_resolver_model.specs.Hops.{Start, IsReply};
 ghost use Rattle.hickory_resolver_model.specs.Lookup.{Reply};
 ghost use Rattle.hickory_resolver_model.specs.Run.{Settings, RequestValue, StepValue, Run};
-ghost use Rattle.hickory_resolver_model.specs.Statements.{IsFresh, AsksFew, NothingOutlives};
-ghost use Rattle.std.specs.List.{AllByRecursion};
+ghost use Rattle.hickory_resolver_model.specs.Statements.{IsFresh, IsTransparent, Headline};
 ghost use Rattle.hickory_resolver_model.specs.WalkLaws.{IsOneWalk};
 
 /// There is exactly one walk along the aliases among answers.
@@ -35,8 +34,13 @@ pub fn nothing_outlives()
     ensures { (s : Start) (question : Query) (asks : List Exchange) (result : Reply) (after : CacheValue) → IsReply s question asks result after → IsFresh s question asks result after }
 {}
 
-/// The first two clauses of the headline, of every run from a cache without entries: each attempt at one name and type
-/// sends at most eight questions, and nothing outlives what was received.
-pub fn runs_are_short_and_fresh()
-    ensures { (s : Settings) (empty : CacheValue) (requests : List RequestValue) (steps : List StepValue) (exchanges : List Exchange) (after : CacheValue) → empty.entries ≡ [] → (run : Run s empty requests steps exchanges after) → AllByRecursion AsksFew run.stages × NothingOutlives [] run.stages }
+/// A look-up that is what the hops say is transparent: under every table that tells its exchanges it comes to what its
+/// question means without a cache, and so does every entry that it leaves.
+pub fn a_cache_changes_no_answer()
+    ensures { (s : Start) (question : Query) (asks : List Exchange) (result : Reply) (after : CacheValue) → IsReply s question asks result after → IsTransparent s question asks result after }
+{}
+
+/// The headline holds of every run, whatever the requests and whatever came back.
+pub fn headline()
+    ensures { (s : Settings) (empty : CacheValue) (requests : List RequestValue) (steps : List StepValue) (exchanges : List Exchange) (after : CacheValue) → Run s empty requests steps exchanges after → Headline s empty requests steps exchanges after }
 {}
