@@ -18,3 +18,4 @@ pub mod Verdict
 pub mod WalkLaws
 pub mod Worked
 pub mod WorkedLoop
+pub mod WorkedRun

@@ -1,7 +1,7 @@
 //! Worked cases of the definitions.
-ghost use Rattle.hickory_resolver_model.specs.Statements.{Headline};
 ghost use Rattle.hickory_resolver_model.specs.Worked.{EvictionCases, LifetimeCases, AttemptCases, SpecialCases, AliasCases};
 ghost use Rattle.hickory_resolver_model.specs.WorkedLoop.{LoopCases};
+ghost use Rattle.hickory_resolver_model.specs.WorkedRun.{RunCases};
 
 /// What the definitions say of small caches, bounds, names and messages.
 pub fn worked_cases()
@@ -11,4 +11,5 @@ pub fn worked_cases()
     ensures special { SpecialCases }
     ensures aliases { AliasCases }
     ensures loops { LoopCases }
+    ensures runs { RunCases }
 {}

@@ -1,5 +1,6 @@
 use Rattle.hickory_resolver_model.specs.Worked.{eviction_cases, lifetime_cases, attempt_cases, special_cases, alias_cases}
 use Rattle.hickory_resolver_model.specs.WorkedLoop.{loop_cases}
+use Rattle.hickory_resolver_model.specs.WorkedRun.{run_cases}
 use Rattle.hickory_resolver_model.proofs.worked.worked_cases.Goals as goal
 
 pub returns : goal.returns
@@ -10,4 +11,5 @@ returns c = record {
   special = special_cases;
   aliases = alias_cases;
   loops = loop_cases;
+  runs = run_cases;
 }
