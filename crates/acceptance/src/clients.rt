@@ -3,6 +3,7 @@ use hickory_proto_core::dns_handle::Outcome;
 use hickory_proto_core::{
     DnsError, DnsHandle, DnsRequest, DnsRequestOptions, DnsResponse, Message, Name, NetError,
     NoRecords, OpCode, Query, RData, Record, RecordType, Recorded, ResponseCode, ScriptHandle,
+    TableHandle,
 };
 use hickory_resolver::{CachingClient, Lookup, ResponseCache, TtlBounds, TtlConfig};
 use std::alloc::Global;
@@ -178,6 +179,33 @@ fn the_last_moment_has_no_end(rt: HostRuntime) -> Result<(), Fail> {
         assert_eq!(rt; life(&mut client, query, last), Some((5, last)));
         check_sent(&rt, &client, 1, 1);
     }
+    Ok(())
+}
+
+// As a test rig hands them in: the last outcome of a question counts, whatever the case of its name.
+#[test]
+fn a_table_holds_many_outcomes(rt: HostRuntime) -> Result<(), Fail> {
+    let mut outcomes = Vec::new(rt.alloc());
+    for i in 0..100_000_u32 {
+        let text = format!(in rt.alloc(); "n{i}.")?;
+        outcomes.push((question(rt.alloc(), text.as_str())?, Err(NetError::Timeout)))?;
+    }
+    outcomes.push((
+        question(rt.alloc(), "N7.")?,
+        address(rt.alloc(), "n7.", 30)?,
+    ))?;
+    let table = TableHandle::new(rt.alloc(), outcomes)?;
+    let mut client = CachingClient::new(rt.alloc(), 8, table, false);
+    let options = DnsRequestOptions::default();
+    let (last, first) = (
+        question(rt.alloc(), "n99999.")?,
+        question(rt.alloc(), "n7.")?,
+    );
+    let unknown = question(rt.alloc(), "n100000.")?;
+    assert!(rt; matches!(client.lookup(last, options, 0), Err(NetError::Timeout)));
+    assert!(rt; matches!(client.lookup(unknown, options, 0), Err(NetError::NoOutcome)));
+    let found = client.lookup(first, options, 0)?;
+    assert_eq!(rt; found.valid_until(), 30);
     Ok(())
 }
 
