@@ -119,15 +119,12 @@ outcome-same p q table e = ap (λ f. lookup f table) (λ i x. query_eq-same p q 
 
 -- ---- a hop without preserved records
 
-sections-clamped : (config : ConfigValue) (m : MessageValue) → sections (clamped config m) ≡ sections m
+pub sections-clamped : (config : ConfigValue) (m : MessageValue) → sections (clamped config m) ≡ sections m
 sections-clamped config m =
     let a = map-map record_core (clamped_record config) record_core (λ r. refl) m.answers in
     let b = map-map record_core (clamped_record config) record_core (λ r. refl) m.authorities in
     let c = map-map record_core (clamped_record config) record_core (λ r. refl) m.additionals in
     λ i. record { answers = a i; authorities = b i; additionals = c i }
-
-pub stored-clamped : (config : ConfigValue) (m : MessageValue) → sections (clamped config m) ≡ sections m
-stored-clamped = sections-clamped
 
 -- a hop passes to a next one, or its result ends the look-up
 pub record GoesOnTo (s : Start) (hop : Hop) (c : Class) : Type 0 where

@@ -28,7 +28,7 @@ use Rattle.hickory_resolver_model.proofs.Folding.{map-map, query-same}
 use Rattle.hickory_resolver_model.proofs.Verdicts.{passed}
 use Rattle.hickory_resolver_model.proofs.Fresh.{class-answer}
 use Rattle.hickory_resolver_model.proofs.Responses.{Ends, GoesOn, next_outcome, next-same}
-use Rattle.hickory_resolver_model.proofs.Meanings.{IsSomeCore, special-none, special-some, stored-clamped, GoesOnTo, EndsWith, hop-next, BySpecial, ByOutcome, ByAlias, means-cases, means-some, means-same, means-one}
+use Rattle.hickory_resolver_model.proofs.Meanings.{IsSomeCore, special-none, special-some, sections-clamped, GoesOnTo, EndsWith, hop-next, BySpecial, ByOutcome, ByAlias, means-cases, means-some, means-same, means-one}
 
 -- ---- aging changes TTLs alone
 
@@ -237,7 +237,7 @@ StoresMeant table s = (s.outcome ≡ Err OutOfMemory) ⊎ ((k : ℕ) × Means ta
 store-meant : (table : TableValue) (cache : CacheValue) (now : ℕ) (q : Query) (outcome : OutcomeValue) → AreMeant table cache → StoresMeant table (record { query = q; outcome = outcome }) → AreMeant table (store cache q outcome now)
 store-meant table cache now q (Ok m) meant (inl e) = let clash : Ok m ≡ Err OutOfMemory = e in cc
 store-meant table cache now q (Ok m) meant (inr (k, means)) =
-    put-all (IsMeant table) cache.capacity cache.entries (positive_entry cache.config q m now) meant (k, subst (λ c. Means table q (Ok c) k) (sym (stored-clamped cache.config m)) means)
+    put-all (IsMeant table) cache.capacity cache.entries (positive_entry cache.config q m now) meant (k, subst (λ c. Means table q (Ok c) k) (sym (sections-clamped cache.config m)) means)
 store-meant table cache now q (Err (Dns (NoRecordsFound n))) meant (inl e) = let clash : Err (Dns (NoRecordsFound n)) ≡ Err OutOfMemory = e in cc
 store-meant table cache now q (Err (Dns (NoRecordsFound n))) meant (inr means) = put-all (IsMeant table) cache.capacity cache.entries (negative_entry cache.config q n now) meant means
 store-meant table cache now q (Err (Dns (ResponseCode code))) meant is = meant
@@ -260,7 +260,7 @@ last-stored s table hop (Asked outcome) r n means is = by (class_of outcome) is
   where
     on : (m : MessageValue) (v : Verdict) → IsOutOr (verdict_result s.cache.config hop.query s.now m v) r → AllByRecursion (StoresMeant table) (verdict_stores hop.query v)
     on m (Found f) (inl e) = cc
-    on m (Found f) (inr e) = (inr (n, subst (λ c. Means table hop.query c n) (sym e ∙ ap Ok (stored-clamped s.cache.config f)) means), tt)
+    on m (Found f) (inr e) = (inr (n, subst (λ c. Means table hop.query c n) (sym e ∙ ap Ok (sections-clamped s.cache.config f)) means), tt)
     on m (Alias next) k = tt
     on m Nothing k = tt
 
