@@ -1,13 +1,1 @@
-pub mod AddressTexts
-pub mod ArpaLabels
-pub mod ArpaMade
-pub mod ArpaNames
-pub mod ArpaNets
-pub mod DataEq
-pub mod Forwards
-pub mod Labels
-pub mod NameOnce
-pub mod NameParts
-pub mod NamePrinting
-pub mod NameReading
 pub mod Tables

@@ -5,10 +5,10 @@ use Rattle.hickory_proto_core.specs.Messages.{MessageValue, some_record}
 use Rattle.hickory_proto_core.specs.Errors.{NoRecordsValue}
 use Rattle.hickory_proto_core.specs.Handles.{OutcomeValue}
 use Rattle.hickory_proto_core.specs.Classes.{Class, Answer, Negative, Failed, class_of, negative_of}
-use Rattle.hickory_proto_core.specs.declared.query.Query.{Query}
-use Rattle.hickory_proto_core.specs.declared.response_code.ResponseCode.{ResponseCode as Code}
-use Rattle.hickory_proto_core.specs.declared.net_error.NetError.TheVariants.{Message, Timeout, Proto, Dns, NoOutcome, Bounds, OutOfMemory}
-use Rattle.hickory_proto_core.specs.declared.net_error.DnsError.TheVariants.{ResponseCode, NoRecordsFound}
+use Rattle.hickory_proto_core.specs.records.query.Query.{Query}
+use Rattle.hickory_proto_core.specs.codes.response_code.ResponseCode.{ResponseCode as Code}
+use Rattle.hickory_proto_core.specs.records.net_error.NetError.TheVariants.{Message, Timeout, Proto, Dns, NoOutcome, Bounds, OutOfMemory}
+use Rattle.hickory_proto_core.specs.records.net_error.DnsError.TheVariants.{ResponseCode, NoRecordsFound}
 use Rattle.hickory_resolver_model.specs.Cache.{CacheValue, Entry, current, aged, IsGot}
 use Rattle.hickory_resolver_model.specs.Lookup.{Reply}
 use Rattle.std.proofs.Math.Bool.{and-true}

@@ -8,13 +8,12 @@ ghost use Rattle.hickory_resolver_model.specs.Hops.{no_match, hit_result};
 ghost use Rattle.hickory_resolver_model.specs.Client.{ClientValue, IsLookup, start_of, KeepsHandle, empty_cache};
 ghost use Rattle.hickory_resolver.specs.Settled.{IsSettled, NeverFailsNegative, is_direct_match};
 
-use crate::cache::ResponseCache;
-use crate::lookup::Lookup;
-use crate::ttl_config::TtlConfig;
 use hickory_proto_core::{
     DnsError, DnsHandle, DnsRequest, DnsRequestOptions, DnsResponse, Message, NetError, NoRecords,
     Query, Record, RecordType,
 };
+use hickory_resolver_cache::ResponseCache;
+use hickory_resolver_lookup::{Lookup, TtlConfig};
 use std::alloc::Global;
 use std::marker::Model;
 

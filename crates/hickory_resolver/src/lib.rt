@@ -4,11 +4,7 @@
 pub mod cache;
 pub mod caching_client;
 pub mod lookup;
-pub mod ttl_bounds;
-pub mod ttl_config;
 
-pub use cache::ResponseCache;
+pub use cache::{MAX_TTL, ResponseCache, TtlBounds, TtlConfig};
 pub use caching_client::CachingClient;
 pub use lookup::Lookup;
-pub use ttl_bounds::{MAX_TTL, TtlBounds};
-pub use ttl_config::TtlConfig;

@@ -9,9 +9,9 @@ use Rattle.hickory_proto_core.specs.Records.{RecordValue}
 use Rattle.hickory_proto_core.specs.Messages.{MessageValue}
 use Rattle.hickory_proto_core.specs.Errors.{NoRecordsValue}
 use Rattle.hickory_proto_core.specs.Classes.{record_type_code}
-use Rattle.hickory_proto_core.specs.declared.query.Query.{Query}
-use Rattle.hickory_proto_core.specs.declared.error.BoundsError.{BoundsError}
-use Rattle.hickory_proto_core.specs.declared.error.BoundsError.TheVariants.{PositiveReversed, NegativeReversed}
+use Rattle.hickory_proto_core.specs.records.query.Query.{Query}
+use Rattle.hickory_proto_core.specs.records.bounds_error.BoundsError.{BoundsError}
+use Rattle.hickory_proto_core.specs.records.bounds_error.BoundsError.TheVariants.{PositiveReversed, NegativeReversed}
 
 -- bounds as they are given: each may be left out
 pub record BoundsValue : Type 0 where

@@ -3,11 +3,11 @@ use Rattle.std.specs.Prelude.{◌≡◌, ◌⊎◌, ℕ, Bool, true, false, ◌|
 use Rattle.hickory_proto_core.specs.Name.{NameValue}
 use Rattle.hickory_proto_core.specs.Query.{root_query}
 use Rattle.hickory_proto_core.specs.Records.{DataValue, RecordValue}
-use Rattle.hickory_proto_core.specs.declared.query.Query.{Query}
-use Rattle.hickory_proto_core.specs.declared.record_type.RecordType.{RecordType}
-use Rattle.hickory_proto_core.specs.declared.dns_class.DNSClass.TheVariants as class
+use Rattle.hickory_proto_core.specs.records.query.Query.{Query}
+use Rattle.hickory_proto_core.specs.codes.record_type.RecordType.{RecordType}
+use Rattle.hickory_proto_core.specs.codes.dns_class.DNSClass.TheVariants as class
 use Rattle.hickory_proto_core.specs.declared.recorded.Exchange.{Exchange}
-use Rattle.hickory_proto_core.specs.declared.net_error.NetError.TheVariants.{OutOfMemory}
+use Rattle.hickory_proto_core.specs.records.net_error.NetError.TheVariants.{OutOfMemory}
 use Rattle.hickory_resolver_model.specs.Bounds.{day}
 use Rattle.hickory_resolver_model.specs.Cache.{CacheValue, saturating_sum}
 use Rattle.hickory_resolver_model.specs.Lookup.{LookupValue, Reply}

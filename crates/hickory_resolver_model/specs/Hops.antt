@@ -4,11 +4,11 @@ use Rattle.std.specs.Prelude.{◌≡◌, ◌⊎◌, ◌≤◌, ℕ, Bool, List, 
 use Rattle.hickory_proto_core.specs.Messages.{MessageValue}
 use Rattle.hickory_proto_core.specs.Handles.{OutcomeValue}
 use Rattle.hickory_proto_core.specs.Classes.{Class, Answer, Negative, Failed, class_of, first_soa, negative_ttl_of}
-use Rattle.hickory_proto_core.specs.declared.query.Query.{Query}
+use Rattle.hickory_proto_core.specs.records.query.Query.{Query}
 use Rattle.hickory_proto_core.specs.declared.recorded.Exchange.{Exchange}
-use Rattle.hickory_proto_core.specs.declared.net_error.NetError.{NetError}
-use Rattle.hickory_proto_core.specs.declared.net_error.NetError.TheVariants.{Dns, OutOfMemory}
-use Rattle.hickory_proto_core.specs.declared.net_error.DnsError.TheVariants.{NoRecordsFound}
+use Rattle.hickory_proto_core.specs.records.net_error.NetError.{NetError}
+use Rattle.hickory_proto_core.specs.records.net_error.NetError.TheVariants.{Dns, OutOfMemory}
+use Rattle.hickory_proto_core.specs.records.net_error.DnsError.TheVariants.{NoRecordsFound}
 use Rattle.hickory_resolver_model.specs.Bounds.{ConfigValue}
 use Rattle.hickory_resolver_model.specs.Cache.{CacheValue, Entry, current, aged, store}
 use Rattle.hickory_resolver_model.specs.Lookup.{Reply, hit_lookup, found_lookup}

@@ -9,15 +9,15 @@ use Rattle.hickory_proto_core.specs.Name.{NameValue, name_eq}
 use Rattle.hickory_proto_core.specs.NameText.{Spells}
 use Rattle.hickory_proto_core.specs.Addresses.{IsAddressText}
 use Rattle.hickory_proto_core.specs.Arpa.{IsArpaNameOf}
-use Rattle.hickory_proto_core.specs.declared.ip.IpNet.{IpNet}
+use Rattle.hickory_proto_core.specs.names.ip.IpNet.{IpNet}
 use Rattle.std.specs.declared.net.IpAddr.{IpAddr}
 use Rattle.hickory_proto_core.specs.Codes.{type_code}
 use Rattle.hickory_proto_core.specs.Records.{RecordValue, DataValue, a_data, ptr_data, data_eq, data_of_address}
 use Rattle.hickory_proto_core.specs.Messages.{MessageValue}
-use Rattle.hickory_proto_core.specs.declared.query.Query.{Query}
-use Rattle.hickory_proto_core.specs.declared.record_type.RecordType.{RecordType}
-use Rattle.hickory_proto_core.specs.declared.record_type.RecordType.TheVariants as type
-use Rattle.hickory_proto_core.specs.declared.dns_class.DNSClass.TheVariants as class
+use Rattle.hickory_proto_core.specs.records.query.Query.{Query}
+use Rattle.hickory_proto_core.specs.codes.record_type.RecordType.{RecordType}
+use Rattle.hickory_proto_core.specs.codes.record_type.RecordType.TheVariants as type
+use Rattle.hickory_proto_core.specs.codes.dns_class.DNSClass.TheVariants as class
 use Rattle.hickory_resolver_model.specs.Bounds.{day}
 use Rattle.hickory_resolver_model.specs.Cache.{saturating_sum}
 use Rattle.hickory_resolver_model.specs.Lookup.{LookupValue}

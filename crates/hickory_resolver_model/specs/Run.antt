@@ -6,13 +6,13 @@ use Rattle.hickory_proto_core.specs.NetErrors.{net_error_of}
 use Rattle.hickory_proto_core.specs.Addresses.{IsAddressText}
 use Rattle.hickory_proto_core.specs.Records.{data_type, data_of_address}
 use Rattle.hickory_proto_core.specs.Handles.{Step, Leads}
-use Rattle.hickory_proto_core.specs.declared.record_type.RecordType.{RecordType}
-use Rattle.hickory_proto_core.specs.declared.record_type.RecordType.TheVariants as type
+use Rattle.hickory_proto_core.specs.codes.record_type.RecordType.{RecordType}
+use Rattle.hickory_proto_core.specs.codes.record_type.RecordType.TheVariants as type
 use Rattle.hickory_proto_core.specs.declared.dns_request.DnsRequestOptions.{DnsRequestOptions}
 use Rattle.hickory_proto_core.specs.declared.recorded.Exchange.{Exchange}
-use Rattle.hickory_proto_core.specs.declared.error.NameError.{NameError}
-use Rattle.hickory_proto_core.specs.declared.net_error.NetError.{NetError}
-use Rattle.hickory_proto_core.specs.declared.net_error.NetError.TheVariants.{OutOfMemory}
+use Rattle.hickory_proto_core.specs.names.name_error.NameError.{NameError}
+use Rattle.hickory_proto_core.specs.records.net_error.NetError.{NetError}
+use Rattle.hickory_proto_core.specs.records.net_error.NetError.TheVariants.{OutOfMemory}
 use Rattle.std.specs.declared.net.IpAddr.{IpAddr}
 use Rattle.hickory_resolver_model.specs.Cache.{CacheValue, drop_query}
 use Rattle.hickory_resolver_model.specs.Lookup.{LookupValue, Reply}

@@ -7,14 +7,14 @@ use Rattle.hickory_proto_core.specs.Name.{NameValue, is_zone_of, localhost}
 use Rattle.hickory_proto_core.specs.Codes.{type_code, class_code}
 use Rattle.hickory_proto_core.specs.Records.{RecordValue, DataValue, a_data, aaaa_data, ptr_data}
 use Rattle.hickory_proto_core.specs.Messages.{MessageValue, response_metadata}
-use Rattle.hickory_proto_core.specs.declared.query.Query.{Query}
-use Rattle.hickory_proto_core.specs.declared.dns_class.DNSClass.TheVariants as class
-use Rattle.hickory_proto_core.specs.declared.op_code.OpCode.TheVariants as op
-use Rattle.hickory_proto_core.specs.declared.response_code.ResponseCode.{ResponseCode}
-use Rattle.hickory_proto_core.specs.declared.response_code.ResponseCode.TheVariants.{NoError, NXDomain}
-use Rattle.hickory_proto_core.specs.declared.net_error.NetError.{NetError}
-use Rattle.hickory_proto_core.specs.declared.net_error.NetError.TheVariants.{Dns}
-use Rattle.hickory_proto_core.specs.declared.net_error.DnsError.TheVariants.{NoRecordsFound}
+use Rattle.hickory_proto_core.specs.records.query.Query.{Query}
+use Rattle.hickory_proto_core.specs.codes.dns_class.DNSClass.TheVariants as class
+use Rattle.hickory_proto_core.specs.codes.op_code.OpCode.TheVariants as op
+use Rattle.hickory_proto_core.specs.codes.response_code.ResponseCode.{ResponseCode}
+use Rattle.hickory_proto_core.specs.codes.response_code.ResponseCode.TheVariants.{NoError, NXDomain}
+use Rattle.hickory_proto_core.specs.records.net_error.NetError.{NetError}
+use Rattle.hickory_proto_core.specs.records.net_error.NetError.TheVariants.{Dns}
+use Rattle.hickory_proto_core.specs.records.net_error.DnsError.TheVariants.{NoRecordsFound}
 use Rattle.hickory_resolver_model.specs.Bounds.{day}
 use Rattle.hickory_resolver_model.specs.Cache.{saturating_sum}
 use Rattle.hickory_resolver_model.specs.Lookup.{LookupValue, Reply}

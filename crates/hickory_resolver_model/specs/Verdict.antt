@@ -6,8 +6,8 @@ use Rattle.hickory_proto_core.specs.Codes.{type_code, class_code}
 use Rattle.hickory_proto_core.specs.Records.{RecordValue}
 use Rattle.hickory_proto_core.specs.Messages.{MessageValue, some_record}
 use Rattle.hickory_proto_core.specs.Classes.{is_any, record_type_code}
-use Rattle.hickory_proto_core.specs.declared.query.Query.{Query}
-use Rattle.hickory_proto_core.specs.declared.dns_class.DNSClass.TheVariants as class
+use Rattle.hickory_proto_core.specs.records.query.Query.{Query}
+use Rattle.hickory_proto_core.specs.codes.dns_class.DNSClass.TheVariants as class
 use Rattle.hickory_resolver_model.specs.AliasWalk.{Walk, walk_of}
 
 -- a question on the way of a look-up, and the records that were preserved before it

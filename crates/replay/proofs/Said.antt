@@ -5,8 +5,8 @@ use Rattle.std.specs.Option.{is_some}
 use Rattle.hickory_proto_core.specs.Handles.{OutcomeValue}
 use Rattle.hickory_proto_core.specs.Messages.{MessageValue}
 use Rattle.hickory_proto_core.specs.Records.{RecordValue}
-use Rattle.hickory_proto_core.specs.declared.query.Query.{Query}
-use Rattle.hickory_proto_core.specs.declared.response_code.ResponseCode.{ResponseCode}
+use Rattle.hickory_proto_core.specs.records.query.Query.{Query}
+use Rattle.hickory_proto_core.specs.codes.response_code.ResponseCode.{ResponseCode}
 use Rattle.replay.specs.Requests.{RequestValue}
 use Rattle.replay.specs.Scripts.{answers_of, outcomes_of, requests_of, has_reply, latest_from, response_value}
 use Rattle.replay.specs.Readers.{ReaderValue, Keeps, opened, answered}

@@ -5,10 +5,10 @@ use Rattle.hickory_proto_core.specs.Name.{NameValue}
 use Rattle.hickory_proto_core.specs.NameDecided.{text_name}
 use Rattle.hickory_proto_core.specs.Handles.{OutcomeValue, ScriptStep}
 use Rattle.hickory_proto_core.specs.Recorded.{RecordedStep, recorded_leads}
-use Rattle.hickory_proto_core.specs.declared.query.Query.{Query}
-use Rattle.hickory_proto_core.specs.declared.dns_class.DNSClass.TheVariants as class
-use Rattle.hickory_proto_core.specs.declared.error.NameError.{NameError}
-use Rattle.hickory_proto_core.specs.declared.error.NameError.TheVariants as name_error
+use Rattle.hickory_proto_core.specs.records.query.Query.{Query}
+use Rattle.hickory_proto_core.specs.codes.dns_class.DNSClass.TheVariants as class
+use Rattle.hickory_proto_core.specs.names.name_error.NameError.{NameError}
+use Rattle.hickory_proto_core.specs.names.name_error.NameError.TheVariants as name_error
 use Rattle.hickory_proto_core.specs.declared.recorded.Exchange.{Exchange}
 use Rattle.hickory_resolver_model.specs.Client.{IsLookup}
 use Rattle.hickory_resolver_model.specs.Lookup.{Reply}

@@ -7,10 +7,10 @@ use Rattle.std.specs.List.{list_all}
 use Rattle.hickory_proto_core.specs.Name.{NameValue}
 use Rattle.hickory_proto_core.specs.Codes.{decimal_below, is_text, type_named, response_named}
 use Rattle.hickory_proto_core.specs.Records.{RecordValue}
-use Rattle.hickory_proto_core.specs.declared.query.Query.{Query}
-use Rattle.hickory_proto_core.specs.declared.record_type.RecordType.{RecordType}
-use Rattle.hickory_proto_core.specs.declared.dns_class.DNSClass.TheVariants as class
-use Rattle.hickory_proto_core.specs.declared.response_code.ResponseCode.{ResponseCode}
+use Rattle.hickory_proto_core.specs.records.query.Query.{Query}
+use Rattle.hickory_proto_core.specs.codes.record_type.RecordType.{RecordType}
+use Rattle.hickory_proto_core.specs.codes.dns_class.DNSClass.TheVariants as class
+use Rattle.hickory_proto_core.specs.codes.response_code.ResponseCode.{ResponseCode}
 use Rattle.replay.specs.Lines.{fields, is_skipped, is_allowed}
 use Rattle.replay.specs.Requests.{RequestValue}
 use Rattle.replay.specs.Script.{IsRead, IsSaid, IsAnswer, ◌>>=◌, name_field, reply_of, request_of, lookup_of, without_words, family_of, family_type}

@@ -1,6 +1,6 @@
 -- The fault that a text is which cannot be read.
-use Rattle.hickory_proto_core.specs.declared.error.NameError.{NameError}
-use Rattle.hickory_proto_core.specs.declared.error.NameError.TheVariants as name_error
+use Rattle.hickory_proto_core.specs.names.name_error.NameError.{NameError}
+use Rattle.hickory_proto_core.specs.names.name_error.NameError.TheVariants as name_error
 use Rattle.replay.specs.declared.fault.ScriptFault.{ScriptFault}
 use Rattle.replay.specs.declared.fault.ScriptFault.TheVariants.{BadName, OutOfMemory}
 

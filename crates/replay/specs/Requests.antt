@@ -1,6 +1,6 @@
 -- Requests as plain data.
 use Rattle.std.specs.Prelude.{ℕ, List}
-use Rattle.hickory_proto_core.specs.declared.record_type.RecordType.{RecordType}
+use Rattle.hickory_proto_core.specs.codes.record_type.RecordType.{RecordType}
 
 -- the moment at which it is asked, the bytes of the name as it is written, and the type
 pub record RequestValue : Type 0 where

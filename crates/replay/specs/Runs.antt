@@ -6,11 +6,11 @@ use Rattle.hickory_proto_core.specs.NameDecided.{text_name}
 use Rattle.hickory_proto_core.specs.Handles.{OutcomeValue, RecordedValue, ScriptStep}
 use Rattle.hickory_proto_core.specs.NetErrors.{net_error_of}
 use Rattle.hickory_proto_core.specs.Recorded.{RecordedStep}
-use Rattle.hickory_proto_core.specs.declared.query.Query.{Query}
+use Rattle.hickory_proto_core.specs.records.query.Query.{Query}
 use Rattle.hickory_proto_core.specs.declared.dns_request.DnsRequestOptions.{DnsRequestOptions}
-use Rattle.hickory_proto_core.specs.declared.dns_class.DNSClass.TheVariants as class
-use Rattle.hickory_proto_core.specs.declared.error.NameError.{NameError}
-use Rattle.hickory_proto_core.specs.declared.net_error.NetError.TheVariants.{OutOfMemory}
+use Rattle.hickory_proto_core.specs.codes.dns_class.DNSClass.TheVariants as class
+use Rattle.hickory_proto_core.specs.names.name_error.NameError.{NameError}
+use Rattle.hickory_proto_core.specs.records.net_error.NetError.TheVariants.{OutOfMemory}
 use Rattle.hickory_proto_core.specs.declared.recorded.Exchange.{Exchange}
 use Rattle.hickory_resolver_model.specs.Client.{ClientValue, IsLookup, empty_cache}
 use Rattle.hickory_resolver_model.specs.Lookup.{Reply}

@@ -11,11 +11,11 @@ use Rattle.hickory_proto_core.specs.Records.{DataValue, a_data, aaaa_data}
 use Rattle.std.specs.Net.Addr.{ipv4_octets, ipv6_segments}
 use Rattle.std.specs.declared.net.Ipv4Addr.{Ipv4Addr}
 use Rattle.std.specs.declared.net.Ipv6Addr.{Ipv6Addr}
-use Rattle.hickory_proto_core.specs.declared.error.NameError.{NameError}
-use Rattle.hickory_proto_core.specs.declared.record_type.RecordType.{RecordType}
-use Rattle.hickory_proto_core.specs.declared.record_type.RecordType.TheVariants as type
-use Rattle.hickory_proto_core.specs.declared.dns_class.DNSClass.{DNSClass}
-use Rattle.hickory_proto_core.specs.declared.dns_class.DNSClass.TheVariants as class
+use Rattle.hickory_proto_core.specs.names.name_error.NameError.{NameError}
+use Rattle.hickory_proto_core.specs.codes.record_type.RecordType.{RecordType}
+use Rattle.hickory_proto_core.specs.codes.record_type.RecordType.TheVariants as type
+use Rattle.hickory_proto_core.specs.codes.dns_class.DNSClass.{DNSClass}
+use Rattle.hickory_proto_core.specs.codes.dns_class.DNSClass.TheVariants as class
 use Rattle.replay.specs.Faults.{name_fault}
 use Rattle.replay.specs.Lines.{fields, is_skipped, is_allowed}
 use Rattle.replay.specs.declared.fault.ScriptFault.{ScriptFault}

@@ -4,9 +4,9 @@ use Rattle.std.specs.Str.Lines.{lines}
 use Rattle.hickory_proto_core.specs.Handles.{OutcomeValue}
 use Rattle.hickory_proto_core.specs.Messages.{MessageValue, response_metadata}
 use Rattle.hickory_proto_core.specs.Records.{RecordValue}
-use Rattle.hickory_proto_core.specs.declared.query.Query.{Query}
-use Rattle.hickory_proto_core.specs.declared.op_code.OpCode.TheVariants as op
-use Rattle.hickory_proto_core.specs.declared.response_code.ResponseCode.{ResponseCode}
+use Rattle.hickory_proto_core.specs.records.query.Query.{Query}
+use Rattle.hickory_proto_core.specs.codes.op_code.OpCode.TheVariants as op
+use Rattle.hickory_proto_core.specs.codes.response_code.ResponseCode.{ResponseCode}
 use Rattle.replay.specs.Requests.{RequestValue}
 use Rattle.replay.specs.Script.{IsRead}
 use Rattle.replay.specs.declared.fault.ScriptFault.{ScriptFault}

@@ -1,5 +1,5 @@
 //! Scripts: what an upstream answers, and what is asked of the resolver.
-ghost use Rattle.std.specs.Prelude.{◌≡◌, ◌⊎◌, ◌≤◌, ◌<◌, ◌++◌, ◌∷◌, List, [], None, Some, IfOk, IfErr, OnOk, IsOkUnless, is_ok};
+ghost use Rattle.std.specs.Prelude.{◌≡◌, ◌⊎◌, ◌≤◌, ◌<◌, ◌++◌, ◌∷◌, List, [], None, Some, IfOk, IfErr, OnOk, IsOkUnless, Ok, IsErr};
 ghost use Rattle.replay.specs.Readers.{IsAnswered, IsTaken, Keeps, opened};
 ghost use Rattle.replay.specs.Scripts.{IsScript, response_value};
 ghost use Rattle.replay.specs.declared.line.Line.{Line};
@@ -209,18 +209,18 @@ fn response_of(alloc: Global, query: &Query, code: ResponseCode) -> Result<Messa
 {
     let mut message = Message::response(alloc, 0, OpCode::Query);
     message.metadata.response_code = code;
-    let question = query.clone()?;
+    let question = memory_only(query.clone())?;
     memory_only(message.add_query(question))?;
     Ok(message)
 }
 
-// What fails only for want of memory.
-fn memory_only(added: Result<(), NetError>) -> Result<(), ScriptFault>
-    ensures variant { is_ok result ≡ is_ok added }
-    ensures err { IsOkUnless result ScriptFault.OutOfMemory }
+// What fails only where memory runs out.
+fn memory_only<T: Drop>(made: Result<T, NetError>) -> Result<T, ScriptFault>
+    ensures ok { IfOk result (λ value. made ≡ Ok value) }
+    ensures err { IfErr result (λ fault. (fault ≡ ScriptFault.OutOfMemory) × IsErr made) }
 {
-    match added {
-        Ok(()) => Ok(()),
+    match made {
+        Ok(value) => Ok(value),
         Err(_) => Err(ScriptFault::OutOfMemory),
     }
 }

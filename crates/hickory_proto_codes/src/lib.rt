@@ -1,0 +1,15 @@
+//! The codes of DNS (RFC 1035, sections 3.2.2 to 3.2.5 and 4.1.1), and the words that stand for them in texts.
+#![tactic(auto)]
+
+mod code_word;
+pub mod dns_class;
+pub mod op_code;
+pub mod protocol;
+pub mod record_type;
+pub mod response_code;
+
+pub use dns_class::DNSClass;
+pub use op_code::OpCode;
+pub use protocol::Protocol;
+pub use record_type::RecordType;
+pub use response_code::ResponseCode;

@@ -1,8 +1,0 @@
-use Rattle.std.proofs.Common.{◌∷◌, get_or, take}
-use Rattle.std.specs.Fmt.{HasWritten, IsPlainFormatter}
-use Rattle.hickory_proto_core.specs.NameText.{piece_text, printed_label}
-use Rattle.hickory_proto_core.proofs.name_text.LabelTextDisplay.fmt.Given as goal
-
-abbrev pub invariant-loop-byte : goal.invariant-loop-byte
-invariant-loop-byte g l =
-    IsPlainFormatter l.fn.f → HasWritten g.W.Write.write_str_gives l.fn.f (piece_text (printed_label (get_or l.self.0.now 0 0 ∷ take l.byte-index l.rest))) l.f

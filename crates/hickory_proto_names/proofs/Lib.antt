@@ -1,0 +1,10 @@
+pub mod AddressTexts
+pub mod ArpaLabels
+pub mod ArpaMade
+pub mod ArpaNames
+pub mod ArpaNets
+pub mod Labels
+pub mod NameOnce
+pub mod NameParts
+pub mod NamePrinting
+pub mod NameReading

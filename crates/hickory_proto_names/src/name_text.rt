@@ -1,0 +1,259 @@
+//! The text of names (RFC 1035, sections 2.3.1 and 5.1).
+ghost use Rattle.std.specs.Prelude.{◌≡◌, ◌++◌, ◌∷◌, ◌⊎◌, [], IfOk, IfErr, IfSome, IfNone, IsOkUnless, MatchOption, Some, false};
+ghost use Rattle.std.specs.String.{string_bytes};
+ghost use Rattle.hickory_proto_names.specs.Name.{label_bytes};
+ghost use Rattle.hickory_proto_names.specs.NameDecided.{text_name};
+ghost use Rattle.hickory_proto_names.specs.NameText.{HasFault, IsUnambiguous, Spells, ends_empty, front_fault, is_plain, is_number, escape_fault, pieces_name, name_text, labels_text, piece_text, printed_label, printed, written_text};
+ghost use Rattle.hickory_proto_names.specs.NameTextParts.{ArePieces, Begins, IsEscape};
+
+use crate::name_error::NameError;
+use crate::name::Name;
+use std::alloc::Global;
+use std::fmt;
+
+// A character of a text: a dot between two pieces, or a byte of a label.
+#[derive(Clone, Copy)]
+enum Character {
+    Dot,
+    Byte(u8),
+}
+
+impl Name {
+    /// The name that a text spells: labels joined by `.`, a `.` at the end marking a fully qualified
+    /// name (RFC 1035, section 5.1). `""` is the relative name without labels, `"."` the root. In a
+    /// label ASCII letters, digits and `_` stand for themselves, and so does `*` as the first
+    /// character and `-` as a later one. `\DDD` is the byte of that decimal number, `\X` with any
+    /// other ASCII character is that character.
+    ///
+    /// An error is the fault that comes first: `BadCharacter` or `BadEscape` in the text, then
+    /// `EmptyLabel`, `LabelTooLong`, `NameTooLong`; or `OutOfMemory`.
+    pub fn from_ascii(alloc: Global, text: &str) -> Result<Name, NameError>
+        ensures ok { IfOk result (λ n. Spells text.now n) }
+        ensures err { IfErr result (λ e. (e ≡ NameError.OutOfMemory) ⊎ HasFault text.now e) }
+        ensures unambiguous { IsUnambiguous text.now }
+        ensures computed { (result ≡ text_name text.now) ⊎ (result ≡ Err NameError.OutOfMemory) }
+    {
+        read_name(alloc, text)
+    }
+
+    /// `from_ascii` under its other name.
+    pub fn from_str(alloc: Global, text: &str) -> Result<Name, NameError>
+        ensures ok { IfOk result (λ n. Spells text.now n) }
+        ensures err { IfErr result (λ e. (e ≡ NameError.OutOfMemory) ⊎ HasFault text.now e) }
+        ensures unambiguous { IsUnambiguous text.now }
+    {
+        Name::from_ascii(alloc, text)
+    }
+
+    /// The text that `Display` prints. Read again it gives the same name, case kept.
+    pub fn to_ascii(&self, alloc: Global) -> Result<String, NameError>
+        ensures ok { IfOk result (λ s. string_bytes s ≡ name_text self.now) }
+        ensures err { IsOkUnless result NameError.OutOfMemory }
+        ensures reads_back { Spells (name_text self.now) self.now }
+    {
+        // The last clause stands on what holds of the labels of every name.
+        let _labels = self.labels();
+        Ok(format!(in alloc; "{self}")?)
+    }
+}
+
+// The name that the text spells.
+fn read_name(alloc: Global, text: &str) -> Result<Name, NameError>
+    ensures ok { IfOk result (λ n. Spells text.now n) }
+    ensures err { IfErr result (λ e. (e ≡ NameError.OutOfMemory) ⊎ HasFault text.now e) }
+{
+    let mut pieces = read_pieces(alloc, text.as_bytes())?;
+    let fqdn = take_mark(&mut pieces);
+    let mut name = Name::from_labels(pieces)?;
+    name.set_fqdn(fqdn);
+    Ok(name)
+}
+
+/// The labels joined by `.`, and a `.` at the end of a fully qualified name (RFC 1035, section 5.1).
+/// A byte that does not stand for itself in its place is written `\DDD`.
+impl fmt::Display for Name {
+    ghost use Rattle.std.specs.Prelude.{Some};
+    ghost use Rattle.hickory_proto_names.specs.NameText.{name_text};
+
+    ghost output = { λ n. Some (name_text n) };
+
+    fn fmt<W: fmt::Write>(&self, f: &mut fmt::Formatter<W>) -> fmt::Result {
+        write!(f, "{}", LabelsText(self.labels()))?;
+        if self.is_fqdn() {
+            f.write_str(".")?;
+        }
+        Ok(())
+    }
+}
+
+// Labels that print as their texts with a dot between each two.
+#[derive(Clone, Copy)]
+struct LabelsText<'a>(&'a [Vec<u8>]);
+
+impl fmt::Display for LabelsText<'_> {
+    ghost output = { λ l. Some (labels_text (label_bytes l.0.now)) };
+
+    fn fmt<W: fmt::Write>(&self, f: &mut fmt::Formatter<W>) -> fmt::Result {
+        if let [first, rest @ ..] = self.0 {
+            write!(f, "{}", LabelText(first))?;
+            for label in rest {
+                write!(f, ".{}", LabelText(label))?;
+            }
+        }
+        Ok(())
+    }
+}
+
+// A label that prints as its text.
+#[derive(Clone, Copy)]
+struct LabelText<'a>(&'a [u8]);
+
+impl fmt::Display for LabelText<'_> {
+    ghost output = { λ l. Some (piece_text (printed_label l.0.now)) };
+
+    fn fmt<W: fmt::Write>(&self, f: &mut fmt::Formatter<W>) -> fmt::Result {
+        if let [first, rest @ ..] = self.0 {
+            write!(
+                f,
+                "{}",
+                ByteText {
+                    first: true,
+                    byte: *first
+                }
+            )?;
+            for byte in rest {
+                write!(
+                    f,
+                    "{}",
+                    ByteText {
+                        first: false,
+                        byte: *byte
+                    }
+                )?;
+            }
+        }
+        Ok(())
+    }
+}
+
+// A byte of a label that prints as itself or as `\DDD`. `first` says that its label begins with it.
+#[derive(Clone, Copy)]
+struct ByteText {
+    first: bool,
+    byte: u8,
+}
+
+impl fmt::Display for ByteText {
+    ghost output = { λ b. Some (written_text (printed b.first b.byte)) };
+
+    fn fmt<W: fmt::Write>(&self, f: &mut fmt::Formatter<W>) -> fmt::Result {
+        let byte = self.byte;
+        if is_plain(self.first, byte) {
+            f.write_char(char::from(byte))
+        } else {
+            write!(f, "\\{}{}{}", byte / 100, byte / 10 % 10, byte % 10)
+        }
+    }
+}
+
+// The bytes of the pieces between the dots, an empty one at the end too.
+fn read_pieces(alloc: Global, text: &[u8]) -> Result<Vec<Vec<u8>>, NameError>
+    ensures ok { IfOk result (λ v. ArePieces text.now (label_bytes v.items)) }
+    ensures err { IfErr result (λ e. (e ≡ NameError.OutOfMemory) ⊎ HasFault text.now e) }
+{
+    let mut pieces = Vec::new(alloc);
+    let mut piece = Vec::new(alloc);
+    let mut rest = text;
+    while let Some((character, after)) = read_character(piece.is_empty(), rest)? {
+        match character {
+            Character::Byte(byte) => piece.push(byte)?,
+            Character::Dot => {
+                pieces.push(piece)?;
+                piece = Vec::new(alloc);
+            }
+        }
+        rest = after;
+    }
+    pieces.push(piece)?;
+    Ok(pieces)
+}
+
+// Whether the last piece is empty.
+fn ends_empty(pieces: &[Vec<u8>]) -> bool
+    ensures { result ≡ ends_empty (label_bytes pieces.now) }
+{
+    match pieces {
+        [.., last] => last.is_empty(),
+        [] => false,
+    }
+}
+
+// Takes off a last empty piece, and says whether the text's name is fully qualified.
+fn take_mark(pieces: &mut Vec<Vec<u8>>) -> bool
+    ensures { pieces_name (label_bytes pieces.old.items) ≡ record { labels = label_bytes pieces.new.items; fqdn = result } }
+{
+    if !ends_empty(pieces) {
+        return false;
+    }
+    pieces.pop();
+    let marked = !pieces.is_empty();
+    if pieces.len() == 1 && pieces[0].is_empty() {
+        pieces.pop();
+    }
+    marked
+}
+
+// The character at the front of a text, and the text after it. `first` says whether a byte would be
+// the first one of its label.
+fn read_character(first: bool, text: &[u8]) -> Result<Option<(Character, &[u8])>, NameError>
+    ensures ok { IfOk result (λ o. MatchOption o (text.now ≡ []) (λ p. Begins first text.now p.0 p.1.now)) }
+    ensures err { IfErr result (λ e. front_fault first text.now ≡ Some e) }
+{
+    match text {
+        [] => Ok(None),
+        [b'.', rest @ ..] => Ok(Some((Character::Dot, rest))),
+        [b'\\', rest @ ..] => {
+            let (byte, after) = read_escape(rest)?;
+            Ok(Some((Character::Byte(byte), after)))
+        }
+        [byte, rest @ ..] if is_plain(first, *byte) => Ok(Some((Character::Byte(*byte), rest))),
+        _ => Err(NameError::BadCharacter),
+    }
+}
+
+// The byte of an escape, from the text behind its `\`, and the text after it.
+fn read_escape(text: &[u8]) -> Result<(u8, &[u8]), NameError>
+    ensures ok { IfOk result (λ p. IsEscape text.now p.0 p.1.now) }
+    ensures err { IfErr result (λ e. escape_fault text.now ≡ Some e) }
+{
+    let [byte, rest @ ..] = text else {
+        return Err(NameError::BadEscape);
+    };
+    if byte.is_ascii_digit() {
+        return read_number(text).ok_or(NameError::BadEscape);
+    }
+    if !byte.is_ascii() {
+        return Err(NameError::BadCharacter);
+    }
+    Ok((*byte, rest))
+}
+
+// The byte of three decimal digits, and the text after them.
+fn read_number(text: &[u8]) -> Option<(u8, &[u8])>
+    ensures some { IfSome result (λ p. IsEscape text.now p.0 p.1.now) }
+    ensures none { IfNone result (is_number text.now ≡ false) }
+{
+    let [a @ b'0'..=b'9', b @ b'0'..=b'9', c @ b'0'..=b'9', rest @ ..] = text else {
+        return None;
+    };
+    let number = 100 * u16::from(*a - b'0') + 10 * u16::from(*b - b'0') + u16::from(*c - b'0');
+    let byte = u8::try_from(number).ok()?;
+    Some((byte, rest))
+}
+
+// Whether the byte stands for itself in a label, as its first byte or as a later one.
+fn is_plain(first: bool, byte: u8) -> bool
+    ensures { result ≡ is_plain first byte }
+{
+    byte.is_ascii_alphanumeric() || byte == b'_' || byte == if first { b'*' } else { b'-' }
+}

@@ -1,0 +1,2 @@
+pub mod DataEq
+pub mod Forwards

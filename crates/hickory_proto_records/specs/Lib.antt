@@ -1,0 +1,6 @@
+pub mod Classes
+pub mod Errors
+pub mod Messages
+pub mod NetErrors
+pub mod Query
+pub mod Records

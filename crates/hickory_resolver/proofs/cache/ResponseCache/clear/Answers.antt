@@ -1,5 +1,0 @@
-use Rattle.hickory_resolver.proofs.Store.{IsCache-none}
-use Rattle.hickory_resolver.proofs.cache.ResponseCache.clear.Goals as goal
-
-pub invariant_of-self : goal.invariant_of-self
-invariant_of-self c = rw c.clear.ensures.items (IsCache-none c.self.inside.capacity)

@@ -1,5 +1,0 @@
-use Rattle.std.proofs.Common.{◌≡◌, take, map, fold, min}
-use Rattle.hickory_resolver.proofs.lookup.least_ttl.Given as goal
-
-abbrev pub invariant-loop-other : goal.invariant-loop-other
-invariant-loop-other l = l.least ≡ fold min l.initial.least (map (λ r. r.ttl) (take l.other-index l.others))

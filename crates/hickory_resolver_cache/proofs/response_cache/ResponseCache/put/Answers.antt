@@ -1,0 +1,25 @@
+use Rattle.std.proofs.Common.{◌∙◌, ap, ap₂, remove, arith}
+use Rattle.std.specs.Option.{option_map_or}
+use Rattle.hickory_resolver_model.specs.Cache.{put}
+use Rattle.hickory_resolver_cache.specs.Places.{leaving_place}
+use Rattle.hickory_resolver_cache.proofs.Store.{IsCache-stored, stored_at, put-room_for}
+use Rattle.hickory_resolver_cache.proofs.response_cache.ResponseCache.put.Goals as goal
+
+pub invariant_of-self-2 : goal.invariant_of-self-2
+invariant_of-self-2 c =
+    let e = c.args.entry in
+    let es = c.self.inside.entries.items in
+    let cap = c.self.inside.capacity in
+    let at = c.leaving-place.ensures ∙ ap₂ (λ q l. leaving_place cap q l) (ap (λ v. v.query) c.entry.view_is) c.deref.ensures.value in
+    let after = c.take_out.ensures ∙ ap (λ l. option_map_or (λ i. remove l i) c.leaving-place.result l) c.in_ok-push.ensures.items ∙ stored_at cap es e c.leaving-place.result c.self.invariant.apart at in
+    rw after (IsCache-stored cap es e (omega arith) c.self.invariant)
+
+pub returns-clause-ok : goal.returns-clause-ok
+returns-clause-ok c =
+    let e = c.args.entry in
+    let es = c.self.inside.entries.items in
+    let cap = c.self.inside.capacity in
+    let at = c.leaving-place.ensures ∙ ap₂ (λ q l. leaving_place cap q l) (ap (λ v. v.query) c.entry.view_is) c.deref.ensures.value in
+    let after = c.take_out.ensures ∙ ap (λ l. option_map_or (λ i. remove l i) c.leaving-place.result l) c.in_ok-push.ensures.items ∙ stored_at cap es e c.leaving-place.result c.self.invariant.apart at in
+    ap (λ l. record { capacity = cap; config = c.self.inside.ttl_config; entries = l }) (after ∙ put-room_for cap es e (omega arith))
+    ∙ ap (λ v. record { capacity = v.capacity; config = v.config; entries = put v.capacity v.entries e }) c.self.view_is

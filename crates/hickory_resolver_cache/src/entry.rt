@@ -1,0 +1,89 @@
+//! What a cache holds.
+ghost use Rattle.std.specs.Prelude.{◌≡◌, ◌⊎◌};
+ghost use Rattle.hickory_resolver_model.specs.Cache.{Entry, aged, entry_of, positive_entry, negative_entry};
+
+use crate::aging::{age, age_error, age_message};
+use hickory_proto_core::{DnsError, Message, NetError, NoRecords, Query};
+use hickory_resolver_lookup::TtlConfig;
+use std::marker::Model;
+
+/// An outcome that is kept for a question, when it was stored, and until when it is current (seconds).
+#[derive(Drop)]
+pub struct CacheEntry {
+    pub query: Query,
+    pub outcome: Result<Message, NetError>,
+    pub moment: u64,
+    pub deadline: u64,
+}
+
+impl Model for CacheEntry {
+    ghost use Rattle.hickory_resolver_model.specs.Cache.{Entry};
+
+    ghost Value = { Entry };
+
+    ghost view = { λ e. record { query = e.query; outcome = e.outcome; moment = e.moment; deadline = e.deadline } };
+}
+
+impl CacheEntry {
+    // What the entry gives at a moment: a copy whose times to live have counted down.
+    pub fn aged(&self, now: u64) -> Result<Message, NetError>
+        ensures { (result ≡ aged now self.now) ⊎ (result ≡ Err NetError.OutOfMemory) }
+    {
+        let seconds = age(self.moment, now);
+        match &self.outcome {
+            Ok(message) => {
+                let mut copy = message.clone()?;
+                age_message(&mut copy, seconds);
+                Ok(copy)
+            }
+            Err(error) => {
+                let mut copy = error.clone()?;
+                age_error(&mut copy, seconds);
+                Err(copy)
+            }
+        }
+    }
+}
+
+// The entry that an outcome becomes at a moment, where it is kept.
+pub fn entry_of(
+    config: &TtlConfig,
+    query: Query,
+    outcome: Result<Message, NetError>,
+    now: u64,
+) -> Option<CacheEntry>
+    ensures { result ≡ entry_of config.now query outcome now }
+{
+    match outcome {
+        Ok(message) => Some(positive_entry(config, query, message, now)),
+        Err(NetError::Dns(DnsError::NoRecordsFound(negative))) => {
+            Some(negative_entry(config, query, negative, now))
+        }
+        Err(_) => None,
+    }
+}
+
+fn positive_entry(config: &TtlConfig, query: Query, mut message: Message, now: u64) -> CacheEntry
+    ensures { result ≡ positive_entry config.now query message now }
+{
+    config.clamp(&mut message);
+    let lifetime = config.positive_lifetime(&query, &message);
+    CacheEntry {
+        query,
+        outcome: Ok(message),
+        moment: now,
+        deadline: now.saturating_add(lifetime),
+    }
+}
+
+fn negative_entry(config: &TtlConfig, query: Query, negative: NoRecords, now: u64) -> CacheEntry
+    ensures { result ≡ negative_entry config.now query negative now }
+{
+    let lifetime = config.negative_lifetime(&query, &negative);
+    CacheEntry {
+        query,
+        outcome: Err(NetError::from(negative)),
+        moment: now,
+        deadline: now.saturating_add(lifetime),
+    }
+}

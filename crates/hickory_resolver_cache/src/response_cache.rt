@@ -1,0 +1,167 @@
+//! A bounded cache of outcomes by question.
+ghost use Rattle.std.specs.Prelude.{◌≡◌, ◌≤◌, ◌<◌, [], length, option_copied, IsTrue, IsOk, IfSome, IsNone, OnOk, OnErr, IsOkUnless, if◌then◌else◌};
+ghost use Rattle.hickory_resolver_model.specs.Cache.{CacheValue, IsCache, IsGot, IsNewest, NeverLater, current, drop_query, entry_of, not_after_current, put, store, store_clamped};
+
+use crate::entry::{CacheEntry, entry_of};
+use crate::places::{leaving, place_of, take_out};
+use hickory_proto_core::{Message, NetError, Query};
+use hickory_resolver_lookup::TtlConfig;
+use std::alloc::Global;
+use std::marker::Model;
+
+/// Outcomes by question, the oldest first: at most as many as its capacity, and one for each question. An
+/// outcome is given back while it is current, with its times to live counted down (RFC 2181, sections 5.4.1
+/// and 8; RFC 2308, section 5). A capacity of 0 keeps nothing. Moments are whole seconds.
+#[derive(Drop)]
+pub struct ResponseCache {
+    entries: Vec<CacheEntry>,
+    capacity: u64,
+    ttl_config: TtlConfig,
+}
+
+impl Model for ResponseCache {
+    ghost use Rattle.hickory_resolver_model.specs.Cache.{CacheValue, IsCache};
+
+    ghost Value = { CacheValue };
+
+    ghost view = { λ c. record { capacity = c.capacity; config = c.ttl_config; entries = c.entries.items } };
+
+    ghost invariant = { λ c. IsCache c.capacity c.entries.items };
+}
+
+impl ResponseCache {
+    /// An empty cache of so many entries at the most, with these bounds. Takes no memory.
+    pub fn new(alloc: Global, capacity: u64, ttl_config: TtlConfig) -> ResponseCache
+        ensures { result ≡ record { capacity = capacity; config = ttl_config; entries = [] } }
+    {
+        ResponseCache {
+            entries: Vec::new(alloc),
+            capacity,
+            ttl_config,
+        }
+    }
+
+    /// Keeps an outcome for a question from a moment on: an answer, its TTLs clamped, or a negative answer
+    /// (RFC 2308, section 5). Other errors are not kept, which takes no memory. The question's entry leaves, or
+    /// where it has none and the cache is full, the entry of the earliest deadline, the oldest of several. The new
+    /// entry is the newest. A refused call changes nothing.
+    pub fn insert(
+        &mut self,
+        query: Query,
+        outcome: Result<Message, NetError>,
+        now: u64,
+    ) -> Result<(), NetError>
+        ensures ok { OnOk result (self.new ≡ store self.old query outcome now) }
+        ensures unchanged { OnErr result (self.new ≡ self.old) }
+        ensures err { IsOkUnless result NetError.OutOfMemory }
+        ensures not_kept { IsNone (entry_of self.old.config query outcome now) → IsOk result × (self.new ≡ self.old) }
+        ensures newest { OnOk result (0 < self.old.capacity → IfSome (entry_of self.old.config query outcome now) (λ e. IsNewest e self.new.entries)) }
+    {
+        match entry_of(&self.ttl_config, query, outcome, now) {
+            Some(entry) => self.put(entry),
+            None => Ok(()),
+        }
+    }
+
+    /// As `insert`. Where `clamp_valid_until` is set, the new entry is current no longer than the question's entry
+    /// that is current at this moment, if it has one.
+    pub fn upsert_clamped_ttl(
+        &mut self,
+        query: Query,
+        outcome: Result<Message, NetError>,
+        now: u64,
+        clamp_valid_until: bool,
+    ) -> Result<(), NetError>
+        ensures ok { OnOk result
+            (self.new ≡ (if clamp_valid_until then store_clamped self.old query outcome now else store self.old query outcome now)) }
+        ensures unchanged { OnErr result (self.new ≡ self.old) }
+        ensures err { IsOkUnless result NetError.OutOfMemory }
+        ensures not_kept { IsNone (entry_of self.old.config query outcome now) → IsOk result × (self.new ≡ self.old) }
+        ensures no_later { OnOk result (IsTrue clamp_valid_until → NeverLater query now self.old.entries self.new.entries) }
+    {
+        let Some(entry) = entry_of(&self.ttl_config, query, outcome, now) else {
+            return Ok(());
+        };
+        if clamp_valid_until {
+            let entry = self.not_after_current(entry, now);
+            return self.put(entry);
+        }
+        self.put(entry)
+    }
+
+    /// The outcome of the question's current entry, a copy whose times to live are lower by the seconds since it
+    /// was stored, or want of memory for that copy. None without a current entry, which takes no memory. An entry is
+    /// current up to its deadline, the deadline included.
+    pub fn get(&self, query: &Query, now: u64) -> Option<Result<Message, NetError>>
+        ensures { IsGot (current query.now now self.now.entries) now result }
+    {
+        let entry = self.current(query, now)?;
+        Some(entry.aged(now))
+    }
+
+    /// Drops every entry. Takes no memory.
+    pub fn clear(&mut self)
+        ensures { self.new ≡ record self.old { entries = [] } }
+    {
+        self.entries.clear();
+    }
+
+    /// Drops the question's entry. Takes no memory.
+    pub fn clear_query(&mut self, query: &Query)
+        ensures { self.new ≡ drop_query self.old query.now }
+    {
+        let place = place_of(&self.entries, query);
+        take_out(&mut self.entries, place);
+    }
+
+    /// How many entries there are, current or not.
+    pub fn len(&self) -> usize
+        ensures len { result ≡ length self.now.entries }
+        ensures within { result ≤ self.now.capacity }
+        ensures cache { IsCache self.now.capacity self.now.entries }
+    {
+        self.entries.len()
+    }
+
+    /// The bounds that it keeps to.
+    pub fn ttl_config(&self) -> &TtlConfig
+        ensures { result.now ≡ self.now.config }
+    {
+        &self.ttl_config
+    }
+
+    // Puts an entry in as the newest. The push comes first: a refused one changes nothing.
+    fn put(&mut self, entry: CacheEntry) -> Result<(), NetError>
+        ensures ok { OnOk result (self.new ≡ record self.old { entries = put self.old.capacity self.old.entries entry }) }
+        ensures unchanged { OnErr result (self.new ≡ self.old) }
+        ensures err { IsOkUnless result NetError.OutOfMemory }
+    {
+        if self.capacity == 0 {
+            return Ok(());
+        }
+        let place = leaving(&self.entries, self.capacity, &entry.query);
+        self.entries.push(entry)?;
+        take_out(&mut self.entries, place);
+        Ok(())
+    }
+
+    // The entry, current no longer than the question's current one.
+    fn not_after_current(&self, mut entry: CacheEntry, now: u64) -> CacheEntry
+        ensures { result ≡ not_after_current self.now.entries now entry }
+    {
+        let deadline = match self.current(&entry.query, now) {
+            Some(current) => entry.deadline.min(current.deadline),
+            None => entry.deadline,
+        };
+        entry.deadline = deadline;
+        entry
+    }
+
+    fn current(&self, query: &Query, now: u64) -> Option<&CacheEntry>
+        ensures { option_copied result ≡ current query.now now self.now.entries }
+    {
+        self.entries
+            .iter()
+            .find(|e| *query == e.query && now <= e.deadline)
+    }
+}

@@ -1,0 +1,194 @@
+//! Bounds on times to live by the type of records.
+ghost use Rattle.std.specs.Prelude.{◌≡◌, ◌≤◌, ◌==◌, ◌||◌, [], ◌++◌, filter, IfOk, OnOk, OnErr, IsOkUnless};
+ghost use Rattle.hickory_proto_core.specs.Codes.{type_code};
+ghost use Rattle.hickory_proto_core.specs.Classes.{record_type_code};
+ghost use Rattle.hickory_resolver_model.specs.Bounds.{ConfigValue, SetsBounds, bounds_for, positive_bounds, negative_bounds, clamped, clamped_record, clamped_records, positive_lifetime, negative_lifetime, no_bounds, least_ttl, living_records};
+
+use crate::ttl_bounds::{TtlBounds, clamp, clamp_ttl};
+use hickory_proto_core::{Message, NetError, NoRecords, Query, Record, RecordType};
+use std::alloc::Global;
+use std::collections::BTreeMap;
+use std::marker::Model;
+
+/// The bounds on times to live that a cache keeps to: those of most types of records, and those of some types,
+/// which stand in place of them whole.
+#[derive(Debug, Drop)]
+pub struct TtlConfig {
+    default: TtlBounds,
+    by_type: BTreeMap<u16, TtlBounds>,
+}
+
+impl Model for TtlConfig {
+    ghost use Rattle.hickory_resolver_model.specs.Bounds.{ConfigValue};
+
+    ghost Value = { ConfigValue };
+
+    ghost view = { λ c. record { default = c.default; by_type = c.by_type.entries } };
+}
+
+impl TtlConfig {
+    /// No bounds but those that stand where all are left out. Takes no memory.
+    pub fn default(alloc: Global) -> TtlConfig
+        ensures { result ≡ record { default = no_bounds; by_type = [] } }
+    {
+        TtlConfig::from(alloc, TtlBounds::default())
+    }
+
+    /// The same bounds for every type. Takes no memory.
+    pub fn from(alloc: Global, bounds: TtlBounds) -> TtlConfig
+        ensures { result ≡ record { default = bounds; by_type = [] } }
+    {
+        TtlConfig {
+            default: bounds,
+            by_type: BTreeMap::new(alloc),
+        }
+    }
+
+    /// Puts these bounds in place of all others for one type. A refused call changes nothing.
+    pub fn with_query_type_ttl_bounds(
+        &mut self,
+        query_type: RecordType,
+        bounds: TtlBounds,
+    ) -> Result<(), NetError>
+        ensures ok { OnOk result (SetsBounds self.old self.new (type_code query_type) bounds) }
+        ensures unchanged { OnErr result (self.new ≡ self.old) }
+        ensures err { IsOkUnless result NetError.OutOfMemory }
+    {
+        self.by_type.insert(query_type.code(), bounds)?;
+        Ok(())
+    }
+
+    /// The least and the greatest time that a positive answer to a question for this type is kept for, in seconds.
+    pub fn positive_response_ttl_bounds(&self, query_type: RecordType) -> (u64, u64)
+        ensures bounds { result ≡ positive_bounds (bounds_for self.now (type_code query_type)) }
+        ensures ordered { result.0 ≤ result.1 }
+    {
+        self.bounds(query_type).positive()
+    }
+
+    /// The least and the greatest time that a negative answer to a question for this type is kept for, in seconds.
+    pub fn negative_response_ttl_bounds(&self, query_type: RecordType) -> (u64, u64)
+        ensures bounds { result ≡ negative_bounds (bounds_for self.now (type_code query_type)) }
+        ensures ordered { result.0 ≤ result.1 }
+    {
+        self.bounds(query_type).negative()
+    }
+
+    /// A copy of every field.
+    pub fn clone(&self) -> Result<TtlConfig, NetError>
+        ensures ok { IfOk result (λ c. c ≡ self.now) }
+        ensures err { IsOkUnless result NetError.OutOfMemory }
+    {
+        Ok(TtlConfig {
+            default: self.default,
+            by_type: self.by_type.clone()?,
+        })
+    }
+
+    // Clamps the TTL of each record of a message by the bounds of the record's own type.
+    pub fn clamp(&self, message: &mut Message)
+        ensures { message.new ≡ clamped self.now message.old }
+    {
+        self.clamp_records(&mut message.answers);
+        self.clamp_records(&mut message.authorities);
+        self.clamp_records(&mut message.additionals);
+    }
+
+    // For how many seconds an answer whose TTLs are clamped may be kept.
+    pub fn positive_lifetime(&self, query: &Query, message: &Message) -> u64
+        ensures { result ≡ positive_lifetime self.now query.now message.now }
+    {
+        let bounds = self.positive_response_ttl_bounds(query.query_type);
+        let least = least_living_ttl(query, message);
+        clamp(bounds, least.unwrap_or(bounds.0))
+    }
+
+    // For how many seconds a negative answer may be kept.
+    pub fn negative_lifetime(&self, query: &Query, negative: &NoRecords) -> u64
+        ensures { result ≡ negative_lifetime self.now query.now negative.now }
+    {
+        let bounds = self.negative_response_ttl_bounds(query.query_type);
+        let ttl = match negative.negative_ttl {
+            Some(ttl) => ttl as u64,
+            None => bounds.0,
+        };
+        clamp(bounds, ttl)
+    }
+
+    fn clamp_records(&self, records: &mut Vec<Record>)
+        ensures { records.new.items ≡ clamped_records self.now records.old.items }
+    {
+        for clamped in records.iter_mut() {
+            self.clamp_record(clamped);
+        }
+    }
+
+    fn clamp_record(&self, clamped: &mut Record)
+        ensures { clamped.new ≡ clamped_record self.now clamped.old }
+    {
+        let bounds = self.positive_response_ttl_bounds(clamped.record_type());
+        clamped.ttl = clamp_ttl(bounds, clamped.ttl);
+    }
+
+    fn bounds(&self, query_type: RecordType) -> TtlBounds
+        ensures { result ≡ bounds_for self.now (type_code query_type) }
+    {
+        let own = self.by_type.get(&query_type.code());
+        own.copied().unwrap_or(self.default)
+    }
+}
+
+// The least TTL of the records that an answer to the question lives by.
+fn least_living_ttl(query: &Query, message: &Message) -> Option<u64>
+    ensures { result ≡ least_ttl (living_records query.now message.now) }
+{
+    let asked = query.query_type;
+    if asked == RecordType::NS {
+        return least_ns_ttl(&message.answers, &message.authorities);
+    }
+    let living = message.answers.iter().filter(|r| is_of(asked, r));
+    living.map(|r| r.ttl as u64).min()
+}
+
+// The least TTL of the NS records of two sections.
+fn least_ns_ttl(answers: &[Record], authorities: &[Record]) -> Option<u64>
+    ensures { result ≡ least_ttl (filter (λ r. record_type_code r == 2) (answers.now ++ authorities.now)) }
+{
+    let living = answers
+        .iter()
+        .chain(authorities.iter())
+        .filter(|r| is_ns(r));
+    living.map(|r| r.ttl as u64).min()
+}
+
+fn is_ns(found: &Record) -> bool
+    ensures { result ≡ (record_type_code found.now == 2) }
+{
+    found.record_type() == RecordType::NS
+}
+
+// Whether the record is of the type that was asked for, or a CNAME.
+fn is_of(asked: RecordType, found: &Record) -> bool
+    ensures { result ≡ ((record_type_code found.now == type_code asked) || (record_type_code found.now == 5)) }
+{
+    found.record_type() == asked || found.record_type() == RecordType::CNAME
+}
+
+impl PartialEq for TtlConfig {
+    ghost use Rattle.std.specs.Cmp.{partial_equiv_from_equiv};
+    ghost use Rattle.hickory_resolver_model.specs.Bounds.{config_eq, config_equiv};
+
+    ghost eq = { config_eq };
+
+    ghost laws = { partial_equiv_from_equiv config_equiv };
+
+    fn eq(&self, other: &TtlConfig) -> bool {
+        self.default == other.default && self.by_type == other.by_type
+    }
+}
+
+impl Eq for TtlConfig {
+    ghost use Rattle.hickory_resolver_model.specs.Bounds.{config_equiv};
+
+    ghost laws = { config_equiv };
+}

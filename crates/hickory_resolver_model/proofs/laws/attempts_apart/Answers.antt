@@ -1,5 +1,0 @@
-use Rattle.hickory_resolver_model.specs.AttemptLaws.{attempts_apart}
-use Rattle.hickory_resolver_model.proofs.laws.attempts_apart.Goals as goal
-
-pub returns : goal.returns
-returns c = attempts_apart

@@ -1,0 +1,9 @@
+pub mod AttemptLaws
+pub mod Cacheless
+pub mod Core
+pub mod Covered
+pub mod Statements
+pub mod WalkLaws
+pub mod Worked
+pub mod WorkedLoop
+pub mod WorkedRun

@@ -1,0 +1,120 @@
+-- The worked case of a run of two look-ups: the first one asks, and the second one is a hit.
+use Rattle.std.specs.Prelude.{◌≡◌, ◌+◌, ℕ, false, List, [], ◌∷◌, ◌++◌, length, map, codes, None, Ok, refl}
+use Rattle.std.specs.declared.net.IpAddr.{IpAddr}
+use Rattle.std.specs.declared.net.IpAddr.TheVariants.{V4, V6}
+use Rattle.std.proofs.Common.{ap, ◌∙◌, arith, inl, inr, length-append}
+use Rattle.std.proofs.lemmas.List.{length-map}
+use Rattle.hickory_proto_core.specs.Name.{NameValue, lower_label}
+use Rattle.hickory_proto_core.specs.NameLaws.{same_from_name_eq}
+use Rattle.hickory_proto_core.specs.NameText.{itself, Spells}
+use Rattle.hickory_proto_core.specs.Arpa.{IsArpaNameOf, arpa_name, arpa_zone, net_labels}
+use Rattle.hickory_proto_core.specs.names.ip.IpNet.{IpNet}
+use Rattle.hickory_proto_core.specs.codes.record_type.RecordType.TheVariants as type
+use Rattle.hickory_proto_core.specs.declared.recorded.Exchange.{Exchange}
+use Rattle.hickory_resolver_model.specs.Cache.{CacheValue}
+use Rattle.hickory_resolver_model.specs.Lookup.{LookupValue}
+use Rattle.hickory_resolver_model.specs.Hops.{Start, Hit, Asked, IsReply}
+use Rattle.hickory_resolver_model.specs.Hosts.{IsStatic}
+use Rattle.hickory_resolver_model.specs.Calls.{Client, Part, IsPartFor}
+use Rattle.hickory_resolver_model.specs.Run.{Ipv4Only, Settings, setting_at, RequestValue, Lookup, LookedUp, IsServed, StepValue, Stage, Run}
+use Rattle.hickory_resolver_model.specs.Client.{empty_cache}
+use Rattle.hickory_resolver_theorems.specs.Worked.{below, name, asks_a, rr, address, response, exchange, first}
+
+abbrev pub a : NameValue
+a = name (codes "a")
+
+-- the text `a.` spells the name
+abbrev pub spells_a : Spells (codes "a.") a
+spells_a = record {
+  pieces = (itself 97 ∷ []) ∷ [] ∷ [];
+  whole = record { some = omega arith; spelled = refl; stand = refl };
+  named = refl;
+  valid = refl;
+}
+
+-- the name is no address's
+no_address : (net : IpNet) → IsArpaNameOf a net → ⊥
+no_address net is = by net.addr (labels ∙ length-map (net_labels net ++ arpa_zone net.addr) lower_label ∙ length-append (net_labels net) (arpa_zone net.addr))
+  where
+    labels : 1 ≡ length (map lower_label (net_labels net ++ arpa_zone net.addr))
+    labels = ap length (same_from_name_eq a (arpa_name net) is.1).1
+
+    by : (ip : IpAddr) → 1 ≡ length (net_labels net) + length (arpa_zone ip) → ⊥
+    by (V4 ip) e = absurd (omega arith)
+    by (V6 ip) e = absurd (omega arith)
+
+abbrev pub settings : Settings
+settings = record { search = below None []; strategy = Ipv4Only; preserve_intermediates = false; hosts = [] }
+
+abbrev pub requests : List RequestValue
+requests = Lookup (codes "a.") type.A 0 ∷ Lookup (codes "a.") type.A 4 ∷ []
+
+-- ten seconds of life are left at first, and six at the second look-up
+abbrev pub found : ℕ → ℕ → LookupValue
+found ttl until = record { message = response (asks_a a) (rr a ttl address ∷ []); valid_until = until }
+
+abbrev pub run_asks : List Exchange
+run_asks = exchange (asks_a a) (rr a 10 address ∷ []) ∷ []
+
+abbrev pub after_run : CacheValue
+after_run = record (empty_cache 8) { entries = record { query = asks_a a; outcome = Ok (response (asks_a a) (rr a 10 address ∷ [])); moment = 0; deadline = 10 } ∷ [] }
+
+abbrev pub run_steps : List StepValue
+run_steps =
+    record { now = 0; exchanges = 1; answered = LookedUp (Ok (found 10 10)) }
+    ∷ record { now = 4; exchanges = 0; answered = LookedUp (Ok (found 6 10)) } ∷ []
+
+abbrev asked : Part
+asked = record { question = asks_a a; source = Client; asks = run_asks; result = Ok (found 10 10) }
+
+abbrev hit : Part
+hit = record { question = asks_a a; source = Client; asks = []; result = Ok (found 6 10) }
+
+abbrev start : CacheValue → ℕ → Start
+start cache now = record { cache = cache; now = now; preserve_intermediates = false }
+
+asked_reply : IsReply (start (empty_cache 8) 0) (asks_a a) run_asks (Ok (found 10 10)) after_run
+asked_reply = inl (record {
+  hops = record { passed = []; last_hop = first (asks_a a); last = Asked (Ok (response (asks_a a) (rr a 10 address ∷ []))); leads = refl; short = omega arith; ends = ((refl, refl), λ next h. cc); asks_are = refl };
+  result_is = refl;
+  after_is = refl;
+})
+
+hit_reply : IsReply (start after_run 4) (asks_a a) [] (Ok (found 6 10)) after_run
+hit_reply = inl (record {
+  hops = record { passed = []; last_hop = first (asks_a a); last = Hit (record { query = asks_a a; outcome = Ok (response (asks_a a) (rr a 10 address ∷ [])); moment = 0; deadline = 10 }); leads = refl; short = omega arith; ends = (refl, refl); asks_are = refl };
+  result_is = refl;
+  after_is = refl;
+})
+
+not_static : (now : ℕ) → IsStatic (asks_a a) now [] None
+not_static now = (None, no_address, refl)
+
+-- each look-up is one attempt of one part
+first_served : IsServed (λ now. IsPartFor (setting_at settings now)) settings (empty_cache 8) (Lookup (codes "a.") type.A 0) (asked ∷ []) (LookedUp (Ok (found 10 10))) after_run
+first_served =
+    inl (a, spells_a, (asked ∷ [], [], Ok (found 10 10), after_run, refl, (record { part = asked; are = refl; is = (refl, record { not_static = inr (not_static 0); reply = asked_reply }) }, refl), inl (refl, refl, refl, refl)))
+
+second_served : IsServed (λ now. IsPartFor (setting_at settings now)) settings after_run (Lookup (codes "a.") type.A 4) (hit ∷ []) (LookedUp (Ok (found 6 10))) after_run
+second_served =
+    inl (a, spells_a, (hit ∷ [], [], Ok (found 6 10), after_run, refl, (record { part = hit; are = refl; is = (refl, record { not_static = inr (not_static 4); reply = hit_reply }) }, refl), inl (refl, refl, refl, refl)))
+
+abbrev first_stage : Stage
+first_stage = record { request = Lookup (codes "a.") type.A 0; before = empty_cache 8; piece = run_asks; parts = asked ∷ []; step = record { now = 0; exchanges = 1; answered = LookedUp (Ok (found 10 10)) } }
+
+abbrev second_stage : Stage
+second_stage = record { request = Lookup (codes "a.") type.A 4; before = after_run; piece = []; parts = hit ∷ []; step = record { now = 4; exchanges = 0; answered = LookedUp (Ok (found 6 10)) } }
+
+pub record RunCases : Type 0 where
+  -- the first look-up asks, and the second one is answered from the cache, its TTL counted down
+  pub asks_once : Run settings (empty_cache 8) requests run_steps run_asks after_run
+
+pub run_cases : RunCases
+run_cases = record {
+  asks_once = record {
+    stages = first_stage ∷ second_stage ∷ [];
+    joined = refl;
+    steps_are = refl;
+    are = (after_run, refl, refl, record { served = first_served; piece_is = refl; now_is = refl; count_is = refl }, inr (refl, (after_run, refl, refl, record { served = second_served; piece_is = refl; now_is = refl; count_is = refl }, inr (refl, refl))));
+  };
+}

@@ -1,0 +1,46 @@
+//! Laws of the definitions.
+ghost use Rattle.std.specs.Prelude.{List, length, ◌≤◌};
+ghost use Rattle.hickory_proto_core.specs.Name.{NameValue};
+ghost use Rattle.hickory_proto_core.specs.Records.{RecordValue};
+ghost use Rattle.hickory_proto_core.specs.records.query.Query.{Query};
+ghost use Rattle.hickory_proto_core.specs.declared.recorded.Exchange.{Exchange};
+ghost use Rattle.hickory_resolver_model.specs.Attempts.{Search};
+ghost use Rattle.hickory_resolver_theorems.specs.AttemptLaws.{AreAttemptsApart};
+ghost use Rattle.hickory_resolver_model.specs.Cache.{CacheValue};
+ghost use Rattle.hickory_resolver_model.specs.Hops.{Start, IsReply};
+ghost use Rattle.hickory_resolver_model.specs.Lookup.{Reply};
+ghost use Rattle.hickory_resolver_model.specs.Run.{Settings, RequestValue, StepValue, Run};
+ghost use Rattle.hickory_resolver_theorems.specs.Statements.{IsFresh, IsTransparent, Headline};
+ghost use Rattle.hickory_resolver_theorems.specs.WalkLaws.{IsOneWalk};
+
+/// There is exactly one walk along the aliases among answers.
+pub fn one_walk()
+    ensures { (q : Query) (answers : List RecordValue) → IsOneWalk q answers }
+{}
+
+/// No two attempts at a name are equal, but for a raw name that stands first; a fully qualified name is attempted alone.
+pub fn attempts_apart()
+    ensures { (s : Search) (n : NameValue) → AreAttemptsApart s n }
+{}
+
+/// A look-up that is what the hops say makes eight exchanges at most.
+pub fn eight_questions()
+    ensures { (s : Start) (question : Query) (asks : List Exchange) (result : Reply) (after : CacheValue) → IsReply s question asks result after → length asks ≤ 8 }
+{}
+
+/// A look-up that is what the hops say is fresh: no record of the asked type that it gives or stores outlives what was
+/// received.
+pub fn nothing_outlives()
+    ensures { (s : Start) (question : Query) (asks : List Exchange) (result : Reply) (after : CacheValue) → IsReply s question asks result after → IsFresh s question asks result after }
+{}
+
+/// A look-up that is what the hops say is transparent: under every table that tells its exchanges it comes to what its
+/// question means without a cache, and so does every entry that it leaves.
+pub fn a_cache_changes_no_answer()
+    ensures { (s : Start) (question : Query) (asks : List Exchange) (result : Reply) (after : CacheValue) → IsReply s question asks result after → IsTransparent s question asks result after }
+{}
+
+/// The headline holds of every run, whatever the requests and whatever came back.
+pub fn headline()
+    ensures { (s : Settings) (empty : CacheValue) (requests : List RequestValue) (steps : List StepValue) (exchanges : List Exchange) (after : CacheValue) → Run s empty requests steps exchanges after → Headline s empty requests steps exchanges after }
+{}

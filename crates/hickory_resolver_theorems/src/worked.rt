@@ -1,0 +1,15 @@
+//! Worked cases of the definitions.
+ghost use Rattle.hickory_resolver_theorems.specs.Worked.{EvictionCases, LifetimeCases, AttemptCases, SpecialCases, AliasCases};
+ghost use Rattle.hickory_resolver_theorems.specs.WorkedLoop.{LoopCases};
+ghost use Rattle.hickory_resolver_theorems.specs.WorkedRun.{RunCases};
+
+/// What the definitions say of small caches, bounds, names and messages.
+pub fn worked_cases()
+    ensures eviction { EvictionCases }
+    ensures lifetimes { LifetimeCases }
+    ensures attempts { AttemptCases }
+    ensures special { SpecialCases }
+    ensures aliases { AliasCases }
+    ensures loops { LoopCases }
+    ensures runs { RunCases }
+{}
