@@ -12,7 +12,7 @@ pub use Rattle.hickory_proto_names.specs.NameText
 pub use Rattle.hickory_proto_names.specs.NameTextParts
 pub use Rattle.hickory_proto_codes.specs.Codes
 pub use Rattle.hickory_proto_codes.specs.DecimalLaws
-pub use Rattle.hickory_proto_records.specs.Classes
+pub use Rattle.hickory_proto_records.specs.ResponseKind
 pub use Rattle.hickory_proto_records.specs.Errors
 pub use Rattle.hickory_proto_records.specs.Messages
 pub use Rattle.hickory_proto_records.specs.NetErrors

@@ -1,4 +1,4 @@
-pub mod Classes
+pub mod ResponseKind
 pub mod Errors
 pub mod Messages
 pub mod NetErrors

@@ -4,7 +4,7 @@ ghost use Rattle.std.specs.List.{list_any, filter_map};
 ghost use Rattle.std.specs.Option.{option_to_list};
 ghost use Rattle.hickory_proto_records.specs.Errors.{items_or_none};
 ghost use Rattle.hickory_proto_records.specs.Messages.{MessageValue};
-ghost use Rattle.hickory_proto_records.specs.Classes.{contains_answer, answers_question, is_asked, first_soa, negative_ttl_of, forward_of, forwards_or_none, is_address_of, section_or_none, negative_of, class_of_response, IsClassified};
+ghost use Rattle.hickory_proto_records.specs.ResponseKind.{contains_answer, answers_question, is_asked, first_soa, negative_ttl_of, forward_of, forwards_or_none, is_address_of, section_or_none, negative_of, kind_of_response, IsClassified};
 
 use crate::message::Message;
 use crate::net_error::{DnsError, ForwardNSData, NetError, NoRecords};
@@ -95,7 +95,7 @@ impl DnsError {
     /// response code other than NOERROR and NXDOMAIN, or that there are no records. Only the latter may find no
     /// memory.
     pub fn from_response(response: DnsResponse) -> Result<DnsResponse, NetError>
-        ensures { IsClassified (class_of_response response) result }
+        ensures { IsClassified (kind_of_response response) result }
     {
         let metadata = response.message.metadata;
         let code = metadata.response_code;

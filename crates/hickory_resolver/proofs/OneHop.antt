@@ -4,22 +4,22 @@ use Rattle.std.proofs.lemmas.List.{append-nil}
 use Rattle.hickory_proto_core.specs.Messages.{MessageValue, some_record}
 use Rattle.hickory_proto_core.specs.Errors.{NoRecordsValue}
 use Rattle.hickory_proto_core.specs.Handles.{OutcomeValue}
-use Rattle.hickory_proto_core.specs.Classes.{Class, Answer, Negative, Failed, class_of, negative_of}
+use Rattle.hickory_proto_core.specs.ResponseKind.{ResponseKind, Answer, Negative, Failed, kind_of, negative_of}
 use Rattle.hickory_proto_core.specs.records.query.Query.{Query}
 use Rattle.hickory_proto_core.specs.codes.response_code.ResponseCode.{ResponseCode as Code}
 use Rattle.hickory_proto_core.specs.records.net_error.NetError.TheVariants.{Message, Timeout, Proto, Dns, NoOutcome, Bounds, OutOfMemory}
 use Rattle.hickory_proto_core.specs.records.net_error.DnsError.TheVariants.{ResponseCode, NoRecordsFound}
-use Rattle.hickory_resolver_model.specs.Cache.{CacheValue, Entry, current, aged, IsGot}
-use Rattle.hickory_resolver_model.specs.Lookup.{Reply}
+use Rattle.hickory_resolver_model.specs.Cache.{CacheValue, Entry, current, aged_result, IsGot}
+use Rattle.hickory_resolver_model.specs.Lookup.{LookupResult}
 use Rattle.std.proofs.Math.Bool.{and-true}
 use Rattle.hickory_proto_core.specs.Name.{NameValue, name_eq}
 use Rattle.hickory_proto_core.specs.Records.{RecordValue}
 use Rattle.std.specs.Option.{option_map_or}
 use Rattle.hickory_resolver_model.specs.Bounds.{day}
-use Rattle.hickory_resolver_model.specs.Special.{special}
+use Rattle.hickory_resolver_model.specs.SpecialUse.{special_use_result}
 use Rattle.hickory_resolver_model.specs.AliasWalk.{Walk, walk_from, walk_of, walk_step, leads_to, follows_aliases}
-use Rattle.hickory_resolver_model.specs.Verdict.{Hop, Found, Alias, Nothing, verdict, walk_verdict, has_class, has_type}
-use Rattle.hickory_resolver_model.specs.Hops.{Start, Hit, Asked, IsReply, class_verdict, class_result, class_stores, verdict_result, verdict_stores, after_stores, hit_result}
+use Rattle.hickory_resolver_model.specs.Verdict.{Hop, Exists, CnameChain, NoMatch, verdict, walk_verdict, has_class, has_type}
+use Rattle.hickory_resolver_model.specs.Hops.{LookupContext, Hit, Asked, IsReply, kind_verdict, kind_result, kind_stores, verdict_result, verdict_stores, after_stores, hit_result}
 use Rattle.hickory_resolver_model.specs.Client.{IsDirect}
 use Rattle.hickory_resolver.specs.Settled.{IsSettled, NeverFailsNegative, first_hop, direct_verdict, is_direct_match}
 
@@ -30,7 +30,7 @@ response_fails true false m n k code h = cc
 response_fails false true m n k code h = cc
 response_fails false false m n k code h = cc
 
-pub never_fails : (outcome : OutcomeValue) → NeverFailsNegative (class_of outcome)
+pub never_fails : (outcome : OutcomeValue) → NeverFailsNegative (kind_of outcome)
 never_fails (Ok m) k h = response_fails _ _ m (negative_of m) k m.metadata.response_code h
 never_fails (Err (Message text)) k h = cc
 never_fails (Err Timeout) k h = cc
@@ -65,27 +65,27 @@ or_self false = refl
 verdict_unmoved : (keep : Bool) (q : Query) (w : Walk) (m : MessageValue) → w.places ≡ [] → w.last ≡ q.name → walk_verdict keep (first_hop q) w m ≡ direct_verdict q m
 verdict_unmoved keep q w m none last =
     ap₂ (λ places name. walk_verdict keep (first_hop q) (record { places = places; last = name; ttl = w.ttl }) m) none last
-    ∙ (λ i. cond (some_record (λ r. has_class q r && has_type q r && or_self (name_eq q.name r.name) i) m && true) (Found m) Nothing)
-    ∙ ap (λ b. cond b (Found m) Nothing) (and-true (some_record (is_direct_match q) m))
+    ∙ (λ i. cond (some_record (λ r. has_class q r && has_type q r && or_self (name_eq q.name r.name) i) m && true) (Exists m) NoMatch)
+    ∙ ap (λ b. cond b (Exists m) NoMatch) (and-true (some_record (is_direct_match q) m))
 
 direct : (keep : Bool) (q : Query) (m : MessageValue) → (walk_of q m.answers).places ≡ [] → verdict keep (first_hop q) m ≡ direct_verdict q m
 direct keep q m h = verdict_unmoved keep q (walk_of q m.answers) m h (walk_unmoved q m.answers h)
 
 -- no direct response is an alias
-never_alias : (b : Bool) (m : MessageValue) (next : Hop) → Some (cond b (Found m) Nothing) ≡ Some (Alias next) → ⊥
+never_alias : (b : Bool) (m : MessageValue) (next : Hop) → Some (cond b (Exists m) NoMatch) ≡ Some (CnameChain next) → ⊥
 never_alias true m next h = cc
 never_alias false m next h = cc
 
 -- nothing was asked, and memory ran out
-unasked : (s : Start) (q : Query) (result : Reply) → result ≡ Err OutOfMemory → IsReply s q [] result s.cache
+unasked : (s : LookupContext) (q : Query) (result : LookupResult) → result ≡ Err OutOfMemory → IsReply s q [] result s.cache
 unasked s q result out =
     inr (out, inr (record { passed = []; last_hop = first_hop q; leads = refl; short = omega arith; asks_are = inl refl; after_is = refl }))
 
-from_hit : (s : Start) (q : Query) (found : Option Entry) (hit : OutcomeValue) (result : Reply) → special q s.now ≡ None → current q s.now s.cache.entries ≡ found → IsGot found s.now (Some hit) → (result ≡ hit_result q s.now hit) ⊎ (result ≡ Err OutOfMemory) → IsReply s q [] result s.cache
+from_hit : (s : LookupContext) (q : Query) (found : Option Entry) (hit : OutcomeValue) (result : LookupResult) → special_use_result q s.now ≡ None → current q s.now s.cache.entries ≡ found → IsGot found s.now (Some hit) → (result ≡ hit_result q s.now hit) ⊎ (result ≡ Err OutOfMemory) → IsReply s q [] result s.cache
 from_hit s q None hit result plain at got made = absurd (let e = got in cc)
 from_hit s q (Some entry) hit result plain at got (inr out) = unasked s q result out
 from_hit s q (Some entry) hit result plain at (inl got) (inl made) =
-    let same : hit ≡ aged s.now entry = cc in
+    let same : hit ≡ aged_result s.now entry = cc in
     inl (record {
       hops = record { passed = []; last_hop = first_hop q; last = Hit entry; leads = refl; short = omega arith; ends = (plain, at); asks_are = refl };
       result_is = made ∙ ap (hit_result q s.now) same;
@@ -96,7 +96,7 @@ from_hit s q (Some entry) hit result plain at (inr got) (inl made) =
     unasked s q result (made ∙ ap (hit_result q s.now) same)
 
 -- a hit
-pub hit_reply : (s : Start) (q : Query) (got : Option OutcomeValue) (hit : OutcomeValue) (result : Reply) → special q s.now ≡ None → IsGot (current q s.now s.cache.entries) s.now got → got ≡ Some hit → (result ≡ hit_result q s.now hit) ⊎ (result ≡ Err OutOfMemory) → IsReply s q [] result s.cache
+pub hit_reply : (s : LookupContext) (q : Query) (got : Option OutcomeValue) (hit : OutcomeValue) (result : LookupResult) → special_use_result q s.now ≡ None → IsGot (current q s.now s.cache.entries) s.now got → got ≡ Some hit → (result ≡ hit_result q s.now hit) ⊎ (result ≡ Err OutOfMemory) → IsReply s q [] result s.cache
 hit_reply s q got hit result plain is_got e made = from_hit s q (current q s.now s.cache.entries) hit result plain refl (let P : Option OutcomeValue → Type 0 = IsGot (current q s.now s.cache.entries) s.now in subst P e is_got) made
 
 missed : (found : Option Entry) (now : ℕ) (got : Option OutcomeValue) → ((hit : OutcomeValue) → got ≡ Some hit → ⊥) → IsGot found now got → found ≡ None
@@ -105,16 +105,16 @@ missed (Some entry) now got none (inl e) = absurd (none _ e)
 missed (Some entry) now got none (inr e) = absurd (none _ e)
 
 -- nothing that came back leads to another name
-abbrev LeadsNowhere : Query → Class → Type 0
+abbrev LeadsNowhere : Query → ResponseKind → Type 0
 LeadsNowhere q class = (m : MessageValue) → class ≡ Answer m → (walk_of q m.answers).places ≡ []
 
 -- what a settled question comes to, by the hops
-pub record IsWorth (s : Start) (q : Query) (class : Class) (result : Reply) (after : CacheValue) : Type 0 where
-  pub result_is : result ≡ class_result s (first_hop q) class
-  pub after_is : after ≡ after_stores s.now (class_stores s (first_hop q) class) s.cache
-  pub no_alias : (next : Hop) → class_verdict s (first_hop q) class ≡ Some (Alias next) → ⊥
+pub record IsWorth (s : LookupContext) (q : Query) (class : ResponseKind) (result : LookupResult) (after : CacheValue) : Type 0 where
+  pub result_is : result ≡ kind_result s (first_hop q) class
+  pub after_is : after ≡ after_stores s.now (kind_stores s (first_hop q) class) s.cache
+  pub no_alias : (next : Hop) → kind_verdict s (first_hop q) class ≡ Some (CnameChain next) → ⊥
 
-worth : (s : Start) (q : Query) (class : Class) (result : Reply) (after : CacheValue) → LeadsNowhere q class → IsSettled s q class result after → IsWorth s q class result after ⊎ ((result ≡ Err OutOfMemory) × (after ≡ s.cache))
+worth : (s : LookupContext) (q : Query) (class : ResponseKind) (result : LookupResult) (after : CacheValue) → LeadsNowhere q class → IsSettled s q class result after → IsWorth s q class result after ⊎ ((result ≡ Err OutOfMemory) × (after ≡ s.cache))
 worth s q (Answer m) result after nowhere (inr out) = inr out
 worth s q (Answer m) result after nowhere (inl settled) =
     let same = sym (direct s.preserve_intermediates q m (nowhere m refl)) in
@@ -131,14 +131,14 @@ worth s q (Failed e) result after nowhere (inl settled) =
     inl (record { result_is = settled.0; after_is = settled.1; no_alias = λ next h. cc })
 
 -- one question that was asked
-pub asked_reply : (s : Start) (q : Query) (outcome : OutcomeValue) (result : Reply) (after : CacheValue) (got : Option OutcomeValue) → ((hit : OutcomeValue) → got ≡ Some hit → ⊥) → IsGot (current q s.now s.cache.entries) s.now got → IsSettled s q (class_of outcome) result after → IsDirect q s.now (record { query = q; outcome = outcome } ∷ []) → IsReply s q (record { query = q; outcome = outcome } ∷ []) result after
+pub asked_reply : (s : LookupContext) (q : Query) (outcome : OutcomeValue) (result : LookupResult) (after : CacheValue) (got : Option OutcomeValue) → ((hit : OutcomeValue) → got ≡ Some hit → ⊥) → IsGot (current q s.now s.cache.entries) s.now got → IsSettled s q (kind_of outcome) result after → IsDirect q s.now (record { query = q; outcome = outcome } ∷ []) → IsReply s q (record { query = q; outcome = outcome } ∷ []) result after
 asked_reply s q outcome result after got not_some is_got settled is_direct =
-    at (worth s q (class_of outcome) result after is_direct.leads_nowhere.0 settled)
+    at (worth s q (kind_of outcome) result after is_direct.leads_nowhere.0 settled)
   where
     none : current q s.now s.cache.entries ≡ None
     none = missed (current q s.now s.cache.entries) s.now got not_some is_got
 
-    at : IsWorth s q (class_of outcome) result after ⊎ ((result ≡ Err OutOfMemory) × (after ≡ s.cache)) → IsReply s q (record { query = q; outcome = outcome } ∷ []) result after
+    at : IsWorth s q (kind_of outcome) result after ⊎ ((result ≡ Err OutOfMemory) × (after ≡ s.cache)) → IsReply s q (record { query = q; outcome = outcome } ∷ []) result after
     at (inl w) = inl (record {
       hops = record {
         passed = [];
@@ -150,7 +150,7 @@ asked_reply s q outcome result after got not_some is_got settled is_direct =
         asks_are = refl;
       };
       result_is = w.result_is;
-      after_is = w.after_is ∙ ap (λ ss. after_stores s.now ss s.cache) (sym (append-nil (class_stores s (first_hop q) (class_of outcome))));
+      after_is = w.after_is ∙ ap (λ ss. after_stores s.now ss s.cache) (sym (append-nil (kind_stores s (first_hop q) (kind_of outcome))));
     })
     at (inr out) = inr (
       out.0,

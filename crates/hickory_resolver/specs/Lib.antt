@@ -9,9 +9,9 @@ pub use Rattle.hickory_resolver_model.specs.Hops
 pub use Rattle.hickory_resolver_model.specs.Hosts
 pub use Rattle.hickory_resolver_model.specs.Lookup
 pub use Rattle.hickory_resolver_model.specs.Run
-pub use Rattle.hickory_resolver_model.specs.Special
+pub use Rattle.hickory_resolver_model.specs.SpecialUse
 pub use Rattle.hickory_resolver_model.specs.Verdict
 pub use Rattle.hickory_resolver_theorems.specs.Cacheless
-pub use Rattle.hickory_resolver_theorems.specs.Core
+pub use Rattle.hickory_resolver_theorems.specs.WithoutTimes
 pub use Rattle.hickory_resolver_theorems.specs.Covered
 pub use Rattle.hickory_resolver_theorems.specs.Statements

@@ -2,8 +2,8 @@
 ghost use Rattle.std.specs.Prelude.{◌≡◌, ◌⊎◌, [], Err, IfOk, IsOkUnless};
 ghost use Rattle.std.specs.List.{list_any};
 ghost use Rattle.hickory_proto_core.specs.Messages.{some_record};
-ghost use Rattle.hickory_proto_core.specs.Classes.{Class, Answer, Negative, IsClassified, class_of};
-ghost use Rattle.hickory_resolver_model.specs.Cache.{drop_query};
+ghost use Rattle.hickory_proto_core.specs.ResponseKind.{ResponseKind, Answer, Negative, IsClassified, kind_of};
+ghost use Rattle.hickory_resolver_model.specs.Cache.{without_query};
 ghost use Rattle.hickory_resolver_model.specs.Hops.{no_match, hit_result};
 ghost use Rattle.hickory_resolver_model.specs.Client.{ClientValue, IsLookup, start_of, KeepsHandle, empty_cache};
 ghost use Rattle.hickory_resolver.specs.Settled.{IsSettled, NeverFailsNegative, is_direct_match};
@@ -106,7 +106,7 @@ impl<H: DnsHandle> CachingClient<H> {
 
     /// Drops what the cache has for a question. Takes no memory.
     pub fn clear_cache_query(&mut self, query: &Query)
-        ensures { self.new ≡ record self.old { cache = drop_query self.old.cache query.now } }
+        ensures { self.new ≡ record self.old { cache = without_query self.old.cache query.now } }
     {
         self.cache.clear_query(query);
     }
@@ -115,13 +115,13 @@ impl<H: DnsHandle> CachingClient<H> {
     fn settle(
         &mut self,
         query: Query,
-        answered: Result<DnsResponse, NetError>,
+        response_to: Result<DnsResponse, NetError>,
         now: u64,
     ) -> Result<Lookup, NetError>
-        ensures settled { (class : Class) → NeverFailsNegative class → IsClassified class answered → IsSettled (start_of self.old now) query class result self.new.cache }
+        ensures settled { (class : ResponseKind) → NeverFailsNegative class → IsClassified class response_to → IsSettled (start_of self.old now) query class result self.new.cache }
         ensures stays { KeepsHandle self.old self.new }
     {
-        match answered {
+        match response_to {
             Ok(response) => self.accept(query, response, now),
             Err(error) => match error.into_no_records() {
                 Ok(none) => self.refuse(query, none, now),
@@ -159,7 +159,7 @@ impl<H: DnsHandle> CachingClient<H> {
 
 // The response where it is an answer, else the error that it comes to.
 fn classify(outcome: Result<DnsResponse, NetError>) -> Result<DnsResponse, NetError>
-    ensures { IsClassified (class_of outcome) result }
+    ensures { IsClassified (kind_of outcome) result }
 {
     match outcome {
         Ok(response) => DnsError::from_response(response),

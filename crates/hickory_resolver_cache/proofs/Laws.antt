@@ -9,7 +9,7 @@ use Rattle.hickory_proto_core.specs.Handles.{OutcomeValue}
 use Rattle.hickory_proto_core.specs.records.net_error.NetError.TheVariants.{Message, Timeout, Proto, Dns, NoOutcome, Bounds, OutOfMemory}
 use Rattle.hickory_proto_core.specs.records.net_error.DnsError.TheVariants.{ResponseCode, NoRecordsFound}
 use Rattle.hickory_resolver_model.specs.Bounds.{ConfigValue}
-use Rattle.hickory_resolver_model.specs.Cache.{Entry, NeverLater, current, entry_of, is_current, is_for, not_after_current, put, room_for}
+use Rattle.hickory_resolver_model.specs.Cache.{Entry, NeverLater, current, entry_of, is_current, is_for, not_after_current, insert_entry, room_for}
 use Rattle.hickory_resolver_cache.proofs.Lists.{find-none, none_alike}
 use Rattle.hickory_resolver_cache.proofs.Store.{AreApart, room_for-none}
 
@@ -40,8 +40,8 @@ never_later-same q now es apart was is h k =
     omega arith
 
 -- a store whose deadline is limited
-pub never_later-put : (capacity now : ℕ) (es : List Entry) (e : Entry) → AreApart es → NeverLater e.query now es (put capacity es (not_after_current es now e))
-never_later-put capacity now es e apart was is h k = by (capacity == 0) refl
+pub never_later-insert_entry : (capacity now : ℕ) (es : List Entry) (e : Entry) → AreApart es → NeverLater e.query now es (insert_entry capacity es (not_after_current es now e))
+never_later-insert_entry capacity now es e apart was is h k = by (capacity == 0) refl
   where
     stored : Entry
     stored = not_after_current es now e
@@ -72,6 +72,6 @@ entry_of-query config q (Err NoOutcome) now e h = cc
 entry_of-query config q (Err (Bounds error)) now e h = cc
 entry_of-query config q (Err OutOfMemory) now e h = cc
 
-pub never_later-stored : (capacity now : ℕ) (q : Query) (es after : List Entry) (e : Entry) → AreApart es → e.query ≡ q → after ≡ put capacity es (not_after_current es now e) → NeverLater q now es after
+pub never_later-stored : (capacity now : ℕ) (q : Query) (es after : List Entry) (e : Entry) → AreApart es → e.query ≡ q → after ≡ insert_entry capacity es (not_after_current es now e) → NeverLater q now es after
 never_later-stored capacity now q es after e apart for h =
-    subst (λ p. NeverLater p now es after) for (subst (λ l. NeverLater e.query now es l) (sym h) (never_later-put capacity now es e apart))
+    subst (λ p. NeverLater p now es after) for (subst (λ l. NeverLater e.query now es l) (sym h) (never_later-insert_entry capacity now es e apart))

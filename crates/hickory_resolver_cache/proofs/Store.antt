@@ -8,7 +8,7 @@ use Rattle.std.specs.List.{list_any, position_or_len, IsDistinct}
 use Rattle.std.specs.Option.{option_map_or, option_or}
 use Rattle.hickory_proto_core.specs.records.query.Query.{Query}
 use Rattle.hickory_proto_core.specs.Query.{query_eq, query_equiv}
-use Rattle.hickory_resolver_model.specs.Cache.{Entry, IsCache, is_for, without, without_earliest, least_deadline, room_for, put}
+use Rattle.hickory_resolver_model.specs.Cache.{Entry, IsCache, is_for, without, without_earliest, least_deadline, room_for, insert_entry}
 use Rattle.hickory_resolver_cache.specs.Places.{leaving_place, crowded_place}
 use Rattle.hickory_resolver_cache.proofs.Lists.{remove_at-position, position-within, filter-apart, apart-remove, list_any-filter_not, list_any-remove, list_any-mapped, position-some, position-none, length-remove-le}
 
@@ -152,10 +152,10 @@ IsCache-without capacity q es h =
     subst (IsCache capacity) (sym (filter-apart query_eq query_equiv (λ e. e.query) q es h.apart)) (IsCache-remove capacity es (position_or_len (is_for q) es) h)
 
 -- a cache that holds something stores
-pub put-room_for : (capacity : ℕ) (es : List Entry) (e : Entry) → 0 < capacity → room_for capacity e.query es ++ e ∷ [] ≡ put capacity es e
-put-room_for capacity es e pos = by (capacity == 0) refl
+pub insert_entry-room_for : (capacity : ℕ) (es : List Entry) (e : Entry) → 0 < capacity → room_for capacity e.query es ++ e ∷ [] ≡ insert_entry capacity es e
+insert_entry-room_for capacity es e pos = by (capacity == 0) refl
   where
-    by : (b : Bool) → (capacity == 0) ≡ b → room_for capacity e.query es ++ e ∷ [] ≡ put capacity es e
+    by : (b : Bool) → (capacity == 0) ≡ b → room_for capacity e.query es ++ e ∷ [] ≡ insert_entry capacity es e
     by true h = absurd (omega (arith, eqb-true capacity 0 h))
     by false h = sym (ap (λ b. if b then es else room_for capacity e.query es ++ e ∷ []) h)
 

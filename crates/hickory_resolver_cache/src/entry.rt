@@ -1,6 +1,6 @@
 //! What a cache holds.
 ghost use Rattle.std.specs.Prelude.{◌≡◌, ◌⊎◌};
-ghost use Rattle.hickory_resolver_model.specs.Cache.{Entry, aged, entry_of, positive_entry, negative_entry};
+ghost use Rattle.hickory_resolver_model.specs.Cache.{Entry, aged_result, entry_of, positive_entry, negative_entry};
 
 use crate::aging::{age, age_error, age_message};
 use hickory_proto_core::{DnsError, Message, NetError, NoRecords, Query};
@@ -26,8 +26,8 @@ impl Model for CacheEntry {
 
 impl CacheEntry {
     // What the entry gives at a moment: a copy whose times to live have counted down.
-    pub fn aged(&self, now: u64) -> Result<Message, NetError>
-        ensures { (result ≡ aged now self.now) ⊎ (result ≡ Err NetError.OutOfMemory) }
+    pub fn aged_result(&self, now: u64) -> Result<Message, NetError>
+        ensures { (result ≡ aged_result now self.now) ⊎ (result ≡ Err NetError.OutOfMemory) }
     {
         let seconds = age(self.moment, now);
         match &self.outcome {

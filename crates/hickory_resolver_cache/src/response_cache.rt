@@ -1,6 +1,6 @@
 //! A bounded cache of outcomes by question.
 ghost use Rattle.std.specs.Prelude.{◌≡◌, ◌≤◌, ◌<◌, [], length, option_copied, IsTrue, IsOk, IfSome, IsNone, OnOk, OnErr, IsOkUnless, if◌then◌else◌};
-ghost use Rattle.hickory_resolver_model.specs.Cache.{CacheValue, IsCache, IsGot, IsNewest, NeverLater, current, drop_query, entry_of, not_after_current, put, store, store_clamped};
+ghost use Rattle.hickory_resolver_model.specs.Cache.{CacheValue, IsCache, IsGot, IsNewest, NeverLater, current, without_query, entry_of, not_after_current, insert_entry, store, store_clamped};
 
 use crate::entry::{CacheEntry, entry_of};
 use crate::places::{leaving, place_of, take_out};
@@ -58,7 +58,7 @@ impl ResponseCache {
         ensures newest { OnOk result (0 < self.old.capacity → IfSome (entry_of self.old.config query outcome now) (λ e. IsNewest e self.new.entries)) }
     {
         match entry_of(&self.ttl_config, query, outcome, now) {
-            Some(entry) => self.put(entry),
+            Some(entry) => self.insert_entry(entry),
             None => Ok(()),
         }
     }
@@ -84,9 +84,9 @@ impl ResponseCache {
         };
         if clamp_valid_until {
             let entry = self.not_after_current(entry, now);
-            return self.put(entry);
+            return self.insert_entry(entry);
         }
-        self.put(entry)
+        self.insert_entry(entry)
     }
 
     /// The outcome of the question's current entry, a copy whose times to live are lower by the seconds since it
@@ -96,7 +96,7 @@ impl ResponseCache {
         ensures { IsGot (current query.now now self.now.entries) now result }
     {
         let entry = self.current(query, now)?;
-        Some(entry.aged(now))
+        Some(entry.aged_result(now))
     }
 
     /// Drops every entry. Takes no memory.
@@ -108,7 +108,7 @@ impl ResponseCache {
 
     /// Drops the question's entry. Takes no memory.
     pub fn clear_query(&mut self, query: &Query)
-        ensures { self.new ≡ drop_query self.old query.now }
+        ensures { self.new ≡ without_query self.old query.now }
     {
         let place = place_of(&self.entries, query);
         take_out(&mut self.entries, place);
@@ -131,8 +131,8 @@ impl ResponseCache {
     }
 
     // Puts an entry in as the newest. The push comes first: a refused one changes nothing.
-    fn put(&mut self, entry: CacheEntry) -> Result<(), NetError>
-        ensures ok { OnOk result (self.new ≡ record self.old { entries = put self.old.capacity self.old.entries entry }) }
+    fn insert_entry(&mut self, entry: CacheEntry) -> Result<(), NetError>
+        ensures ok { OnOk result (self.new ≡ record self.old { entries = insert_entry self.old.capacity self.old.entries entry }) }
         ensures unchanged { OnErr result (self.new ≡ self.old) }
         ensures err { IsOkUnless result NetError.OutOfMemory }
     {

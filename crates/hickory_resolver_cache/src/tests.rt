@@ -132,7 +132,7 @@ static CASES: [Case<'static>; 12] = [
         hits: &[(0, &[3600]), (61, &[3539]), (3599, &[1]), (3600, &[0])],
     },
     Case {
-        what: "a TTL lowered to the greatest",
+        what: "a TTL with_ttl_at_most to the greatest",
         least: None,
         greatest: Some(120),
         asked: A,
@@ -467,7 +467,7 @@ fn a_full_cache_drops_the_earliest_deadline(rt: HostRuntime) -> Result<(), Fail>
 fn an_upsert_may_not_lengthen_a_life(rt: HostRuntime) -> Result<(), Fail> {
     let alloc = rt.alloc();
     let query = question(alloc, "a", RecordType::A)?;
-    for (now, clamped, until) in [
+    for (now, clamped_message, until) in [
         (10, true, 100),
         (100, true, 100),
         (101, true, 601),
@@ -475,7 +475,7 @@ fn an_upsert_may_not_lengthen_a_life(rt: HostRuntime) -> Result<(), Fail> {
     ] {
         let mut cache = ResponseCache::new(alloc, 2, TtlConfig::default(alloc));
         cache.upsert_clamped_ttl(query.clone()?, Ok(address(alloc, 100)?), 0, true)?;
-        cache.upsert_clamped_ttl(query.clone()?, Ok(address(alloc, 500)?), now, clamped)?;
+        cache.upsert_clamped_ttl(query.clone()?, Ok(address(alloc, 500)?), now, clamped_message)?;
         assert!(rt; is_hit(&cache, &query, until), "{now} at {until}");
         assert!(rt; !is_hit(&cache, &query, until + 1), "{now} after {until}");
         assert_eq!(rt; cache.len(), 1);

@@ -4,7 +4,7 @@ use Rattle.std.proofs.lemmas.Bool.{ne_eqb}
 use Rattle.std.specs.BTreeMap.{is_at}
 use Rattle.std.specs.List.{reduce}
 use Rattle.hickory_proto_core.specs.Codes.{type_code}
-use Rattle.hickory_proto_core.specs.Classes.{record_type_code}
+use Rattle.hickory_proto_core.specs.ResponseKind.{record_type_code}
 use Rattle.hickory_proto_core.specs.Messages.{MessageValue}
 use Rattle.hickory_proto_core.specs.records.query.Query.{Query}
 use Rattle.std.specs.Map.{lookup}

@@ -3,7 +3,7 @@ ghost use Rattle.std.specs.Prelude.{◌≡◌, IfOk, IsOkUnless};
 ghost use Rattle.hickory_resolver_model.specs.Bounds.{least_ttl};
 ghost use Rattle.hickory_proto_core.specs.Query.{root_query};
 ghost use Rattle.hickory_resolver_model.specs.Lookup.{LookupValue, with_question, hit_lookup, found_lookup, hit_seconds};
-ghost use Rattle.hickory_proto_core.specs.Classes.{first_query};
+ghost use Rattle.hickory_proto_core.specs.ResponseKind.{first_query};
 
 use crate::ttl_bounds::MAX_TTL;
 use crate::ttl_config::TtlConfig;

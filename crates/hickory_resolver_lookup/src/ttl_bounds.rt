@@ -1,6 +1,6 @@
 //! Bounds on times to live.
 ghost use Rattle.std.specs.Prelude.{◌≡◌, ◌≤◌, unwrap_or};
-ghost use Rattle.hickory_resolver_model.specs.Bounds.{bounds_or_fault, positive_bounds, negative_bounds, is_reversed, reduced, reduced_bounds, clamp, day};
+ghost use Rattle.hickory_resolver_model.specs.Bounds.{bounds_or_fault, positive_bounds, negative_bounds, is_reversed, reduced_bound, reduced_bounds, clamp, day};
 
 use hickory_proto_core::BoundsError;
 use std::marker::Model;
@@ -148,7 +148,7 @@ fn reduce_both(bounds: (u64, u64)) -> (u64, u64)
 
 // The bound, or a day where it has more than the 32 bits of a TTL.
 fn reduce(bound: u64) -> u64
-    ensures { result ≡ reduced bound }
+    ensures { result ≡ reduced_bound bound }
 {
     if bound > u32::MAX as u64 {
         MAX_TTL as u64

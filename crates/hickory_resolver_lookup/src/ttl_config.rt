@@ -1,8 +1,8 @@
 //! Bounds on times to live by the type of records.
 ghost use Rattle.std.specs.Prelude.{◌≡◌, ◌≤◌, ◌==◌, ◌||◌, [], ◌++◌, filter, IfOk, OnOk, OnErr, IsOkUnless};
 ghost use Rattle.hickory_proto_core.specs.Codes.{type_code};
-ghost use Rattle.hickory_proto_core.specs.Classes.{record_type_code};
-ghost use Rattle.hickory_resolver_model.specs.Bounds.{ConfigValue, SetsBounds, bounds_for, positive_bounds, negative_bounds, clamped, clamped_record, clamped_records, positive_lifetime, negative_lifetime, no_bounds, least_ttl, living_records};
+ghost use Rattle.hickory_proto_core.specs.ResponseKind.{record_type_code};
+ghost use Rattle.hickory_resolver_model.specs.Bounds.{ConfigValue, SetsBounds, bounds_for, positive_bounds, negative_bounds, clamped_message, clamped_record, clamped_records, positive_lifetime, negative_lifetime, no_bounds, least_ttl, living_records};
 
 use crate::ttl_bounds::{TtlBounds, clamp, clamp_ttl};
 use hickory_proto_core::{Message, NetError, NoRecords, Query, Record, RecordType};
@@ -87,7 +87,7 @@ impl TtlConfig {
 
     // Clamps the TTL of each record of a message by the bounds of the record's own type.
     pub fn clamp(&self, message: &mut Message)
-        ensures { message.new ≡ clamped self.now message.old }
+        ensures { message.new ≡ clamped_message self.now message.old }
     {
         self.clamp_records(&mut message.answers);
         self.clamp_records(&mut message.authorities);
@@ -118,16 +118,16 @@ impl TtlConfig {
     fn clamp_records(&self, records: &mut Vec<Record>)
         ensures { records.new.items ≡ clamped_records self.now records.old.items }
     {
-        for clamped in records.iter_mut() {
-            self.clamp_record(clamped);
+        for clamped_message in records.iter_mut() {
+            self.clamp_record(clamped_message);
         }
     }
 
-    fn clamp_record(&self, clamped: &mut Record)
-        ensures { clamped.new ≡ clamped_record self.now clamped.old }
+    fn clamp_record(&self, clamped_message: &mut Record)
+        ensures { clamped_message.new ≡ clamped_record self.now clamped_message.old }
     {
-        let bounds = self.positive_response_ttl_bounds(clamped.record_type());
-        clamped.ttl = clamp_ttl(bounds, clamped.ttl);
+        let bounds = self.positive_response_ttl_bounds(clamped_message.record_type());
+        clamped_message.ttl = clamp_ttl(bounds, clamped_message.ttl);
     }
 
     fn bounds(&self, query_type: RecordType) -> TtlBounds

@@ -5,7 +5,7 @@ use Rattle.std.specs.List.{list_any, filter_map}
 use Rattle.std.specs.Option.{option_to_list}
 use Rattle.std.specs.Cmp.Lexicographic.{pointwise}
 use Rattle.hickory_proto_core.specs.Name.{NameValue, name_eq, is_zone_of, num_labels_of, appended_name, wire_len, lower_label, localhost}
-use Rattle.hickory_resolver_model.specs.Hosts.{marked}
+use Rattle.hickory_resolver_model.specs.Hosts.{as_fqdn}
 
 -- how names are attempted: from how many labels on a name is attempted as it is first, the domain, and the search list
 pub record Search : Type 0 where
@@ -39,4 +39,4 @@ raw_first s n = nat_lt s.ndots (num_labels_of n.labels) || is_zone_of localhost 
 abbrev pub attempts : Search → NameValue → List NameValue
 attempts s n =
     if n.fqdn || is_onion_address (reverse n.labels) then n ∷ []
-    else (if raw_first s n then marked n ∷ keep_last (joined_names s n) else keep_last (joined_names s n ++ marked n ∷ []))
+    else (if raw_first s n then as_fqdn n ∷ keep_last (joined_names s n) else keep_last (joined_names s n ++ as_fqdn n ∷ []))

@@ -8,7 +8,7 @@ use Rattle.hickory_proto_core.specs.Codes.{type_code}
 use Rattle.hickory_proto_core.specs.Records.{RecordValue}
 use Rattle.hickory_proto_core.specs.Messages.{MessageValue}
 use Rattle.hickory_proto_core.specs.Errors.{NoRecordsValue}
-use Rattle.hickory_proto_core.specs.Classes.{record_type_code}
+use Rattle.hickory_proto_core.specs.ResponseKind.{record_type_code}
 use Rattle.hickory_proto_core.specs.records.query.Query.{Query}
 use Rattle.hickory_proto_core.specs.records.bounds_error.BoundsError.{BoundsError}
 use Rattle.hickory_proto_core.specs.records.bounds_error.BoundsError.TheVariants.{PositiveReversed, NegativeReversed}
@@ -43,11 +43,11 @@ abbrev pub negative_bounds : BoundsValue → ℕ × ℕ
 negative_bounds b = (unwrap_or b.negative_min 0, unwrap_or b.negative_max day)
 
 -- a TTL has 32 bits, so a bound past them counts as a day where TTLs are clamped
-abbrev pub reduced : ℕ → ℕ
-reduced n = if nat_lt 4294967295 n then day else n
+abbrev pub reduced_bound : ℕ → ℕ
+reduced_bound n = if nat_lt 4294967295 n then day else n
 
 abbrev pub reduced_bounds : ℕ × ℕ → ℕ × ℕ
-reduced_bounds b = (reduced b.0, reduced b.1)
+reduced_bounds b = (reduced_bound b.0, reduced_bound b.1)
 
 abbrev pub is_reversed : ℕ × ℕ → Bool
 is_reversed b = nat_lt b.1 b.0
@@ -105,8 +105,8 @@ clamped_record config r = record r { ttl = clamp (reduced_bounds (positive_bound
 abbrev pub clamped_records : ConfigValue → List RecordValue → List RecordValue
 clamped_records config rs = map (clamped_record config) rs
 
-abbrev pub clamped : ConfigValue → MessageValue → MessageValue
-clamped config m = record m {
+abbrev pub clamped_message : ConfigValue → MessageValue → MessageValue
+clamped_message config m = record m {
   answers = clamped_records config m.answers;
   authorities = clamped_records config m.authorities;
   additionals = clamped_records config m.additionals;

@@ -12,7 +12,7 @@ use Rattle.hickory_proto_core.specs.records.query.Query.{Query}
 use Rattle.hickory_proto_core.specs.records.net_error.NetError.{NetError}
 use Rattle.hickory_proto_core.specs.records.net_error.NetError.TheVariants.{Message, Timeout, Proto, Dns, NoOutcome, Bounds, OutOfMemory}
 use Rattle.hickory_proto_core.specs.records.net_error.DnsError.TheVariants.{ResponseCode, NoRecordsFound}
-use Rattle.hickory_resolver_model.specs.Bounds.{ConfigValue, clamped, positive_lifetime, negative_lifetime}
+use Rattle.hickory_resolver_model.specs.Bounds.{ConfigValue, clamped_message, positive_lifetime, negative_lifetime}
 
 -- an outcome that is kept for a question, when it was stored, and until when it is current (seconds)
 pub record Entry : Type 0 where
@@ -86,14 +86,14 @@ aged_outcome seconds (Ok m) = Ok (aged_message seconds m)
 aged_outcome seconds (Err e) = Err (aged_error seconds e)
 
 -- what an entry gives at a moment
-abbrev pub aged : ℕ → Entry → OutcomeValue
-aged now e = aged_outcome (age e.moment now) e.outcome
+abbrev pub aged_result : ℕ → Entry → OutcomeValue
+aged_result now e = aged_outcome (age e.moment now) e.outcome
 
 -- what a look-up in the cache gives: nothing without a current entry, else what the entry gives, or want of memory
 -- for a copy of it
 abbrev pub IsGot : Option Entry → ℕ → Option OutcomeValue → Type 0
 IsGot None now got = got ≡ None
-IsGot (Some entry) now got = (got ≡ Some (aged now entry)) ⊎ (got ≡ Some (Err OutOfMemory))
+IsGot (Some entry) now got = (got ≡ Some (aged_result now entry)) ⊎ (got ≡ Some (Err OutOfMemory))
 
 -- the list without the question's entry
 abbrev pub without : Query → List Entry → List Entry
@@ -117,7 +117,7 @@ room_for capacity q es =
 -- the entry that an answer becomes, its TTLs clamped, and the one that a negative answer becomes
 abbrev pub positive_entry : ConfigValue → Query → MessageValue → ℕ → Entry
 positive_entry config q m now =
-    let kept = clamped config m in
+    let kept = clamped_message config m in
     record { query = q; outcome = Ok kept; moment = now; deadline = saturating_sum now (positive_lifetime config q kept) }
 
 abbrev pub negative_entry : ConfigValue → Query → NoRecordsValue → ℕ → Entry
@@ -144,21 +144,21 @@ abbrev pub not_after_current : List Entry → ℕ → Entry → Entry
 not_after_current es now e = record e { deadline = option_map_or (λ c. min e.deadline c.deadline) (current e.query now es) e.deadline }
 
 -- the list with an entry put in as the newest
-abbrev pub put : ℕ → List Entry → Entry → List Entry
-put capacity es e = if capacity == 0 then es else room_for capacity e.query es ++ e ∷ []
+abbrev pub insert_entry : ℕ → List Entry → Entry → List Entry
+insert_entry capacity es e = if capacity == 0 then es else room_for capacity e.query es ++ e ∷ []
 
 -- the cache after a store
 abbrev pub store : CacheValue → Query → OutcomeValue → ℕ → CacheValue
-store c q outcome now = record c { entries = option_map_or (put c.capacity c.entries) (entry_of c.config q outcome now) c.entries }
+store c q outcome now = record c { entries = option_map_or (insert_entry c.capacity c.entries) (entry_of c.config q outcome now) c.entries }
 
 -- the cache after a store whose deadline is not after that of the entry that was current
 abbrev pub store_clamped : CacheValue → Query → OutcomeValue → ℕ → CacheValue
 store_clamped c q outcome now =
-    record c { entries = option_map_or (λ e. put c.capacity c.entries (not_after_current c.entries now e)) (entry_of c.config q outcome now) c.entries }
+    record c { entries = option_map_or (λ e. insert_entry c.capacity c.entries (not_after_current c.entries now e)) (entry_of c.config q outcome now) c.entries }
 
 -- the cache without the question's entry
-abbrev pub drop_query : CacheValue → Query → CacheValue
-drop_query c q = record c { entries = without q c.entries }
+abbrev pub without_query : CacheValue → Query → CacheValue
+without_query c q = record c { entries = without q c.entries }
 
 -- what holds of every cache: it is no longer than its capacity, and no two entries are for equal questions
 pub record IsCache (capacity : ℕ) (es : List Entry) : Type 0 where

@@ -7,12 +7,12 @@ use Rattle.hickory_proto_core.specs.declared.dns_request.DnsRequestOptions.{DnsR
 use Rattle.hickory_proto_core.specs.declared.recorded.Exchange.{Exchange}
 use Rattle.hickory_resolver_model.specs.Bounds.{no_bounds}
 use Rattle.hickory_resolver_model.specs.Cache.{CacheValue}
-use Rattle.hickory_resolver_model.specs.Lookup.{Reply}
+use Rattle.hickory_resolver_model.specs.Lookup.{LookupResult}
 use Rattle.hickory_proto_core.specs.Messages.{MessageValue}
-use Rattle.hickory_proto_core.specs.Classes.{Answer, class_of}
-use Rattle.hickory_resolver_model.specs.Special.{special}
+use Rattle.hickory_proto_core.specs.ResponseKind.{Answer, kind_of}
+use Rattle.hickory_resolver_model.specs.SpecialUse.{special_use_result}
 use Rattle.hickory_resolver_model.specs.AliasWalk.{walk_of}
-use Rattle.hickory_resolver_model.specs.Hops.{Start, IsReply}
+use Rattle.hickory_resolver_model.specs.Hops.{LookupContext, IsReply}
 
 -- what a caller sees of a client
 pub record ClientValue (H : Type 0) : Type 0 where
@@ -20,17 +20,17 @@ pub record ClientValue (H : Type 0) : Type 0 where
   pub handle : H
   pub preserve_intermediates : Bool
 
-abbrev pub start_of : {H : Type 0} → ClientValue H → ℕ → Start
+abbrev pub start_of : {H : Type 0} → ClientValue H → ℕ → LookupContext
 start_of client now = record { cache = client.cache; now = now; preserve_intermediates = client.preserve_intermediates }
 
 -- A question is direct where it is not special, and no answer that came back for it leads to another name.
 pub record IsDirect (question : Query) (now : ℕ) (asks : List Exchange) : Type 0 where
-  pub plain : special question now ≡ None
-  pub leads_nowhere : AllByRecursion (λ x. (m : MessageValue) → class_of x.outcome ≡ Answer m → (walk_of question m.answers).places ≡ []) asks
+  pub plain : special_use_result question now ≡ None
+  pub leads_nowhere : AllByRecursion (λ x. (m : MessageValue) → kind_of x.outcome ≡ Answer m → (walk_of question m.answers).places ≡ []) asks
 
 -- A look-up: the exchanges that it made led the handle, each with these options; it asked once at most. Of a direct
 -- question the reply and the cache after it are those of the hops. (The client follows no alias yet.)
-pub record IsLookup {H : Type 0} (step : Step H) (options : DnsRequestOptions) (now : ℕ) (before : ClientValue H) (question : Query) (result : Reply) (after : ClientValue H) : Type 0 where
+pub record IsLookup {H : Type 0} (step : Step H) (options : DnsRequestOptions) (now : ℕ) (before : ClientValue H) (question : Query) (result : LookupResult) (after : ClientValue H) : Type 0 where
   pub asks : List Exchange
   pub led : Leads step options before.handle asks after.handle
   pub once : length asks ≤ 1

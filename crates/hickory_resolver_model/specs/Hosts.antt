@@ -21,7 +21,7 @@ use Rattle.hickory_proto_core.specs.codes.dns_class.DNSClass.TheVariants as clas
 use Rattle.hickory_resolver_model.specs.Bounds.{day}
 use Rattle.hickory_resolver_model.specs.Cache.{saturating_sum}
 use Rattle.hickory_resolver_model.specs.Lookup.{LookupValue}
-use Rattle.hickory_resolver_model.specs.Special.{answered}
+use Rattle.hickory_resolver_model.specs.SpecialUse.{response_to}
 
 -- a name and what is known of it
 pub record Host : Type 0 where
@@ -29,8 +29,8 @@ pub record Host : Type 0 where
   pub a : Option LookupValue
   pub aaaa : Option LookupValue
 
-abbrev pub marked : NameValue → NameValue
-marked n = record n { fqdn = true }
+abbrev pub as_fqdn : NameValue → NameValue
+as_fqdn n = record n { fqdn = true }
 
 -- two look-ups as one: each section of the one and then of the other; the rest of the first one's message, and the sooner
 -- deadline
@@ -47,7 +47,7 @@ append l k = record { message = append_messages l.message k.message; valid_until
 -- what a name has at first: an answer without records
 abbrev pub no_addresses : NameValue → RecordType → ℕ → LookupValue
 no_addresses n t now = record {
-  message = answered (record { name = n; query_type = t; query_class = class.IN }) [];
+  message = response_to (record { name = n; query_type = t; query_class = class.IN }) [];
   valid_until = saturating_sum now day;
 }
 
@@ -67,7 +67,7 @@ is_host n h = name_eq n h.name
 -- the table with one more look-up for a name, which stays in its place, or comes last where it is new
 abbrev pub insert_host : NameValue → RecordType → LookupValue → ℕ → List Host → List Host
 insert_host name t l now hosts =
-    let n = marked name in
+    let n = as_fqdn name in
     if list_any (is_host n) hosts then map (λ h. if is_host n h then with_lookup n t l now h else h) hosts
     else hosts ++ with_lookup n t l now (record { name = n; a = None; aaaa = None }) ∷ []
 
@@ -79,7 +79,7 @@ address_type _ = type.AAAA
 -- one address of a name, for a day
 abbrev pub one_address : NameValue → DataValue → ℕ → LookupValue
 one_address n address now = record {
-  message = answered (record { name = n; query_type = address_type address; query_class = class.IN })
+  message = response_to (record { name = n; query_type = address_type address; query_class = class.IN })
       (record { name = n; dns_class = class.IN; ttl = day; rdata = address } ∷ []);
   valid_until = saturating_sum now day;
 }
@@ -87,7 +87,7 @@ one_address n address now = record {
 -- the table with these pairs of a name and an address put in, in order
 abbrev pub insert_pairs : ℕ → List (NameValue × DataValue) → List Host → List Host
 insert_pairs now [] hosts = hosts
-insert_pairs now (p ∷ ps) hosts = insert_pairs now ps (insert_host p.0 (address_type p.1) (one_address (marked p.0) p.1 now) now hosts)
+insert_pairs now (p ∷ ps) hosts = insert_pairs now ps (insert_host p.0 (address_type p.1) (one_address (as_fqdn p.0) p.1 now) now hosts)
 
 -- a list cut at the elements that pass a test
 abbrev pub put_first : {A : Type 0} → A → List (List A) → List (List A)
@@ -151,7 +151,7 @@ pointers owner hosts = map (λ h. record { name = owner; dns_class = class.IN; t
 
 abbrev pub pointer_lookup : Query → List RecordValue → ℕ → Option LookupValue
 pointer_lookup q [] now = None
-pointer_lookup q (r ∷ rs) now = Some (record { message = answered q (r ∷ rs); valid_until = saturating_sum now day })
+pointer_lookup q (r ∷ rs) now = Some (record { message = response_to q (r ∷ rs); valid_until = saturating_sum now day })
 
 -- the address that a name under `in-addr.arpa.` or `ip6.arpa.` stands for, if it stands for one
 abbrev pub StandsFor : NameValue → Option DataValue → Type 0
@@ -162,10 +162,10 @@ StandsFor n (Some rdata) = (net : IpNet) × IsArpaNameOf n net × (rdata ≡ dat
 -- the names of that address; nothing for other types. The class is not looked at
 abbrev pub static_answer : Option DataValue → Query → ℕ → List Host → Option LookupValue
 static_answer address q now hosts =
-    let n = marked q.name in
+    let n = as_fqdn q.name in
     let code = type_code q.query_type in
     if (code == 1) || (code == 28) then option_and_then (family q.query_type) (find (is_host n) hosts)
     else (if code == 12 then option_and_then (λ a. pointer_lookup q (pointers n (filter (has_address a) hosts)) now) address else None)
 
 abbrev pub IsStatic : Query → ℕ → List Host → Option LookupValue → Type 0
-IsStatic q now hosts result = (address : Option DataValue) × StandsFor (marked q.name) address × (result ≡ static_answer address q now hosts)
+IsStatic q now hosts result = (address : Option DataValue) × StandsFor (as_fqdn q.name) address × (result ≡ static_answer address q now hosts)

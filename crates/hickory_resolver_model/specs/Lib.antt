@@ -8,5 +8,5 @@ pub mod Hops
 pub mod Hosts
 pub mod Lookup
 pub mod Run
-pub mod Special
+pub mod SpecialUse
 pub mod Verdict

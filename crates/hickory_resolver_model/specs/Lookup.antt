@@ -4,7 +4,7 @@ use Rattle.std.specs.Cmp.{IsEquivalence, and_equiv, on_equiv, nat_eq_equiv}
 use Rattle.hickory_proto_core.specs.Messages.{MessageValue, message_eq, message_equiv}
 use Rattle.hickory_proto_core.specs.records.query.Query.{Query}
 use Rattle.hickory_proto_core.specs.records.net_error.NetError.{NetError}
-use Rattle.hickory_resolver_model.specs.Bounds.{ConfigValue, day, least, clamped, positive_lifetime}
+use Rattle.hickory_resolver_model.specs.Bounds.{ConfigValue, day, least, clamped_message, positive_lifetime}
 use Rattle.hickory_resolver_model.specs.Cache.{saturating_sum}
 
 pub record LookupValue : Type 0 where
@@ -12,8 +12,8 @@ pub record LookupValue : Type 0 where
   pub valid_until : ℕ
 
 -- what a look-up comes to
-abbrev pub Reply : Type 0
-Reply = Result LookupValue NetError
+abbrev pub LookupResult : Type 0
+LookupResult = Result LookupValue NetError
 
 -- a message's own questions, or this one where it has none
 abbrev pub queries_or : Query → List Query → List Query
@@ -34,7 +34,7 @@ hit_lookup q m now = record { message = with_question q m; valid_until = saturat
 -- an accepted response: its TTLs are clamped, and it may be used for its lifetime
 abbrev pub found_lookup : ConfigValue → Query → MessageValue → ℕ → LookupValue
 found_lookup config q m now =
-    let kept = clamped config m in
+    let kept = clamped_message config m in
     record { message = with_question q kept; valid_until = saturating_sum now (positive_lifetime config q kept) }
 
 abbrev pub lookup_eq : LookupValue → LookupValue → Bool

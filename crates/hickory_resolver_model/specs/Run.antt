@@ -14,11 +14,11 @@ use Rattle.hickory_proto_core.specs.names.name_error.NameError.{NameError}
 use Rattle.hickory_proto_core.specs.records.net_error.NetError.{NetError}
 use Rattle.hickory_proto_core.specs.records.net_error.NetError.TheVariants.{OutOfMemory}
 use Rattle.std.specs.declared.net.IpAddr.{IpAddr}
-use Rattle.hickory_resolver_model.specs.Cache.{CacheValue, drop_query}
-use Rattle.hickory_resolver_model.specs.Lookup.{LookupValue, Reply}
+use Rattle.hickory_resolver_model.specs.Cache.{CacheValue, without_query}
+use Rattle.hickory_resolver_model.specs.Lookup.{LookupValue, LookupResult}
 use Rattle.hickory_resolver_model.specs.Hosts.{Host}
 use Rattle.hickory_resolver_model.specs.Attempts.{Search, attempts}
-use Rattle.hickory_resolver_model.specs.Calls.{Setting, Plan, One, Both, Then, Part, PartRelation, IsPartFor, AreAttempts, literal_lookup, last_resort, asks_of_parts, question_of, is_out}
+use Rattle.hickory_resolver_model.specs.Calls.{Setting, Plan, One, Both, Fallback, SubLookup, SubLookupRelation, IsSubLookupFor, AreAttempts, literal_lookup, last_resort, asks_of_sub_lookups, question_of, is_out_of_memory}
 
 -- which addresses a look-up of addresses asks for
 pub data Strategy : Type 0 where
@@ -34,8 +34,8 @@ plan_of Ipv4Only = One type.A
 plan_of Ipv6Only = One type.AAAA
 plan_of Ipv4AndIpv6 = Both type.A type.AAAA
 plan_of Ipv6AndIpv4 = Both type.AAAA type.A
-plan_of Ipv6thenIpv4 = Then type.AAAA type.A
-plan_of Ipv4thenIpv6 = Then type.A type.AAAA
+plan_of Ipv6thenIpv4 = Fallback type.AAAA type.A
+plan_of Ipv4thenIpv6 = Fallback type.A type.AAAA
 
 -- what stays the same in a run
 pub record Settings : Type 0 where
@@ -61,18 +61,18 @@ moment_of (ClearLookup name t now) = now
 moment_of (Clear now) = now
 
 -- what a request is answered: what a look-up came to, or whether a clear was done
-pub data Answered : Type 0 where
-  LookedUp : Reply → Answered
-  Cleared : Result (Unit {0}) NetError → Answered
+pub data StepReply : Type 0 where
+  LookedUp : LookupResult → StepReply
+  Cleared : Result (Unit {0}) NetError → StepReply
 
-abbrev pub ends_run : Answered → Bool
-ends_run (LookedUp r) = is_out r
+abbrev pub ends_run : StepReply → Bool
+ends_run (LookedUp r) = is_out_of_memory r
 ends_run (Cleared (Ok u)) = false
 ends_run (Cleared (Err e)) = true
 
 -- A look-up of a name: its attempts, the hosts being looked at for the first one; or the fault of a text that is no name, and nothing
 -- asked. Want of memory may come before the first part.
-abbrev pub IsNameLookup : PartRelation → Settings → CacheValue → List ℕ → RecordType → ℕ → List Part → Reply → CacheValue → Type 0
+abbrev pub IsNameLookup : SubLookupRelation → Settings → CacheValue → List ℕ → RecordType → ℕ → List SubLookup → LookupResult → CacheValue → Type 0
 IsNameLookup Answers s before text t now parts reply after =
     ((n : NameValue) × Spells text n × AreAttempts Answers true false (One t) None before (attempts s.search n) (Err OutOfMemory) parts reply after)
     ⊎ ((fault : NameError) × HasFault text fault × (parts ≡ []) × (reply ≡ Err (net_error_of fault)) × (after ≡ before))
@@ -83,7 +83,7 @@ abbrev pub IsLiteralOwner : List ℕ → NameValue → Type 0
 IsLiteralOwner text n = Spells text n ⊎ (((m : NameValue) → Spells text m → ⊥) × (n ≡ record { labels = []; fqdn = false }))
 
 -- An address text is the reply by itself, and nothing is asked, where few dots make a name absolute or it is no name.
-pub record IsLiteral (s : Settings) (before : CacheValue) (text : List ℕ) (now : ℕ) (parts : List Part) (reply : Reply) (after : CacheValue) : Type 0 where
+pub record IsLiteral (s : Settings) (before : CacheValue) (text : List ℕ) (now : ℕ) (parts : List SubLookup) (reply : LookupResult) (after : CacheValue) : Type 0 where
   pub address : IpAddr
   pub spelled : IsAddressText text address
   pub at_once : (s.search.ndots ≤ 4) ⊎ ((m : NameValue) → Spells text m → ⊥)
@@ -104,7 +104,7 @@ IsAttempted s text = ((address : IpAddr) → IsAddressText text address → ⊥)
 
 -- A look-up of addresses: a literal; or its attempts, the hosts being looked at for every name, with the address as the last resort;
 -- or the fault of a text that is neither.
-abbrev pub IsAddressLookup : PartRelation → Settings → CacheValue → List ℕ → ℕ → List Part → Reply → CacheValue → Type 0
+abbrev pub IsAddressLookup : SubLookupRelation → Settings → CacheValue → List ℕ → ℕ → List SubLookup → LookupResult → CacheValue → Type 0
 IsAddressLookup Answers s before text now parts reply after =
     IsLiteral s before text now parts reply after
     ⊎ ((n : NameValue) × (literal : Option LookupValue) × Spells text n × IsAttempted s text × IsLastResort text now literal
@@ -115,7 +115,7 @@ IsAddressLookup Answers s before text now parts reply after =
 -- the cache without the questions of a name's attempts; a text that is no name clears nothing
 abbrev pub drop_each : RecordType → List NameValue → CacheValue → CacheValue
 drop_each t [] cache = cache
-drop_each t (n ∷ ns) cache = drop_each t ns (drop_query cache (question_of n t))
+drop_each t (n ∷ ns) cache = drop_each t ns (without_query cache (question_of n t))
 
 abbrev pub IsClear : Settings → CacheValue → List ℕ → RecordType → CacheValue → Type 0
 IsClear s before text t after =
@@ -123,7 +123,7 @@ IsClear s before text t after =
     ⊎ ((fault : NameError) × HasFault text fault × (after ≡ before))
 
 -- a request is served: its parts, each of which is answered in this way, what it is answered, and the cache after it
-abbrev pub IsServed : (ℕ → PartRelation) → Settings → CacheValue → RequestValue → List Part → Answered → CacheValue → Type 0
+abbrev pub IsServed : (ℕ → SubLookupRelation) → Settings → CacheValue → RequestValue → List SubLookup → StepReply → CacheValue → Type 0
 IsServed Answers s before (Lookup text t now) parts (LookedUp reply) after = IsNameLookup (Answers now) s before text t now parts reply after
 IsServed Answers s before (LookupIp text now) parts (LookedUp reply) after = IsAddressLookup (Answers now) s before text now parts reply after
 IsServed Answers s before (ClearLookup text t now) parts (Cleared (Ok u)) after = (parts ≡ []) × IsClear s before text t after
@@ -135,20 +135,20 @@ IsServed Answers s before _ parts _ after = ⊥
 pub record StepValue : Type 0 where
   pub now : ℕ
   pub exchanges : ℕ
-  pub answered : Answered
+  pub response_to : StepReply
 
 -- a step with what it was made of: the request, the cache before it, its piece of the exchanges, and its parts
 pub record Stage : Type 0 where
   pub request : RequestValue
   pub before : CacheValue
   pub piece : List Exchange
-  pub parts : List Part
+  pub parts : List SubLookup
   pub step : StepValue
 
 -- the request is served, and asks exactly the questions of its piece
 pub record IsStage (s : Settings) (stage : Stage) (after : CacheValue) : Type 0 where
-  pub served : IsServed (λ now. IsPartFor (setting_at s now)) s stage.before stage.request stage.parts stage.step.answered after
-  pub piece_is : stage.piece ≡ asks_of_parts stage.parts
+  pub served : IsServed (λ now. IsSubLookupFor (setting_at s now)) s stage.before stage.request stage.parts stage.step.response_to after
+  pub piece_is : stage.piece ≡ asks_of_sub_lookups stage.parts
   pub now_is : stage.step.now ≡ moment_of stage.request
   pub count_is : stage.step.exchanges ≡ length stage.piece
 
@@ -157,8 +157,8 @@ abbrev pub AreStages : Settings → CacheValue → List RequestValue → List St
 AreStages s before [] [] after = after ≡ before
 AreStages s before (request ∷ requests) (stage ∷ stages) after =
     (mid : CacheValue) × (stage.request ≡ request) × (stage.before ≡ before) × IsStage s stage mid
-    × (((ends_run stage.step.answered ≡ true) × (stages ≡ []) × (after ≡ mid))
-    ⊎ ((ends_run stage.step.answered ≡ false) × AreStages s mid requests stages after))
+    × (((ends_run stage.step.response_to ≡ true) × (stages ≡ []) × (after ≡ mid))
+    ⊎ ((ends_run stage.step.response_to ≡ false) × AreStages s mid requests stages after))
 AreStages s before _ _ after = ⊥
 
 abbrev pub exchanges_of : List Stage → List Exchange

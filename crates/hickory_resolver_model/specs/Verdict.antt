@@ -5,7 +5,7 @@ use Rattle.hickory_proto_core.specs.Name.{NameValue, name_eq}
 use Rattle.hickory_proto_core.specs.Codes.{type_code, class_code}
 use Rattle.hickory_proto_core.specs.Records.{RecordValue}
 use Rattle.hickory_proto_core.specs.Messages.{MessageValue, some_record}
-use Rattle.hickory_proto_core.specs.Classes.{is_any, record_type_code}
+use Rattle.hickory_proto_core.specs.ResponseKind.{is_any, record_type_code}
 use Rattle.hickory_proto_core.specs.records.query.Query.{Query}
 use Rattle.hickory_proto_core.specs.codes.dns_class.DNSClass.TheVariants as class
 use Rattle.hickory_resolver_model.specs.AliasWalk.{Walk, walk_of}
@@ -17,9 +17,9 @@ pub record Hop : Type 0 where
 
 -- the response is accepted, with these sections; or it leads to another hop; or it has nothing that was asked for
 pub data Verdict : Type 0 where
-  Found : MessageValue → Verdict
-  Alias : Hop → Verdict
-  Nothing : Verdict
+  Exists : MessageValue → Verdict
+  CnameChain : Hop → Verdict
+  NoMatch : Verdict
 
 abbrev pub is_none : {A : Type 0} → List A → Bool
 is_none [] = true
@@ -43,8 +43,8 @@ is_last_match q last r = has_class q r && has_type q r && name_eq last r.name
 abbrev pub is_intermediate : Query → RecordValue → Bool
 is_intermediate q r = has_class q r && (record_type_code r == 5)
 
-abbrev pub lowered : ℕ → RecordValue → RecordValue
-lowered ttl r = record r { ttl = min r.ttl ttl }
+abbrev pub with_ttl_at_most : ℕ → RecordValue → RecordValue
+with_ttl_at_most ttl r = record r { ttl = min r.ttl ttl }
 
 abbrev pub all_records : MessageValue → List RecordValue
 all_records m = m.answers ++ m.authorities ++ m.additionals
@@ -63,7 +63,7 @@ is_filtered keep hop walk m = not (is_none hop.preserved) || (not (is_none walk.
 abbrev pub filtered_answers : Bool → Hop → Walk → MessageValue → List RecordValue
 filtered_answers keep hop walk m =
     hop.preserved
-    ++ map (lowered walk.ttl) (filter (λ r. is_match hop.query walk.last r || (keep && is_intermediate hop.query r)) (all_records m))
+    ++ map (with_ttl_at_most walk.ttl) (filter (λ r. is_match hop.query walk.last r || (keep && is_intermediate hop.query r)) (all_records m))
 
 abbrev pub found_message : Bool → Hop → Walk → MessageValue → MessageValue
 found_message keep hop walk m = if is_filtered keep hop walk m then record m { answers = filtered_answers keep hop walk m } else m
@@ -73,12 +73,12 @@ found_message keep hop walk m = if is_filtered keep hop walk m then record m { a
 abbrev pub next_hop : Bool → Hop → Walk → MessageValue → Hop
 next_hop keep hop walk m = record {
   query = record { name = walk.last; query_type = hop.query.query_type; query_class = class.IN };
-  preserved = hop.preserved ++ (if keep then map (lowered walk.ttl) (filter (is_intermediate hop.query) (all_records m)) else []);
+  preserved = hop.preserved ++ (if keep then map (with_ttl_at_most walk.ttl) (filter (is_intermediate hop.query) (all_records m)) else []);
 }
 
 abbrev pub walk_verdict : Bool → Hop → Walk → MessageValue → Verdict
 walk_verdict keep hop walk m =
-    if is_accepted hop walk m then Found (found_message keep hop walk m) else (if is_none walk.places then Nothing else Alias (next_hop keep hop walk m))
+    if is_accepted hop walk m then Exists (found_message keep hop walk m) else (if is_none walk.places then NoMatch else CnameChain (next_hop keep hop walk m))
 
 -- the verdict on a response to a hop; `keep` says whether intermediate records are wanted
 abbrev pub verdict : Bool → Hop → MessageValue → Verdict

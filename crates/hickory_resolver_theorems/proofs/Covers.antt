@@ -5,9 +5,9 @@ use Rattle.std.specs.List.{AllByRecursion}
 use Rattle.hickory_proto_core.specs.Codes.{type_code}
 use Rattle.hickory_proto_core.specs.Records.{RecordValue}
 use Rattle.hickory_proto_core.specs.Messages.{MessageValue}
-use Rattle.hickory_proto_core.specs.Classes.{record_type_code}
+use Rattle.hickory_proto_core.specs.ResponseKind.{record_type_code}
 use Rattle.hickory_proto_core.specs.records.query.Query.{Query}
-use Rattle.hickory_resolver_model.specs.Bounds.{ConfigValue, bounds_for, positive_bounds, reduced, clamped, clamped_record, clamped_records, least, living_records, positive_lifetime}
+use Rattle.hickory_resolver_model.specs.Bounds.{ConfigValue, bounds_for, positive_bounds, reduced_bound, clamped_message, clamped_record, clamped_records, least, living_records, positive_lifetime}
 use Rattle.hickory_resolver_model.specs.Cache.{saturating_sum}
 use Rattle.hickory_resolver_theorems.specs.Covered.{Dated, Has, IsCoveredBy, IsCovered, IsLoopback, greatest_ttl}
 use Rattle.hickory_resolver_theorems.specs.Statements.{HasNoLeast, IsFreshRecord, AreFreshRecords}
@@ -39,14 +39,14 @@ covered-lower config (x ∷ xs) moment now ttl r le (inr h) = inr (covered-lower
 -- ---- clamped TTLs
 
 -- where the least is zero, a clamped TTL is no longer than it was, and at most the greatest
-pub clamped-le : (config : ConfigValue) (r : RecordValue) → HasNoLeast config (record_type_code r) → (clamped_record config r).ttl ≤ r.ttl
-clamped-le config r e =
-    let zero_least : reduced (positive_bounds (bounds_for config (record_type_code r))).0 ≡ 0 = ap reduced e in
+pub clamped_message-le : (config : ConfigValue) (r : RecordValue) → HasNoLeast config (record_type_code r) → (clamped_record config r).ttl ≤ r.ttl
+clamped_message-le config r e =
+    let zero_least : reduced_bound (positive_bounds (bounds_for config (record_type_code r))).0 ≡ 0 = ap reduced_bound e in
     omega (arith, zero_least)
 
-pub clamped-greatest : (config : ConfigValue) (r : RecordValue) → HasNoLeast config (record_type_code r) → (clamped_record config r).ttl ≤ greatest_ttl config (record_type_code r)
-clamped-greatest config r e =
-    let zero_least : reduced (positive_bounds (bounds_for config (record_type_code r))).0 ≡ 0 = ap reduced e in
+pub clamped_message-greatest : (config : ConfigValue) (r : RecordValue) → HasNoLeast config (record_type_code r) → (clamped_record config r).ttl ≤ greatest_ttl config (record_type_code r)
+clamped_message-greatest config r e =
+    let zero_least : reduced_bound (positive_bounds (bounds_for config (record_type_code r))).0 ≡ 0 = ap reduced_bound e in
     omega (arith, zero_least)
 
 -- a greatest TTL has 32 bits
@@ -57,7 +57,7 @@ greatest-short config code = by (positive_bounds (bounds_for config code)).1
     on n true e = omega arith
     on n false e = ltb-false _ _ e
 
-    by : (n : ℕ) → reduced n ≤ 4294967295
+    by : (n : ℕ) → reduced_bound n ≤ 4294967295
     by n = on n (nat_lt 4294967295 n) refl
 
 -- ---- lifetimes
@@ -95,7 +95,7 @@ Arrives config sources code now r = record_type_code r ≡ code → IsLoopback r
 -- such records are fresh once they are clamped, for as long as they live
 pub arrived-fresh : (config : ConfigValue) (sources : List Dated) (q : Query) (now : ℕ) (m : MessageValue) → HasNoLeast config (type_code q.query_type)
     → AllByRecursion (Arrives config sources (type_code q.query_type) now) m.answers
-    → AreFreshRecords config sources (type_code q.query_type) now (saturating_sum now (positive_lifetime config q (clamped config m))) (clamped_records config m.answers)
+    → AreFreshRecords config sources (type_code q.query_type) now (saturating_sum now (positive_lifetime config q (clamped_message config m))) (clamped_records config m.answers)
 arrived-fresh config sources q now m zero all =
     all-map (IsFreshRecord config sources code now deadline) (clamped_record config) m.answers
     (has-all (λ r. IsFreshRecord config sources code now deadline (clamped_record config r)) m.answers (λ r h e. of r h e (all-has (Arrives config sources code now) m.answers r all h e)))
@@ -104,15 +104,15 @@ arrived-fresh config sources q now m zero all =
     code = type_code q.query_type
 
     deadline : ℕ
-    deadline = saturating_sum now (positive_lifetime config q (clamped config m))
+    deadline = saturating_sum now (positive_lifetime config q (clamped_message config m))
 
     of : (r : RecordValue) → Has m.answers r → record_type_code r ≡ code → IsLoopback r ⊎ IsCovered config sources now (clamped_record config r)
         → IsLoopback (clamped_record config r) ⊎ (IsCovered config sources now (clamped_record config r) × ((clamped_record config r).ttl ≤ greatest_ttl config code) × (deadline ≤ now + (clamped_record config r).ttl))
     of r h e (inl loop) = inl loop
     of r h e (inr covered) =
         let none : HasNoLeast config (record_type_code r) = subst (HasNoLeast config) (sym e) zero in
-        let life = lifetime-le config q (clamped config m) (clamped_record config r) zero (has-map (clamped_record config) m.answers r h) e in
-        inr (covered, subst (λ n. (clamped_record config r).ttl ≤ greatest_ttl config n) e (clamped-greatest config r none), omega (arith, life, saturating-le now (positive_lifetime config q (clamped config m))))
+        let life = lifetime-le config q (clamped_message config m) (clamped_record config r) zero (has-map (clamped_record config) m.answers r h) e in
+        inr (covered, subst (λ n. (clamped_record config r).ttl ≤ greatest_ttl config n) e (clamped_message-greatest config r none), omega (arith, life, saturating-le now (positive_lifetime config q (clamped_message config m))))
 
 -- fresh records arrive once more, when they are stored under another question
 pub fresh-arrives : (config : ConfigValue) (sources : List Dated) (code now deadline : ℕ) (rs : List RecordValue) → HasNoLeast config code → AreFreshRecords config sources code now deadline rs → AllByRecursion (Arrives config sources code now) rs
@@ -121,4 +121,4 @@ fresh-arrives config sources code now deadline rs zero all = all-weaker (IsFresh
     of : (r : RecordValue) → record_type_code r ≡ code → IsLoopback r ⊎ (IsCovered config sources now r × (r.ttl ≤ greatest_ttl config code) × (deadline ≤ now + r.ttl)) → IsLoopback r ⊎ IsCovered config sources now (clamped_record config r)
     of r e (inl loop) = inl loop
     of r e (inr (covered, short, live)) =
-        inr (covered-lower config sources now now (clamped_record config r).ttl r (omega (arith, clamped-le config r (subst (HasNoLeast config) (sym e) zero))) covered)
+        inr (covered-lower config sources now now (clamped_record config r).ttl r (omega (arith, clamped_message-le config r (subst (HasNoLeast config) (sym e) zero))) covered)

@@ -12,13 +12,13 @@ use Rattle.hickory_proto_core.specs.NameLaws.{same_from_name_eq}
 use Rattle.hickory_proto_core.specs.Codes.{type_code, type_of, class_code, class_of, response_code, response_of}
 use Rattle.hickory_proto_core.specs.Records.{RecordValue, DataValue, a_data, aaaa_data, cname_data, ns_data, ptr_data, soa_data, srv_data, mx_data, txt_data, unknown_data, data_type, soa_minimum, ns_target}
 use Rattle.hickory_proto_core.specs.Query.{query_eq}
-use Rattle.hickory_proto_core.specs.Classes.{record_type_code}
+use Rattle.hickory_proto_core.specs.ResponseKind.{record_type_code}
 use Rattle.hickory_proto_core.specs.records.query.Query.{Query}
 use Rattle.hickory_proto_core.specs.codes.record_type.RecordType.TheVariants as type
 use Rattle.hickory_proto_core.specs.codes.dns_class.DNSClass.TheVariants as class
 use Rattle.hickory_proto_core.specs.codes.response_code.ResponseCode.TheVariants as code
 use Rattle.hickory_resolver_model.specs.AliasWalk.{data_target, leads_to}
-use Rattle.hickory_resolver_theorems.specs.Core.{folded, folded_query, folded_data, record_core}
+use Rattle.hickory_resolver_theorems.specs.WithoutTimes.{folded_name, folded_query, folded_data, record_without_times}
 
 -- ---- codes
 
@@ -57,81 +57,81 @@ pub lowers-twice : (ls : List (List ℕ)) → lower_labels (lower_labels ls) ≡
 lowers-twice [] = refl
 lowers-twice (l ∷ ls) = ap₂ (λ x xs. x ∷ xs) (lower-twice l) (lowers-twice ls)
 
-pub name_eq-folded : (a b : NameValue) → name_eq (folded a) (folded b) ≡ name_eq a b
-name_eq-folded a b = ap₂ (λ xs ys. beq a.fqdn b.fqdn && pointwise (pointwise nat_eq) xs ys) (lowers-twice a.labels) (lowers-twice b.labels)
+pub name_eq-folded_name : (a b : NameValue) → name_eq (folded_name a) (folded_name b) ≡ name_eq a b
+name_eq-folded_name a b = ap₂ (λ xs ys. beq a.fqdn b.fqdn && pointwise (pointwise nat_eq) xs ys) (lowers-twice a.labels) (lowers-twice b.labels)
 
-pub zone_of-folded : (zone name : NameValue) → is_zone_of (folded zone) (folded name) ≡ is_zone_of zone name
-zone_of-folded zone name = ap₂ (λ xs ys. ends_with (pointwise nat_eq) xs ys) (lowers-twice name.labels) (lowers-twice zone.labels)
+pub zone_of-folded_name : (zone name : NameValue) → is_zone_of (folded_name zone) (folded_name name) ≡ is_zone_of zone name
+zone_of-folded_name zone name = ap₂ (λ xs ys. ends_with (pointwise nat_eq) xs ys) (lowers-twice name.labels) (lowers-twice zone.labels)
 
 -- equal names are the same in lower case
-pub folded-same : (a b : NameValue) → name_eq a b ≡ true → folded a ≡ folded b
-folded-same a b h = let same = same_from_name_eq a b h in λ i. record { labels = same.1 i; fqdn = same.0 i }
+pub folded_name-same : (a b : NameValue) → name_eq a b ≡ true → folded_name a ≡ folded_name b
+folded_name-same a b h = let same = same_from_name_eq a b h in λ i. record { labels = same.1 i; fqdn = same.0 i }
 
 -- ---- data and records
 
-pub type-folded : (d : DataValue) → data_type (folded_data d) ≡ data_type d
-type-folded (a_data octets) = refl
-type-folded (aaaa_data segments) = refl
-type-folded (cname_data target) = refl
-type-folded (ns_data target) = refl
-type-folded (ptr_data target) = refl
-type-folded (soa_data mname rname serial refresh retry expire minimum) = refl
-type-folded (srv_data priority weight port target) = refl
-type-folded (mx_data preference exchange) = refl
-type-folded (txt_data strings) = refl
-type-folded (unknown_data code bytes) = refl
+pub type-folded_name : (d : DataValue) → data_type (folded_data d) ≡ data_type d
+type-folded_name (a_data octets) = refl
+type-folded_name (aaaa_data segments) = refl
+type-folded_name (cname_data target) = refl
+type-folded_name (ns_data target) = refl
+type-folded_name (ptr_data target) = refl
+type-folded_name (soa_data mname rname serial refresh retry expire minimum) = refl
+type-folded_name (srv_data priority weight port target) = refl
+type-folded_name (mx_data preference exchange) = refl
+type-folded_name (txt_data strings) = refl
+type-folded_name (unknown_data code bytes) = refl
 
-pub minimum-folded : (d : DataValue) → soa_minimum (folded_data d) ≡ soa_minimum d
-minimum-folded (a_data octets) = refl
-minimum-folded (aaaa_data segments) = refl
-minimum-folded (cname_data target) = refl
-minimum-folded (ns_data target) = refl
-minimum-folded (ptr_data target) = refl
-minimum-folded (soa_data mname rname serial refresh retry expire minimum) = refl
-minimum-folded (srv_data priority weight port target) = refl
-minimum-folded (mx_data preference exchange) = refl
-minimum-folded (txt_data strings) = refl
-minimum-folded (unknown_data code bytes) = refl
+pub minimum-folded_name : (d : DataValue) → soa_minimum (folded_data d) ≡ soa_minimum d
+minimum-folded_name (a_data octets) = refl
+minimum-folded_name (aaaa_data segments) = refl
+minimum-folded_name (cname_data target) = refl
+minimum-folded_name (ns_data target) = refl
+minimum-folded_name (ptr_data target) = refl
+minimum-folded_name (soa_data mname rname serial refresh retry expire minimum) = refl
+minimum-folded_name (srv_data priority weight port target) = refl
+minimum-folded_name (mx_data preference exchange) = refl
+minimum-folded_name (txt_data strings) = refl
+minimum-folded_name (unknown_data code bytes) = refl
 
-pub target-folded : (d : DataValue) → ns_target (folded_data d) ≡ option_map folded (ns_target d)
-target-folded (a_data octets) = refl
-target-folded (aaaa_data segments) = refl
-target-folded (cname_data target) = refl
-target-folded (ns_data target) = refl
-target-folded (ptr_data target) = refl
-target-folded (soa_data mname rname serial refresh retry expire minimum) = refl
-target-folded (srv_data priority weight port target) = refl
-target-folded (mx_data preference exchange) = refl
-target-folded (txt_data strings) = refl
-target-folded (unknown_data code bytes) = refl
+pub target-folded_name : (d : DataValue) → ns_target (folded_data d) ≡ option_map folded_name (ns_target d)
+target-folded_name (a_data octets) = refl
+target-folded_name (aaaa_data segments) = refl
+target-folded_name (cname_data target) = refl
+target-folded_name (ns_data target) = refl
+target-folded_name (ptr_data target) = refl
+target-folded_name (soa_data mname rname serial refresh retry expire minimum) = refl
+target-folded_name (srv_data priority weight port target) = refl
+target-folded_name (mx_data preference exchange) = refl
+target-folded_name (txt_data strings) = refl
+target-folded_name (unknown_data code bytes) = refl
 
-alias-folded : (owned : Bool) (d : DataValue) → data_target owned (folded_data d) ≡ option_map folded (data_target owned d)
-alias-folded owned (a_data octets) = refl
-alias-folded owned (aaaa_data segments) = refl
-alias-folded true (cname_data target) = refl
-alias-folded false (cname_data target) = refl
-alias-folded owned (ns_data target) = refl
-alias-folded owned (ptr_data target) = refl
-alias-folded owned (soa_data mname rname serial refresh retry expire minimum) = refl
-alias-folded owned (srv_data priority weight port target) = refl
-alias-folded owned (mx_data preference exchange) = refl
-alias-folded owned (txt_data strings) = refl
-alias-folded owned (unknown_data code bytes) = refl
+alias-folded_name : (owned : Bool) (d : DataValue) → data_target owned (folded_data d) ≡ option_map folded_name (data_target owned d)
+alias-folded_name owned (a_data octets) = refl
+alias-folded_name owned (aaaa_data segments) = refl
+alias-folded_name true (cname_data target) = refl
+alias-folded_name false (cname_data target) = refl
+alias-folded_name owned (ns_data target) = refl
+alias-folded_name owned (ptr_data target) = refl
+alias-folded_name owned (soa_data mname rname serial refresh retry expire minimum) = refl
+alias-folded_name owned (srv_data priority weight port target) = refl
+alias-folded_name owned (mx_data preference exchange) = refl
+alias-folded_name owned (txt_data strings) = refl
+alias-folded_name owned (unknown_data code bytes) = refl
 
-pub leads-folded : (reached : NameValue) (r : RecordValue) → leads_to (folded reached) (record_core r) ≡ option_map folded (leads_to reached r)
-leads-folded reached r = ap (λ b. data_target b (folded_data r.rdata)) (name_eq-folded reached r.name) ∙ alias-folded (name_eq reached r.name) r.rdata
+pub leads-folded_name : (reached : NameValue) (r : RecordValue) → leads_to (folded_name reached) (record_without_times r) ≡ option_map folded_name (leads_to reached r)
+leads-folded_name reached r = ap (λ b. data_target b (folded_data r.rdata)) (name_eq-folded_name reached r.name) ∙ alias-folded_name (name_eq reached r.name) r.rdata
 
-pub record_type-folded : (r : RecordValue) → record_type_code (record_core r) ≡ record_type_code r
-record_type-folded r = ap type_code (type-folded r.rdata)
+pub record_type-folded_name : (r : RecordValue) → record_type_code (record_without_times r) ≡ record_type_code r
+record_type-folded_name r = ap type_code (type-folded_name r.rdata)
 
-pub query_type-folded : (q : Query) → type_code (folded_query q).query_type ≡ type_code q.query_type
-query_type-folded q = type-code (type_code q.query_type)
+pub query_type-folded_name : (q : Query) → type_code (folded_query q).query_type ≡ type_code q.query_type
+query_type-folded_name q = type-code (type_code q.query_type)
 
-pub query_class-folded : (q : Query) → class_code (folded_query q).query_class ≡ class_code q.query_class
-query_class-folded q = class-code (class_code q.query_class)
+pub query_class-folded_name : (q : Query) → class_code (folded_query q).query_class ≡ class_code q.query_class
+query_class-folded_name q = class-code (class_code q.query_class)
 
-pub record_class-folded : (r : RecordValue) → class_code (record_core r).dns_class ≡ class_code r.dns_class
-record_class-folded r = class-code (class_code r.dns_class)
+pub record_class-folded_name : (r : RecordValue) → class_code (record_without_times r).dns_class ≡ class_code r.dns_class
+record_class-folded_name r = class-code (class_code r.dns_class)
 
 -- ---- lists
 
@@ -164,7 +164,7 @@ pub query-same : (p q : Query) → query_eq p q ≡ true → folded_query p ≡ 
 query-same p q h =
     let parts = and_parts (name_eq p.name q.name && (type_code p.query_type == type_code q.query_type)) (class_code p.query_class == class_code q.query_class) h in
     let front = and_parts (name_eq p.name q.name) (type_code p.query_type == type_code q.query_type) parts.0 in
-    let names = folded-same p.name q.name front.0 in
+    let names = folded_name-same p.name q.name front.0 in
     let types = eqb-true _ _ front.1 in
     let classes = eqb-true _ _ parts.1 in
     λ i. record { name = names i; query_type = type_of (types i); query_class = class_of (classes i) }

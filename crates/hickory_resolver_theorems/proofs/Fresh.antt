@@ -7,7 +7,7 @@ use Rattle.hickory_proto_core.specs.Name.{NameValue, name_eq, is_zone_of}
 use Rattle.hickory_proto_core.specs.Codes.{type_code, class_code, response_code}
 use Rattle.hickory_proto_core.specs.Records.{RecordValue, DataValue}
 use Rattle.hickory_proto_core.specs.Messages.{MessageValue}
-use Rattle.hickory_proto_core.specs.Classes.{Class, Answer, Negative, Failed, class_of, contains_answer, negative_of, record_type_code}
+use Rattle.hickory_proto_core.specs.ResponseKind.{ResponseKind, Answer, Negative, Failed, kind_of, contains_answer, negative_of, record_type_code}
 use Rattle.hickory_proto_core.specs.Handles.{OutcomeValue}
 use Rattle.hickory_proto_core.specs.records.query.Query.{Query}
 use Rattle.hickory_proto_core.specs.declared.recorded.Exchange.{Exchange}
@@ -16,22 +16,22 @@ use Rattle.hickory_proto_core.specs.records.net_error.NetError.TheVariants.{Mess
 use Rattle.hickory_proto_core.specs.records.net_error.DnsError.TheVariants.{ResponseCode, NoRecordsFound}
 use Rattle.hickory_resolver_model.specs.Bounds.{ConfigValue, clamped_record}
 use Rattle.hickory_resolver_model.specs.Cache.{CacheValue, Entry, is_for, is_current, age, aged_record, aged_records, aged_outcome, aged_message}
-use Rattle.hickory_resolver_model.specs.Lookup.{Reply, hit_lookup, hit_seconds}
-use Rattle.hickory_resolver_model.specs.Special.{special, is_loopback_name, loopback_data, one_record, no_records, full_name}
+use Rattle.hickory_resolver_model.specs.Lookup.{LookupResult, hit_lookup, hit_seconds}
+use Rattle.hickory_resolver_model.specs.SpecialUse.{special_use_result, is_loopback_name, loopback_data, one_record, no_records, full_name}
 use Rattle.hickory_resolver_model.specs.AliasWalk.{Walk, walk_of}
-use Rattle.hickory_resolver_model.specs.Verdict.{Hop, Found, Alias, Nothing, is_none, is_accepted, found_message, next_hop, all_records, lowered}
-use Rattle.hickory_resolver_model.specs.Hops.{Start, Last, Special, Hit, Asked, IsLast, HopList, Store, IsReply, asks_of, hit_result, verdict_result, class_result, result_of, verdict_stores, class_stores, last_stores, as_outcome, stores_of, after_stores}
-use Rattle.hickory_resolver_theorems.specs.Covered.{Dated, dated, Has, IsCovered, IsLoopback, greatest_ttl}
+use Rattle.hickory_resolver_model.specs.Verdict.{Hop, Exists, CnameChain, NoMatch, is_none, is_accepted, found_message, next_hop, all_records, with_ttl_at_most}
+use Rattle.hickory_resolver_model.specs.Hops.{LookupContext, ChainEnd, Special, Hit, Asked, IsChainEnd, HopList, Store, IsReply, asks_of, hit_result, verdict_result, kind_result, result_of, verdict_stores, kind_stores, last_stores, as_outcome, stores_of, after_stores}
+use Rattle.hickory_resolver_theorems.specs.Covered.{Dated, dated_exchanges, Has, IsCovered, IsLoopback, greatest_ttl}
 use Rattle.hickory_resolver_theorems.specs.Statements.{HasNoLeast, IsFreshRecord, AreFreshRecords, IsFreshReply, IsFreshOutcome, IsFreshEntry, AreFreshEntries, IsFresh}
 use Rattle.hickory_resolver_theorems.proofs.Lists.{all-weaker, all-append, all-front, all-back, all-map, all-has, has-all, has-right, has-map, all-reverse, find-has}
-use Rattle.hickory_resolver_theorems.proofs.Covers.{Arrives, arrived-fresh, fresh-arrives, covered-has, covered-lower, clamped-le, clamped-greatest, greatest-short, least-has, saturating-le}
+use Rattle.hickory_resolver_theorems.proofs.Covers.{Arrives, arrived-fresh, fresh-arrives, covered-has, covered-lower, clamped_message-le, clamped_message-greatest, greatest-short, least-has, saturating-le}
 use Rattle.hickory_resolver_theorems.proofs.Verdicts.{KeepsType, leads-keep, found-answers}
 use Rattle.hickory_resolver_theorems.proofs.Stores.{StoresArrived, StoresOutcome, stores-fresh, entries-more}
 
 -- ---- special names
 
-special-fresh : (config : ConfigValue) (sources : List Dated) (q : Query) (now : ℕ) (reply : Reply) → special q now ≡ Some reply → IsFreshReply config sources (type_code q.query_type) now reply
-special-fresh config sources q now reply h =
+special_use_result-fresh : (config : ConfigValue) (sources : List Dated) (q : Query) (now : ℕ) (reply : LookupResult) → special_use_result q now ≡ Some reply → IsFreshReply config sources (type_code q.query_type) now reply
+special_use_result-fresh config sources q now reply h =
     by (class_code q.query_class == 1) (is_loopback_name q.name) refl (loopback_data (type_code q.query_type)) refl (is_zone_of invalid q.name) (is_zone_of onion q.name) h
   where
     invalid : NameValue
@@ -43,7 +43,7 @@ special-fresh config sources q now reply h =
     code : ℕ
     code = type_code q.query_type
 
-    on_data : Option DataValue → Reply
+    on_data : Option DataValue → LookupResult
     on_data o = option_map_or (λ rdata. Ok (one_record q rdata now)) o (Err (no_records q NoError))
 
     record_is : is_loopback_name q.name ≡ true → (rdata : DataValue) → loopback_data code ≡ Some rdata → IsFreshReply config sources code now (Ok (one_record q rdata now))
@@ -68,10 +68,10 @@ for-type q e h =
     let front = and_parts (name_eq q.name e.query.name) (type_code q.query_type == type_code e.query.query_type) parts.0 in
     sym (eqb-true _ _ front.1)
 
-aged-fresh : (config : ConfigValue) (sources : List Dated) (code now moment deadline : ℕ) (rs : List RecordValue) → now ≤ deadline → AreFreshRecords config sources code moment deadline rs
+aged_result-fresh : (config : ConfigValue) (sources : List Dated) (code now moment deadline : ℕ) (rs : List RecordValue) → now ≤ deadline → AreFreshRecords config sources code moment deadline rs
     → (until : ℕ) → ((r : RecordValue) → Has (aged_records (age moment now) rs) r → until ≤ now + r.ttl)
     → AreFreshRecords config sources code now until (aged_records (age moment now) rs)
-aged-fresh config sources code now moment deadline rs live fresh until each =
+aged_result-fresh config sources code now moment deadline rs live fresh until each =
     all-map (IsFreshRecord config sources code now until) (aged_record seconds) rs
     (has-all (λ r. IsFreshRecord config sources code now until (aged_record seconds r)) rs (λ r h same. of r (each (aged_record seconds r) (has-map (aged_record seconds) rs r h)) (all-has (IsFreshRecord config sources code moment deadline) rs r fresh h same)))
   where
@@ -93,7 +93,7 @@ hit-fresh config sources q now e (Ok m) own live zero fresh =
     subst (λ c. AreFreshRecords config sources c e.moment e.deadline m.answers) same (fresh (subst (HasNoLeast config) (sym same) zero)) in
     let seconds = age e.moment now in
     let left = aged_message seconds m in
-    aged-fresh config sources code now e.moment e.deadline m.answers live given (hit_lookup q left now).valid_until
+    aged_result-fresh config sources code now e.moment e.deadline m.answers live given (hit_lookup q left now).valid_until
     (λ r h. omega (arith, saturating-le now (hit_seconds left), least-has (map (λ x. x.ttl) left.answers) r.ttl 86400 (has-map (λ x. x.ttl) left.answers r h)))
 hit-fresh config sources q now e (Err error) own live zero fresh = tt
 
@@ -103,7 +103,7 @@ abbrev pub Same : OutcomeValue → OutcomeValue → Type 0
 Same a b = a ≡ b
 
 -- an answer is a response
-pub class-answer : (outcome : OutcomeValue) (response : MessageValue) → class_of outcome ≡ Answer response → outcome ≡ Ok response
+pub class-answer : (outcome : OutcomeValue) (response : MessageValue) → kind_of outcome ≡ Answer response → outcome ≡ Ok response
 class-answer (Ok m) response h = by ((code == 0) || (code == 3)) (m.metadata.truncation || contains_answer m) h
   where
     code : ℕ
@@ -134,14 +134,14 @@ received-arrives config sources now code x response zero there came r brought tt
       received = r;
       brought = brought;
       equal = refl;
-      reaches = omega (arith, le, clamped-le config low none, clamped-greatest config low none);
+      reaches = omega (arith, le, clamped_message-le config low none, clamped_message-greatest config low none);
     }))
 
 found-arrives : (config : ConfigValue) (sources : List Dated) (now code : ℕ) (keep : Bool) (hop : Hop) (x : Exchange) (response : MessageValue) → KeepsType code hop → HasNoLeast config code → Has sources (record { moment = now; exchange = x }) → x.outcome ≡ Ok response
     → AllByRecursion (Arrives config sources code now) (found_message keep hop (walk_of hop.query response.answers) response).answers
 found-arrives config sources now code keep hop x response keeps zero there came =
     found-answers Comes keep hop walk response (all-weaker (λ r. record_type_code r ≡ code → ⊥) Comes (λ r other same. absurd (other same)) hop.preserved keeps.others)
-    (has-all (λ r. Comes r × Comes (lowered walk.ttl r)) (all_records response) (λ r h. (each r h r.ttl (omega arith), each r h (min r.ttl walk.ttl) (omega arith))))
+    (has-all (λ r. Comes r × Comes (with_ttl_at_most walk.ttl r)) (all_records response) (λ r h. (each r h r.ttl (omega arith), each r h (min r.ttl walk.ttl) (omega arith))))
   where
     Comes : RecordValue → Type 0
     Comes = Arrives config sources code now
@@ -154,15 +154,15 @@ found-arrives config sources now code keep hop x response keeps zero there came 
 
 -- ---- the result of a list of hops
 
-result-fresh : (s : Start) (sources : List Dated) (hop : Hop) (count : ℕ) (last : Last) → KeepsType (type_code hop.query.query_type) hop → AreFreshEntries s.cache sources → HasNoLeast s.cache.config (type_code hop.query.query_type)
-    → AllByRecursion (λ x. Has sources (record { moment = s.now; exchange = x })) (asks_of hop last) → IsLast s count hop last
+result-fresh : (s : LookupContext) (sources : List Dated) (hop : Hop) (count : ℕ) (last : ChainEnd) → KeepsType (type_code hop.query.query_type) hop → AreFreshEntries s.cache sources → HasNoLeast s.cache.config (type_code hop.query.query_type)
+    → AllByRecursion (λ x. Has sources (record { moment = s.now; exchange = x })) (asks_of hop last) → IsChainEnd s count hop last
     → IsFreshReply s.cache.config sources (type_code hop.query.query_type) s.now (result_of s hop last)
-result-fresh s sources hop count (Special reply) keeps fresh zero there ends = special-fresh s.cache.config sources hop.query s.now reply ends
+result-fresh s sources hop count (Special reply) keeps fresh zero there ends = special_use_result-fresh s.cache.config sources hop.query s.now reply ends
 result-fresh s sources hop count (Hit entry) keeps fresh zero there ends =
     let found = find-has (λ e. is_for hop.query e && is_current s.now e) s.cache.entries entry ends.1 in
     let both = and_parts (is_for hop.query entry) (is_current s.now entry) found.1 in
     hit-fresh s.cache.config sources hop.query s.now entry entry.outcome both.0 (leb-true _ _ both.1) zero (all-has (IsFreshEntry s.cache.config sources) s.cache.entries entry fresh found.0)
-result-fresh s sources hop count (Asked outcome) keeps fresh zero there ends = by (class_of outcome) refl
+result-fresh s sources hop count (Asked outcome) keeps fresh zero there ends = by (kind_of outcome) refl
   where
     config : ConfigValue
     config = s.cache.config
@@ -174,25 +174,25 @@ result-fresh s sources hop count (Asked outcome) keeps fresh zero there ends = b
     x = record { query = hop.query; outcome = outcome }
 
     on : (response : MessageValue) → outcome ≡ Ok response → (accepted nowhere : Bool)
-        → IsFreshReply config sources code s.now (verdict_result config hop.query s.now response (if accepted then Found (found_message s.preserve_intermediates hop (walk_of hop.query response.answers) response) else (if nowhere then Nothing else Alias (next_hop s.preserve_intermediates hop (walk_of hop.query response.answers) response))))
+        → IsFreshReply config sources code s.now (verdict_result config hop.query s.now response (if accepted then Exists (found_message s.preserve_intermediates hop (walk_of hop.query response.answers) response) else (if nowhere then NoMatch else CnameChain (next_hop s.preserve_intermediates hop (walk_of hop.query response.answers) response))))
     on response came true nowhere =
         arrived-fresh config sources hop.query s.now (found_message s.preserve_intermediates hop (walk_of hop.query response.answers) response) zero
         (found-arrives config sources s.now code s.preserve_intermediates hop x response keeps zero there.0 came)
     on response came false true = tt
     on response came false false = tt
 
-    by : (c : Class) → class_of outcome ≡ c → IsFreshReply config sources code s.now (class_result s hop c)
+    by : (c : ResponseKind) → kind_of outcome ≡ c → IsFreshReply config sources code s.now (kind_result s hop c)
     by (Answer response) e = on response (class-answer outcome response e) (is_accepted hop (walk_of hop.query response.answers) response) (is_none (walk_of hop.query response.answers).places)
     by (Negative none) e = tt
     by (Failed error) e = tt
 
 -- ---- what it stores
 
-last-arrives : (s : Start) (sources : List Dated) (hop : Hop) (last : Last) → KeepsType (type_code hop.query.query_type) hop → AllByRecursion (λ x. Has sources (record { moment = s.now; exchange = x })) (asks_of hop last)
+last-arrives : (s : LookupContext) (sources : List Dated) (hop : Hop) (last : ChainEnd) → KeepsType (type_code hop.query.query_type) hop → AllByRecursion (λ x. Has sources (record { moment = s.now; exchange = x })) (asks_of hop last)
     → AllByRecursion (StoresArrived s.cache.config sources s.now) (last_stores s hop last)
 last-arrives s sources hop (Special reply) keeps there = tt
 last-arrives s sources hop (Hit entry) keeps there = tt
-last-arrives s sources hop (Asked outcome) keeps there = by (class_of outcome) refl
+last-arrives s sources hop (Asked outcome) keeps there = by (kind_of outcome) refl
   where
     config : ConfigValue
     config = s.cache.config
@@ -201,18 +201,18 @@ last-arrives s sources hop (Asked outcome) keeps there = by (class_of outcome) r
     x = record { query = hop.query; outcome = outcome }
 
     on : (response : MessageValue) → outcome ≡ Ok response → (accepted nowhere : Bool)
-        → AllByRecursion (StoresArrived config sources s.now) (verdict_stores hop.query (if accepted then Found (found_message s.preserve_intermediates hop (walk_of hop.query response.answers) response) else (if nowhere then Nothing else Alias (next_hop s.preserve_intermediates hop (walk_of hop.query response.answers) response))))
+        → AllByRecursion (StoresArrived config sources s.now) (verdict_stores hop.query (if accepted then Exists (found_message s.preserve_intermediates hop (walk_of hop.query response.answers) response) else (if nowhere then NoMatch else CnameChain (next_hop s.preserve_intermediates hop (walk_of hop.query response.answers) response))))
     on response came true nowhere = ((λ zero. found-arrives config sources s.now (type_code hop.query.query_type) s.preserve_intermediates hop x response keeps zero there.0 came), tt)
     on response came false true = tt
     on response came false false = tt
 
-    by : (c : Class) → class_of outcome ≡ c → AllByRecursion (StoresArrived config sources s.now) (class_stores s hop c)
+    by : (c : ResponseKind) → kind_of outcome ≡ c → AllByRecursion (StoresArrived config sources s.now) (kind_stores s hop c)
     by (Answer response) e = on response (class-answer outcome response e) (is_accepted hop (walk_of hop.query response.answers) response) (is_none (walk_of hop.query response.answers).places)
     by (Negative none) e = (tt, tt)
     by (Failed error) e = tt
 
 -- a fresh result arrives once more under an earlier question of the same type
-again-arrives : (config : ConfigValue) (sources : List Dated) (now code : ℕ) (q : Query) (reply : Reply) → type_code q.query_type ≡ code → (HasNoLeast config code → IsFreshReply config sources code now reply) → StoresOutcome config sources now q (as_outcome q reply)
+again-arrives : (config : ConfigValue) (sources : List Dated) (now code : ℕ) (q : Query) (reply : LookupResult) → type_code q.query_type ≡ code → (HasNoLeast config code → IsFreshReply config sources code now reply) → StoresOutcome config sources now q (as_outcome q reply)
 again-arrives config sources now code q (Ok l) same fresh = λ zero.
     subst (λ c. AllByRecursion (Arrives config sources c now) l.message.answers) (sym same)
     (fresh-arrives config sources code now l.valid_until l.message.answers (subst (HasNoLeast config) same zero) (fresh (subst (HasNoLeast config) same zero)))
@@ -221,11 +221,11 @@ again-arrives config sources now code q (Err e) same fresh = tt
 -- ---- a look-up
 
 -- what is known of a list of hops, with its own exchanges among the sources
-pub record AreFreshHops (s : Start) (question : Query) (asks : List Exchange) (sources : List Dated) (h : HopList s question asks) : Type 0 where
+pub record AreFreshHops (s : LookupContext) (question : Query) (asks : List Exchange) (sources : List Dated) (h : HopList s question asks) : Type 0 where
   pub reply : HasNoLeast s.cache.config (type_code question.query_type) → IsFreshReply s.cache.config sources (type_code question.query_type) s.now (result_of s h.last_hop h.last)
   pub stores : AllByRecursion (StoresArrived s.cache.config sources s.now) (stores_of s h.passed h.last_hop h.last)
 
-hops-fresh : (s : Start) (question : Query) (asks : List Exchange) (sources : List Dated) (h : HopList s question asks) → AreFreshEntries s.cache sources → AllByRecursion (λ x. Has sources (record { moment = s.now; exchange = x })) asks
+hops-fresh : (s : LookupContext) (question : Query) (asks : List Exchange) (sources : List Dated) (h : HopList s question asks) → AreFreshEntries s.cache sources → AllByRecursion (λ x. Has sources (record { moment = s.now; exchange = x })) asks
     → AreFreshHops s question asks sources h
 hops-fresh s question asks sources h fresh there = record {
   reply = reply;
@@ -238,7 +238,7 @@ hops-fresh s question asks sources h fresh there = record {
     code : ℕ
     code = type_code question.query_type
 
-    result : Reply
+    result : LookupResult
     result = result_of s h.last_hop h.last
 
     leads : KeepsType code h.last_hop × AllByRecursion (λ x. type_code x.query.query_type ≡ code) h.passed
@@ -258,19 +258,19 @@ hops-fresh s question asks sources h fresh there = record {
         (result-fresh s sources h.last_hop _ h.last own fresh (subst (HasNoLeast s.cache.config) (sym leads.0.type_is) zero) last_there h.ends)
 
 -- the exchanges of a look-up are among its sources
-own-sources : (sources : List Dated) (now : ℕ) (asks : List Exchange) → AllByRecursion (λ x. Has (sources ++ dated now asks) (record { moment = now; exchange = x })) asks
+own-sources : (sources : List Dated) (now : ℕ) (asks : List Exchange) → AllByRecursion (λ x. Has (sources ++ dated_exchanges now asks) (record { moment = now; exchange = x })) asks
 own-sources sources now asks =
-    has-all (λ x. Has (sources ++ dated now asks) (record { moment = now; exchange = x })) asks
-    (λ x h. has-right sources (dated now asks) (record { moment = now; exchange = x }) (has-map (λ y. record { moment = now; exchange = y }) asks x h))
+    has-all (λ x. Has (sources ++ dated_exchanges now asks) (record { moment = now; exchange = x })) asks
+    (λ x h. has-right sources (dated_exchanges now asks) (record { moment = now; exchange = x }) (has-map (λ y. record { moment = now; exchange = y }) asks x h))
 
-pub fresh : (s : Start) (question : Query) (asks : List Exchange) (result : Reply) (after : CacheValue) → IsReply s question asks result after → IsFresh s question asks result after
+pub fresh : (s : LookupContext) (question : Query) (asks : List Exchange) (result : LookupResult) (after : CacheValue) → IsReply s question asks result after → IsFresh s question asks result after
 fresh s question asks result after reply sources entries = by reply
   where
     all : List Dated
-    all = sources ++ dated s.now asks
+    all = sources ++ dated_exchanges s.now asks
 
     known : AreFreshEntries s.cache all
-    known = entries-more s.cache sources (dated s.now asks) entries
+    known = entries-more s.cache sources (dated_exchanges s.now asks) entries
 
     stored : (stores : List Store) → AllByRecursion (StoresArrived s.cache.config all s.now) stores → after ≡ after_stores s.now stores s.cache → AreFreshEntries after all
     stored stores arrive e = subst (λ c. AreFreshEntries c all) (sym e) (stores-fresh s.cache all s.now stores known arrive)

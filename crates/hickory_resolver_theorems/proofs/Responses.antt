@@ -10,7 +10,7 @@ use Rattle.hickory_proto_core.specs.Records.{RecordValue, soa_minimum, ns_target
 use Rattle.hickory_proto_core.specs.Messages.{MessageValue, response_metadata, some_record}
 use Rattle.hickory_proto_core.specs.Errors.{ForwardValue}
 use Rattle.hickory_proto_core.specs.Handles.{OutcomeValue}
-use Rattle.hickory_proto_core.specs.Classes.{Class, Answer, Negative, Failed, class_of, is_asked, is_empty, answers_question, contains_answer, first_query, section_or_none, first_soa, is_address_of, forward_of, forwards_of, forwards_or_none, negative_of}
+use Rattle.hickory_proto_core.specs.ResponseKind.{ResponseKind, Answer, Negative, Failed, kind_of, is_asked, is_empty, answers_question, contains_answer, first_query, section_or_none, first_soa, is_address_of, forward_of, forwards_of, forwards_or_none, negative_of}
 use Rattle.hickory_proto_core.specs.records.query.Query.{Query}
 use Rattle.hickory_proto_core.specs.codes.dns_class.DNSClass.TheVariants as class
 use Rattle.hickory_proto_core.specs.codes.op_code.OpCode.TheVariants as op
@@ -18,33 +18,33 @@ use Rattle.hickory_proto_core.specs.records.net_error.NetError.{NetError}
 use Rattle.hickory_proto_core.specs.records.net_error.NetError.TheVariants.{Message, Timeout, Proto, Dns, NoOutcome, Bounds, OutOfMemory}
 use Rattle.hickory_proto_core.specs.records.net_error.DnsError.TheVariants.{ResponseCode, NoRecordsFound}
 use Rattle.hickory_resolver_model.specs.AliasWalk.{Walk, leads_to, walk_step, walk_from, walk_of, follows_aliases}
-use Rattle.hickory_resolver_model.specs.Verdict.{Verdict, Found, Alias, Nothing, is_none, is_match, is_last_match, is_accepted, is_filtered, is_intermediate, found_message, filtered_answers, next_hop, all_records, lowered, verdict}
+use Rattle.hickory_resolver_model.specs.Verdict.{Verdict, Exists, CnameChain, NoMatch, is_none, is_match, is_last_match, is_accepted, is_filtered, is_intermediate, found_message, filtered_answers, next_hop, all_records, with_ttl_at_most, verdict}
 use Rattle.hickory_resolver_model.specs.Hops.{no_match}
-use Rattle.hickory_resolver_theorems.specs.Cacheless.{plain_hop}
-use Rattle.hickory_resolver_theorems.specs.Core.{folded, folded_query, record_core, Sections, sections, forward_core, error_core, Core, ResponseCore, outcome_core}
-use Rattle.hickory_resolver_theorems.proofs.Folding.{name_eq-folded, zone_of-folded, minimum-folded, target-folded, leads-folded, record_type-folded, query_type-folded, query_class-folded, record_class-folded, any-map, filter-map, find-map, map-map}
+use Rattle.hickory_resolver_theorems.specs.Cacheless.{first_hop}
+use Rattle.hickory_resolver_theorems.specs.WithoutTimes.{folded_name, folded_query, record_without_times, Sections, sections, forward_without_times, error_without_times, WithoutTimes, ResponseWithoutTimes, outcome_without_times}
+use Rattle.hickory_resolver_theorems.proofs.Folding.{name_eq-folded_name, zone_of-folded_name, minimum-folded_name, target-folded_name, leads-folded_name, record_type-folded_name, query_type-folded_name, query_class-folded_name, record_class-folded_name, any-map, filter-map, find-map, map-map}
 
 -- what a question comes to by one outcome: a reply, or another question
 pub data Next : Type 0 where
-  Ends : Core → Next
+  Ends : WithoutTimes → Next
   GoesOn : Query → Next
 
 abbrev pub next_verdict : Query → MessageValue → Verdict → Next
-next_verdict q m (Found f) = Ends (Ok (sections f))
-next_verdict q m (Alias h) = GoesOn (folded_query h.query)
-next_verdict q m Nothing = Ends (Err (error_core (no_match q m)))
+next_verdict q m (Exists f) = Ends (Ok (sections f))
+next_verdict q m (CnameChain h) = GoesOn (folded_query h.query)
+next_verdict q m NoMatch = Ends (Err (error_without_times (no_match q m)))
 
-abbrev pub next_class : Query → Class → Next
-next_class q (Answer m) = next_verdict q m (verdict false (plain_hop q) m)
-next_class q (Negative n) = Ends (Err (error_core (Dns (NoRecordsFound n))))
-next_class q (Failed e) = Ends (Err (error_core e))
+abbrev pub next_class : Query → ResponseKind → Next
+next_class q (Answer m) = next_verdict q m (verdict false (first_hop q) m)
+next_class q (Negative n) = Ends (Err (error_without_times (Dns (NoRecordsFound n))))
+next_class q (Failed e) = Ends (Err (error_without_times e))
 
 abbrev pub next_outcome : Query → OutcomeValue → Next
-next_outcome q o = next_class q (class_of o)
+next_outcome q o = next_class q (kind_of o)
 
 -- ---- the same from what the outcome comes to, and the question in lower case
 
-abbrev message_of : ResponseCore → MessageValue
+abbrev message_of : ResponseWithoutTimes → MessageValue
 message_of c = record {
   metadata = record (response_metadata 0 op.Query) { truncation = c.truncation; response_code = response_of c.code };
   queries = c.queries;
@@ -53,7 +53,7 @@ message_of c = record {
   additionals = c.body.additionals;
 }
 
-abbrev response_core : MessageValue → ResponseCore
+abbrev response_core : MessageValue → ResponseWithoutTimes
 response_core m = record { code = response_code m.metadata.response_code; truncation = m.metadata.truncation; queries = map folded_query m.queries; body = sections m }
 
 abbrev folded_message : MessageValue → MessageValue
@@ -76,20 +76,20 @@ negative_core_of m = Dns (NoRecordsFound (record {
 abbrev found_core : Query → Walk → MessageValue → Sections
 found_core q walk m =
     record {
-      answers = if is_filtered false (plain_hop q) walk m then filter (is_match q walk.last) (all_records m) else m.answers;
+      answers = if is_filtered false (first_hop q) walk m then filter (is_match q walk.last) (all_records m) else m.answers;
       authorities = m.authorities;
       additionals = m.additionals;
     }
 
 abbrev walk_core : Query → Walk → MessageValue → Next
 walk_core q walk m =
-    if is_accepted (plain_hop q) walk m then Ends (Ok (found_core q walk m))
+    if is_accepted (first_hop q) walk m then Ends (Ok (found_core q walk m))
     else (if is_none walk.places then Ends (Err (no_match_core q m)) else GoesOn (record { name = walk.last; query_type = q.query_type; query_class = class.IN }))
 
 abbrev answer_core : Query → MessageValue → Next
 answer_core q m = walk_core q (walk_of q m.answers) m
 
-abbrev next_core : Query → Result ResponseCore NetError → Next
+abbrev next_core : Query → Result ResponseWithoutTimes NetError → Next
 next_core q (Ok c) =
     if (c.code == 0) || (c.code == 3) then (if c.truncation || contains_answer (message_of c) then answer_core q (message_of c) else Ends (Err (negative_core_of (message_of c))))
     else Ends (Err (Dns (ResponseCode (response_of c.code))))
@@ -97,98 +97,98 @@ next_core q (Err e) = Ends (Err e)
 
 -- ---- tests of records
 
-match-folded : (q : Query) (last : NameValue) (r : RecordValue) → is_match (folded_query q) (folded last) (record_core r) ≡ is_match q last r
-match-folded q last r =
-    let tq = query_type-folded q in
-    let tr = record_type-folded r in
-    let cq = query_class-folded q in
-    let cr = record_class-folded r in
-    let own = name_eq-folded q.name r.name in
-    let ends = name_eq-folded last r.name in
+match-folded_name : (q : Query) (last : NameValue) (r : RecordValue) → is_match (folded_query q) (folded_name last) (record_without_times r) ≡ is_match q last r
+match-folded_name q last r =
+    let tq = query_type-folded_name q in
+    let tr = record_type-folded_name r in
+    let cq = query_class-folded_name q in
+    let cr = record_class-folded_name r in
+    let own = name_eq-folded_name q.name r.name in
+    let ends = name_eq-folded_name last r.name in
     λ i. ((cq i == cr i) && ((tq i == 255) || (tq i == tr i))) && (own i || ends i)
 
-last_match-folded : (q : Query) (last : NameValue) (r : RecordValue) → is_last_match (folded_query q) (folded last) (record_core r) ≡ is_last_match q last r
-last_match-folded q last r =
-    let tq = query_type-folded q in
-    let tr = record_type-folded r in
-    let cq = query_class-folded q in
-    let cr = record_class-folded r in
-    let ends = name_eq-folded last r.name in
+last_match-folded_name : (q : Query) (last : NameValue) (r : RecordValue) → is_last_match (folded_query q) (folded_name last) (record_without_times r) ≡ is_last_match q last r
+last_match-folded_name q last r =
+    let tq = query_type-folded_name q in
+    let tr = record_type-folded_name r in
+    let cq = query_class-folded_name q in
+    let cr = record_class-folded_name r in
+    let ends = name_eq-folded_name last r.name in
     λ i. ((cq i == cr i) && ((tq i == 255) || (tq i == tr i))) && ends i
 
-asked-folded : (q : Query) (r : RecordValue) → is_asked (folded_query q) (record_core r) ≡ is_asked q r
-asked-folded q r =
-    let tq = query_type-folded q in
-    let tr = record_type-folded r in
-    let own = name_eq-folded q.name r.name in
-    let zone = zone_of-folded r.name q.name in
+asked-folded_name : (q : Query) (r : RecordValue) → is_asked (folded_query q) (record_without_times r) ≡ is_asked q r
+asked-folded_name q r =
+    let tq = query_type-folded_name q in
+    let tr = record_type-folded_name r in
+    let own = name_eq-folded_name q.name r.name in
+    let zone = zone_of-folded_name r.name q.name in
     λ i. if tq i == 255 then own i else (if tq i == 6 then (tr i == 6) && zone i else (tq i == tr i) && own i)
 
-some-folded : (p q : RecordValue → Bool) (m : MessageValue) → ((r : RecordValue) → p (record_core r) ≡ q r) → some_record p (folded_message m) ≡ some_record q m
-some-folded p q m same =
-    let a = any-map p q record_core same m.answers in
-    let b = any-map p q record_core same m.authorities in
-    let c = any-map p q record_core same m.additionals in
+some-folded_name : (p q : RecordValue → Bool) (m : MessageValue) → ((r : RecordValue) → p (record_without_times r) ≡ q r) → some_record p (folded_message m) ≡ some_record q m
+some-folded_name p q m same =
+    let a = any-map p q record_without_times same m.answers in
+    let b = any-map p q record_without_times same m.authorities in
+    let c = any-map p q record_without_times same m.additionals in
     λ i. (a i || b i) || c i
 
-empty-folded : (rs : List RecordValue) → is_empty (map record_core rs) ≡ is_empty rs
-empty-folded [] = refl
-empty-folded (r ∷ rs) = refl
+empty-folded_name : (rs : List RecordValue) → is_empty (map record_without_times rs) ≡ is_empty rs
+empty-folded_name [] = refl
+empty-folded_name (r ∷ rs) = refl
 
-answers-folded : (q : Query) (m : MessageValue) → answers_question (folded_query q) (folded_message m) ≡ answers_question q m
-answers-folded q m =
-    let tq = query_type-folded q in
-    let some = some-folded (is_asked (folded_query q)) (is_asked q) m (asked-folded q) in
-    let empty = empty-folded m.answers in
+answers-folded_name : (q : Query) (m : MessageValue) → answers_question (folded_query q) (folded_message m) ≡ answers_question q m
+answers-folded_name q m =
+    let tq = query_type-folded_name q in
+    let some = some-folded_name (is_asked (folded_query q)) (is_asked q) m (asked-folded_name q) in
+    let empty = empty-folded_name m.answers in
     λ i. some i || ((not (tq i == 255) && not (tq i == 6)) && not (empty i))
 
-contains-folded : (m : MessageValue) → contains_answer (folded_message m) ≡ contains_answer m
-contains-folded m = any-map (λ q. answers_question q (folded_message m)) (λ q. answers_question q m) folded_query (λ q. answers-folded q m) m.queries
+contains-folded_name : (m : MessageValue) → contains_answer (folded_message m) ≡ contains_answer m
+contains-folded_name m = any-map (λ q. answers_question q (folded_message m)) (λ q. answers_question q m) folded_query (λ q. answers-folded_name q m) m.queries
 
 -- ---- the parts of negative answers
 
-soa-folded : (rs : List RecordValue) → first_soa (map record_core rs) ≡ option_map record_core (first_soa rs)
-soa-folded rs = find-map (λ r. is_some (soa_minimum r.rdata)) (λ r. is_some (soa_minimum r.rdata)) record_core (λ r. ap is_some (minimum-folded r.rdata)) rs
+soa-folded_name : (rs : List RecordValue) → first_soa (map record_without_times rs) ≡ option_map record_without_times (first_soa rs)
+soa-folded_name rs = find-map (λ r. is_some (soa_minimum r.rdata)) (λ r. is_some (soa_minimum r.rdata)) record_without_times (λ r. ap is_some (minimum-folded_name r.rdata)) rs
 
-first-folded : (qs : List Query) → first_query (map folded_query qs) ≡ folded_query (first_query qs)
-first-folded [] = refl
-first-folded (q ∷ qs) = refl
+first-folded_name : (qs : List Query) → first_query (map folded_query qs) ≡ folded_query (first_query qs)
+first-folded_name [] = refl
+first-folded_name (q ∷ qs) = refl
 
-section-folded : (rs : List RecordValue) → section_or_none (map record_core rs) ≡ option_map (map record_core) (section_or_none rs)
-section-folded [] = refl
-section-folded (r ∷ rs) = refl
+section-folded_name : (rs : List RecordValue) → section_or_none (map record_without_times rs) ≡ option_map (map record_without_times) (section_or_none rs)
+section-folded_name [] = refl
+section-folded_name (r ∷ rs) = refl
 
-address-folded : (server : NameValue) (r : RecordValue) → is_address_of (folded server) (record_core r) ≡ is_address_of server r
-address-folded server r =
-    let tr = record_type-folded r in
-    let own = name_eq-folded server r.name in
+address-folded_name : (server : NameValue) (r : RecordValue) → is_address_of (folded_name server) (record_without_times r) ≡ is_address_of server r
+address-folded_name server r =
+    let tr = record_type-folded_name r in
+    let own = name_eq-folded_name server r.name in
     λ i. ((tr i == 1) || (tr i == 28)) && own i
 
-forward-folded : (additionals : List RecordValue) (r : RecordValue) → forward_of (map record_core additionals) (record_core r) ≡ option_map forward_core (forward_of additionals r)
-forward-folded additionals r = ap (option_map (λ server. record { ns = record_core r; glue = filter (is_address_of server) (map record_core additionals) })) (target-folded r.rdata) ∙ by (ns_target r.rdata)
+forward-folded_name : (additionals : List RecordValue) (r : RecordValue) → forward_of (map record_without_times additionals) (record_without_times r) ≡ option_map forward_without_times (forward_of additionals r)
+forward-folded_name additionals r = ap (option_map (λ server. record { ns = record_without_times r; glue = filter (is_address_of server) (map record_without_times additionals) })) (target-folded_name r.rdata) ∙ by (ns_target r.rdata)
   where
-    by : (o : Option NameValue) → option_map (λ server. record { ns = record_core r; glue = filter (is_address_of server) (map record_core additionals) }) (option_map folded o) ≡ option_map forward_core (option_map (λ server. record { ns = r; glue = filter (is_address_of server) additionals }) o)
+    by : (o : Option NameValue) → option_map (λ server. record { ns = record_without_times r; glue = filter (is_address_of server) (map record_without_times additionals) }) (option_map folded_name o) ≡ option_map forward_without_times (option_map (λ server. record { ns = r; glue = filter (is_address_of server) additionals }) o)
     by None = refl
-    by (Some server) = ap (λ glue. Some (record { ns = record_core r; glue = glue })) (filter-map (is_address_of (folded server)) (is_address_of server) record_core (address-folded server) additionals)
+    by (Some server) = ap (λ glue. Some (record { ns = record_without_times r; glue = glue })) (filter-map (is_address_of (folded_name server)) (is_address_of server) record_without_times (address-folded_name server) additionals)
 
-forwards-folded : (additionals rs : List RecordValue) → filter_map (forward_of (map record_core additionals)) (map record_core rs) ≡ map forward_core (filter_map (forward_of additionals) rs)
-forwards-folded additionals [] = refl
-forwards-folded additionals (r ∷ rs) = ap₂ cons_option (forward-folded additionals r) (forwards-folded additionals rs) ∙ by (forward_of additionals r)
+forwards-folded_name : (additionals rs : List RecordValue) → filter_map (forward_of (map record_without_times additionals)) (map record_without_times rs) ≡ map forward_without_times (filter_map (forward_of additionals) rs)
+forwards-folded_name additionals [] = refl
+forwards-folded_name additionals (r ∷ rs) = ap₂ cons_option (forward-folded_name additionals r) (forwards-folded_name additionals rs) ∙ by (forward_of additionals r)
   where
-    by : (o : Option ForwardValue) → cons_option (option_map forward_core o) (map forward_core (filter_map (forward_of additionals) rs)) ≡ map forward_core (cons_option o (filter_map (forward_of additionals) rs))
+    by : (o : Option ForwardValue) → cons_option (option_map forward_without_times o) (map forward_without_times (filter_map (forward_of additionals) rs)) ≡ map forward_without_times (cons_option o (filter_map (forward_of additionals) rs))
     by None = refl
     by (Some f) = refl
 
-some-forwards : (fs : List ForwardValue) → forwards_or_none (map forward_core fs) ≡ option_map (map forward_core) (forwards_or_none fs)
+some-forwards : (fs : List ForwardValue) → forwards_or_none (map forward_without_times fs) ≡ option_map (map forward_without_times) (forwards_or_none fs)
 some-forwards [] = refl
 some-forwards (f ∷ fs) = refl
 
-negative-folded : (m : MessageValue) → error_core (Dns (NoRecordsFound (negative_of m))) ≡ negative_core_of (folded_message m)
-negative-folded m =
-    let first = first-folded m.queries in
-    let soa = soa-folded m.authorities in
-    let ns = ap forwards_or_none (forwards-folded m.additionals m.authorities) ∙ some-forwards (forwards_of m) in
-    let section = section-folded m.authorities in
+negative-folded_name : (m : MessageValue) → error_without_times (Dns (NoRecordsFound (negative_of m))) ≡ negative_core_of (folded_message m)
+negative-folded_name m =
+    let first = first-folded_name m.queries in
+    let soa = soa-folded_name m.authorities in
+    let ns = ap forwards_or_none (forwards-folded_name m.additionals m.authorities) ∙ some-forwards (forwards_of m) in
+    let section = section-folded_name m.authorities in
     sym (λ i. Dns (NoRecordsFound (record {
       query = first i;
       soa = soa i;
@@ -198,9 +198,9 @@ negative-folded m =
       authorities = section i;
     })))
 
-no_match-folded : (q : Query) (m : MessageValue) → error_core (no_match q m) ≡ no_match_core (folded_query q) (folded_message m)
-no_match-folded q m =
-    let soa = soa-folded m.authorities in
+no_match-folded_name : (q : Query) (m : MessageValue) → error_without_times (no_match q m) ≡ no_match_core (folded_query q) (folded_message m)
+no_match-folded_name q m =
+    let soa = soa-folded_name m.authorities in
     sym (λ i. Dns (NoRecordsFound (record {
       query = folded_query q;
       soa = soa i;
@@ -213,122 +213,122 @@ no_match-folded q m =
 -- ---- the walk
 
 abbrev SameWalk : Walk → Walk → Type 0
-SameWalk w v = (w.places ≡ v.places) × (w.last ≡ folded v.last)
+SameWalk w v = (w.places ≡ v.places) × (w.last ≡ folded_name v.last)
 
-walk_from-folded : (rs : List RecordValue) (place : ℕ) (reached : NameValue) → SameWalk (walk_from place (folded reached) (map record_core rs)) (walk_from place reached rs)
-walk_from-folded [] place reached = (refl, refl)
-walk_from-folded (r ∷ rs) place reached = by (leads_to reached r) (leads_to (folded reached) (record_core r)) (leads-folded reached r) (walk_from-folded rs (place + 1))
+walk_from-folded_name : (rs : List RecordValue) (place : ℕ) (reached : NameValue) → SameWalk (walk_from place (folded_name reached) (map record_without_times rs)) (walk_from place reached rs)
+walk_from-folded_name [] place reached = (refl, refl)
+walk_from-folded_name (r ∷ rs) place reached = by (leads_to reached r) (leads_to (folded_name reached) (record_without_times r)) (leads-folded_name reached r) (walk_from-folded_name rs (place + 1))
   where
-    by : (o p : Option NameValue) → p ≡ option_map folded o → ((n : NameValue) → SameWalk (walk_from (place + 1) (folded n) (map record_core rs)) (walk_from (place + 1) n rs))
-        → SameWalk (option_map_or (λ next. walk_step place 0 (walk_from (place + 1) next (map record_core rs))) p (walk_from (place + 1) (folded reached) (map record_core rs)))
+    by : (o p : Option NameValue) → p ≡ option_map folded_name o → ((n : NameValue) → SameWalk (walk_from (place + 1) (folded_name n) (map record_without_times rs)) (walk_from (place + 1) n rs))
+        → SameWalk (option_map_or (λ next. walk_step place 0 (walk_from (place + 1) next (map record_without_times rs))) p (walk_from (place + 1) (folded_name reached) (map record_without_times rs)))
         (option_map_or (λ next. walk_step place r.ttl (walk_from (place + 1) next rs)) o (walk_from (place + 1) reached rs))
     by None p e rest =
-        subst (λ o. SameWalk (option_map_or (λ next. walk_step place 0 (walk_from (place + 1) next (map record_core rs))) o (walk_from (place + 1) (folded reached) (map record_core rs))) (walk_from (place + 1) reached rs)) (sym e) (rest reached)
+        subst (λ o. SameWalk (option_map_or (λ next. walk_step place 0 (walk_from (place + 1) next (map record_without_times rs))) o (walk_from (place + 1) (folded_name reached) (map record_without_times rs))) (walk_from (place + 1) reached rs)) (sym e) (rest reached)
     by (Some next) p e rest =
-        subst (λ o. SameWalk (option_map_or (λ n. walk_step place 0 (walk_from (place + 1) n (map record_core rs))) o (walk_from (place + 1) (folded reached) (map record_core rs))) (walk_step place r.ttl (walk_from (place + 1) next rs))) (sym e)
+        subst (λ o. SameWalk (option_map_or (λ n. walk_step place 0 (walk_from (place + 1) n (map record_without_times rs))) o (walk_from (place + 1) (folded_name reached) (map record_without_times rs))) (walk_step place r.ttl (walk_from (place + 1) next rs))) (sym e)
         (ap (λ ps. place ∷ ps) (rest next).0, (rest next).1)
 
-walk_of-folded : (q : Query) (answers : List RecordValue) → SameWalk (walk_of (folded_query q) (map record_core answers)) (walk_of q answers)
-walk_of-folded q answers = subst (λ n. SameWalk (if (if n == 255 then false else (if n == 5 then false else true)) then walk_from 0 (folded q.name) (map record_core answers) else record { places = []; last = folded q.name; ttl = 86400 }) (walk_of q answers)) (sym (query_type-folded q)) (by (follows_aliases q))
+walk_of-folded_name : (q : Query) (answers : List RecordValue) → SameWalk (walk_of (folded_query q) (map record_without_times answers)) (walk_of q answers)
+walk_of-folded_name q answers = subst (λ n. SameWalk (if (if n == 255 then false else (if n == 5 then false else true)) then walk_from 0 (folded_name q.name) (map record_without_times answers) else record { places = []; last = folded_name q.name; ttl = 86400 }) (walk_of q answers)) (sym (query_type-folded_name q)) (by (follows_aliases q))
   where
-    by : (b : Bool) → SameWalk (if b then walk_from 0 (folded q.name) (map record_core answers) else record { places = []; last = folded q.name; ttl = 86400 }) (if b then walk_from 0 q.name answers else record { places = []; last = q.name; ttl = 86400 })
-    by true = walk_from-folded answers 0 q.name
+    by : (b : Bool) → SameWalk (if b then walk_from 0 (folded_name q.name) (map record_without_times answers) else record { places = []; last = folded_name q.name; ttl = 86400 }) (if b then walk_from 0 q.name answers else record { places = []; last = q.name; ttl = 86400 })
+    by true = walk_from-folded_name answers 0 q.name
     by false = (refl, refl)
 
 -- ---- the verdict
 
-all-folded : (m : MessageValue) → all_records (folded_message m) ≡ map record_core (all_records m)
-all-folded m = sym (map-append record_core (m.answers ++ m.authorities) m.additionals ∙ ap (λ xs. xs ++ map record_core m.additionals) (map-append record_core m.answers m.authorities))
+all-folded_name : (m : MessageValue) → all_records (folded_message m) ≡ map record_without_times (all_records m)
+all-folded_name m = sym (map-append record_without_times (m.answers ++ m.authorities) m.additionals ∙ ap (λ xs. xs ++ map record_without_times m.additionals) (map-append record_without_times m.answers m.authorities))
 
 or_false : (b : Bool) → (b || false) ≡ b
 or_false true = refl
 or_false false = refl
 
 -- the answers that are filtered
-filtered-folded : (q : Query) (walk : Walk) (m : MessageValue) → map record_core (filtered_answers false (plain_hop q) walk m) ≡ filter (is_match (folded_query q) (folded walk.last)) (all_records (folded_message m))
-filtered-folded q walk m =
-    map-map record_core (lowered walk.ttl) record_core (λ r. refl) (filter test (all_records m))
-    ∙ sym (ap (filter (is_match (folded_query q) (folded walk.last))) (all-folded m) ∙ filter-map (is_match (folded_query q) (folded walk.last)) test record_core (λ r. match-folded q walk.last r ∙ sym (or_false (is_match q walk.last r))) (all_records m))
+filtered-folded_name : (q : Query) (walk : Walk) (m : MessageValue) → map record_without_times (filtered_answers false (first_hop q) walk m) ≡ filter (is_match (folded_query q) (folded_name walk.last)) (all_records (folded_message m))
+filtered-folded_name q walk m =
+    map-map record_without_times (with_ttl_at_most walk.ttl) record_without_times (λ r. refl) (filter test (all_records m))
+    ∙ sym (ap (filter (is_match (folded_query q) (folded_name walk.last))) (all-folded_name m) ∙ filter-map (is_match (folded_query q) (folded_name walk.last)) test record_without_times (λ r. match-folded_name q walk.last r ∙ sym (or_false (is_match q walk.last r))) (all_records m))
   where
     test : RecordValue → Bool
     test r = is_match q walk.last r || (false && is_intermediate q r)
 
--- the walk of the folded response, at the places and the last name of the walk of the response
+-- the walk of the folded_name response, at the places and the last name of the walk of the response
 abbrev at_walk : Walk → Walk
-at_walk walk = record { places = walk.places; last = folded walk.last; ttl = 0 }
+at_walk walk = record { places = walk.places; last = folded_name walk.last; ttl = 0 }
 
-found-folded : (q : Query) (walk : Walk) (m : MessageValue) → sections (found_message false (plain_hop q) walk m) ≡ found_core (folded_query q) (at_walk walk) (folded_message m)
-found-folded q walk m = by (is_filtered false (plain_hop q) walk m) (is_filtered false (plain_hop (folded_query q)) (at_walk walk) (folded_message m)) same
+found-folded_name : (q : Query) (walk : Walk) (m : MessageValue) → sections (found_message false (first_hop q) walk m) ≡ found_core (folded_query q) (at_walk walk) (folded_message m)
+found-folded_name q walk m = by (is_filtered false (first_hop q) walk m) (is_filtered false (first_hop (folded_query q)) (at_walk walk) (folded_message m)) same
   where
-    same : is_filtered false (plain_hop (folded_query q)) (at_walk walk) (folded_message m) ≡ is_filtered false (plain_hop q) walk m
+    same : is_filtered false (first_hop (folded_query q)) (at_walk walk) (folded_message m) ≡ is_filtered false (first_hop q) walk m
     same =
-        let some = some-folded (is_last_match (folded_query q) (folded walk.last)) (is_last_match q walk.last) m (last_match-folded q walk.last) in
+        let some = some-folded_name (is_last_match (folded_query q) (folded_name walk.last)) (is_last_match q walk.last) m (last_match-folded_name q walk.last) in
         λ i. not true || ((not (is_none walk.places) && some i) && not false)
 
-    by : (a b : Bool) → b ≡ a → sections (if a then record m { answers = filtered_answers false (plain_hop q) walk m } else m)
+    by : (a b : Bool) → b ≡ a → sections (if a then record m { answers = filtered_answers false (first_hop q) walk m } else m)
         ≡ record {
-          answers = if b then filter (is_match (folded_query q) (folded walk.last)) (all_records (folded_message m)) else map record_core m.answers;
-          authorities = map record_core m.authorities;
-          additionals = map record_core m.additionals;
+          answers = if b then filter (is_match (folded_query q) (folded_name walk.last)) (all_records (folded_message m)) else map record_without_times m.answers;
+          authorities = map record_without_times m.authorities;
+          additionals = map record_without_times m.additionals;
         }
     by true b e =
-        let answers = filtered-folded q walk m ∙ sym (ap (λ c. if c then filter (is_match (folded_query q) (folded walk.last)) (all_records (folded_message m)) else map record_core m.answers) e) in
-        λ i. record { answers = answers i; authorities = map record_core m.authorities; additionals = map record_core m.additionals }
+        let answers = filtered-folded_name q walk m ∙ sym (ap (λ c. if c then filter (is_match (folded_query q) (folded_name walk.last)) (all_records (folded_message m)) else map record_without_times m.answers) e) in
+        λ i. record { answers = answers i; authorities = map record_without_times m.authorities; additionals = map record_without_times m.additionals }
     by false b e =
-        let answers = sym (ap (λ c. if c then filter (is_match (folded_query q) (folded walk.last)) (all_records (folded_message m)) else map record_core m.answers) e) in
-        λ i. record { answers = answers i; authorities = map record_core m.authorities; additionals = map record_core m.additionals }
+        let answers = sym (ap (λ c. if c then filter (is_match (folded_query q) (folded_name walk.last)) (all_records (folded_message m)) else map record_without_times m.answers) e) in
+        λ i. record { answers = answers i; authorities = map record_without_times m.authorities; additionals = map record_without_times m.additionals }
 
-verdict-folded : (q : Query) (m : MessageValue) → next_verdict q m (verdict false (plain_hop q) m) ≡ answer_core (folded_query q) (folded_message m)
-verdict-folded q m = by (is_accepted (plain_hop q) walk m) (is_accepted (plain_hop (folded_query q)) (at_walk walk) (folded_message m)) same (is_none walk.places) ∙ sym walks
+verdict-folded_name : (q : Query) (m : MessageValue) → next_verdict q m (verdict false (first_hop q) m) ≡ answer_core (folded_query q) (folded_message m)
+verdict-folded_name q m = by (is_accepted (first_hop q) walk m) (is_accepted (first_hop (folded_query q)) (at_walk walk) (folded_message m)) same (is_none walk.places) ∙ sym walks
   where
     walk : Walk
     walk = walk_of q m.answers
 
     walks : answer_core (folded_query q) (folded_message m) ≡ walk_core (folded_query q) (at_walk walk) (folded_message m)
     walks =
-        let there = walk_of-folded q m.answers in
+        let there = walk_of-folded_name q m.answers in
         λ i. walk_core (folded_query q) (record { places = there.0 i; last = there.1 i; ttl = 0 }) (folded_message m)
 
-    same : is_accepted (plain_hop (folded_query q)) (at_walk walk) (folded_message m) ≡ is_accepted (plain_hop q) walk m
+    same : is_accepted (first_hop (folded_query q)) (at_walk walk) (folded_message m) ≡ is_accepted (first_hop q) walk m
     same =
-        let some = some-folded (is_match (folded_query q) (folded walk.last)) (is_match q walk.last) m (match-folded q walk.last) in
+        let some = some-folded_name (is_match (folded_query q) (folded_name walk.last)) (is_match q walk.last) m (match-folded_name q walk.last) in
         λ i. some i && (is_none walk.places || true)
 
     core_by : Bool → Bool → Next
     core_by accepted nowhere =
         if accepted then Ends (Ok (found_core (folded_query q) (at_walk walk) (folded_message m)))
-        else (if nowhere then Ends (Err (no_match_core (folded_query q) (folded_message m))) else GoesOn (record { name = folded walk.last; query_type = (folded_query q).query_type; query_class = class.IN }))
+        else (if nowhere then Ends (Err (no_match_core (folded_query q) (folded_message m))) else GoesOn (record { name = folded_name walk.last; query_type = (folded_query q).query_type; query_class = class.IN }))
 
     by : (a b : Bool) → b ≡ a → (nowhere : Bool)
-        → next_verdict q m (if a then Found (found_message false (plain_hop q) walk m) else (if nowhere then Nothing else Alias (next_hop false (plain_hop q) walk m))) ≡ core_by b nowhere
-    by true b e nowhere = ap (λ f. Ends (Ok f)) (found-folded q walk m) ∙ sym (ap (λ c. core_by c nowhere) e)
-    by false b e true = ap (λ x. Ends (Err x)) (no_match-folded q m) ∙ sym (ap (λ c. core_by c true) e)
+        → next_verdict q m (if a then Exists (found_message false (first_hop q) walk m) else (if nowhere then NoMatch else CnameChain (next_hop false (first_hop q) walk m))) ≡ core_by b nowhere
+    by true b e nowhere = ap (λ f. Ends (Ok f)) (found-folded_name q walk m) ∙ sym (ap (λ c. core_by c nowhere) e)
+    by false b e true = ap (λ x. Ends (Err x)) (no_match-folded_name q m) ∙ sym (ap (λ c. core_by c true) e)
     by false b e false = sym (ap (λ c. core_by c false) e)
 
 -- ---- an outcome
 
-outcome-folded : (q : Query) (o : OutcomeValue) → next_outcome q o ≡ next_core (folded_query q) (outcome_core o)
-outcome-folded q (Ok m) = by ((code == 0) || (code == 3)) (m.metadata.truncation || contains_answer m) (m.metadata.truncation || contains_answer (folded_message m)) (ap (λ b. m.metadata.truncation || b) (contains-folded m))
+outcome-folded_name : (q : Query) (o : OutcomeValue) → next_outcome q o ≡ next_core (folded_query q) (outcome_without_times o)
+outcome-folded_name q (Ok m) = by ((code == 0) || (code == 3)) (m.metadata.truncation || contains_answer m) (m.metadata.truncation || contains_answer (folded_message m)) (ap (λ b. m.metadata.truncation || b) (contains-folded_name m))
   where
     code : ℕ
     code = response_code m.metadata.response_code
 
     core_by : Bool → Bool → Next
-    core_by usual answered = if usual then (if answered then answer_core (folded_query q) (folded_message m) else Ends (Err (negative_core_of (folded_message m)))) else Ends (Err (Dns (ResponseCode (response_of code))))
+    core_by usual response_to = if usual then (if response_to then answer_core (folded_query q) (folded_message m) else Ends (Err (negative_core_of (folded_message m)))) else Ends (Err (Dns (ResponseCode (response_of code))))
 
     by : (usual a b : Bool) → b ≡ a → next_class q (if usual then (if a then Answer m else Negative (negative_of m)) else Failed (Dns (ResponseCode m.metadata.response_code))) ≡ core_by usual b
-    by true true b e = verdict-folded q m ∙ sym (ap (λ c. core_by true c) e)
-    by true false b e = ap (λ x. Ends (Err x)) (negative-folded m) ∙ sym (ap (λ c. core_by true c) e)
+    by true true b e = verdict-folded_name q m ∙ sym (ap (λ c. core_by true c) e)
+    by true false b e = ap (λ x. Ends (Err x)) (negative-folded_name m) ∙ sym (ap (λ c. core_by true c) e)
     by false a b e = refl
-outcome-folded q (Err (Dns (NoRecordsFound n))) = refl
-outcome-folded q (Err (Dns (ResponseCode code))) = refl
-outcome-folded q (Err (Message text)) = refl
-outcome-folded q (Err Timeout) = refl
-outcome-folded q (Err (Proto error)) = refl
-outcome-folded q (Err NoOutcome) = refl
-outcome-folded q (Err (Bounds error)) = refl
-outcome-folded q (Err OutOfMemory) = refl
+outcome-folded_name q (Err (Dns (NoRecordsFound n))) = refl
+outcome-folded_name q (Err (Dns (ResponseCode code))) = refl
+outcome-folded_name q (Err (Message text)) = refl
+outcome-folded_name q (Err Timeout) = refl
+outcome-folded_name q (Err (Proto error)) = refl
+outcome-folded_name q (Err NoOutcome) = refl
+outcome-folded_name q (Err (Bounds error)) = refl
+outcome-folded_name q (Err OutOfMemory) = refl
 
 -- questions that are equal come to the same by outcomes that agree
-pub next-same : (p q : Query) (o u : OutcomeValue) → folded_query p ≡ folded_query q → outcome_core o ≡ outcome_core u → next_outcome p o ≡ next_outcome q u
-next-same p q o u e f = outcome-folded p o ∙ ap₂ next_core e f ∙ sym (outcome-folded q u)
+pub next-same : (p q : Query) (o u : OutcomeValue) → folded_query p ≡ folded_query q → outcome_without_times o ≡ outcome_without_times u → next_outcome p o ≡ next_outcome q u
+next-same p q o u e f = outcome-folded_name p o ∙ ap₂ next_core e f ∙ sym (outcome-folded_name q u)

@@ -9,14 +9,14 @@ use Rattle.hickory_proto_core.specs.records.query.Query.{Query}
 use Rattle.hickory_proto_core.specs.codes.record_type.RecordType.{RecordType}
 use Rattle.hickory_proto_core.specs.declared.recorded.Exchange.{Exchange}
 use Rattle.hickory_resolver_model.specs.Bounds.{ConfigValue}
-use Rattle.hickory_resolver_model.specs.Cache.{CacheValue, is_for, drop_query, store}
-use Rattle.hickory_resolver_model.specs.Lookup.{Reply}
-use Rattle.hickory_resolver_model.specs.Hops.{Start, Store, IsReply, after_stores, stores_of}
-use Rattle.hickory_resolver_model.specs.Calls.{Setting, Source, Static, Client, Part, IsPartBy, IsPartFor, start_at, question_of, asks_of_parts}
-use Rattle.hickory_resolver_model.specs.Run.{Settings, setting_at, RequestValue, Lookup, LookupIp, ClearLookup, Clear, moment_of, Answered, LookedUp, Cleared, drop_each, IsClear, IsServed, StepValue, Stage, IsStage, AreStages, Run}
+use Rattle.hickory_resolver_model.specs.Cache.{CacheValue, is_for, without_query, store}
+use Rattle.hickory_resolver_model.specs.Lookup.{LookupResult}
+use Rattle.hickory_resolver_model.specs.Hops.{LookupContext, Store, IsReply, after_stores, stores_of}
+use Rattle.hickory_resolver_model.specs.Calls.{Setting, Source, Static, Client, SubLookup, IsSubLookupBy, IsSubLookupFor, start_at, question_of, asks_of_sub_lookups}
+use Rattle.hickory_resolver_model.specs.Run.{Settings, setting_at, RequestValue, Lookup, LookupIp, ClearLookup, Clear, moment_of, StepReply, LookedUp, Cleared, drop_each, IsClear, IsServed, StepValue, Stage, IsStage, AreStages, Run}
 use Rattle.hickory_resolver_model.specs.Attempts.{attempts}
-use Rattle.hickory_resolver_theorems.specs.Covered.{Dated, dated, IsCovered, IsLoopback, greatest_ttl}
-use Rattle.hickory_resolver_theorems.specs.Statements.{IsFreshRecord, IsFreshReply, IsFreshEntry, AreFreshEntries, IsFreshPart, AsksFew, NothingOutlives}
+use Rattle.hickory_resolver_theorems.specs.Covered.{Dated, dated_exchanges, IsCovered, IsLoopback, greatest_ttl}
+use Rattle.hickory_resolver_theorems.specs.Statements.{IsFreshRecord, IsFreshReply, IsFreshEntry, AreFreshEntries, IsFreshSubLookup, AsksAtMostEight, NothingOutlives}
 use Rattle.hickory_resolver_theorems.proofs.Lists.{all-weaker, all-filter}
 use Rattle.hickory_resolver_theorems.proofs.Covers.{covered-left}
 use Rattle.hickory_resolver_theorems.proofs.Stores.{entries-more}
@@ -30,14 +30,14 @@ stores-config : (now : ℕ) (stores : List Store) (cache : CacheValue) → (afte
 stores-config now [] cache = refl
 stores-config now (s ∷ ss) cache = stores-config now ss (store cache s.query s.outcome now)
 
-pub reply-config : (s : Start) (question : Query) (asks : List Exchange) (result : Reply) (after : CacheValue) → IsReply s question asks result after → after.config ≡ s.cache.config
+pub reply-config : (s : LookupContext) (question : Query) (asks : List Exchange) (result : LookupResult) (after : CacheValue) → IsReply s question asks result after → after.config ≡ s.cache.config
 reply-config s question asks result after (inl whole) = ap (λ c. c.config) whole.after_is ∙ stores-config s.now (stores_of s whole.hops.passed whole.hops.last_hop whole.hops.last) s.cache
 reply-config s question asks result after (inr (e, inl cut)) = ap (λ c. c.config) cut.after_is ∙ stores-config s.now cut.front s.cache
 reply-config s question asks result after (inr (e, inr cut)) = ap (λ c. c.config) cut.after_is
 
 -- ---- a part
 
-reply-more : (config : ConfigValue) (xs ys : List Dated) (code now : ℕ) (reply : Reply) → IsFreshReply config xs code now reply → IsFreshReply config (xs ++ ys) code now reply
+reply-more : (config : ConfigValue) (xs ys : List Dated) (code now : ℕ) (reply : LookupResult) → IsFreshReply config xs code now reply → IsFreshReply config (xs ++ ys) code now reply
 reply-more config xs ys code now (Ok l) fresh = all-weaker (IsFreshRecord config xs code now l.valid_until) (IsFreshRecord config (xs ++ ys) code now l.valid_until) (λ r h same. more r (h same)) l.message.answers fresh
   where
     more : (r : RecordValue) → IsLoopback r ⊎ (IsCovered config xs now r × (r.ttl ≤ greatest_ttl config code) × (l.valid_until ≤ now + r.ttl)) → IsLoopback r ⊎ (IsCovered config (xs ++ ys) now r × (r.ttl ≤ greatest_ttl config code) × (l.valid_until ≤ now + r.ttl))
@@ -46,20 +46,20 @@ reply-more config xs ys code now (Ok l) fresh = all-weaker (IsFreshRecord config
 reply-more config xs ys code now (Err e) fresh = tt
 
 -- what is known of a part, and of the cache after it
-pub record IsGoodPart (now : ℕ) (before : CacheValue) (sources : List Dated) (p : Part) (after : CacheValue) : Type 0 where
+pub record IsGoodPart (now : ℕ) (before : CacheValue) (sources : List Dated) (p : SubLookup) (after : CacheValue) : Type 0 where
   pub few : length p.asks ≤ 8
-  pub fresh : IsFreshPart before.config (sources ++ dated now p.asks) now p
-  pub entries : AreFreshEntries after (sources ++ dated now p.asks)
+  pub fresh : IsFreshSubLookup before.config (sources ++ dated_exchanges now p.asks) now p
+  pub entries : AreFreshEntries after (sources ++ dated_exchanges now p.asks)
   pub config : after.config ≡ before.config
 
-good-part : (t : Setting) (looked : Bool) (q : Query) (before : CacheValue) (sources : List Dated) (p : Part) (after : CacheValue) → AreFreshEntries before sources → IsPartFor t looked before q p after → IsGoodPart t.now before sources p after
+good-part : (t : Setting) (looked : Bool) (q : Query) (before : CacheValue) (sources : List Dated) (p : SubLookup) (after : CacheValue) → AreFreshEntries before sources → IsSubLookupFor t looked before q p after → IsGoodPart t.now before sources p after
 good-part t looked q before sources p after entries (for, is) = by p.source refl is
   where
-    by : (source : Source) → p.source ≡ source → IsPartBy source t looked before p after → IsGoodPart t.now before sources p after
+    by : (source : Source) → p.source ≡ source → IsSubLookupBy source t looked before p after → IsGoodPart t.now before sources p after
     by Static e part = record {
       few = omega (arith, ap length part.nothing_asked);
       fresh = λ client. absurd (let clash : Static ≡ Client = sym e ∙ client in cc);
-      entries = subst (λ c. AreFreshEntries c (sources ++ dated t.now p.asks)) (sym part.unchanged) (entries-more before sources (dated t.now p.asks) entries);
+      entries = subst (λ c. AreFreshEntries c (sources ++ dated_exchanges t.now p.asks)) (sym part.unchanged) (entries-more before sources (dated_exchanges t.now p.asks) entries);
       config = ap (λ c. c.config) part.unchanged;
     }
     by Client e part =
@@ -73,16 +73,16 @@ good-part t looked q before sources p after entries (for, is) = by p.source refl
 
 -- ---- the parts of a call
 
-part-more : (config : ConfigValue) (xs ys : List Dated) (now : ℕ) (p : Part) → IsFreshPart config xs now p → IsFreshPart config (xs ++ ys) now p
+part-more : (config : ConfigValue) (xs ys : List Dated) (now : ℕ) (p : SubLookup) → IsFreshSubLookup config xs now p → IsFreshSubLookup config (xs ++ ys) now p
 part-more config xs ys now p fresh = λ client zero. reply-more config xs ys (type_code p.question.query_type) now p.result (fresh client zero)
 
-pub record AreGoodParts (now : ℕ) (before : CacheValue) (sources : List Dated) (ps : List Part) (after : CacheValue) : Type 0 where
+pub record AreGoodParts (now : ℕ) (before : CacheValue) (sources : List Dated) (ps : List SubLookup) (after : CacheValue) : Type 0 where
   pub few : AllByRecursion (λ p. length p.asks ≤ 8) ps
-  pub fresh : AllByRecursion (IsFreshPart before.config (sources ++ dated now (asks_of_parts ps)) now) ps
-  pub entries : AreFreshEntries after (sources ++ dated now (asks_of_parts ps))
+  pub fresh : AllByRecursion (IsFreshSubLookup before.config (sources ++ dated_exchanges now (asks_of_sub_lookups ps)) now) ps
+  pub entries : AreFreshEntries after (sources ++ dated_exchanges now (asks_of_sub_lookups ps))
   pub config : after.config ≡ before.config
 
-good-chain : (t : Setting) (before : CacheValue) (sources : List Dated) (ps : List Part) (after : CacheValue) → AreFreshEntries before sources → Chain (IsPartFor t) before ps after → AreGoodParts t.now before sources ps after
+good-chain : (t : Setting) (before : CacheValue) (sources : List Dated) (ps : List SubLookup) (after : CacheValue) → AreFreshEntries before sources → Chain (IsSubLookupFor t) before ps after → AreGoodParts t.now before sources ps after
 good-chain t before sources [] after entries e = record {
   few = tt;
   fresh = tt;
@@ -91,14 +91,14 @@ good-chain t before sources [] after entries e = record {
 }
 good-chain t before sources (p ∷ ps) after entries (looked, q, mid, is, rest) =
     let one = good-part t looked q before sources p mid entries is in
-    let more = good-chain t mid (sources ++ dated t.now p.asks) ps after one.entries rest in
-    let back = dated t.now (asks_of_parts ps) in
-    let same : (sources ++ dated t.now p.asks) ++ back ≡ sources ++ dated t.now (asks_of_parts (p ∷ ps)) =
-    append_assoc sources (dated t.now p.asks) back ∙ ap (λ xs. sources ++ xs) (sym (map-append (λ x. record { moment = t.now; exchange = x }) p.asks (asks_of_parts ps))) in
+    let more = good-chain t mid (sources ++ dated_exchanges t.now p.asks) ps after one.entries rest in
+    let back = dated_exchanges t.now (asks_of_sub_lookups ps) in
+    let same : (sources ++ dated_exchanges t.now p.asks) ++ back ≡ sources ++ dated_exchanges t.now (asks_of_sub_lookups (p ∷ ps)) =
+    append_assoc sources (dated_exchanges t.now p.asks) back ∙ ap (λ xs. sources ++ xs) (sym (map-append (λ x. record { moment = t.now; exchange = x }) p.asks (asks_of_sub_lookups ps))) in
     record {
       few = (one.few, more.few);
-      fresh = subst (λ xs. AllByRecursion (IsFreshPart before.config xs t.now) (p ∷ ps)) same
-          (part-more before.config (sources ++ dated t.now p.asks) back t.now p one.fresh, subst (λ c. AllByRecursion (IsFreshPart c ((sources ++ dated t.now p.asks) ++ back) t.now) ps) one.config more.fresh);
+      fresh = subst (λ xs. AllByRecursion (IsFreshSubLookup before.config xs t.now) (p ∷ ps)) same
+          (part-more before.config (sources ++ dated_exchanges t.now p.asks) back t.now p one.fresh, subst (λ c. AllByRecursion (IsFreshSubLookup c ((sources ++ dated_exchanges t.now p.asks) ++ back) t.now) ps) one.config more.fresh);
       entries = subst (AreFreshEntries after) same more.entries;
       config = more.config ∙ one.config;
     }
@@ -108,31 +108,31 @@ good-chain t before sources (p ∷ ps) after entries (looked, q, mid, is, rest) 
 drop_each-fresh : (sources : List Dated) (t : RecordType) (names : List NameValue) (cache : CacheValue) → AreFreshEntries cache sources → AreFreshEntries (drop_each t names cache) sources
 drop_each-fresh sources t [] cache entries = entries
 drop_each-fresh sources t (n ∷ ns) cache entries =
-    drop_each-fresh sources t ns (drop_query cache (question_of n t)) (all-filter (IsFreshEntry cache.config sources) (λ e. not (is_for (question_of n t) e)) cache.entries entries)
+    drop_each-fresh sources t ns (without_query cache (question_of n t)) (all-filter (IsFreshEntry cache.config sources) (λ e. not (is_for (question_of n t) e)) cache.entries entries)
 
 drop_each-config : (t : RecordType) (names : List NameValue) (cache : CacheValue) → (drop_each t names cache).config ≡ cache.config
 drop_each-config t [] cache = refl
-drop_each-config t (n ∷ ns) cache = drop_each-config t ns (drop_query cache (question_of n t))
+drop_each-config t (n ∷ ns) cache = drop_each-config t ns (without_query cache (question_of n t))
 
 -- a call that makes no exchange
-good-none : (now : ℕ) (before : CacheValue) (sources : List Dated) (ps : List Part) (after : CacheValue) → ps ≡ [] → AreFreshEntries after sources → after.config ≡ before.config → AreGoodParts now before sources ps after
+good-none : (now : ℕ) (before : CacheValue) (sources : List Dated) (ps : List SubLookup) (after : CacheValue) → ps ≡ [] → AreFreshEntries after sources → after.config ≡ before.config → AreGoodParts now before sources ps after
 good-none now before sources ps after none entries config =
     subst (λ l. AreGoodParts now before sources l after) (sym none)
     (record { few = tt; fresh = tt; entries = subst (AreFreshEntries after) (sym (append-nil sources)) entries; config = config })
 
-good-clear : (s : Settings) (before : CacheValue) (sources : List Dated) (text : List ℕ) (t : RecordType) (now : ℕ) (ps : List Part) (after : CacheValue) → AreFreshEntries before sources → ps ≡ [] → IsClear s before text t after → AreGoodParts now before sources ps after
+good-clear : (s : Settings) (before : CacheValue) (sources : List Dated) (text : List ℕ) (t : RecordType) (now : ℕ) (ps : List SubLookup) (after : CacheValue) → AreFreshEntries before sources → ps ≡ [] → IsClear s before text t after → AreGoodParts now before sources ps after
 good-clear s before sources text t now ps after entries none (inl (n, spelled, e)) =
     good-none now before sources ps after none (subst (λ c. AreFreshEntries c sources) (sym e) (drop_each-fresh sources t (attempts s.search n) before entries))
     (ap (λ c. c.config) e ∙ drop_each-config t (attempts s.search n) before)
 good-clear s before sources text t now ps after entries none (inr (fault, is, e)) =
     good-none now before sources ps after none (subst (λ c. AreFreshEntries c sources) (sym e) entries) (ap (λ c. c.config) e)
 
-good-served : (s : Settings) (before : CacheValue) (sources : List Dated) (request : RequestValue) (ps : List Part) (answered : Answered) (after : CacheValue) → AreFreshEntries before sources
-    → IsServed (λ now. IsPartFor (setting_at s now)) s before request ps answered after → AreGoodParts (moment_of request) before sources ps after
+good-served : (s : Settings) (before : CacheValue) (sources : List Dated) (request : RequestValue) (ps : List SubLookup) (response_to : StepReply) (after : CacheValue) → AreFreshEntries before sources
+    → IsServed (λ now. IsSubLookupFor (setting_at s now)) s before request ps response_to after → AreGoodParts (moment_of request) before sources ps after
 good-served s before sources (Lookup text t now) ps (LookedUp reply) after entries is =
-    good-chain (setting_at s now) before sources ps after entries (chain-name (IsPartFor (setting_at s now)) s before text t now ps reply after is)
+    good-chain (setting_at s now) before sources ps after entries (chain-name (IsSubLookupFor (setting_at s now)) s before text t now ps reply after is)
 good-served s before sources (LookupIp text now) ps (LookedUp reply) after entries is =
-    good-chain (setting_at s now) before sources ps after entries (chain-addresses (IsPartFor (setting_at s now)) s before text now ps reply after is)
+    good-chain (setting_at s now) before sources ps after entries (chain-addresses (IsSubLookupFor (setting_at s now)) s before text now ps reply after is)
 good-served s before sources (ClearLookup text t now) ps (Cleared (Ok u)) after entries (none, is) = good-clear s before sources text t now ps after entries none is
 good-served s before sources (ClearLookup text t now) ps (Cleared (Err e)) after entries (none, out, same) =
     good-none now before sources ps after none (subst (λ c. AreFreshEntries c sources) (sym same) entries) (ap (λ c. c.config) same)
@@ -150,30 +150,30 @@ good-served s before sources (Clear now) ps (Cleared (Err e)) after entries is =
 
 -- a stage is good with its own moment and piece
 good-stage : (s : Settings) (sources : List Dated) (stage : Stage) (after : CacheValue) → AreFreshEntries stage.before sources → IsStage s stage after
-    → AsksFew stage × AllByRecursion (IsFreshPart stage.before.config (sources ++ dated stage.step.now stage.piece) stage.step.now) stage.parts × AreFreshEntries after (sources ++ dated stage.step.now stage.piece)
+    → AsksAtMostEight stage × AllByRecursion (IsFreshSubLookup stage.before.config (sources ++ dated_exchanges stage.step.now stage.piece) stage.step.now) stage.parts × AreFreshEntries after (sources ++ dated_exchanges stage.step.now stage.piece)
 good-stage s sources stage after entries is =
-    let good = good-served s stage.before sources stage.request stage.parts stage.step.answered after entries is.served in
-    let same : sources ++ dated (moment_of stage.request) (asks_of_parts stage.parts) ≡ sources ++ dated stage.step.now stage.piece = ap₂ (λ now xs. sources ++ dated now xs) (sym is.now_is) (sym is.piece_is) in (
+    let good = good-served s stage.before sources stage.request stage.parts stage.step.response_to after entries is.served in
+    let same : sources ++ dated_exchanges (moment_of stage.request) (asks_of_sub_lookups stage.parts) ≡ sources ++ dated_exchanges stage.step.now stage.piece = ap₂ (λ now xs. sources ++ dated_exchanges now xs) (sym is.now_is) (sym is.piece_is) in (
       good.few,
-      subst (λ now. AllByRecursion (IsFreshPart stage.before.config (sources ++ dated stage.step.now stage.piece) now) stage.parts) (sym is.now_is)
-          (subst (λ xs. AllByRecursion (IsFreshPart stage.before.config xs (moment_of stage.request)) stage.parts) same good.fresh),
+      subst (λ now. AllByRecursion (IsFreshSubLookup stage.before.config (sources ++ dated_exchanges stage.step.now stage.piece) now) stage.parts) (sym is.now_is)
+          (subst (λ xs. AllByRecursion (IsFreshSubLookup stage.before.config xs (moment_of stage.request)) stage.parts) same good.fresh),
       subst (AreFreshEntries after) same good.entries,
     )
 
 pub good-stages : (s : Settings) (before : CacheValue) (sources : List Dated) (requests : List RequestValue) (stages : List Stage) (after : CacheValue) → AreFreshEntries before sources → AreStages s before requests stages after
-    → AllByRecursion AsksFew stages × NothingOutlives sources stages
+    → AllByRecursion AsksAtMostEight stages × NothingOutlives sources stages
 good-stages s before sources [] [] after entries e = (tt, tt)
 good-stages s before sources [] (stage ∷ stages) after entries e = absurd e
 good-stages s before sources (request ∷ requests) [] after entries e = absurd e
 good-stages s before sources (request ∷ requests) (stage ∷ stages) after entries (mid, for, starts, is, inl (ended, none, same)) =
     let good = good-stage s sources stage mid (subst (λ c. AreFreshEntries c sources) (sym starts) entries) is in
-    ((good.0, subst (AllByRecursion AsksFew) (sym none) tt), (good.1, subst (NothingOutlives (sources ++ dated stage.step.now stage.piece)) (sym none) tt))
+    ((good.0, subst (AllByRecursion AsksAtMostEight) (sym none) tt), (good.1, subst (NothingOutlives (sources ++ dated_exchanges stage.step.now stage.piece)) (sym none) tt))
 good-stages s before sources (request ∷ requests) (stage ∷ stages) after entries (mid, for, starts, is, inr (on, rest)) =
     let good = good-stage s sources stage mid (subst (λ c. AreFreshEntries c sources) (sym starts) entries) is in
-    let more = good-stages s mid (sources ++ dated stage.step.now stage.piece) requests stages after good.2 rest in
+    let more = good-stages s mid (sources ++ dated_exchanges stage.step.now stage.piece) requests stages after good.2 rest in
     ((good.0, more.0), (good.1, more.1))
 
 -- from a cache without entries
 pub first_clauses : (s : Settings) (empty : CacheValue) (requests : List RequestValue) (steps : List StepValue) (exchanges : List Exchange) (after : CacheValue) → empty.entries ≡ [] → (run : Run s empty requests steps exchanges after)
-    → AllByRecursion AsksFew run.stages × NothingOutlives [] run.stages
+    → AllByRecursion AsksAtMostEight run.stages × NothingOutlives [] run.stages
 first_clauses s empty requests steps exchanges after none run = good-stages s empty [] requests run.stages after (subst (AllByRecursion (IsFreshEntry empty.config [])) (sym none) tt) run.are

@@ -7,7 +7,7 @@ use Rattle.hickory_proto_core.specs.records.query.Query.{Query}
 use Rattle.hickory_proto_core.specs.records.net_error.NetError.TheVariants.{Message, Timeout, Proto, Dns, NoOutcome, Bounds, OutOfMemory}
 use Rattle.hickory_proto_core.specs.records.net_error.DnsError.TheVariants.{ResponseCode, NoRecordsFound}
 use Rattle.hickory_resolver_model.specs.Bounds.{ConfigValue}
-use Rattle.hickory_resolver_model.specs.Cache.{CacheValue, Entry, is_for, without, without_earliest, least_deadline, room_for, put, store, positive_entry, negative_entry}
+use Rattle.hickory_resolver_model.specs.Cache.{CacheValue, Entry, is_for, without, without_earliest, least_deadline, room_for, insert_entry, store, positive_entry, negative_entry}
 use Rattle.hickory_resolver_model.specs.Hops.{Store, after_stores}
 use Rattle.hickory_proto_core.specs.Records.{RecordValue}
 use Rattle.hickory_resolver_theorems.specs.Covered.{Dated, IsCovered, IsLoopback, greatest_ttl}
@@ -16,8 +16,8 @@ use Rattle.hickory_resolver_theorems.proofs.Lists.{all-weaker, all-append, all-f
 use Rattle.hickory_resolver_theorems.proofs.Covers.{Arrives, arrived-fresh, covered-left}
 
 -- what holds of every entry, and of a new one, holds after it is put in
-pub put-all : (P : Entry → Type 0) (capacity : ℕ) (es : List Entry) (e : Entry) → AllByRecursion P es → P e → AllByRecursion P (put capacity es e)
-put-all P capacity es e all new = by (capacity == 0)
+pub insert_entry-all : (P : Entry → Type 0) (capacity : ℕ) (es : List Entry) (e : Entry) → AllByRecursion P es → P e → AllByRecursion P (insert_entry capacity es e)
+insert_entry-all P capacity es e all new = by (capacity == 0)
   where
     room : (own free : Bool) → AllByRecursion P (if own then without e.query es else (if free then es else without_earliest es))
     room true free = all-filter P (λ x. not (is_for e.query x)) es all
@@ -38,8 +38,8 @@ StoresArrived config sources now s = StoresOutcome config sources now s.query s.
 
 pub store-fresh : (cache : CacheValue) (sources : List Dated) (now : ℕ) (q : Query) (outcome : OutcomeValue) → AreFreshEntries cache sources → StoresOutcome cache.config sources now q outcome → AreFreshEntries (store cache q outcome now) sources
 store-fresh cache sources now q (Ok m) fresh arrive =
-    put-all (IsFreshEntry cache.config sources) cache.capacity cache.entries (positive_entry cache.config q m now) fresh (λ zero. arrived-fresh cache.config sources q now m zero (arrive zero))
-store-fresh cache sources now q (Err (Dns (NoRecordsFound n))) fresh arrive = put-all (IsFreshEntry cache.config sources) cache.capacity cache.entries (negative_entry cache.config q n now) fresh tt
+    insert_entry-all (IsFreshEntry cache.config sources) cache.capacity cache.entries (positive_entry cache.config q m now) fresh (λ zero. arrived-fresh cache.config sources q now m zero (arrive zero))
+store-fresh cache sources now q (Err (Dns (NoRecordsFound n))) fresh arrive = insert_entry-all (IsFreshEntry cache.config sources) cache.capacity cache.entries (negative_entry cache.config q n now) fresh tt
 store-fresh cache sources now q (Err (Dns (ResponseCode code))) fresh arrive = fresh
 store-fresh cache sources now q (Err (Message text)) fresh arrive = fresh
 store-fresh cache sources now q (Err Timeout) fresh arrive = fresh

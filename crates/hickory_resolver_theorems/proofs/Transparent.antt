@@ -8,72 +8,72 @@ use Rattle.hickory_proto_core.specs.Messages.{MessageValue}
 use Rattle.hickory_proto_core.specs.Errors.{NoRecordsValue, ForwardValue}
 use Rattle.hickory_proto_core.specs.Table.{TableValue, outcome_in}
 use Rattle.hickory_proto_core.specs.Handles.{OutcomeValue}
-use Rattle.hickory_proto_core.specs.Classes.{Class, Answer, Negative, Failed, class_of}
+use Rattle.hickory_proto_core.specs.ResponseKind.{ResponseKind, Answer, Negative, Failed, kind_of}
 use Rattle.hickory_proto_core.specs.records.query.Query.{Query}
 use Rattle.hickory_proto_core.specs.declared.recorded.Exchange.{Exchange}
 use Rattle.hickory_proto_core.specs.records.net_error.NetError.{NetError}
 use Rattle.hickory_proto_core.specs.records.net_error.NetError.TheVariants.{Message, Timeout, Proto, Dns, NoOutcome, Bounds, OutOfMemory}
 use Rattle.hickory_proto_core.specs.records.net_error.DnsError.TheVariants.{ResponseCode, NoRecordsFound}
 use Rattle.hickory_resolver_model.specs.Cache.{CacheValue, is_for, is_current, age, aged_record, aged_message, aged_forward, aged_negative, aged_error, aged_outcome, positive_entry, negative_entry, store}
-use Rattle.hickory_resolver_model.specs.Lookup.{Reply}
-use Rattle.hickory_resolver_model.specs.Special.{special}
-use Rattle.hickory_resolver_model.specs.Verdict.{Hop, Verdict, Found, Alias, Nothing, verdict}
-use Rattle.hickory_resolver_model.specs.Hops.{Start, Passes, AliasesLead, Last, Special, Hit, Asked, IsLast, HopList, Store, IsReply, asks_of, class_result, verdict_result, hit_result, result_of, verdict_stores, class_stores, last_stores, as_outcome, stores_of, after_stores}
-use Rattle.hickory_resolver_theorems.specs.Cacheless.{Means, Tells, TellsAll}
-use Rattle.hickory_resolver_theorems.specs.Core.{folded_query, record_core, sections, forward_core, negative_core, error_core, Core, core, stored_core}
-use Rattle.hickory_resolver_theorems.specs.Statements.{IsMeant, AreMeant, IsTransparent}
+use Rattle.hickory_resolver_model.specs.Lookup.{LookupResult}
+use Rattle.hickory_resolver_model.specs.SpecialUse.{special_use_result}
+use Rattle.hickory_resolver_model.specs.Verdict.{Hop, Verdict, Exists, CnameChain, NoMatch, verdict}
+use Rattle.hickory_resolver_model.specs.Hops.{LookupContext, IsAliasHop, FollowsAliases, ChainEnd, Special, Hit, Asked, IsChainEnd, HopList, Store, IsReply, asks_of, kind_result, verdict_result, hit_result, result_of, verdict_stores, kind_stores, last_stores, as_outcome, stores_of, after_stores}
+use Rattle.hickory_resolver_theorems.specs.Cacheless.{ResolvesTo, IsConsistentWith, AreConsistentWith}
+use Rattle.hickory_resolver_theorems.specs.WithoutTimes.{folded_query, record_without_times, sections, forward_without_times, negative_without_times, error_without_times, WithoutTimes, without_times, stored_without_times}
+use Rattle.hickory_resolver_theorems.specs.Statements.{IsWhatItResolvesTo, AreMeant, IsTransparent}
 use Rattle.hickory_resolver_theorems.proofs.Lists.{all-weaker, all-append, all-front, all-back, all-map, all-has, all-reverse, find-has}
-use Rattle.hickory_resolver_theorems.proofs.Stores.{put-all}
+use Rattle.hickory_resolver_theorems.proofs.Stores.{insert_entry-all}
 use Rattle.hickory_resolver_theorems.proofs.Folding.{map-map, query-same}
 use Rattle.hickory_resolver_theorems.proofs.Verdicts.{passed}
 use Rattle.hickory_resolver_theorems.proofs.Fresh.{class-answer}
 use Rattle.hickory_resolver_theorems.proofs.Responses.{Ends, GoesOn, next_outcome, next-same}
-use Rattle.hickory_resolver_theorems.proofs.Meanings.{IsSomeCore, special-none, special-some, sections-clamped, GoesOnTo, EndsWith, hop-next, BySpecial, ByOutcome, ByAlias, means-cases, means-some, means-same, means-one}
+use Rattle.hickory_resolver_theorems.proofs.Meanings.{IsSomeCore, special_use_result-none, special_use_result-some, sections-clamped_message, GoesOnTo, EndsWith, hop-next, BySpecial, ByOutcome, ByAlias, means-cases, means-some, means-same, means-one}
 
 -- ---- aging changes TTLs alone
 
-message-aged : (seconds : ℕ) (m : MessageValue) → sections (aged_message seconds m) ≡ sections m
-message-aged seconds m =
-    let a = map-map record_core (aged_record seconds) record_core (λ r. refl) m.answers in
-    let b = map-map record_core (aged_record seconds) record_core (λ r. refl) m.authorities in
-    let c = map-map record_core (aged_record seconds) record_core (λ r. refl) m.additionals in
+message-aged_result : (seconds : ℕ) (m : MessageValue) → sections (aged_message seconds m) ≡ sections m
+message-aged_result seconds m =
+    let a = map-map record_without_times (aged_record seconds) record_without_times (λ r. refl) m.answers in
+    let b = map-map record_without_times (aged_record seconds) record_without_times (λ r. refl) m.authorities in
+    let c = map-map record_without_times (aged_record seconds) record_without_times (λ r. refl) m.additionals in
     λ i. record { answers = a i; authorities = b i; additionals = c i }
 
-forward-aged : (seconds : ℕ) (f : ForwardValue) → forward_core (aged_forward seconds f) ≡ forward_core f
-forward-aged seconds f = ap (λ glue. record { ns = record_core f.ns; glue = glue }) (map-map record_core (aged_record seconds) record_core (λ r. refl) f.glue)
+forward-aged_result : (seconds : ℕ) (f : ForwardValue) → forward_without_times (aged_forward seconds f) ≡ forward_without_times f
+forward-aged_result seconds f = ap (λ glue. record { ns = record_without_times f.ns; glue = glue }) (map-map record_without_times (aged_record seconds) record_without_times (λ r. refl) f.glue)
 
-record-aged : (seconds : ℕ) (o : Option RecordValue) → option_map record_core (option_map (aged_record seconds) o) ≡ option_map record_core o
-record-aged seconds None = refl
-record-aged seconds (Some r) = refl
+record-aged_result : (seconds : ℕ) (o : Option RecordValue) → option_map record_without_times (option_map (aged_record seconds) o) ≡ option_map record_without_times o
+record-aged_result seconds None = refl
+record-aged_result seconds (Some r) = refl
 
-records-aged : (seconds : ℕ) (o : Option (List RecordValue)) → option_map (map record_core) (option_map (map (aged_record seconds)) o) ≡ option_map (map record_core) o
-records-aged seconds None = refl
-records-aged seconds (Some rs) = ap Some (map-map record_core (aged_record seconds) record_core (λ r. refl) rs)
+records-aged_result : (seconds : ℕ) (o : Option (List RecordValue)) → option_map (map record_without_times) (option_map (map (aged_record seconds)) o) ≡ option_map (map record_without_times) o
+records-aged_result seconds None = refl
+records-aged_result seconds (Some rs) = ap Some (map-map record_without_times (aged_record seconds) record_without_times (λ r. refl) rs)
 
-forwards-aged : (seconds : ℕ) (o : Option (List ForwardValue)) → option_map (map forward_core) (option_map (map (aged_forward seconds)) o) ≡ option_map (map forward_core) o
-forwards-aged seconds None = refl
-forwards-aged seconds (Some fs) = ap Some (map-map forward_core (aged_forward seconds) forward_core (λ f. forward-aged seconds f) fs)
+forwards-aged_result : (seconds : ℕ) (o : Option (List ForwardValue)) → option_map (map forward_without_times) (option_map (map (aged_forward seconds)) o) ≡ option_map (map forward_without_times) o
+forwards-aged_result seconds None = refl
+forwards-aged_result seconds (Some fs) = ap Some (map-map forward_without_times (aged_forward seconds) forward_without_times (λ f. forward-aged_result seconds f) fs)
 
-negative-aged : (seconds : ℕ) (n : NoRecordsValue) → negative_core (aged_negative seconds n) ≡ negative_core n
-negative-aged seconds n =
-    let soa = record-aged seconds n.soa in
-    let ns = forwards-aged seconds n.ns in
-    let authorities = records-aged seconds n.authorities in
-    λ i. record (negative_core n) { soa = soa i; ns = ns i; authorities = authorities i }
+negative-aged_result : (seconds : ℕ) (n : NoRecordsValue) → negative_without_times (aged_negative seconds n) ≡ negative_without_times n
+negative-aged_result seconds n =
+    let soa = record-aged_result seconds n.soa in
+    let ns = forwards-aged_result seconds n.ns in
+    let authorities = records-aged_result seconds n.authorities in
+    λ i. record (negative_without_times n) { soa = soa i; ns = ns i; authorities = authorities i }
 
-error-aged : (seconds : ℕ) (e : NetError) → error_core (aged_error seconds e) ≡ error_core e
-error-aged seconds (Dns (NoRecordsFound n)) = ap (λ c. Dns (NoRecordsFound c)) (negative-aged seconds n)
-error-aged seconds (Dns (ResponseCode code)) = refl
-error-aged seconds (Message text) = refl
-error-aged seconds Timeout = refl
-error-aged seconds (Proto error) = refl
-error-aged seconds NoOutcome = refl
-error-aged seconds (Bounds error) = refl
-error-aged seconds OutOfMemory = refl
+error-aged_result : (seconds : ℕ) (e : NetError) → error_without_times (aged_error seconds e) ≡ error_without_times e
+error-aged_result seconds (Dns (NoRecordsFound n)) = ap (λ c. Dns (NoRecordsFound c)) (negative-aged_result seconds n)
+error-aged_result seconds (Dns (ResponseCode code)) = refl
+error-aged_result seconds (Message text) = refl
+error-aged_result seconds Timeout = refl
+error-aged_result seconds (Proto error) = refl
+error-aged_result seconds NoOutcome = refl
+error-aged_result seconds (Bounds error) = refl
+error-aged_result seconds OutOfMemory = refl
 
-hit-core : (q : Query) (now seconds : ℕ) (o : OutcomeValue) → core (hit_result q now (aged_outcome seconds o)) ≡ stored_core o
-hit-core q now seconds (Ok m) = ap Ok (message-aged seconds m)
-hit-core q now seconds (Err e) = ap Err (error-aged seconds e)
+hit-without_times : (q : Query) (now seconds : ℕ) (o : OutcomeValue) → without_times (hit_result q now (aged_outcome seconds o)) ≡ stored_without_times o
+hit-without_times q now seconds (Ok m) = ap Ok (message-aged_result seconds m)
+hit-without_times q now seconds (Err e) = ap Err (error-aged_result seconds e)
 
 -- ---- the hops before the last
 
@@ -83,16 +83,16 @@ pub record Told (table : TableValue) (q : Query) (outcome : OutcomeValue) : Type
   pub found : outcome_in q table ≡ Some known
   pub same : next_outcome q known ≡ next_outcome q outcome
 
-told : (table : TableValue) (q : Query) (x : Exchange) → x.query ≡ q → (x.outcome ≡ Err OutOfMemory → ⊥) → Tells table x → Told table q x.outcome
+told : (table : TableValue) (q : Query) (x : Exchange) → x.query ≡ q → (x.outcome ≡ Err OutOfMemory → ⊥) → IsConsistentWith table x → Told table q x.outcome
 told table q x e live tells =
     let there = tells live in
     record { known = there.0; found = sym (ap (λ p. outcome_in p table) e) ∙ there.1; same = next-same q q there.0 x.outcome refl there.2 }
 
 -- where a question that is not special goes on, so does its meaning
-on-means : (table : TableValue) (q next : Query) (outcome : OutcomeValue) (r : Core) (n : ℕ) → special q 0 ≡ None → Told table q outcome → next_outcome q outcome ≡ GoesOn (folded_query next) → Means table q r n → (m : ℕ) × Means table next r m × (n ≡ suc m)
+on-means : (table : TableValue) (q next : Query) (outcome : OutcomeValue) (r : WithoutTimes) (n : ℕ) → special_use_result q 0 ≡ None → Told table q outcome → next_outcome q outcome ≡ GoesOn (folded_query next) → ResolvesTo table q r n → (m : ℕ) × ResolvesTo table next r m × (n ≡ suc m)
 on-means table q next outcome r n plain t on means = by (means-cases table q r n means)
   where
-    by : BySpecial q r ⊎ (ByOutcome table q r ⊎ ByAlias table q r n) → (m : ℕ) × Means table next r m × (n ≡ suc m)
+    by : BySpecial q r ⊎ (ByOutcome table q r ⊎ ByAlias table q r n) → (m : ℕ) × ResolvesTo table next r m × (n ≡ suc m)
     by (inl s) = let clash : None ≡ Some s.reply = sym plain ∙ s.is in cc
     by (inr (inl o)) =
         let twice : Some o.outcome ≡ Some t.known = sym o.found ∙ t.found in
@@ -107,7 +107,7 @@ on-means table q next outcome r n plain t on means = by (means-cases table q r n
         (a.rest, means-same table a.next next r a.rest questions a.means, a.length_is)
 
 -- where it ends, its meaning is that
-ends-means : (table : TableValue) (q : Query) (outcome : OutcomeValue) (r c : Core) (n : ℕ) → special q 0 ≡ None → Told table q outcome → next_outcome q outcome ≡ Ends c → Means table q r n → c ≡ r
+ends-means : (table : TableValue) (q : Query) (outcome : OutcomeValue) (r c : WithoutTimes) (n : ℕ) → special_use_result q 0 ≡ None → Told table q outcome → next_outcome q outcome ≡ Ends c → ResolvesTo table q r n → c ≡ r
 ends-means table q outcome r c n plain t ends means = by (means-cases table q r n means)
   where
     by : BySpecial q r ⊎ (ByOutcome table q r ⊎ ByAlias table q r n) → c ≡ r
@@ -124,24 +124,24 @@ ends-means table q outcome r c n plain t ends means = by (means-cases table q r 
         cc
 
 -- a question has some meaning with this reply
-abbrev Meant : TableValue → Core → Query → Type 0
-Meant table r q = (k : ℕ) × Means table q r k
+abbrev Meant : TableValue → WithoutTimes → Query → Type 0
+Meant table r q = (k : ℕ) × ResolvesTo table q r k
 
-pub record LedMeaning (table : TableValue) (xs : List Exchange) (last : Hop) (r : Core) (n : ℕ) : Type 0 where
+pub record LedMeaning (table : TableValue) (xs : List Exchange) (last : Hop) (r : WithoutTimes) (n : ℕ) : Type 0 where
   pub rest : ℕ
-  pub means : Means table last.query r rest
+  pub means : ResolvesTo table last.query r rest
   pub length_is : n ≡ length xs + rest
   pub plain : last.preserved ≡ []
-  pub each : AllByRecursion (λ x. (k : ℕ) × Means table x.query r k) xs
+  pub each : AllByRecursion (λ x. (k : ℕ) × ResolvesTo table x.query r k) xs
 
 -- a hop that passes on: it is plain, its outcome was no want of memory, and the next hop is plain
-pub record PassedOn (s : Start) (hop : Hop) (x : Exchange) (next : Hop) : Type 0 where
+pub record PassedOn (s : LookupContext) (hop : Hop) (x : Exchange) (next : Hop) : Type 0 where
   pub live : x.outcome ≡ Err OutOfMemory → ⊥
   pub on : next_outcome hop.query x.outcome ≡ GoesOn (folded_query next.query)
   pub plain : next.preserved ≡ []
 
-passed-on : (s : Start) (hop : Hop) (x : Exchange) (next : Hop) → s.preserve_intermediates ≡ false → hop.preserved ≡ [] → Passes s hop x next → PassedOn s hop x next
-passed-on s hop x next off none p = by (hop-next s hop (class_of x.outcome) off none)
+passed-on : (s : LookupContext) (hop : Hop) (x : Exchange) (next : Hop) → s.preserve_intermediates ≡ false → hop.preserved ≡ [] → IsAliasHop s hop x next → PassedOn s hop x next
+passed-on s hop x next off none p = by (hop-next s hop (kind_of x.outcome) off none)
   where
     live : x.outcome ≡ Err OutOfMemory → ⊥
     live e =
@@ -149,24 +149,24 @@ passed-on s hop x next off none p = by (hop-next s hop (class_of x.outcome) off 
         let clash : Ok there.response ≡ Err OutOfMemory = sym (class-answer x.outcome there.response there.class) ∙ e in
         cc
 
-    by : GoesOnTo s hop (class_of x.outcome) ⊎ EndsWith s hop (class_of x.outcome) → PassedOn s hop x next
+    by : GoesOnTo s hop (kind_of x.outcome) ⊎ EndsWith s hop (kind_of x.outcome) → PassedOn s hop x next
     by (inl there) =
-        let twice : Some (Alias there.next) ≡ Some (Alias next) = sym there.alias ∙ p.alias in
+        let twice : Some (CnameChain there.next) ≡ Some (CnameChain next) = sym there.alias ∙ p.alias in
         let same : there.next ≡ next = cc in
         record { live = live; on = there.on ∙ ap (λ h. GoesOn (folded_query h.query)) same; plain = sym (ap (λ h. h.preserved) same) ∙ there.plain }
     by (inr last) = absurd (last.no_alias next p.alias)
 
-led-meaning : (s : Start) (table : TableValue) (hop : Hop) (xs : List Exchange) (last : Hop) (r : Core) (n : ℕ) → s.preserve_intermediates ≡ false → hop.preserved ≡ [] → TellsAll table xs → AliasesLead s hop xs last → Means table hop.query r n → LedMeaning table xs last r n
+led-meaning : (s : LookupContext) (table : TableValue) (hop : Hop) (xs : List Exchange) (last : Hop) (r : WithoutTimes) (n : ℕ) → s.preserve_intermediates ≡ false → hop.preserved ≡ [] → AreConsistentWith table xs → FollowsAliases s hop xs last → ResolvesTo table hop.query r n → LedMeaning table xs last r n
 led-meaning s table hop [] last r n off none tells e means = record {
   rest = n;
-  means = subst (λ h. Means table h.query r n) (sym e) means;
+  means = subst (λ h. ResolvesTo table h.query r n) (sym e) means;
   length_is = omega arith;
   plain = ap (λ h. h.preserved) e ∙ none;
   each = tt;
 }
 led-meaning s table hop (x ∷ xs) last r n off none (tells, all) (next, p, rest) means =
     let on = passed-on s hop x next off none p in
-    let plain = special-none hop.query hop.query s.now 0 refl p.upstream.0 in
+    let plain = special_use_result-none hop.query hop.query s.now 0 refl p.upstream.0 in
     let t = told table hop.query x p.asked on.live tells in
     let there = on-means table hop.query next.query x.outcome r n plain t on.on means in
     let more = led-meaning s table next xs last r there.0 off on.plain all rest there.1 in
@@ -175,50 +175,50 @@ led-meaning s table hop (x ∷ xs) last r n off none (tells, all) (next, p, rest
       means = more.means;
       length_is = omega (arith, there.2, more.length_is);
       plain = more.plain;
-      each = ((n, subst (λ q. Means table q r n) (sym p.asked) means), more.each);
+      each = ((n, subst (λ q. ResolvesTo table q r n) (sym p.asked) means), more.each);
     }
 
 -- ---- the last hop
 
-abbrev IsOutOr : Reply → Core → Type 0
-IsOutOr reply r = (reply ≡ Err OutOfMemory) ⊎ (core reply ≡ r)
+abbrev IsOutOr : LookupResult → WithoutTimes → Type 0
+IsOutOr reply r = (reply ≡ Err OutOfMemory) ⊎ (without_times reply ≡ r)
 
-asked-meaning : (s : Start) (table : TableValue) (hop : Hop) (count : ℕ) (outcome : OutcomeValue) (r : Core) (n : ℕ) → s.preserve_intermediates ≡ false → hop.preserved ≡ [] → (outcome ≡ Err OutOfMemory → ⊥) → Tells table (record { query = hop.query; outcome = outcome })
-    → IsLast s count hop (Asked outcome) → Means table hop.query r n → count + n ≤ 8 → core (result_of s hop (Asked outcome)) ≡ r
-asked-meaning s table hop count outcome r n off none live tells ends means few = by (hop-next s hop (class_of outcome) off none)
+asked-meaning : (s : LookupContext) (table : TableValue) (hop : Hop) (count : ℕ) (outcome : OutcomeValue) (r : WithoutTimes) (n : ℕ) → s.preserve_intermediates ≡ false → hop.preserved ≡ [] → (outcome ≡ Err OutOfMemory → ⊥) → IsConsistentWith table (record { query = hop.query; outcome = outcome })
+    → IsChainEnd s count hop (Asked outcome) → ResolvesTo table hop.query r n → count + n ≤ 8 → without_times (result_of s hop (Asked outcome)) ≡ r
+asked-meaning s table hop count outcome r n off none live tells ends means few = by (hop-next s hop (kind_of outcome) off none)
   where
     t : Told table hop.query outcome
     t = told table hop.query (record { query = hop.query; outcome = outcome }) refl live tells
 
-    plain : special hop.query 0 ≡ None
-    plain = special-none hop.query hop.query s.now 0 refl ends.0.0
+    plain : special_use_result hop.query 0 ≡ None
+    plain = special_use_result-none hop.query hop.query s.now 0 refl ends.0.0
 
-    by : GoesOnTo s hop (class_of outcome) ⊎ EndsWith s hop (class_of outcome) → core (class_result s hop (class_of outcome)) ≡ r
+    by : GoesOnTo s hop (kind_of outcome) ⊎ EndsWith s hop (kind_of outcome) → without_times (kind_result s hop (kind_of outcome)) ≡ r
     by (inl there) =
         let on = on-means table hop.query there.next.query outcome r n plain t there.on means in
         absurd (omega (arith, ends.1 there.next there.alias, on.2, means-some table there.next.query r on.0 on.1, few))
-    by (inr last) = ends-means table hop.query outcome r (core (class_result s hop (class_of outcome))) n plain t last.ends means
+    by (inr last) = ends-means table hop.query outcome r (without_times (kind_result s hop (kind_of outcome))) n plain t last.ends means
 
-last-meaning : (s : Start) (table : TableValue) (hop : Hop) (count : ℕ) (last : Last) (r : Core) (n : ℕ) → s.preserve_intermediates ≡ false → hop.preserved ≡ [] → AreMeant table s.cache → TellsAll table (asks_of hop last) → IsLast s count hop last → Means table hop.query r n → count + n ≤ 8
+last-meaning : (s : LookupContext) (table : TableValue) (hop : Hop) (count : ℕ) (last : ChainEnd) (r : WithoutTimes) (n : ℕ) → s.preserve_intermediates ≡ false → hop.preserved ≡ [] → AreMeant table s.cache → AreConsistentWith table (asks_of hop last) → IsChainEnd s count hop last → ResolvesTo table hop.query r n → count + n ≤ 8
     → IsOutOr (result_of s hop last) r
 last-meaning s table hop count (Special reply) r n off none meant tells ends means few = inr (by (means-cases table hop.query r n means))
   where
-    there : IsSomeCore (special hop.query 0) (core reply)
-    there = special-some hop.query hop.query s.now 0 reply refl ends
+    there : IsSomeCore (special_use_result hop.query 0) (without_times reply)
+    there = special_use_result-some hop.query hop.query s.now 0 reply refl ends
 
-    by : BySpecial hop.query r ⊎ (ByOutcome table hop.query r ⊎ ByAlias table hop.query r n) → core reply ≡ r
+    by : BySpecial hop.query r ⊎ (ByOutcome table hop.query r ⊎ ByAlias table hop.query r n) → without_times reply ≡ r
     by (inl x) =
         let twice : Some there.reply ≡ Some x.reply = sym there.is ∙ x.is in
         let same : there.reply ≡ x.reply = cc in
-        sym there.core_is ∙ ap core same ∙ x.core_is
+        sym there.core_is ∙ ap without_times same ∙ x.core_is
     by (inr (inl o)) = let clash : Some there.reply ≡ None = sym there.is ∙ o.plain in cc
     by (inr (inr a)) = let clash : Some there.reply ≡ None = sym there.is ∙ a.plain in cc
 last-meaning s table hop count (Hit entry) r n off none meant tells ends means few =
     let found = find-has (λ e. is_for hop.query e && is_current s.now e) s.cache.entries entry ends.1 in
     let own = (and_parts (is_for hop.query entry) (is_current s.now entry) found.1).0 in
-    let kept = all-has (IsMeant table) s.cache.entries entry meant found.0 in
-    let here = means-same table entry.query hop.query (stored_core entry.outcome) kept.0 (sym (query-same hop.query entry.query own)) kept.1 in
-    inr (hit-core hop.query s.now (age entry.moment s.now) entry.outcome ∙ means-one table hop.query (stored_core entry.outcome) r kept.0 n here means)
+    let kept = all-has (IsWhatItResolvesTo table) s.cache.entries entry meant found.0 in
+    let here = means-same table entry.query hop.query (stored_without_times entry.outcome) kept.0 (sym (query-same hop.query entry.query own)) kept.1 in
+    inr (hit-without_times hop.query s.now (age entry.moment s.now) entry.outcome ∙ means-one table hop.query (stored_without_times entry.outcome) r kept.0 n here means)
 last-meaning s table hop count (Asked (Err OutOfMemory)) r n off none meant tells ends means few = inl refl
 last-meaning s table hop count (Asked (Ok m)) r n off none meant tells ends means few = inr (asked-meaning s table hop count (Ok m) r n off none (λ e. cc) tells.0 ends means few)
 last-meaning s table hop count (Asked (Err (Message text))) r n off none meant tells ends means few = inr (asked-meaning s table hop count (Err (Message text)) r n off none (λ e. cc) tells.0 ends means few)
@@ -232,14 +232,14 @@ last-meaning s table hop count (Asked (Err (Bounds error))) r n off none meant t
 
 -- what is stored is what its question means, or want of memory, which is not stored
 abbrev pub StoresMeant : TableValue → Store → Type 0
-StoresMeant table s = (s.outcome ≡ Err OutOfMemory) ⊎ ((k : ℕ) × Means table s.query (stored_core s.outcome) k)
+StoresMeant table s = (s.outcome ≡ Err OutOfMemory) ⊎ ((k : ℕ) × ResolvesTo table s.query (stored_without_times s.outcome) k)
 
 store-meant : (table : TableValue) (cache : CacheValue) (now : ℕ) (q : Query) (outcome : OutcomeValue) → AreMeant table cache → StoresMeant table (record { query = q; outcome = outcome }) → AreMeant table (store cache q outcome now)
 store-meant table cache now q (Ok m) meant (inl e) = let clash : Ok m ≡ Err OutOfMemory = e in cc
 store-meant table cache now q (Ok m) meant (inr (k, means)) =
-    put-all (IsMeant table) cache.capacity cache.entries (positive_entry cache.config q m now) meant (k, subst (λ c. Means table q (Ok c) k) (sym (sections-clamped cache.config m)) means)
+    insert_entry-all (IsWhatItResolvesTo table) cache.capacity cache.entries (positive_entry cache.config q m now) meant (k, subst (λ c. ResolvesTo table q (Ok c) k) (sym (sections-clamped_message cache.config m)) means)
 store-meant table cache now q (Err (Dns (NoRecordsFound n))) meant (inl e) = let clash : Err (Dns (NoRecordsFound n)) ≡ Err OutOfMemory = e in cc
-store-meant table cache now q (Err (Dns (NoRecordsFound n))) meant (inr means) = put-all (IsMeant table) cache.capacity cache.entries (negative_entry cache.config q n now) meant means
+store-meant table cache now q (Err (Dns (NoRecordsFound n))) meant (inr means) = insert_entry-all (IsWhatItResolvesTo table) cache.capacity cache.entries (negative_entry cache.config q n now) meant means
 store-meant table cache now q (Err (Dns (ResponseCode code))) meant is = meant
 store-meant table cache now q (Err (Message text)) meant is = meant
 store-meant table cache now q (Err Timeout) meant is = meant
@@ -253,62 +253,62 @@ stores-meant table now [] cache meant all = meant
 stores-meant table now (s ∷ ss) cache meant (is, all) = stores-meant table now ss (store cache s.query s.outcome now) (store-meant table cache now s.query s.outcome meant is) all
 
 -- the last hop's own store
-last-stored : (s : Start) (table : TableValue) (hop : Hop) (last : Last) (r : Core) (n : ℕ) → Means table hop.query r n → IsOutOr (result_of s hop last) r → AllByRecursion (StoresMeant table) (last_stores s hop last)
+last-stored : (s : LookupContext) (table : TableValue) (hop : Hop) (last : ChainEnd) (r : WithoutTimes) (n : ℕ) → ResolvesTo table hop.query r n → IsOutOr (result_of s hop last) r → AllByRecursion (StoresMeant table) (last_stores s hop last)
 last-stored s table hop (Special reply) r n means is = tt
 last-stored s table hop (Hit entry) r n means is = tt
-last-stored s table hop (Asked outcome) r n means is = by (class_of outcome) is
+last-stored s table hop (Asked outcome) r n means is = by (kind_of outcome) is
   where
     on : (m : MessageValue) (v : Verdict) → IsOutOr (verdict_result s.cache.config hop.query s.now m v) r → AllByRecursion (StoresMeant table) (verdict_stores hop.query v)
-    on m (Found f) (inl e) = cc
-    on m (Found f) (inr e) = (inr (n, subst (λ c. Means table hop.query c n) (sym e ∙ ap Ok (sections-clamped s.cache.config f)) means), tt)
-    on m (Alias next) k = tt
-    on m Nothing k = tt
+    on m (Exists f) (inl e) = cc
+    on m (Exists f) (inr e) = (inr (n, subst (λ c. ResolvesTo table hop.query c n) (sym e ∙ ap Ok (sections-clamped_message s.cache.config f)) means), tt)
+    on m (CnameChain next) k = tt
+    on m NoMatch k = tt
 
-    by : (c : Class) → IsOutOr (class_result s hop c) r → AllByRecursion (StoresMeant table) (class_stores s hop c)
+    by : (c : ResponseKind) → IsOutOr (kind_result s hop c) r → AllByRecursion (StoresMeant table) (kind_stores s hop c)
     by (Answer m) k = on m (verdict s.preserve_intermediates hop m) k
     by (Negative none) (inl e) = cc
-    by (Negative none) (inr e) = (inr (n, subst (λ c. Means table hop.query c n) (sym e) means), tt)
+    by (Negative none) (inr e) = (inr (n, subst (λ c. ResolvesTo table hop.query c n) (sym e) means), tt)
     by (Failed error) k = tt
 
 -- the result under an earlier question
-again-stored : (table : TableValue) (q : Query) (reply : Reply) (r : Core) → (k : ℕ) × Means table q r k → IsOutOr reply r → StoresMeant table (record { query = q; outcome = as_outcome q reply })
+again-stored : (table : TableValue) (q : Query) (reply : LookupResult) (r : WithoutTimes) → (k : ℕ) × ResolvesTo table q r k → IsOutOr reply r → StoresMeant table (record { query = q; outcome = as_outcome q reply })
 again-stored table q (Ok l) r (k, means) (inl e) = let clash : Ok l ≡ Err OutOfMemory = e in cc
-again-stored table q (Ok l) r (k, means) (inr e) = inr (k, subst (λ c. Means table q c k) (sym e) means)
+again-stored table q (Ok l) r (k, means) (inr e) = inr (k, subst (λ c. ResolvesTo table q c k) (sym e) means)
 again-stored table q (Err error) r (k, means) (inl e) = let same : error ≡ OutOfMemory = cc in inl (ap Err same)
-again-stored table q (Err error) r (k, means) (inr e) = inr (k, subst (λ c. Means table q c k) (sym e) means)
+again-stored table q (Err error) r (k, means) (inr e) = inr (k, subst (λ c. ResolvesTo table q c k) (sym e) means)
 
 -- ---- a look-up
 
-pub record AreMeantHops (s : Start) (table : TableValue) (question : Query) (asks : List Exchange) (r : Core) (h : HopList s question asks) : Type 0 where
+pub record AreMeantHops (s : LookupContext) (table : TableValue) (question : Query) (asks : List Exchange) (r : WithoutTimes) (h : HopList s question asks) : Type 0 where
   pub reply : IsOutOr (result_of s h.last_hop h.last) r
   pub stores : AllByRecursion (StoresMeant table) (stores_of s h.passed h.last_hop h.last)
 
-hops-meant : (s : Start) (table : TableValue) (question : Query) (asks : List Exchange) (r : Core) (n : ℕ) (h : HopList s question asks) → s.preserve_intermediates ≡ false → TellsAll table asks → AreMeant table s.cache → Means table question r n → n ≤ 8 → AreMeantHops s table question asks r h
+hops-meant : (s : LookupContext) (table : TableValue) (question : Query) (asks : List Exchange) (r : WithoutTimes) (n : ℕ) (h : HopList s question asks) → s.preserve_intermediates ≡ false → AreConsistentWith table asks → AreMeant table s.cache → ResolvesTo table question r n → n ≤ 8 → AreMeantHops s table question asks r h
 hops-meant s table question asks r n h off tells meant means few = record {
   reply = reply;
   stores = all-append (StoresMeant table) (last_stores s h.last_hop h.last) _ (last-stored s table h.last_hop h.last r led.rest led.means reply)
       (all-map (StoresMeant table) (λ x. record { query = x.query; outcome = as_outcome x.query (result_of s h.last_hop h.last) }) (reverse h.passed)
       (all-reverse (λ x. StoresMeant table (record { query = x.query; outcome = as_outcome x.query (result_of s h.last_hop h.last) })) h.passed
-      (all-weaker (λ x. (k : ℕ) × Means table x.query r k) (λ x. StoresMeant table (record { query = x.query; outcome = as_outcome x.query (result_of s h.last_hop h.last) })) (λ x k. again-stored table x.query (result_of s h.last_hop h.last) r k reply) h.passed led.each)));
+      (all-weaker (λ x. (k : ℕ) × ResolvesTo table x.query r k) (λ x. StoresMeant table (record { query = x.query; outcome = as_outcome x.query (result_of s h.last_hop h.last) })) (λ x k. again-stored table x.query (result_of s h.last_hop h.last) r k reply) h.passed led.each)));
 }
   where
-    both : AllByRecursion (Tells table) (h.passed ++ asks_of h.last_hop h.last)
-    both = subst (AllByRecursion (Tells table)) h.asks_are tells
+    both : AllByRecursion (IsConsistentWith table) (h.passed ++ asks_of h.last_hop h.last)
+    both = subst (AllByRecursion (IsConsistentWith table)) h.asks_are tells
 
     led : LedMeaning table h.passed h.last_hop r n
-    led = led-meaning s table (record { query = question; preserved = [] }) h.passed h.last_hop r n off refl (all-front (Tells table) h.passed (asks_of h.last_hop h.last) both) h.leads means
+    led = led-meaning s table (record { query = question; preserved = [] }) h.passed h.last_hop r n off refl (all-front (IsConsistentWith table) h.passed (asks_of h.last_hop h.last) both) h.leads means
 
     reply : IsOutOr (result_of s h.last_hop h.last) r
     reply =
-        last-meaning s table h.last_hop (length h.passed) h.last r led.rest off led.plain meant (all-back (Tells table) h.passed (asks_of h.last_hop h.last) both) h.ends led.means (omega (arith, led.length_is, few))
+        last-meaning s table h.last_hop (length h.passed) h.last r led.rest off led.plain meant (all-back (IsConsistentWith table) h.passed (asks_of h.last_hop h.last) both) h.ends led.means (omega (arith, led.length_is, few))
 
-pub transparent : (s : Start) (question : Query) (asks : List Exchange) (result : Reply) (after : CacheValue) → IsReply s question asks result after → IsTransparent s question asks result after
+pub transparent : (s : LookupContext) (question : Query) (asks : List Exchange) (result : LookupResult) (after : CacheValue) → IsReply s question asks result after → IsTransparent s question asks result after
 transparent s question asks result after is table off apart tells meant r n means few = by is
   where
     stored : (stores : List Store) → AllByRecursion (StoresMeant table) stores → after ≡ after_stores s.now stores s.cache → AreMeant table after
     stored stores all e = subst (AreMeant table) (sym e) (stores-meant table s.now stores s.cache meant all)
 
-    by : IsReply s question asks result after → ((result ≡ Err OutOfMemory) ⊎ (core result ≡ r)) × AreMeant table after
+    by : IsReply s question asks result after → ((result ≡ Err OutOfMemory) ⊎ (without_times result ≡ r)) × AreMeant table after
     by (inl whole) =
         let hops = hops-meant s table question asks r n whole.hops off tells meant means few in
         (subst (λ x. IsOutOr x r) (sym whole.result_is) hops.reply, stored _ hops.stores whole.after_is)

@@ -5,12 +5,12 @@ use Rattle.std.specs.List.{AllByRecursion}
 use Rattle.hickory_proto_core.specs.Codes.{type_code}
 use Rattle.hickory_proto_core.specs.Records.{RecordValue}
 use Rattle.hickory_proto_core.specs.Messages.{MessageValue}
-use Rattle.hickory_proto_core.specs.Classes.{Class, Answer, Negative, Failed, class_of, record_type_code}
+use Rattle.hickory_proto_core.specs.ResponseKind.{ResponseKind, Answer, Negative, Failed, kind_of, record_type_code}
 use Rattle.hickory_proto_core.specs.records.query.Query.{Query}
 use Rattle.hickory_proto_core.specs.declared.recorded.Exchange.{Exchange}
 use Rattle.hickory_resolver_model.specs.AliasWalk.{Walk, walk_of, walk_from}
-use Rattle.hickory_resolver_model.specs.Verdict.{Hop, Found, Alias, Nothing, is_none, is_match, is_accepted, is_filtered, is_intermediate, has_class, found_message, filtered_answers, next_hop, all_records, lowered, verdict}
-use Rattle.hickory_resolver_model.specs.Hops.{Start, Passes, AliasesLead, class_verdict}
+use Rattle.hickory_resolver_model.specs.Verdict.{Hop, Exists, CnameChain, NoMatch, is_none, is_match, is_accepted, is_filtered, is_intermediate, has_class, found_message, filtered_answers, next_hop, all_records, with_ttl_at_most, verdict}
+use Rattle.hickory_resolver_model.specs.Hops.{LookupContext, IsAliasHop, FollowsAliases, kind_verdict}
 use Rattle.hickory_resolver_theorems.proofs.Lists.{all-weaker, all-append, all-front, all-filter, all-map, all-kept}
 
 -- ---- aliases
@@ -20,13 +20,13 @@ pub record LeadsOn (keep : Bool) (hop : Hop) (m : MessageValue) (next : Hop) : T
   pub followed : is_none (walk_of hop.query m.answers).places ≡ false
   pub next_is : next ≡ next_hop keep hop (walk_of hop.query m.answers) m
 
-pub alias-leads : (keep : Bool) (hop : Hop) (m : MessageValue) (next : Hop) → verdict keep hop m ≡ Alias next → LeadsOn keep hop m next
+pub alias-leads : (keep : Bool) (hop : Hop) (m : MessageValue) (next : Hop) → verdict keep hop m ≡ CnameChain next → LeadsOn keep hop m next
 alias-leads keep hop m next h = by (is_accepted hop walk m) (is_none walk.places) refl h
   where
     walk : Walk
     walk = walk_of hop.query m.answers
 
-    by : (a b : Bool) → is_none walk.places ≡ b → (if a then Found (found_message keep hop walk m) else (if b then Nothing else Alias (next_hop keep hop walk m))) ≡ Alias next → LeadsOn keep hop m next
+    by : (a b : Bool) → is_none walk.places ≡ b → (if a then Exists (found_message keep hop walk m) else (if b then NoMatch else CnameChain (next_hop keep hop walk m))) ≡ CnameChain next → LeadsOn keep hop m next
     by true b e k = cc
     by false true e k = cc
     by false false e k = let same : next_hop keep hop walk m ≡ next = cc in record { followed = e; next_is = sym same }
@@ -36,17 +36,17 @@ pub follows-no_cname : (q : Query) (answers : List RecordValue) → type_code q.
 follows-no_cname q answers e = ap (λ n. is_none (if (if n == 255 then false else (if n == 5 then false else true)) then walk_from 0 q.name answers else record { places = []; last = q.name; ttl = 86400 }).places) e
 
 -- the response that a hop before the last got
-pub record Passed (s : Start) (hop : Hop) (x : Exchange) (next : Hop) : Type 0 where
+pub record Passed (s : LookupContext) (hop : Hop) (x : Exchange) (next : Hop) : Type 0 where
   pub response : MessageValue
-  pub class : class_of x.outcome ≡ Answer response
+  pub class : kind_of x.outcome ≡ Answer response
   pub leads : LeadsOn s.preserve_intermediates hop response next
 
-pub passed : (s : Start) (hop : Hop) (x : Exchange) (next : Hop) → Passes s hop x next → Passed s hop x next
-passed s hop x next p = by (class_of x.outcome) refl p.alias
+pub passed : (s : LookupContext) (hop : Hop) (x : Exchange) (next : Hop) → IsAliasHop s hop x next → Passed s hop x next
+passed s hop x next p = by (kind_of x.outcome) refl p.alias
   where
-    by : (c : Class) → class_of x.outcome ≡ c → class_verdict s hop c ≡ Some (Alias next) → Passed s hop x next
+    by : (c : ResponseKind) → kind_of x.outcome ≡ c → kind_verdict s hop c ≡ Some (CnameChain next) → Passed s hop x next
     by (Answer response) e k =
-        let same : verdict s.preserve_intermediates hop response ≡ Alias next = cc in
+        let same : verdict s.preserve_intermediates hop response ≡ CnameChain next = cc in
         record { response = response; class = e; leads = alias-leads s.preserve_intermediates hop response next same }
     by (Negative none) e k = cc
     by (Failed error) e k = cc
@@ -71,16 +71,16 @@ next-keeps code keep hop m next k on =
     walk = walk_of hop.query m.answers
 
     more : Bool → List RecordValue
-    more b = if b then map (lowered walk.ttl) (filter (is_intermediate hop.query) (all_records m)) else []
+    more b = if b then map (with_ttl_at_most walk.ttl) (filter (is_intermediate hop.query) (all_records m)) else []
 
     not_five : code ≡ 5 → ⊥
     not_five e = let clash : true ≡ false = sym (follows-no_cname hop.query m.answers (k.type_is ∙ e)) ∙ on.followed in cc
 
     by : (b : Bool) → AllByRecursion Other (more b)
-    by true = all-map Other (lowered walk.ttl) (filter (is_intermediate hop.query) (all_records m)) (all-kept Other (is_intermediate hop.query) (λ r. intermediate-other code hop.query r not_five) (all_records m))
+    by true = all-map Other (with_ttl_at_most walk.ttl) (filter (is_intermediate hop.query) (all_records m)) (all-kept Other (is_intermediate hop.query) (λ r. intermediate-other code hop.query r not_five) (all_records m))
     by false = tt
 
-pub leads-keep : (code : ℕ) (s : Start) (hop : Hop) (xs : List Exchange) (last : Hop) → KeepsType code hop → AliasesLead s hop xs last → KeepsType code last × AllByRecursion (λ x. type_code x.query.query_type ≡ code) xs
+pub leads-keep : (code : ℕ) (s : LookupContext) (hop : Hop) (xs : List Exchange) (last : Hop) → KeepsType code hop → FollowsAliases s hop xs last → KeepsType code last × AllByRecursion (λ x. type_code x.query.query_type ≡ code) xs
 leads-keep code s hop [] last k e = (subst (KeepsType code) (sym e) k, tt)
 leads-keep code s hop (x ∷ xs) last k (next, p, rest) =
     let on = passed s hop x next p in
@@ -89,19 +89,19 @@ leads-keep code s hop (x ∷ xs) last k (next, p, rest) =
 
 -- ---- accepted responses
 
--- what holds of the preserved records and, with their TTLs as they are or lowered, of all records of a response holds of the answers
+-- what holds of the preserved records and, with their TTLs as they are or with_ttl_at_most, of all records of a response holds of the answers
 -- once it is accepted
-pub found-answers : (P : RecordValue → Type 0) (keep : Bool) (hop : Hop) (walk : Walk) (m : MessageValue) → AllByRecursion P hop.preserved → AllByRecursion (λ r. P r × P (lowered walk.ttl r)) (all_records m) → AllByRecursion P (found_message keep hop walk m).answers
+pub found-answers : (P : RecordValue → Type 0) (keep : Bool) (hop : Hop) (walk : Walk) (m : MessageValue) → AllByRecursion P hop.preserved → AllByRecursion (λ r. P r × P (with_ttl_at_most walk.ttl r)) (all_records m) → AllByRecursion P (found_message keep hop walk m).answers
 found-answers P keep hop walk m front all = by (is_filtered keep hop walk m)
   where
     test : RecordValue → Bool
     test = λ r. is_match hop.query walk.last r || (keep && is_intermediate hop.query r)
 
-    low : AllByRecursion P (map (lowered walk.ttl) (filter test (all_records m)))
-    low = all-map P (lowered walk.ttl) (filter test (all_records m)) (all-filter (λ r. P (lowered walk.ttl r)) test (all_records m) (all-weaker (λ r. P r × P (lowered walk.ttl r)) (λ r. P (lowered walk.ttl r)) (λ r h. h.1) (all_records m) all))
+    low : AllByRecursion P (map (with_ttl_at_most walk.ttl) (filter test (all_records m)))
+    low = all-map P (with_ttl_at_most walk.ttl) (filter test (all_records m)) (all-filter (λ r. P (with_ttl_at_most walk.ttl r)) test (all_records m) (all-weaker (λ r. P r × P (with_ttl_at_most walk.ttl r)) (λ r. P (with_ttl_at_most walk.ttl r)) (λ r h. h.1) (all_records m) all))
 
     by : (b : Bool) → AllByRecursion P (if b then record m { answers = filtered_answers keep hop walk m } else m).answers
     by true = all-append P hop.preserved _ front low
     by false =
-        let each = all-weaker (λ r. P r × P (lowered walk.ttl r)) P (λ r h. h.0) (all_records m) all in
+        let each = all-weaker (λ r. P r × P (with_ttl_at_most walk.ttl r)) P (λ r h. h.0) (all_records m) all in
         all-front P m.answers m.authorities (all-front P (m.answers ++ m.authorities) m.additionals each)

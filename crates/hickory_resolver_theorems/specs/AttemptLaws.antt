@@ -3,7 +3,7 @@ use Rattle.std.specs.Prelude.{◌≡◌, Bool, true, false, ◌||◌, List, [], 
 use Rattle.std.specs.List.{list_any}
 use Rattle.std.proofs.Common.{refl, ap, ◌∙◌, cond}
 use Rattle.hickory_proto_core.specs.Name.{NameValue, name_eq}
-use Rattle.hickory_resolver_model.specs.Hosts.{marked}
+use Rattle.hickory_resolver_model.specs.Hosts.{as_fqdn}
 use Rattle.hickory_resolver_model.specs.Attempts.{Search, attempts, keep_last, joined_names, raw_first, is_onion_address}
 
 or_false : (a b : Bool) → (a || b) ≡ false → (a ≡ false) × (b ≡ false)
@@ -56,12 +56,12 @@ pub attempts_apart : (s : Search) (n : NameValue) → AreAttemptsApart s n
 attempts_apart s n = record { apart = whole (n.fqdn || is_onion_address (reverse n.labels)); alone = λ e. ap (λ b. cond (b || is_onion_address (reverse n.labels)) (n ∷ []) searched) e }
   where
     searched : List NameValue
-    searched = cond (raw_first s n) (marked n ∷ keep_last (joined_names s n)) (keep_last (joined_names s n ++ marked n ∷ []))
+    searched = cond (raw_first s n) (as_fqdn n ∷ keep_last (joined_names s n)) (keep_last (joined_names s n ++ as_fqdn n ∷ []))
 
-    below : (b : Bool) → AreApartButFirst (cond b (marked n ∷ keep_last (joined_names s n)) (keep_last (joined_names s n ++ marked n ∷ [])))
+    below : (b : Bool) → AreApartButFirst (cond b (as_fqdn n ∷ keep_last (joined_names s n)) (keep_last (joined_names s n ++ as_fqdn n ∷ [])))
     below true = keep_last-apart (joined_names s n)
-    below false = but_first (keep_last (joined_names s n ++ marked n ∷ [])) (keep_last-apart (joined_names s n ++ marked n ∷ []))
+    below false = but_first (keep_last (joined_names s n ++ as_fqdn n ∷ [])) (keep_last-apart (joined_names s n ++ as_fqdn n ∷ []))
 
-    whole : (b : Bool) → AreApartButFirst (cond b (n ∷ []) (cond (raw_first s n) (marked n ∷ keep_last (joined_names s n)) (keep_last (joined_names s n ++ marked n ∷ []))))
+    whole : (b : Bool) → AreApartButFirst (cond b (n ∷ []) (cond (raw_first s n) (as_fqdn n ∷ keep_last (joined_names s n)) (keep_last (joined_names s n ++ as_fqdn n ∷ []))))
     whole true = tt
     whole false = below (raw_first s n)

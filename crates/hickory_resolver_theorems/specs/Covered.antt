@@ -3,24 +3,24 @@ use Rattle.std.specs.Prelude.{◌≡◌, ◌⊎◌, ◌≤◌, ℕ, ◌+◌, tru
 use Rattle.hickory_proto_core.specs.Codes.{class_code}
 use Rattle.hickory_proto_core.specs.Records.{RecordValue}
 use Rattle.hickory_proto_core.specs.Messages.{MessageValue}
-use Rattle.hickory_proto_core.specs.Classes.{record_type_code}
+use Rattle.hickory_proto_core.specs.ResponseKind.{record_type_code}
 use Rattle.hickory_proto_core.specs.declared.recorded.Exchange.{Exchange}
-use Rattle.hickory_resolver_model.specs.Bounds.{ConfigValue, bounds_for, positive_bounds, reduced}
-use Rattle.hickory_resolver_model.specs.Special.{is_loopback_name, loopback_data}
+use Rattle.hickory_resolver_model.specs.Bounds.{ConfigValue, bounds_for, positive_bounds, reduced_bound}
+use Rattle.hickory_resolver_model.specs.SpecialUse.{is_loopback_name, loopback_data}
 use Rattle.hickory_resolver_model.specs.Verdict.{all_records}
-use Rattle.hickory_resolver_theorems.specs.Core.{record_core}
+use Rattle.hickory_resolver_theorems.specs.WithoutTimes.{record_without_times}
 
 -- an exchange, and the moment of its request
 pub record Dated : Type 0 where
   pub moment : ℕ
   pub exchange : Exchange
 
-abbrev pub dated : ℕ → List Exchange → List Dated
-dated now xs = map (λ x. record { moment = now; exchange = x }) xs
+abbrev pub dated_exchanges : ℕ → List Exchange → List Dated
+dated_exchanges now xs = map (λ x. record { moment = now; exchange = x }) xs
 
 -- the greatest TTL that records of a type are kept with
 abbrev pub greatest_ttl : ConfigValue → ℕ → ℕ
-greatest_ttl config code = reduced (positive_bounds (bounds_for config code)).1
+greatest_ttl config code = reduced_bound (positive_bounds (bounds_for config code)).1
 
 -- an element of a list
 abbrev pub Has : {A : Type 0} → List A → A → Type 0
@@ -34,7 +34,7 @@ pub record IsCoveredBy (config : ConfigValue) (now : ℕ) (r : RecordValue) (sou
   pub came : source.exchange.outcome ≡ Ok response
   pub received : RecordValue
   pub brought : Has (all_records response) received
-  pub equal : record_core received ≡ record_core r
+  pub equal : record_without_times received ≡ record_without_times r
   pub reaches : now + r.ttl ≤ source.moment + min received.ttl (greatest_ttl config (record_type_code r))
 
 abbrev pub IsCovered : ConfigValue → List Dated → ℕ → RecordValue → Type 0

@@ -1,6 +1,6 @@
 pub mod AttemptLaws
 pub mod Cacheless
-pub mod Core
+pub mod WithoutTimes
 pub mod Covered
 pub mod Statements
 pub mod WalkLaws

@@ -3,7 +3,7 @@ use Rattle.std.specs.Prelude.{◌≡◌, ◌⊎◌, ◌≤◌, ℕ, ◌+◌, Boo
 use Rattle.std.specs.List.{AllByRecursion}
 use Rattle.hickory_proto_core.specs.Codes.{type_code}
 use Rattle.hickory_proto_core.specs.Records.{RecordValue}
-use Rattle.hickory_proto_core.specs.Classes.{record_type_code}
+use Rattle.hickory_proto_core.specs.ResponseKind.{record_type_code}
 use Rattle.hickory_proto_core.specs.Table.{TableValue}
 use Rattle.hickory_proto_core.specs.records.query.Query.{Query}
 use Rattle.hickory_proto_core.specs.declared.dns_request.DnsRequestOptions.{DnsRequestOptions}
@@ -12,15 +12,15 @@ use Rattle.hickory_proto_core.specs.records.net_error.NetError.TheVariants.{OutO
 use Rattle.hickory_resolver_model.specs.Bounds.{ConfigValue, bounds_for, positive_bounds}
 use Rattle.hickory_resolver_model.specs.Cache.{CacheValue, Entry}
 use Rattle.hickory_proto_core.specs.Handles.{OutcomeValue, Step, Leads}
-use Rattle.hickory_resolver_model.specs.Lookup.{Reply}
-use Rattle.hickory_resolver_model.specs.Hops.{Start, IsReply}
+use Rattle.hickory_resolver_model.specs.Lookup.{LookupResult}
+use Rattle.hickory_resolver_model.specs.Hops.{LookupContext, IsReply}
 use Rattle.hickory_resolver_model.specs.Client.{ClientValue, start_of}
 use Rattle.hickory_resolver_model.specs.Hosts.{IsStatic}
-use Rattle.hickory_resolver_model.specs.Calls.{Part, PartRelation, Setting, Client, IsStaticPart}
-use Rattle.hickory_resolver_model.specs.Run.{Settings, setting_at, RequestValue, StepValue, Answered, LookedUp, Cleared, ends_run, IsServed, Stage, exchanges_of, Run}
-use Rattle.hickory_resolver_theorems.specs.Cacheless.{IsTable, Means, TellsAll}
-use Rattle.hickory_resolver_theorems.specs.Core.{Core, core, stored_core}
-use Rattle.hickory_resolver_theorems.specs.Covered.{Dated, dated, IsCovered, IsLoopback, greatest_ttl}
+use Rattle.hickory_resolver_model.specs.Calls.{SubLookup, SubLookupRelation, Setting, Client, IsStaticSubLookup}
+use Rattle.hickory_resolver_model.specs.Run.{Settings, setting_at, RequestValue, StepValue, StepReply, LookedUp, Cleared, ends_run, IsServed, Stage, exchanges_of, Run}
+use Rattle.hickory_resolver_theorems.specs.Cacheless.{IsTable, ResolvesTo, AreConsistentWith}
+use Rattle.hickory_resolver_theorems.specs.WithoutTimes.{WithoutTimes, without_times, stored_without_times}
+use Rattle.hickory_resolver_theorems.specs.Covered.{Dated, dated_exchanges, IsCovered, IsLoopback, greatest_ttl}
 
 -- ---- provenance: no record of the asked type outlives what was received (RFC 2181, section 8)
 
@@ -38,7 +38,7 @@ IsFreshRecord config sources code now deadline r =
 abbrev pub AreFreshRecords : ConfigValue → List Dated → ℕ → ℕ → ℕ → List RecordValue → Type 0
 AreFreshRecords config sources code now deadline rs = AllByRecursion (IsFreshRecord config sources code now deadline) rs
 
-abbrev pub IsFreshReply : ConfigValue → List Dated → ℕ → ℕ → Reply → Type 0
+abbrev pub IsFreshReply : ConfigValue → List Dated → ℕ → ℕ → LookupResult → Type 0
 IsFreshReply config sources code now (Ok l) = AreFreshRecords config sources code now l.valid_until l.message.answers
 IsFreshReply config sources code now (Err e) = Unit {0}
 
@@ -56,34 +56,34 @@ AreFreshEntries cache sources = AllByRecursion (IsFreshEntry cache.config source
 
 -- Of a look-up: whatever covers the entries before it, together with the exchanges of the look-up covers its reply and the entries
 -- after it.
-abbrev pub IsFresh : Start → Query → List Exchange → Reply → CacheValue → Type 0
+abbrev pub IsFresh : LookupContext → Query → List Exchange → LookupResult → CacheValue → Type 0
 IsFresh s question asks result after =
     (sources : List Dated) → AreFreshEntries s.cache sources
-    → (HasNoLeast s.cache.config (type_code question.query_type) → IsFreshReply s.cache.config (sources ++ dated s.now asks) (type_code question.query_type) s.now result)
-    × AreFreshEntries after (sources ++ dated s.now asks)
+    → (HasNoLeast s.cache.config (type_code question.query_type) → IsFreshReply s.cache.config (sources ++ dated_exchanges s.now asks) (type_code question.query_type) s.now result)
+    × AreFreshEntries after (sources ++ dated_exchanges s.now asks)
 
 -- ---- transparency: a cache does not change an answer
 
 -- an entry is what its question means under a table, however long the way there
-abbrev pub IsMeant : TableValue → Entry → Type 0
-IsMeant table e = (n : ℕ) × Means table e.query (stored_core e.outcome) n
+abbrev pub IsWhatItResolvesTo : TableValue → Entry → Type 0
+IsWhatItResolvesTo table e = (n : ℕ) × ResolvesTo table e.query (stored_without_times e.outcome) n
 
 abbrev pub AreMeant : TableValue → CacheValue → Type 0
-AreMeant table cache = AllByRecursion (IsMeant table) cache.entries
+AreMeant table cache = AllByRecursion (IsWhatItResolvesTo table) cache.entries
 
 -- Of a look-up without preserved intermediate records: under every table that tells its exchanges and means the entries before it, the reply
 -- is the meaning of the question, where that takes eight questions at most, and the entries after it are meant.
-abbrev pub IsTransparent : Start → Query → List Exchange → Reply → CacheValue → Type 0
+abbrev pub IsTransparent : LookupContext → Query → List Exchange → LookupResult → CacheValue → Type 0
 IsTransparent s question asks result after =
-    (table : TableValue) → s.preserve_intermediates ≡ false → IsTable table → TellsAll table asks → AreMeant table s.cache
-    → (reply : Core) (n : ℕ) → Means table question reply n → n ≤ 8
-    → ((result ≡ Err OutOfMemory) ⊎ (core result ≡ reply)) × AreMeant table after
+    (table : TableValue) → s.preserve_intermediates ≡ false → IsTable table → AreConsistentWith table asks → AreMeant table s.cache
+    → (reply : WithoutTimes) (n : ℕ) → ResolvesTo table question reply n → n ≤ 8
+    → ((result ≡ Err OutOfMemory) ⊎ (without_times result ≡ reply)) × AreMeant table after
 
 -- ---- a look-up of the client, whole
 
 -- The exchanges that it made led the handle, each with these options, and there are eight at most; the reply and the cache after it are those
 -- of the hops; and the two facts above hold of it.
-pub record IsWholeLookup {H : Type 0} (step : Step H) (options : DnsRequestOptions) (now : ℕ) (before : ClientValue H) (question : Query) (result : Reply) (after : ClientValue H) : Type 0 where
+pub record IsWholeLookup {H : Type 0} (step : Step H) (options : DnsRequestOptions) (now : ℕ) (before : ClientValue H) (question : Query) (result : LookupResult) (after : ClientValue H) : Type 0 where
   pub asks : List Exchange
   pub led : Leads step options before.handle asks after.handle
   pub few : length asks ≤ 8
@@ -95,53 +95,53 @@ pub record IsWholeLookup {H : Type 0} (step : Step H) (options : DnsRequestOptio
 -- ---- the headline, of a run
 
 -- each attempt at one name and type sends at most eight questions
-abbrev pub AsksFew : Stage → Type 0
-AsksFew stage = AllByRecursion (λ p. length p.asks ≤ 8) stage.parts
+abbrev pub AsksAtMostEight : Stage → Type 0
+AsksAtMostEight stage = AllByRecursion (λ p. length p.asks ≤ 8) stage.parts
 
 -- Where the asked type's least TTL is zero, an answer of the client has no record of that type that outlives what was received.
-abbrev pub IsFreshPart : ConfigValue → List Dated → ℕ → Part → Type 0
-IsFreshPart config sources now p =
+abbrev pub IsFreshSubLookup : ConfigValue → List Dated → ℕ → SubLookup → Type 0
+IsFreshSubLookup config sources now p =
     p.source ≡ Client → HasNoLeast config (type_code p.question.query_type) → IsFreshReply config sources (type_code p.question.query_type) now p.result
 
 -- no record outlives what an exchange of the same step or of an earlier one brought
 abbrev pub NothingOutlives : List Dated → List Stage → Type 0
 NothingOutlives earlier [] = Unit {0}
 NothingOutlives earlier (stage ∷ stages) =
-    let sources = earlier ++ dated stage.step.now stage.piece in
-    AllByRecursion (IsFreshPart stage.before.config sources stage.step.now) stage.parts × NothingOutlives sources stages
+    let sources = earlier ++ dated_exchanges stage.step.now stage.piece in
+    AllByRecursion (IsFreshSubLookup stage.before.config sources stage.step.now) stage.parts × NothingOutlives sources stages
 
 -- a question of the client has a meaning of eight questions at most
-abbrev pub HasMeaning : TableValue → Part → Type 0
-HasMeaning table p = p.source ≡ Client → (reply : Core) × (n : ℕ) × Means table p.question reply n × (n ≤ 8)
+abbrev pub ResolvesWithinEight : TableValue → SubLookup → Type 0
+ResolvesWithinEight table p = p.source ≡ Client → (reply : WithoutTimes) × (n : ℕ) × ResolvesTo table p.question reply n × (n ≤ 8)
 
 -- how the resolver without a cache answers a question: by the table of hosts, as any, or by the meaning of the question
-pub record IsCachelessPart (table : TableValue) (s : Setting) (looked : Bool) (q : Query) (p : Part) : Type 0 where
-  pub reply : Core
+pub record IsCachelessSubLookup (table : TableValue) (s : Setting) (looked : Bool) (q : Query) (p : SubLookup) : Type 0 where
+  pub reply : WithoutTimes
   pub length_is : ℕ
   pub not_static : (looked ≡ false) ⊎ IsStatic q s.now s.hosts None
-  pub means : Means table q reply length_is
-  pub result_is : core p.result ≡ reply
+  pub means : ResolvesTo table q reply length_is
+  pub result_is : without_times p.result ≡ reply
 
-abbrev pub CachelessPart : TableValue → Setting → PartRelation
-CachelessPart table s looked before q p after = (p.question ≡ q) × (IsStaticPart s looked before p after ⊎ (IsCachelessPart table s looked q p × (after ≡ before)))
+abbrev pub CachelessSubLookup : TableValue → Setting → SubLookupRelation
+CachelessSubLookup table s looked before q p after = (p.question ≡ q) × (IsStaticSubLookup s looked before p after ⊎ (IsCachelessSubLookup table s looked q p × (after ≡ before)))
 
 -- a reply comes to what the resolver without a cache answers to the request
-abbrev pub IsCacheless : TableValue → Settings → CacheValue → RequestValue → Answered → Type 0
+abbrev pub IsCacheless : TableValue → Settings → CacheValue → RequestValue → StepReply → Type 0
 IsCacheless table s cache request (LookedUp reply) =
-    (parts : List Part) × (cacheless : Reply) × IsServed (λ now. CachelessPart table (setting_at s now)) s cache request parts (LookedUp cacheless) cache
-    × (core reply ≡ core cacheless)
+    (parts : List SubLookup) × (cacheless : LookupResult) × IsServed (λ now. CachelessSubLookup table (setting_at s now)) s cache request parts (LookedUp cacheless) cache
+    × (without_times reply ≡ without_times cacheless)
 IsCacheless table s cache request (Cleared done) = Unit {0}
 
 -- the reply of a step is the cacheless resolver's, want of memory aside
 abbrev pub IsAsWithoutCache : TableValue → Settings → Stage → Type 0
-IsAsWithoutCache table s stage = (ends_run stage.step.answered ≡ true) ⊎ IsCacheless table s stage.before stage.request stage.step.answered
+IsAsWithoutCache table s stage = (ends_run stage.step.response_to ≡ true) ⊎ IsCacheless table s stage.before stage.request stage.step.response_to
 
 -- Where equal questions get equal outcomes (a table tells every exchange of the run), no chain needs a ninth question (in the whole run) and
 -- intermediate records are not preserved, every reply is the cacheless resolver's.
 abbrev pub AreAsWithoutCache : Settings → List Stage → Type 0
 AreAsWithoutCache s stages =
-    (table : TableValue) → s.preserve_intermediates ≡ false → IsTable table → TellsAll table (exchanges_of stages)
-    → AllByRecursion (λ stage. AllByRecursion (HasMeaning table) stage.parts) stages
+    (table : TableValue) → s.preserve_intermediates ≡ false → IsTable table → AreConsistentWith table (exchanges_of stages)
+    → AllByRecursion (λ stage. AllByRecursion (ResolvesWithinEight table) stage.parts) stages
     → AllByRecursion (IsAsWithoutCache table s) stages
 
 -- the moments of steps never go back
@@ -156,4 +156,4 @@ NeverGoBack now (step ∷ steps) = (now ≤ step.now) × NeverGoBack step.now st
 abbrev pub Headline : Settings → CacheValue → List RequestValue → List StepValue → List Exchange → CacheValue → Type 0
 Headline s empty requests steps exchanges after =
     empty.entries ≡ [] → NeverGoBack 0 steps
-    → (run : Run s empty requests steps exchanges after) × AllByRecursion AsksFew run.stages × NothingOutlives [] run.stages × AreAsWithoutCache s run.stages
+    → (run : Run s empty requests steps exchanges after) × AllByRecursion AsksAtMostEight run.stages × NothingOutlives [] run.stages × AreAsWithoutCache s run.stages

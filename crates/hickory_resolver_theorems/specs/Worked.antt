@@ -11,11 +11,11 @@ use Rattle.hickory_proto_core.specs.codes.dns_class.DNSClass.TheVariants as clas
 use Rattle.hickory_proto_core.specs.codes.response_code.ResponseCode.TheVariants.{NoError, NXDomain}
 use Rattle.hickory_proto_core.specs.declared.recorded.Exchange.{Exchange}
 use Rattle.hickory_resolver_model.specs.Bounds.{BoundsValue, ConfigValue, no_bounds, bounds_fault, positive_lifetime}
-use Rattle.hickory_resolver_model.specs.Cache.{CacheValue, Entry, put, store, aged, current}
-use Rattle.hickory_resolver_model.specs.Special.{answered, one_record, no_records, special}
+use Rattle.hickory_resolver_model.specs.Cache.{CacheValue, Entry, insert_entry, store, aged_result, current}
+use Rattle.hickory_resolver_model.specs.SpecialUse.{response_to, one_record, no_records, special_use_result}
 use Rattle.hickory_resolver_model.specs.AliasWalk.{walk_of}
-use Rattle.hickory_resolver_model.specs.Verdict.{Hop, Found, Alias, verdict}
-use Rattle.hickory_resolver_model.specs.Hops.{Start}
+use Rattle.hickory_resolver_model.specs.Verdict.{Hop, Exists, CnameChain, verdict}
+use Rattle.hickory_resolver_model.specs.Hops.{LookupContext}
 use Rattle.hickory_resolver_model.specs.Attempts.{Search, attempts}
 use Rattle.hickory_resolver_model.specs.Client.{empty_cache}
 use Rattle.hickory_proto_core.specs.records.bounds_error.BoundsError.TheVariants.{PositiveReversed}
@@ -43,7 +43,7 @@ address = a_data (192 ∷ 0 ∷ 2 ∷ 1 ∷ [])
 
 -- a response to a question with these answers
 abbrev pub response : Query → List RecordValue → MessageValue
-response q answers = answered q answers
+response q answers = response_to q answers
 
 abbrev pub asks_a : NameValue → Query
 asks_a n = query n type.A
@@ -58,15 +58,15 @@ entry n deadline = record { query = asks_a n; outcome = Err (no_records (asks_a 
 
 -- three places: p 50, q 20, r 20, p again 20, then s 90, t 1 and u 1
 abbrev pub three_places : List Entry → List ℕ → ℕ → List Entry
-three_places es label deadline = put 3 es (entry (name label) deadline)
+three_places es label deadline = insert_entry 3 es (entry (name label) deadline)
 
 pub record EvictionCases : Type 0 where
   -- a new entry in a full cache: the entry of the earliest deadline leaves, the oldest of several, and never the new one
-  pub evicts_oldest_of_ties : put 2 (entry (name (codes "p")) 10 ∷ entry (name (codes "q")) 10 ∷ []) (entry (name (codes "r")) 5) ≡ entry (name (codes "q")) 10 ∷ entry (name (codes "r")) 5 ∷ []
-  pub evicts_earliest : put 2 (entry (name (codes "q")) 10 ∷ entry (name (codes "r")) 5 ∷ []) (entry (name (codes "s")) 7) ≡ entry (name (codes "q")) 10 ∷ entry (name (codes "s")) 7 ∷ []
-  pub keeps_nothing_without_room : put 0 [] (entry (name (codes "p")) 10) ≡ []
+  pub evicts_oldest_of_ties : insert_entry 2 (entry (name (codes "p")) 10 ∷ entry (name (codes "q")) 10 ∷ []) (entry (name (codes "r")) 5) ≡ entry (name (codes "q")) 10 ∷ entry (name (codes "r")) 5 ∷ []
+  pub evicts_earliest : insert_entry 2 (entry (name (codes "q")) 10 ∷ entry (name (codes "r")) 5 ∷ []) (entry (name (codes "s")) 7) ≡ entry (name (codes "q")) 10 ∷ entry (name (codes "s")) 7 ∷ []
+  pub keeps_nothing_without_room : insert_entry 0 [] (entry (name (codes "p")) 10) ≡ []
   -- an entry that is stored again becomes the newest
-  pub stored_again_is_newest : put 2 (put 2 (entry (name (codes "p")) 10 ∷ entry (name (codes "q")) 10 ∷ []) (entry (name (codes "p")) 10)) (entry (name (codes "r")) 10) ≡ entry (name (codes "p")) 10 ∷ entry (name (codes "r")) 10 ∷ []
+  pub stored_again_is_newest : insert_entry 2 (insert_entry 2 (entry (name (codes "p")) 10 ∷ entry (name (codes "q")) 10 ∷ []) (entry (name (codes "p")) 10)) (entry (name (codes "r")) 10) ≡ entry (name (codes "p")) 10 ∷ entry (name (codes "r")) 10 ∷ []
   pub evictions_in_turn : three_places (three_places (three_places (three_places (three_places (three_places (three_places [] (codes "p") 50) (codes "q") 20) (codes "r") 20) (codes "p") 20) (codes "s") 90) (codes "t") 1) (codes "u") 1
       ≡ entry (name (codes "p")) 20 ∷ entry (name (codes "s")) 90 ∷ entry (name (codes "u")) 1 ∷ []
 
@@ -100,7 +100,7 @@ ttl_at now es = ttls (current (asks_a (name (codes "A"))) now es)
   where
     ttls : Option Entry → Option (List ℕ)
     ttls None = None
-    ttls (Some e) = of (aged now e)
+    ttls (Some e) = of (aged_result now e)
       where
         of : OutcomeValue → Option (List ℕ)
         of (Ok m) = Some (map (λ r. r.ttl) m.answers)
@@ -109,7 +109,7 @@ ttl_at now es = ttls (current (asks_a (name (codes "A"))) now es)
 pub record LifetimeCases : Type 0 where
   -- a least of 90000 alone is above the greatest, a day
   pub least_above_a_day : bounds_fault (record no_bounds { positive_min = Some 90000 }) ≡ Some PositiveReversed
-  -- bounds past 32 bits are reduced to a day, and then they are reversed
+  -- bounds past 32 bits are reduced_bound to a day, and then they are reversed
   pub reversed_once_reduced : bounds_fault (record no_bounds { positive_min = Some 100000; positive_max = Some 4294967296 }) ≡ Some PositiveReversed
   pub wide_bounds_are_taken : bounds_fault (record no_bounds { positive_min = Some 4294967296; positive_max = Some 8589934592 }) ≡ None
   -- the answers of the asked type and CNAMEs count, and no other answer does
@@ -159,9 +159,9 @@ attempt_cases = record {
 -- ---- special names
 
 pub record SpecialCases : Type 0 where
-  pub invalid_is_not_there : special (asks_a (full (codes "x" ∷ codes "invalid" ∷ []))) 7 ≡ Some (Err (no_records (asks_a (full (codes "x" ∷ codes "invalid" ∷ []))) NXDomain))
-  pub localhost_has_its_address : special (asks_a (full (codes "my" ∷ codes "localhost" ∷ []))) 7 ≡ Some (Ok (one_record (asks_a (full (codes "my" ∷ codes "localhost" ∷ []))) (a_data (127 ∷ 0 ∷ 0 ∷ 1 ∷ [])) 7))
-  pub chaos_is_not_special : special (record { name = full (codes "x" ∷ codes "invalid" ∷ []); query_type = type.A; query_class = class.CH }) 7 ≡ None
+  pub invalid_is_not_there : special_use_result (asks_a (full (codes "x" ∷ codes "invalid" ∷ []))) 7 ≡ Some (Err (no_records (asks_a (full (codes "x" ∷ codes "invalid" ∷ []))) NXDomain))
+  pub localhost_has_its_address : special_use_result (asks_a (full (codes "my" ∷ codes "localhost" ∷ []))) 7 ≡ Some (Ok (one_record (asks_a (full (codes "my" ∷ codes "localhost" ∷ []))) (a_data (127 ∷ 0 ∷ 0 ∷ 1 ∷ [])) 7))
+  pub chaos_is_not_special : special_use_result (record { name = full (codes "x" ∷ codes "invalid" ∷ []); query_type = type.A; query_class = class.CH }) 7 ≡ None
 
 pub special_cases : SpecialCases
 special_cases = record {
@@ -187,15 +187,15 @@ pub record AliasCases : Type 0 where
   -- an alias and its address in one response: without intermediate records the address alone, as long as the alias; with them the
   -- response as it was sent
   pub address_behind_an_alias : verdict false (first (asks_a (name (codes "a")))) (response (asks_a (name (codes "a"))) alias_and_address)
-      ≡ Found (response (asks_a (name (codes "a"))) (rr (name (codes "b")) 5 address ∷ []))
-  pub alias_kept_with_its_address : verdict true (first (asks_a (name (codes "a")))) (response (asks_a (name (codes "a"))) alias_and_address) ≡ Found (response (asks_a (name (codes "a"))) alias_and_address)
-  pub alias_leads_on : verdict true (first (asks_a (name (codes "a")))) (response (asks_a (name (codes "a"))) alias_alone) ≡ Alias (record { query = asks_a (name (codes "b")); preserved = alias_alone })
+      ≡ Exists (response (asks_a (name (codes "a"))) (rr (name (codes "b")) 5 address ∷ []))
+  pub alias_kept_with_its_address : verdict true (first (asks_a (name (codes "a")))) (response (asks_a (name (codes "a"))) alias_and_address) ≡ Exists (response (asks_a (name (codes "a"))) alias_and_address)
+  pub alias_leads_on : verdict true (first (asks_a (name (codes "a")))) (response (asks_a (name (codes "a"))) alias_alone) ≡ CnameChain (record { query = asks_a (name (codes "b")); preserved = alias_alone })
   -- an SRV leads on, whoever owns it
   pub service_leads_on : verdict false (first (query (name (codes "s")) type.SRV)) (response (query (name (codes "s")) type.SRV) (rr (name (codes "s")) 30 (cname_data (name (codes "t"))) ∷ rr (name (codes "t")) 60 (srv_data 1 2 3 (name (codes "h"))) ∷ []))
-      ≡ Alias (record { query = query (name (codes "h")) type.SRV; preserved = [] })
+      ≡ CnameChain (record { query = query (name (codes "h")) type.SRV; preserved = [] })
   -- the next question of an alias of another class is asked in the class of the Internet
   pub next_class_is_internet : verdict false (first (record { name = name (codes "a"); query_type = type.A; query_class = class.CH })) (response (asks_a (name (codes "a"))) alias_alone)
-      ≡ Alias (record { query = asks_a (name (codes "b")); preserved = [] })
+      ≡ CnameChain (record { query = asks_a (name (codes "b")); preserved = [] })
 
 pub alias_cases : AliasCases
 alias_cases = record {
@@ -218,7 +218,7 @@ to_a = exchange (asks_a (name (codes "b"))) (rr (name (codes "b")) 9 (cname_data
 abbrev pub no_address : OutcomeValue
 no_address = Err (no_records (asks_a (name (codes "b"))) NoError)
 
-abbrev pub loop_start : Start
+abbrev pub loop_start : LookupContext
 loop_start = record { cache = empty_cache 8; now = 0; preserve_intermediates = false }
 
 abbrev pub loop_asks : List Exchange

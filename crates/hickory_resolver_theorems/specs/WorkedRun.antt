@@ -13,9 +13,9 @@ use Rattle.hickory_proto_core.specs.codes.record_type.RecordType.TheVariants as 
 use Rattle.hickory_proto_core.specs.declared.recorded.Exchange.{Exchange}
 use Rattle.hickory_resolver_model.specs.Cache.{CacheValue}
 use Rattle.hickory_resolver_model.specs.Lookup.{LookupValue}
-use Rattle.hickory_resolver_model.specs.Hops.{Start, Hit, Asked, IsReply}
+use Rattle.hickory_resolver_model.specs.Hops.{LookupContext, Hit, Asked, IsReply}
 use Rattle.hickory_resolver_model.specs.Hosts.{IsStatic}
-use Rattle.hickory_resolver_model.specs.Calls.{Client, Part, IsPartFor}
+use Rattle.hickory_resolver_model.specs.Calls.{Client, SubLookup, IsSubLookupFor}
 use Rattle.hickory_resolver_model.specs.Run.{Ipv4Only, Settings, setting_at, RequestValue, Lookup, LookedUp, IsServed, StepValue, Stage, Run}
 use Rattle.hickory_resolver_model.specs.Client.{empty_cache}
 use Rattle.hickory_resolver_theorems.specs.Worked.{below, name, asks_a, rr, address, response, exchange, first}
@@ -61,16 +61,16 @@ after_run = record (empty_cache 8) { entries = record { query = asks_a a; outcom
 
 abbrev pub run_steps : List StepValue
 run_steps =
-    record { now = 0; exchanges = 1; answered = LookedUp (Ok (found 10 10)) }
-    ∷ record { now = 4; exchanges = 0; answered = LookedUp (Ok (found 6 10)) } ∷ []
+    record { now = 0; exchanges = 1; response_to = LookedUp (Ok (found 10 10)) }
+    ∷ record { now = 4; exchanges = 0; response_to = LookedUp (Ok (found 6 10)) } ∷ []
 
-abbrev asked : Part
+abbrev asked : SubLookup
 asked = record { question = asks_a a; source = Client; asks = run_asks; result = Ok (found 10 10) }
 
-abbrev hit : Part
+abbrev hit : SubLookup
 hit = record { question = asks_a a; source = Client; asks = []; result = Ok (found 6 10) }
 
-abbrev start : CacheValue → ℕ → Start
+abbrev start : CacheValue → ℕ → LookupContext
 start cache now = record { cache = cache; now = now; preserve_intermediates = false }
 
 asked_reply : IsReply (start (empty_cache 8) 0) (asks_a a) run_asks (Ok (found 10 10)) after_run
@@ -91,19 +91,19 @@ not_static : (now : ℕ) → IsStatic (asks_a a) now [] None
 not_static now = (None, no_address, refl)
 
 -- each look-up is one attempt of one part
-first_served : IsServed (λ now. IsPartFor (setting_at settings now)) settings (empty_cache 8) (Lookup (codes "a.") type.A 0) (asked ∷ []) (LookedUp (Ok (found 10 10))) after_run
+first_served : IsServed (λ now. IsSubLookupFor (setting_at settings now)) settings (empty_cache 8) (Lookup (codes "a.") type.A 0) (asked ∷ []) (LookedUp (Ok (found 10 10))) after_run
 first_served =
     inl (a, spells_a, (asked ∷ [], [], Ok (found 10 10), after_run, refl, (record { part = asked; are = refl; is = (refl, record { not_static = inr (not_static 0); reply = asked_reply }) }, refl), inl (refl, refl, refl, refl)))
 
-second_served : IsServed (λ now. IsPartFor (setting_at settings now)) settings after_run (Lookup (codes "a.") type.A 4) (hit ∷ []) (LookedUp (Ok (found 6 10))) after_run
+second_served : IsServed (λ now. IsSubLookupFor (setting_at settings now)) settings after_run (Lookup (codes "a.") type.A 4) (hit ∷ []) (LookedUp (Ok (found 6 10))) after_run
 second_served =
     inl (a, spells_a, (hit ∷ [], [], Ok (found 6 10), after_run, refl, (record { part = hit; are = refl; is = (refl, record { not_static = inr (not_static 4); reply = hit_reply }) }, refl), inl (refl, refl, refl, refl)))
 
 abbrev first_stage : Stage
-first_stage = record { request = Lookup (codes "a.") type.A 0; before = empty_cache 8; piece = run_asks; parts = asked ∷ []; step = record { now = 0; exchanges = 1; answered = LookedUp (Ok (found 10 10)) } }
+first_stage = record { request = Lookup (codes "a.") type.A 0; before = empty_cache 8; piece = run_asks; parts = asked ∷ []; step = record { now = 0; exchanges = 1; response_to = LookedUp (Ok (found 10 10)) } }
 
 abbrev second_stage : Stage
-second_stage = record { request = Lookup (codes "a.") type.A 4; before = after_run; piece = []; parts = hit ∷ []; step = record { now = 4; exchanges = 0; answered = LookedUp (Ok (found 6 10)) } }
+second_stage = record { request = Lookup (codes "a.") type.A 4; before = after_run; piece = []; parts = hit ∷ []; step = record { now = 4; exchanges = 0; response_to = LookedUp (Ok (found 6 10)) } }
 
 pub record RunCases : Type 0 where
   -- the first look-up asks, and the second one is answered from the cache, its TTL counted down

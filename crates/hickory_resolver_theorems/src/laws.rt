@@ -7,8 +7,8 @@ ghost use Rattle.hickory_proto_core.specs.declared.recorded.Exchange.{Exchange};
 ghost use Rattle.hickory_resolver_model.specs.Attempts.{Search};
 ghost use Rattle.hickory_resolver_theorems.specs.AttemptLaws.{AreAttemptsApart};
 ghost use Rattle.hickory_resolver_model.specs.Cache.{CacheValue};
-ghost use Rattle.hickory_resolver_model.specs.Hops.{Start, IsReply};
-ghost use Rattle.hickory_resolver_model.specs.Lookup.{Reply};
+ghost use Rattle.hickory_resolver_model.specs.Hops.{LookupContext, IsReply};
+ghost use Rattle.hickory_resolver_model.specs.Lookup.{LookupResult};
 ghost use Rattle.hickory_resolver_model.specs.Run.{Settings, RequestValue, StepValue, Run};
 ghost use Rattle.hickory_resolver_theorems.specs.Statements.{IsFresh, IsTransparent, Headline};
 ghost use Rattle.hickory_resolver_theorems.specs.WalkLaws.{IsOneWalk};
@@ -25,19 +25,19 @@ pub fn attempts_apart()
 
 /// A look-up that is what the hops say makes eight exchanges at most.
 pub fn eight_questions()
-    ensures { (s : Start) (question : Query) (asks : List Exchange) (result : Reply) (after : CacheValue) → IsReply s question asks result after → length asks ≤ 8 }
+    ensures { (s : LookupContext) (question : Query) (asks : List Exchange) (result : LookupResult) (after : CacheValue) → IsReply s question asks result after → length asks ≤ 8 }
 {}
 
 /// A look-up that is what the hops say is fresh: no record of the asked type that it gives or stores outlives what was
 /// received.
 pub fn nothing_outlives()
-    ensures { (s : Start) (question : Query) (asks : List Exchange) (result : Reply) (after : CacheValue) → IsReply s question asks result after → IsFresh s question asks result after }
+    ensures { (s : LookupContext) (question : Query) (asks : List Exchange) (result : LookupResult) (after : CacheValue) → IsReply s question asks result after → IsFresh s question asks result after }
 {}
 
 /// A look-up that is what the hops say is transparent: under every table that tells its exchanges it comes to what its
 /// question means without a cache, and so does every entry that it leaves.
 pub fn a_cache_changes_no_answer()
-    ensures { (s : Start) (question : Query) (asks : List Exchange) (result : Reply) (after : CacheValue) → IsReply s question asks result after → IsTransparent s question asks result after }
+    ensures { (s : LookupContext) (question : Query) (asks : List Exchange) (result : LookupResult) (after : CacheValue) → IsReply s question asks result after → IsTransparent s question asks result after }
 {}
 
 /// The headline holds of every run, whatever the requests and whatever came back.

@@ -8,7 +8,7 @@ use Rattle.hickory_proto_core.specs.NameText.{name_text}
 use Rattle.hickory_proto_core.specs.Codes.{type_code, type_text, class_code, class_text, response_code, response_text}
 use Rattle.hickory_proto_core.specs.Records.{RecordValue, DataValue, a_data, aaaa_data, cname_data, ns_data, ptr_data, soa_data, srv_data, mx_data, txt_data, unknown_data, data_type}
 use Rattle.hickory_proto_core.specs.Errors.{NoRecordsValue}
-use Rattle.hickory_proto_core.specs.Classes.{first_query}
+use Rattle.hickory_proto_core.specs.ResponseKind.{first_query}
 use Rattle.hickory_proto_core.specs.records.query.Query.{Query}
 use Rattle.hickory_proto_core.specs.names.name_error.NameError.{NameError}
 use Rattle.hickory_proto_core.specs.names.name_error.NameError.TheVariants as name_error

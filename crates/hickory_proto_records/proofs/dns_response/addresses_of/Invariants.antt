@@ -1,5 +1,5 @@
 use Rattle.std.proofs.Common.{◌≡◌, take, filter}
-use Rattle.hickory_proto_records.specs.Classes.{is_address_of}
+use Rattle.hickory_proto_records.specs.ResponseKind.{is_address_of}
 use Rattle.hickory_proto_records.proofs.dns_response.addresses_of.Given as goal
 
 abbrev pub invariant-loop-additional : goal.invariant-loop-additional

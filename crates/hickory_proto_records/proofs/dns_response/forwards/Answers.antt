@@ -1,7 +1,7 @@
 use Rattle.std.proofs.Common.{◌∙◌, ◌++◌, ap}
 use Rattle.std.proofs.Common.{rules}
 use Rattle.std.specs.Option.{option_to_list}
-use Rattle.hickory_proto_records.specs.Classes.{forward_of}
+use Rattle.hickory_proto_records.specs.ResponseKind.{forward_of}
 use Rattle.hickory_proto_records.proofs.Forwards.{filter_map_more}
 use Rattle.hickory_proto_records.proofs.dns_response.forwards.Goals as goal
 

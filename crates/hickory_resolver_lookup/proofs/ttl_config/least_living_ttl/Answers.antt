@@ -3,7 +3,7 @@ use Rattle.std.proofs.lemmas.Iterator.{YieldsList-from_slice, YieldsList-from_ma
 use Rattle.std.proofs.lemmas.Iterator.Adapters.{option_map_id}
 use Rattle.std.proofs.lemmas.Iterator.Consumers.{YieldsList-at, YieldsList-from_filter, min_from_yields_List}
 use Rattle.hickory_proto_core.specs.Codes.{type_code}
-use Rattle.hickory_proto_core.specs.Classes.{record_type_code}
+use Rattle.hickory_proto_core.specs.ResponseKind.{record_type_code}
 use Rattle.hickory_proto_core.specs.Messages.{MessageValue}
 use Rattle.hickory_resolver_model.specs.Bounds.{least_ttl, living_records}
 use Rattle.hickory_resolver_lookup.proofs.Bounds.{least-reduce, living_others}

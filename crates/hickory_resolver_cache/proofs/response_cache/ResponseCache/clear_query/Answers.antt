@@ -1,5 +1,5 @@
 use Rattle.std.proofs.Common.{◌∙◌, ap, position}
-use Rattle.hickory_resolver_model.specs.Cache.{is_for, drop_query}
+use Rattle.hickory_resolver_model.specs.Cache.{is_for, without_query}
 use Rattle.hickory_resolver_cache.proofs.Store.{IsCache-without, cleared}
 use Rattle.hickory_resolver_cache.proofs.response_cache.ResponseCache.clear_query.Goals as goal
 
@@ -16,4 +16,4 @@ returns c =
     let es = c.self.inside.entries.items in
     let gone = cleared q es c.place_of-place.result c.self.invariant.apart (c.place_of-place.ensures ∙ ap (λ l. position (is_for q) l) c.deref.ensures.value) in
     ap (λ l. record { capacity = c.self.inside.capacity; config = c.self.inside.ttl_config; entries = l }) (c.take_out.ensures ∙ gone)
-    ∙ ap (λ v. drop_query v q) c.self.view_is
+    ∙ ap (λ v. without_query v q) c.self.view_is

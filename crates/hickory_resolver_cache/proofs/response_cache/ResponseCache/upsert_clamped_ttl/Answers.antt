@@ -1,6 +1,6 @@
 use Rattle.std.proofs.Common.{◌∙◌, ap, subst, sym}
 use Rattle.std.proofs.lemmas.Result.{on_ok_weaker}
-use Rattle.hickory_resolver_model.specs.Cache.{CacheValue, NeverLater, put}
+use Rattle.hickory_resolver_model.specs.Cache.{CacheValue, NeverLater, insert_entry}
 use Rattle.hickory_resolver_cache.proofs.Store.{AreApart}
 use Rattle.hickory_resolver_cache.proofs.Laws.{entry_of-query, never_later-same, never_later-stored}
 use Rattle.hickory_resolver_cache.proofs.response_cache.ResponseCache.upsert_clamped_ttl.Goals as goal
@@ -16,6 +16,6 @@ returns-then-clamp_valid_until-clause-no_later c =
     let cap = c.args.self.now.capacity in
     let own = entry_of-query c.self.inside.ttl_config c.args.query c.args.outcome c.args.now c.in-Some.entry (sym c.in-Some.is ∙ c.entry_of.ensures) in
     let apart = subst (λ (v : CacheValue). AreApart v.entries) c.self.view_is c.self.invariant.apart in
-    on_ok_weaker c.put.result
-    (λ stored _. never_later-stored cap c.args.now c.args.query es c.put.new.self.entries c.in-Some.entry apart own (ap (λ v. v.entries) stored ∙ ap (λ e. put cap es e) c.not_after_current-entry.ensures))
-    c.put.ensures.ok
+    on_ok_weaker c.insert_entry.result
+    (λ stored _. never_later-stored cap c.args.now c.args.query es c.insert_entry.new.self.entries c.in-Some.entry apart own (ap (λ v. v.entries) stored ∙ ap (λ e. insert_entry cap es e) c.not_after_current-entry.ensures))
+    c.insert_entry.ensures.ok

@@ -17,7 +17,7 @@ use Rattle.hickory_proto_core.specs.records.net_error.NetError.TheVariants.{Dns}
 use Rattle.hickory_proto_core.specs.records.net_error.DnsError.TheVariants.{NoRecordsFound}
 use Rattle.hickory_resolver_model.specs.Bounds.{day}
 use Rattle.hickory_resolver_model.specs.Cache.{saturating_sum}
-use Rattle.hickory_resolver_model.specs.Lookup.{LookupValue, Reply}
+use Rattle.hickory_resolver_model.specs.Lookup.{LookupValue, LookupResult}
 
 abbrev pub full_name : List (List ℕ) → NameValue
 full_name labels = record { labels = labels; fqdn = true }
@@ -39,13 +39,13 @@ loopback_data code =
     else (if code == 12 then Some (ptr_data localhost) else None))
 
 -- a fresh response to a question, with these answers
-abbrev pub answered : Query → List RecordValue → MessageValue
-answered q records = record { metadata = response_metadata 0 op.Query; queries = q ∷ []; answers = records; authorities = []; additionals = [] }
+abbrev pub response_to : Query → List RecordValue → MessageValue
+response_to q records = record { metadata = response_metadata 0 op.Query; queries = q ∷ []; answers = records; authorities = []; additionals = [] }
 
 -- one record of the question's name, for a day
 abbrev pub one_record : Query → DataValue → ℕ → LookupValue
 one_record q rdata now = record {
-  message = answered q (record { name = q.name; dns_class = class.IN; ttl = day; rdata = rdata } ∷ []);
+  message = response_to q (record { name = q.name; dns_class = class.IN; ttl = day; rdata = rdata } ∷ []);
   valid_until = saturating_sum now day;
 }
 
@@ -56,8 +56,8 @@ no_records q code =
 
 -- the reply to a question about a special name, in the class of the Internet: the loopback names have their addresses,
 -- and nothing else; names under `invalid.` and `onion.` do not exist. Names under `local.` are as any other
-abbrev pub special : Query → ℕ → Option Reply
-special q now =
+abbrev pub special_use_result : Query → ℕ → Option LookupResult
+special_use_result q now =
     if class_code q.query_class == 1
     then (if is_loopback_name q.name then Some (option_map_or (λ rdata. Ok (one_record q rdata now)) (loopback_data (type_code q.query_type)) (Err (no_records q NoError)))
     else (if is_zone_of (full_name (codes "invalid" ∷ [])) q.name then Some (Err (no_records q NXDomain))

@@ -93,36 +93,36 @@ negative_of m = record {
   authorities = section_or_none m.authorities;
 }
 
-pub data Class : Type 0 where
-  Answer : MessageValue → Class
-  Negative : NoRecordsValue → Class
-  Failed : NetError → Class
+pub data ResponseKind : Type 0 where
+  Answer : MessageValue → ResponseKind
+  Negative : NoRecordsValue → ResponseKind
+  Failed : NetError → ResponseKind
 
 -- with NOERROR or NXDOMAIN an answer, where there is one or the message was cut short, else a negative answer;
 -- every other code is a failure
-abbrev pub class_of_response : MessageValue → Class
-class_of_response m =
+abbrev pub kind_of_response : MessageValue → ResponseKind
+kind_of_response m =
     let code = response_code m.metadata.response_code in
     if (code == 0) || (code == 3) then (if m.metadata.truncation || contains_answer m then Answer m else Negative (negative_of m))
     else Failed (Dns (ResponseCode m.metadata.response_code))
 
 -- of an outcome: an error for want of records is a negative answer, and every other error a failure
-abbrev pub class_of_error : NetError → Class
-class_of_error (Dns (NoRecordsFound none)) = Negative none
-class_of_error (Dns (ResponseCode code)) = Failed (Dns (ResponseCode code))
-class_of_error (Message text) = Failed (Message text)
-class_of_error Timeout = Failed Timeout
-class_of_error (Proto error) = Failed (Proto error)
-class_of_error NoOutcome = Failed NoOutcome
-class_of_error (Bounds error) = Failed (Bounds error)
-class_of_error OutOfMemory = Failed OutOfMemory
+abbrev pub kind_of_error : NetError → ResponseKind
+kind_of_error (Dns (NoRecordsFound none)) = Negative none
+kind_of_error (Dns (ResponseCode code)) = Failed (Dns (ResponseCode code))
+kind_of_error (Message text) = Failed (Message text)
+kind_of_error Timeout = Failed Timeout
+kind_of_error (Proto error) = Failed (Proto error)
+kind_of_error NoOutcome = Failed NoOutcome
+kind_of_error (Bounds error) = Failed (Bounds error)
+kind_of_error OutOfMemory = Failed OutOfMemory
 
-abbrev pub class_of : Result MessageValue NetError → Class
-class_of (Ok response) = class_of_response response
-class_of (Err error) = class_of_error error
+abbrev pub kind_of : Result MessageValue NetError → ResponseKind
+kind_of (Ok response) = kind_of_response response
+kind_of (Err error) = kind_of_error error
 
 -- the response where it is an answer, else its error. A negative answer may find no memory
-abbrev pub IsClassified : Class → Result MessageValue NetError → Type 0
+abbrev pub IsClassified : ResponseKind → Result MessageValue NetError → Type 0
 IsClassified (Answer response) result = result ≡ Ok response
 IsClassified (Negative none) result = (result ≡ Err (Dns (NoRecordsFound none))) ⊎ (result ≡ Err OutOfMemory)
 IsClassified (Failed error) result = result ≡ Err error
