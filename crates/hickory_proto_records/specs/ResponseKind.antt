@@ -9,6 +9,9 @@ use Rattle.hickory_proto_records.specs.Records.{RecordValue, data_type, soa_mini
 use Rattle.hickory_proto_records.specs.Messages.{MessageValue, some_record}
 use Rattle.hickory_proto_records.specs.Errors.{NoRecordsValue, ForwardValue}
 use Rattle.hickory_proto_records.specs.Query.{root_query}
+use Rattle.hickory_proto_codes.specs.declared.record_type.RecordType.{RecordType}
+use Rattle.hickory_proto_codes.specs.declared.record_type.RecordType.TheVariants as type
+use Rattle.hickory_proto_codes.specs.declared.response_code.ResponseCode.TheVariants as response
 use Rattle.hickory_proto_records.specs.declared.query.Query.{Query}
 use Rattle.hickory_proto_records.specs.declared.net_error.NetError.{NetError}
 use Rattle.hickory_proto_records.specs.declared.net_error.NetError.TheVariants.{Message, Timeout, Proto, Dns, NoOutcome, Bounds, OutOfMemory}
@@ -17,24 +20,31 @@ use Rattle.hickory_proto_records.specs.declared.net_error.DnsError.TheVariants.{
 abbrev pub record_type_code : RecordValue → ℕ
 record_type_code r = type_code (data_type r.rdata)
 
+-- a record of a type, and a question for it: types are equal where their codes are
+abbrev pub is_of_type : RecordType → RecordValue → Bool
+is_of_type t r = record_type_code r == type_code t
+
+abbrev pub asks_for : RecordType → Query → Bool
+asks_for t q = type_code q.query_type == type_code t
+
 -- a question for records of every type, and one for the start of a zone
 abbrev pub is_any : Query → Bool
-is_any q = type_code q.query_type == 255
+is_any q = asks_for type.ANY q
 
 abbrev pub is_soa : Query → Bool
-is_soa q = type_code q.query_type == 6
+is_soa q = asks_for type.SOA q
 
 -- a record that answers a question: of the name, for ANY; an SOA of a zone of the name, for SOA; else of the
 -- type and the name
 abbrev pub is_asked : Query → RecordValue → Bool
 is_asked q r =
     if is_any q then name_eq q.name r.name
-    else (if is_soa q then (record_type_code r == 6) && is_zone_of r.name q.name
+    else (if is_soa q then is_of_type type.SOA r && is_zone_of r.name q.name
     else (type_code q.query_type == record_type_code r) && name_eq q.name r.name)
 
-abbrev pub is_empty : List RecordValue → Bool
+abbrev pub is_empty : {A : Type 0} → List A → Bool
 is_empty [] = true
-is_empty (r ∷ rs) = false
+is_empty (x ∷ xs) = false
 
 -- some record of some section answers the question. For types other than ANY and SOA any answer does
 abbrev pub answers_question : Query → MessageValue → Bool
@@ -68,7 +78,7 @@ negative_ttl_of m = option_and_then soa_ttl (first_soa m.authorities)
 
 -- the addresses of a name server among records
 abbrev pub is_address_of : NameValue → RecordValue → Bool
-is_address_of server r = ((record_type_code r == 1) || (record_type_code r == 28)) && name_eq server r.name
+is_address_of server r = (is_of_type type.A r || is_of_type type.AAAA r) && name_eq server r.name
 
 -- the server that a record names, with its addresses
 abbrev pub forward_of : List RecordValue → RecordValue → Option ForwardValue
@@ -103,7 +113,8 @@ pub data ResponseKind : Type 0 where
 abbrev pub kind_of_response : MessageValue → ResponseKind
 kind_of_response m =
     let code = response_code m.metadata.response_code in
-    if (code == 0) || (code == 3) then (if m.metadata.truncation || contains_answer m then Answer m else Negative (negative_of m))
+    if (code == response_code response.NoError) || (code == response_code response.NXDomain)
+    then (if m.metadata.truncation || contains_answer m then Answer m else Negative (negative_of m))
     else Failed (Dns (ResponseCode m.metadata.response_code))
 
 -- of an outcome: an error for want of records is a negative answer, and every other error a failure

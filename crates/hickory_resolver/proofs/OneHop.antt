@@ -18,10 +18,10 @@ use Rattle.std.specs.Option.{option_map_or}
 use Rattle.hickory_resolver_model.specs.Bounds.{day}
 use Rattle.hickory_resolver_model.specs.SpecialUse.{special_use_result}
 use Rattle.hickory_resolver_model.specs.AliasWalk.{Walk, walk_from, walk_of, walk_step, leads_to, follows_aliases}
-use Rattle.hickory_resolver_model.specs.Verdict.{Hop, Exists, CnameChain, NoMatch, verdict, walk_verdict, has_class, has_type}
+use Rattle.hickory_resolver_model.specs.Verdict.{Hop, first_hop, Exists, CnameChain, NoMatch, verdict, walk_verdict, has_class, has_type}
 use Rattle.hickory_resolver_model.specs.Hops.{LookupContext, Hit, Asked, IsReply, kind_verdict, kind_result, kind_stores, verdict_result, verdict_stores, after_stores, hit_result}
 use Rattle.hickory_resolver_model.specs.Client.{IsDirect}
-use Rattle.hickory_resolver.specs.Settled.{IsSettled, NeverFailsNegative, first_hop, direct_verdict, is_direct_match}
+use Rattle.hickory_resolver.specs.Settled.{IsSettled, NeverFailsNegative, direct_verdict, is_direct_match}
 
 -- what came back never fails for want of records: that is a negative answer
 response_fails : (a b : Bool) (m : MessageValue) (n k : NoRecordsValue) (code : Code) → (cond a (cond b (Answer m) (Negative n)) (Failed (Dns (ResponseCode code)))) ≡ Failed (Dns (NoRecordsFound k)) → ⊥

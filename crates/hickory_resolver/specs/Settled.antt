@@ -13,10 +13,6 @@ use Rattle.hickory_resolver_model.specs.Lookup.{LookupResult}
 use Rattle.hickory_resolver_model.specs.Verdict.{Hop, Verdict, Exists, NoMatch, has_class, has_type}
 use Rattle.hickory_resolver_model.specs.Hops.{LookupContext, Store, verdict_result, verdict_stores, after_stores}
 
--- the first hop of a question
-abbrev pub first_hop : Query → Hop
-first_hop q = record { query = q; preserved = [] }
-
 -- a record of the asked class, type and name
 abbrev pub is_direct_match : Query → RecordValue → Bool
 is_direct_match q r = has_class q r && has_type q r && name_eq q.name r.name

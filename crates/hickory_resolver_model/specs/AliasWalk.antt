@@ -2,7 +2,8 @@
 use Rattle.std.specs.Prelude.{◌≡◌, ◌≤◌, ◌<◌, ◌+◌, ℕ, Bool, true, false, ◌==◌, List, [], ◌∷◌, length, min, Option, Some, None, slice_get, if◌then◌else◌}
 use Rattle.std.specs.Option.{option_map_or}
 use Rattle.hickory_proto_core.specs.Name.{NameValue, name_eq}
-use Rattle.hickory_proto_core.specs.Codes.{type_code}
+use Rattle.hickory_proto_core.specs.ResponseKind.{asks_for}
+use Rattle.hickory_proto_core.specs.codes.record_type.RecordType.TheVariants as type
 use Rattle.hickory_proto_core.specs.Records.{RecordValue, DataValue, a_data, aaaa_data, cname_data, ns_data, ptr_data, soa_data, srv_data, mx_data, txt_data, unknown_data}
 use Rattle.hickory_proto_core.specs.records.query.Query.{Query}
 use Rattle.hickory_resolver_model.specs.Bounds.{day}
@@ -53,7 +54,7 @@ walk_from place reached (r ∷ rs) =
 
 -- questions for every type and for CNAMEs are not led on
 abbrev pub follows_aliases : Query → Bool
-follows_aliases q = if type_code q.query_type == 255 then false else (if type_code q.query_type == 5 then false else true)
+follows_aliases q = if asks_for type.ANY q then false else (if asks_for type.CNAME q then false else true)
 
 -- the one walk of a question over the answers to it
 abbrev pub walk_of : Query → List RecordValue → Walk

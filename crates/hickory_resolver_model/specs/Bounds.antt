@@ -8,7 +8,8 @@ use Rattle.hickory_proto_core.specs.Codes.{type_code}
 use Rattle.hickory_proto_core.specs.Records.{RecordValue}
 use Rattle.hickory_proto_core.specs.Messages.{MessageValue}
 use Rattle.hickory_proto_core.specs.Errors.{NoRecordsValue}
-use Rattle.hickory_proto_core.specs.ResponseKind.{record_type_code}
+use Rattle.hickory_proto_core.specs.ResponseKind.{record_type_code, is_of_type, asks_for}
+use Rattle.hickory_proto_core.specs.codes.record_type.RecordType.TheVariants as type
 use Rattle.hickory_proto_core.specs.records.query.Query.{Query}
 use Rattle.hickory_proto_core.specs.records.bounds_error.BoundsError.{BoundsError}
 use Rattle.hickory_proto_core.specs.records.bounds_error.BoundsError.TheVariants.{PositiveReversed, NegativeReversed}
@@ -121,8 +122,8 @@ least (n ∷ ns) = Some (fold min n ns)
 -- records among answers and authorities
 abbrev pub living_records : Query → MessageValue → List RecordValue
 living_records q m =
-    if type_code q.query_type == 2 then filter (λ r. record_type_code r == 2) (m.answers ++ m.authorities)
-    else filter (λ r. (record_type_code r == type_code q.query_type) || (record_type_code r == 5)) m.answers
+    if asks_for type.NS q then filter (is_of_type type.NS) (m.answers ++ m.authorities)
+    else filter (λ r. is_of_type q.query_type r || is_of_type type.CNAME r) m.answers
 
 abbrev pub least_ttl : List RecordValue → Option ℕ
 least_ttl rs = least (map (λ r. r.ttl) rs)

@@ -17,9 +17,9 @@ use Rattle.hickory_resolver_model.specs.Bounds.{ConfigValue, clamped_message, po
 -- an outcome that is kept for a question, when it was stored, and until when it is current (seconds)
 pub record Entry : Type 0 where
   pub query : Query
-  pub outcome : OutcomeValue
-  pub moment : ℕ
-  pub deadline : ℕ
+  pub result : OutcomeValue
+  pub original_time : ℕ
+  pub valid_until : ℕ
 
 -- what a caller sees of a cache
 pub record CacheValue : Type 0 where
@@ -36,7 +36,7 @@ is_for q e = query_eq q e.query
 
 -- an entry is current up to its deadline, the deadline included
 abbrev pub is_current : ℕ → Entry → Bool
-is_current now e = nat_le now e.deadline
+is_current now e = nat_le now e.valid_until
 
 -- the current entry of a question
 abbrev pub current : Query → ℕ → List Entry → Option Entry
@@ -87,7 +87,7 @@ aged_outcome seconds (Err e) = Err (aged_error seconds e)
 
 -- what an entry gives at a moment
 abbrev pub aged_result : ℕ → Entry → OutcomeValue
-aged_result now e = aged_outcome (age e.moment now) e.outcome
+aged_result now e = aged_outcome (age e.original_time now) e.result
 
 -- what a look-up in the cache gives: nothing without a current entry, else what the entry gives, or want of memory
 -- for a copy of it
@@ -101,11 +101,11 @@ without q es = filter (λ e. not (is_for q e)) es
 
 abbrev pub least_deadline : List Entry → ℕ
 least_deadline [] = 0
-least_deadline (e ∷ es) = fold (λ d x. min d x.deadline) e.deadline es
+least_deadline (e ∷ es) = fold (λ d x. min d x.valid_until) e.valid_until es
 
 -- the list without the first entry of the least deadline
 abbrev pub without_earliest : List Entry → List Entry
-without_earliest es = remove es (position_or_len (λ e. e.deadline == least_deadline es) es)
+without_earliest es = remove es (position_or_len (λ e. e.valid_until == least_deadline es) es)
 
 -- what stays when an entry for the question comes in: its old entry leaves, or where there is none and the cache is
 -- full, the entry of the least deadline
@@ -118,11 +118,11 @@ room_for capacity q es =
 abbrev pub positive_entry : ConfigValue → Query → MessageValue → ℕ → Entry
 positive_entry config q m now =
     let kept = clamped_message config m in
-    record { query = q; outcome = Ok kept; moment = now; deadline = saturating_sum now (positive_lifetime config q kept) }
+    record { query = q; result = Ok kept; original_time = now; valid_until = saturating_sum now (positive_lifetime config q kept) }
 
 abbrev pub negative_entry : ConfigValue → Query → NoRecordsValue → ℕ → Entry
 negative_entry config q n now =
-    record { query = q; outcome = Err (Dns (NoRecordsFound n)); moment = now; deadline = saturating_sum now (negative_lifetime config q n) }
+    record { query = q; result = Err (Dns (NoRecordsFound n)); original_time = now; valid_until = saturating_sum now (negative_lifetime config q n) }
 
 -- the entry that an outcome becomes, and none for an error other than a negative answer
 abbrev pub entry_of_error : ConfigValue → Query → NetError → ℕ → Option Entry
@@ -141,7 +141,7 @@ entry_of config q (Err error) now = entry_of_error config q error now
 
 -- a deadline that is not after that of the question's current entry, where there is one
 abbrev pub not_after_current : List Entry → ℕ → Entry → Entry
-not_after_current es now e = record e { deadline = option_map_or (λ c. min e.deadline c.deadline) (current e.query now es) e.deadline }
+not_after_current es now e = record e { valid_until = option_map_or (λ c. min e.valid_until c.valid_until) (current e.query now es) e.valid_until }
 
 -- the list with an entry put in as the newest
 abbrev pub insert_entry : ℕ → List Entry → Entry → List Entry
@@ -172,4 +172,4 @@ IsNewest e es = (others : List Entry) × (es ≡ others ++ e ∷ [])
 -- the question's entry afterwards is current no longer than the one that was current before
 abbrev pub NeverLater : Query → ℕ → List Entry → List Entry → Type 0
 NeverLater q now before after =
-    (was is : Entry) → current q now before ≡ Some was → find (is_for q) after ≡ Some is → is.deadline ≤ was.deadline
+    (was is : Entry) → current q now before ≡ Some was → find (is_for q) after ≡ Some is → is.valid_until ≤ was.valid_until

@@ -1,7 +1,8 @@
 -- What a call of the resolver comes to: look-ups of its questions, one after another, and a reply made of their results.
-use Rattle.std.specs.Prelude.{◌≡◌, ◌⊎◌, ℕ, Bool, true, false, ◌||◌, List, [], ◌∷◌, ◌++◌, flat_map, Option, Some, None, Ok, Err}
+use Rattle.std.specs.Prelude.{◌≡◌, ◌⊎◌, ℕ, Bool, true, false, not, ◌||◌, List, [], ◌∷◌, ◌++◌, flat_map, Option, Some, None, Ok, Err}
 use Rattle.hickory_proto_core.specs.Name.{NameValue}
 use Rattle.hickory_proto_core.specs.Query.{root_query}
+use Rattle.hickory_proto_core.specs.ResponseKind.{is_empty}
 use Rattle.hickory_proto_core.specs.Records.{DataValue, RecordValue}
 use Rattle.hickory_proto_core.specs.records.query.Query.{Query}
 use Rattle.hickory_proto_core.specs.codes.record_type.RecordType.{RecordType}
@@ -74,11 +75,7 @@ abbrev pub question_of : NameValue → RecordType → Query
 question_of n t = record { name = n; query_type = t; query_class = class.IN }
 
 abbrev pub has_answers : LookupResult → Bool
-has_answers (Ok l) = some_answers l.message.answers
-  where
-    some_answers : List RecordValue → Bool
-    some_answers [] = false
-    some_answers (r ∷ rs) = true
+has_answers (Ok l) = not (is_empty l.message.answers)
 has_answers (Err e) = false
 
 abbrev pub is_out_of_memory : LookupResult → Bool

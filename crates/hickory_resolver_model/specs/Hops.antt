@@ -13,7 +13,7 @@ use Rattle.hickory_resolver_model.specs.Bounds.{ConfigValue}
 use Rattle.hickory_resolver_model.specs.Cache.{CacheValue, Entry, current, aged_result, store}
 use Rattle.hickory_resolver_model.specs.Lookup.{LookupResult, hit_lookup, found_lookup}
 use Rattle.hickory_resolver_model.specs.SpecialUse.{response_to, special_use_result}
-use Rattle.hickory_resolver_model.specs.Verdict.{Hop, Verdict, Exists, CnameChain, NoMatch, verdict}
+use Rattle.hickory_resolver_model.specs.Verdict.{Hop, first_hop, Verdict, Exists, CnameChain, NoMatch, verdict}
 
 -- where a look-up starts: the cache before it, the moment, and whether intermediate records are preserved
 pub record LookupContext : Type 0 where
@@ -136,7 +136,7 @@ pub record HopList (s : LookupContext) (question : Query) (asks : List Exchange)
   pub passed : List Exchange
   pub last_hop : Hop
   pub last : ChainEnd
-  pub leads : FollowsAliases s (record { query = question; preserved = [] }) passed last_hop
+  pub leads : FollowsAliases s (first_hop question) passed last_hop
   pub short : length passed ≤ 7
   pub ends : IsChainEnd s (length passed) last_hop last
   pub asks_are : asks ≡ passed ++ asks_of last_hop last
@@ -159,7 +159,7 @@ pub record IsCutInStores (s : LookupContext) (question : Query) (asks : List Exc
 pub record IsCutInAsks (s : LookupContext) (question : Query) (asks : List Exchange) (after : CacheValue) : Type 0 where
   pub passed : List Exchange
   pub last_hop : Hop
-  pub leads : FollowsAliases s (record { query = question; preserved = [] }) passed last_hop
+  pub leads : FollowsAliases s (first_hop question) passed last_hop
   pub short : length passed ≤ 7
   pub asks_are : (asks ≡ passed) ⊎ ((x : Exchange) × GoesUpstream s last_hop.query × (x.query ≡ last_hop.query) × (asks ≡ passed ++ x ∷ []))
   pub after_is : after ≡ s.cache

@@ -9,6 +9,7 @@ use Rattle.hickory_proto_core.specs.Records.{RecordValue, DataValue, a_data, aaa
 use Rattle.hickory_proto_core.specs.Messages.{MessageValue, response_metadata}
 use Rattle.hickory_proto_core.specs.records.query.Query.{Query}
 use Rattle.hickory_proto_core.specs.codes.dns_class.DNSClass.TheVariants as class
+use Rattle.hickory_proto_core.specs.codes.record_type.RecordType.TheVariants as type
 use Rattle.hickory_proto_core.specs.codes.op_code.OpCode.TheVariants as op
 use Rattle.hickory_proto_core.specs.codes.response_code.ResponseCode.{ResponseCode}
 use Rattle.hickory_proto_core.specs.codes.response_code.ResponseCode.TheVariants.{NoError, NXDomain}
@@ -34,9 +35,9 @@ is_loopback_name n = list_any (λ zone. is_zone_of zone n) loopback_zones
 -- what the loopback names have, by the code of the type: A, AAAA and PTR
 abbrev pub loopback_data : ℕ → Option DataValue
 loopback_data code =
-    if code == 1 then Some (a_data (127 ∷ 0 ∷ 0 ∷ 1 ∷ []))
-    else (if code == 28 then Some (aaaa_data (0 ∷ 0 ∷ 0 ∷ 0 ∷ 0 ∷ 0 ∷ 0 ∷ 1 ∷ []))
-    else (if code == 12 then Some (ptr_data localhost) else None))
+    if code == type_code type.A then Some (a_data (127 ∷ 0 ∷ 0 ∷ 1 ∷ []))
+    else (if code == type_code type.AAAA then Some (aaaa_data (0 ∷ 0 ∷ 0 ∷ 0 ∷ 0 ∷ 0 ∷ 0 ∷ 1 ∷ []))
+    else (if code == type_code type.PTR then Some (ptr_data localhost) else None))
 
 -- a fresh response to a question, with these answers
 abbrev pub response_to : Query → List RecordValue → MessageValue
@@ -58,7 +59,7 @@ no_records q code =
 -- and nothing else; names under `invalid.` and `onion.` do not exist. Names under `local.` are as any other
 abbrev pub special_use_result : Query → ℕ → Option LookupResult
 special_use_result q now =
-    if class_code q.query_class == 1
+    if class_code q.query_class == class_code class.IN
     then (if is_loopback_name q.name then Some (option_map_or (λ rdata. Ok (one_record q rdata now)) (loopback_data (type_code q.query_type)) (Err (no_records q NoError)))
     else (if is_zone_of (full_name (codes "invalid" ∷ [])) q.name then Some (Err (no_records q NXDomain))
     else (if is_zone_of (full_name (codes "onion" ∷ [])) q.name then Some (Err (no_records q NXDomain)) else None)))

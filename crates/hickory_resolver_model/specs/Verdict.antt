@@ -5,7 +5,8 @@ use Rattle.hickory_proto_core.specs.Name.{NameValue, name_eq}
 use Rattle.hickory_proto_core.specs.Codes.{type_code, class_code}
 use Rattle.hickory_proto_core.specs.Records.{RecordValue}
 use Rattle.hickory_proto_core.specs.Messages.{MessageValue, some_record}
-use Rattle.hickory_proto_core.specs.ResponseKind.{is_any, record_type_code}
+use Rattle.hickory_proto_core.specs.ResponseKind.{is_any, record_type_code, is_of_type, is_empty}
+use Rattle.hickory_proto_core.specs.codes.record_type.RecordType.TheVariants as type
 use Rattle.hickory_proto_core.specs.records.query.Query.{Query}
 use Rattle.hickory_proto_core.specs.codes.dns_class.DNSClass.TheVariants as class
 use Rattle.hickory_resolver_model.specs.AliasWalk.{Walk, walk_of}
@@ -15,15 +16,15 @@ pub record Hop : Type 0 where
   pub query : Query
   pub preserved : List RecordValue
 
+-- the first hop of a question: nothing is preserved before it
+abbrev pub first_hop : Query → Hop
+first_hop q = record { query = q; preserved = [] }
+
 -- the response is accepted, with these sections; or it leads to another hop; or it has nothing that was asked for
 pub data Verdict : Type 0 where
   Exists : MessageValue → Verdict
   CnameChain : Hop → Verdict
   NoMatch : Verdict
-
-abbrev pub is_none : {A : Type 0} → List A → Bool
-is_none [] = true
-is_none (x ∷ xs) = false
 
 abbrev pub has_class : Query → RecordValue → Bool
 has_class q r = class_code q.query_class == class_code r.dns_class
@@ -41,7 +42,7 @@ is_last_match q last r = has_class q r && has_type q r && name_eq last r.name
 
 -- a CNAME record of the asked class
 abbrev pub is_intermediate : Query → RecordValue → Bool
-is_intermediate q r = has_class q r && (record_type_code r == 5)
+is_intermediate q r = has_class q r && is_of_type type.CNAME r
 
 abbrev pub with_ttl_at_most : ℕ → RecordValue → RecordValue
 with_ttl_at_most ttl r = record r { ttl = min r.ttl ttl }
@@ -51,12 +52,12 @@ all_records m = m.answers ++ m.authorities ++ m.additionals
 
 -- Some record matches, and either no alias was followed or no record was preserved.
 abbrev pub is_accepted : Hop → Walk → MessageValue → Bool
-is_accepted hop walk m = some_record (is_match hop.query walk.last) m && (is_none walk.places || is_none hop.preserved)
+is_accepted hop walk m = some_record (is_match hop.query walk.last) m && (is_empty walk.places || is_empty hop.preserved)
 
 -- The answers of an accepted response are filtered where records were preserved; and where an alias was followed, the last
 -- name owns a match, and intermediate records are not wanted.
 abbrev pub is_filtered : Bool → Hop → Walk → MessageValue → Bool
-is_filtered keep hop walk m = not (is_none hop.preserved) || (not (is_none walk.places) && some_record (is_last_match hop.query walk.last) m && not keep)
+is_filtered keep hop walk m = not (is_empty hop.preserved) || (not (is_empty walk.places) && some_record (is_last_match hop.query walk.last) m && not keep)
 
 -- the preserved records, then the matches and, where they are wanted, the intermediate records of this response, whose TTLs
 -- are at most that of the walk
@@ -78,7 +79,7 @@ next_hop keep hop walk m = record {
 
 abbrev pub walk_verdict : Bool → Hop → Walk → MessageValue → Verdict
 walk_verdict keep hop walk m =
-    if is_accepted hop walk m then Exists (found_message keep hop walk m) else (if is_none walk.places then NoMatch else CnameChain (next_hop keep hop walk m))
+    if is_accepted hop walk m then Exists (found_message keep hop walk m) else (if is_empty walk.places then NoMatch else CnameChain (next_hop keep hop walk m))
 
 -- the verdict on a response to a hop; `keep` says whether intermediate records are wanted
 abbrev pub verdict : Bool → Hop → MessageValue → Verdict

@@ -9,9 +9,9 @@ use Rattle.hickory_proto_core.specs.ResponseKind.{record_type_code}
 use Rattle.hickory_proto_core.specs.records.query.Query.{Query}
 use Rattle.hickory_resolver_model.specs.Bounds.{ConfigValue, bounds_for, positive_bounds, reduced_bound, clamped_message, clamped_record, clamped_records, least, living_records, positive_lifetime}
 use Rattle.hickory_resolver_model.specs.Cache.{saturating_sum}
-use Rattle.hickory_resolver_theorems.specs.Covered.{Dated, Has, IsCoveredBy, IsCovered, IsLoopback, greatest_ttl}
+use Rattle.hickory_resolver_theorems.specs.Covered.{Dated, IsCoveredBy, IsCovered, IsLoopback, greatest_ttl}
 use Rattle.hickory_resolver_theorems.specs.Statements.{HasNoLeast, IsFreshRecord, AreFreshRecords}
-use Rattle.hickory_resolver_theorems.proofs.Lists.{all-weaker, all-map, all-has, has-all, has-left, has-map, has-filter, fold-min, fold-min-has}
+use Rattle.hickory_resolver_theorems.proofs.Lists.{all-weaker, all-map, all-has, has-all, has-left, has-map, has-filter, fold-min, fold-min-has, ContainsByRecursion}
 
 -- ---- more exchanges
 
@@ -20,7 +20,7 @@ covered-left config [] ys now r h = absurd h
 covered-left config (x ∷ xs) ys now r (inl h) = inl h
 covered-left config (x ∷ xs) ys now r (inr h) = inr (covered-left config xs ys now r h)
 
-pub covered-has : (config : ConfigValue) (xs : List Dated) (now : ℕ) (r : RecordValue) (d : Dated) → Has xs d → IsCoveredBy config now r d → IsCovered config xs now r
+pub covered-has : (config : ConfigValue) (xs : List Dated) (now : ℕ) (r : RecordValue) (d : Dated) → ContainsByRecursion xs d → IsCoveredBy config now r d → IsCovered config xs now r
 covered-has config [] now r d h by = absurd h
 covered-has config (x ∷ xs) now r d (inl e) by = inl (subst (IsCoveredBy config now r) e by)
 covered-has config (x ∷ xs) now r d (inr h) by = inr (covered-has config xs now r d h by)
@@ -66,21 +66,21 @@ pub saturating-le : (a b : ℕ) → saturating_sum a b ≤ a + b
 saturating-le a b = omega arith
 
 -- the least of some numbers is at most each of them
-pub least-has : (ns : List ℕ) (n d : ℕ) → Has ns n → unwrap_or (least ns) d ≤ n
+pub least-has : (ns : List ℕ) (n d : ℕ) → ContainsByRecursion ns n → unwrap_or (least ns) d ≤ n
 least-has [] n d h = absurd h
 least-has (m ∷ ms) n d (inl e) = omega (arith, e, fold-min ms m)
 least-has (m ∷ ms) n d (inr h) = fold-min-has ms m n h
 
 -- an answer of the asked type is among those that an answer lives by
-pub lives-by : (q : Query) (m : MessageValue) (r : RecordValue) → Has m.answers r → record_type_code r ≡ type_code q.query_type → Has (living_records q m) r
+pub lives-by : (q : Query) (m : MessageValue) (r : RecordValue) → ContainsByRecursion m.answers r → record_type_code r ≡ type_code q.query_type → ContainsByRecursion (living_records q m) r
 lives-by q m r h e = by (type_code q.query_type == 2) refl
   where
     by : (b : Bool) → (type_code q.query_type == 2) ≡ b
-        → Has (if b then filter (λ x. record_type_code x == 2) (m.answers ++ m.authorities) else filter (λ x. (record_type_code x == type_code q.query_type) || (record_type_code x == 5)) m.answers) r
+        → ContainsByRecursion (if b then filter (λ x. record_type_code x == 2) (m.answers ++ m.authorities) else filter (λ x. (record_type_code x == type_code q.query_type) || (record_type_code x == 5)) m.answers) r
     by true k = has-filter (λ x. record_type_code x == 2) (m.answers ++ m.authorities) r (has-left m.answers m.authorities r h) (ap (λ n. n == 2) e ∙ k)
     by false k = has-filter (λ x. (record_type_code x == type_code q.query_type) || (record_type_code x == 5)) m.answers r h (or_left _ _ (eq-eqb _ _ e))
 
-pub lifetime-le : (config : ConfigValue) (q : Query) (m : MessageValue) (r : RecordValue) → HasNoLeast config (type_code q.query_type) → Has m.answers r → record_type_code r ≡ type_code q.query_type → positive_lifetime config q m ≤ r.ttl
+pub lifetime-le : (config : ConfigValue) (q : Query) (m : MessageValue) (r : RecordValue) → HasNoLeast config (type_code q.query_type) → ContainsByRecursion m.answers r → record_type_code r ≡ type_code q.query_type → positive_lifetime config q m ≤ r.ttl
 lifetime-le config q m r zero h e =
     let lo = (positive_bounds (bounds_for config (type_code q.query_type))).0 in
     let one = least-has (map (λ x. x.ttl) (living_records q m)) r.ttl lo (has-map (λ x. x.ttl) (living_records q m) r (lives-by q m r h e)) in
@@ -106,7 +106,7 @@ arrived-fresh config sources q now m zero all =
     deadline : ℕ
     deadline = saturating_sum now (positive_lifetime config q (clamped_message config m))
 
-    of : (r : RecordValue) → Has m.answers r → record_type_code r ≡ code → IsLoopback r ⊎ IsCovered config sources now (clamped_record config r)
+    of : (r : RecordValue) → ContainsByRecursion m.answers r → record_type_code r ≡ code → IsLoopback r ⊎ IsCovered config sources now (clamped_record config r)
         → IsLoopback (clamped_record config r) ⊎ (IsCovered config sources now (clamped_record config r) × ((clamped_record config r).ttl ≤ greatest_ttl config code) × (deadline ≤ now + (clamped_record config r).ttl))
     of r h e (inl loop) = inl loop
     of r h e (inr covered) =

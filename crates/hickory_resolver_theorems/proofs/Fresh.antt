@@ -7,7 +7,7 @@ use Rattle.hickory_proto_core.specs.Name.{NameValue, name_eq, is_zone_of}
 use Rattle.hickory_proto_core.specs.Codes.{type_code, class_code, response_code}
 use Rattle.hickory_proto_core.specs.Records.{RecordValue, DataValue}
 use Rattle.hickory_proto_core.specs.Messages.{MessageValue}
-use Rattle.hickory_proto_core.specs.ResponseKind.{ResponseKind, Answer, Negative, Failed, kind_of, contains_answer, negative_of, record_type_code}
+use Rattle.hickory_proto_core.specs.ResponseKind.{ResponseKind, Answer, Negative, Failed, kind_of, contains_answer, negative_of, record_type_code, is_empty}
 use Rattle.hickory_proto_core.specs.Handles.{OutcomeValue}
 use Rattle.hickory_proto_core.specs.records.query.Query.{Query}
 use Rattle.hickory_proto_core.specs.declared.recorded.Exchange.{Exchange}
@@ -19,11 +19,11 @@ use Rattle.hickory_resolver_model.specs.Cache.{CacheValue, Entry, is_for, is_cur
 use Rattle.hickory_resolver_model.specs.Lookup.{LookupResult, hit_lookup, hit_seconds}
 use Rattle.hickory_resolver_model.specs.SpecialUse.{special_use_result, is_loopback_name, loopback_data, one_record, no_records, full_name}
 use Rattle.hickory_resolver_model.specs.AliasWalk.{Walk, walk_of}
-use Rattle.hickory_resolver_model.specs.Verdict.{Hop, Exists, CnameChain, NoMatch, is_none, is_accepted, found_message, next_hop, all_records, with_ttl_at_most}
+use Rattle.hickory_resolver_model.specs.Verdict.{Hop, Exists, CnameChain, NoMatch, is_accepted, found_message, next_hop, all_records, with_ttl_at_most}
 use Rattle.hickory_resolver_model.specs.Hops.{LookupContext, ChainEnd, Special, Hit, Asked, IsChainEnd, HopList, Store, IsReply, asks_of, hit_result, verdict_result, kind_result, result_of, verdict_stores, kind_stores, last_stores, as_outcome, stores_of, after_stores}
-use Rattle.hickory_resolver_theorems.specs.Covered.{Dated, dated_exchanges, Has, IsCovered, IsLoopback, greatest_ttl}
+use Rattle.hickory_resolver_theorems.specs.Covered.{Dated, dated_exchanges, IsCovered, IsLoopback, greatest_ttl}
 use Rattle.hickory_resolver_theorems.specs.Statements.{HasNoLeast, IsFreshRecord, AreFreshRecords, IsFreshReply, IsFreshOutcome, IsFreshEntry, AreFreshEntries, IsFresh}
-use Rattle.hickory_resolver_theorems.proofs.Lists.{all-weaker, all-append, all-front, all-back, all-map, all-has, has-all, has-right, has-map, all-reverse, find-has}
+use Rattle.hickory_resolver_theorems.proofs.Lists.{all-weaker, all-append, all-front, all-back, all-map, all-has, has-all, has-right, has-map, all-reverse, find-has, ContainsByRecursion, contains-from_recursion}
 use Rattle.hickory_resolver_theorems.proofs.Covers.{Arrives, arrived-fresh, fresh-arrives, covered-has, covered-lower, clamped_message-le, clamped_message-greatest, greatest-short, least-has, saturating-le}
 use Rattle.hickory_resolver_theorems.proofs.Verdicts.{KeepsType, leads-keep, found-answers}
 use Rattle.hickory_resolver_theorems.proofs.Stores.{StoresArrived, StoresOutcome, stores-fresh, entries-more}
@@ -69,7 +69,7 @@ for-type q e h =
     sym (eqb-true _ _ front.1)
 
 aged_result-fresh : (config : ConfigValue) (sources : List Dated) (code now moment deadline : ℕ) (rs : List RecordValue) → now ≤ deadline → AreFreshRecords config sources code moment deadline rs
-    → (until : ℕ) → ((r : RecordValue) → Has (aged_records (age moment now) rs) r → until ≤ now + r.ttl)
+    → (until : ℕ) → ((r : RecordValue) → ContainsByRecursion (aged_records (age moment now) rs) r → until ≤ now + r.ttl)
     → AreFreshRecords config sources code now until (aged_records (age moment now) rs)
 aged_result-fresh config sources code now moment deadline rs live fresh until each =
     all-map (IsFreshRecord config sources code now until) (aged_record seconds) rs
@@ -84,16 +84,16 @@ aged_result-fresh config sources code now moment deadline rs live fresh until ea
     of r least (inr (covered, short, stays)) =
         inr (covered-lower config sources moment now (r.ttl - seconds) r (omega (arith, live, stays, short, greatest-short config code)) covered, omega (arith, short), least)
 
-hit-fresh : (config : ConfigValue) (sources : List Dated) (q : Query) (now : ℕ) (e : Entry) (o : OutcomeValue) → is_for q e ≡ true → now ≤ e.deadline → HasNoLeast config (type_code q.query_type) → IsFreshOutcome config sources e o
-    → IsFreshReply config sources (type_code q.query_type) now (hit_result q now (aged_outcome (age e.moment now) o))
+hit-fresh : (config : ConfigValue) (sources : List Dated) (q : Query) (now : ℕ) (e : Entry) (o : OutcomeValue) → is_for q e ≡ true → now ≤ e.valid_until → HasNoLeast config (type_code q.query_type) → IsFreshOutcome config sources e o
+    → IsFreshReply config sources (type_code q.query_type) now (hit_result q now (aged_outcome (age e.original_time now) o))
 hit-fresh config sources q now e (Ok m) own live zero fresh =
     let code = type_code q.query_type in
     let same = for-type q e own in
-    let given : AreFreshRecords config sources code e.moment e.deadline m.answers =
-    subst (λ c. AreFreshRecords config sources c e.moment e.deadline m.answers) same (fresh (subst (HasNoLeast config) (sym same) zero)) in
-    let seconds = age e.moment now in
+    let given : AreFreshRecords config sources code e.original_time e.valid_until m.answers =
+    subst (λ c. AreFreshRecords config sources c e.original_time e.valid_until m.answers) same (fresh (subst (HasNoLeast config) (sym same) zero)) in
+    let seconds = age e.original_time now in
     let left = aged_message seconds m in
-    aged_result-fresh config sources code now e.moment e.deadline m.answers live given (hit_lookup q left now).valid_until
+    aged_result-fresh config sources code now e.original_time e.valid_until m.answers live given (hit_lookup q left now).valid_until
     (λ r h. omega (arith, saturating-le now (hit_seconds left), least-has (map (λ x. x.ttl) left.answers) r.ttl 86400 (has-map (λ x. x.ttl) left.answers r h)))
 hit-fresh config sources q now e (Err error) own live zero fresh = tt
 
@@ -123,8 +123,8 @@ class-answer (Err (Bounds error)) response h = cc
 class-answer (Err OutOfMemory) response h = cc
 
 -- a record of a response that came, with its TTL or a lower one, is covered once it is clamped
-received-arrives : (config : ConfigValue) (sources : List Dated) (now code : ℕ) (x : Exchange) (response : MessageValue) → HasNoLeast config code → Has sources (record { moment = now; exchange = x }) → x.outcome ≡ Ok response
-    → (r : RecordValue) → Has (all_records response) r → (ttl : ℕ) → ttl ≤ r.ttl → Arrives config sources code now (record r { ttl = ttl })
+received-arrives : (config : ConfigValue) (sources : List Dated) (now code : ℕ) (x : Exchange) (response : MessageValue) → HasNoLeast config code → ContainsByRecursion sources (record { moment = now; exchange = x }) → x.outcome ≡ Ok response
+    → (r : RecordValue) → ContainsByRecursion (all_records response) r → (ttl : ℕ) → ttl ≤ r.ttl → Arrives config sources code now (record r { ttl = ttl })
 received-arrives config sources now code x response zero there came r brought ttl le same =
     let low : RecordValue = record r { ttl = ttl } in
     let none : HasNoLeast config (record_type_code low) = subst (HasNoLeast config) (sym same) zero in
@@ -132,12 +132,12 @@ received-arrives config sources now code x response zero there came r brought tt
       response = response;
       came = came;
       received = r;
-      brought = brought;
+      brought = contains-from_recursion (all_records response) r brought;
       equal = refl;
       reaches = omega (arith, le, clamped_message-le config low none, clamped_message-greatest config low none);
     }))
 
-found-arrives : (config : ConfigValue) (sources : List Dated) (now code : ℕ) (keep : Bool) (hop : Hop) (x : Exchange) (response : MessageValue) → KeepsType code hop → HasNoLeast config code → Has sources (record { moment = now; exchange = x }) → x.outcome ≡ Ok response
+found-arrives : (config : ConfigValue) (sources : List Dated) (now code : ℕ) (keep : Bool) (hop : Hop) (x : Exchange) (response : MessageValue) → KeepsType code hop → HasNoLeast config code → ContainsByRecursion sources (record { moment = now; exchange = x }) → x.outcome ≡ Ok response
     → AllByRecursion (Arrives config sources code now) (found_message keep hop (walk_of hop.query response.answers) response).answers
 found-arrives config sources now code keep hop x response keeps zero there came =
     found-answers Comes keep hop walk response (all-weaker (λ r. record_type_code r ≡ code → ⊥) Comes (λ r other same. absurd (other same)) hop.preserved keeps.others)
@@ -149,19 +149,19 @@ found-arrives config sources now code keep hop x response keeps zero there came 
     walk : Walk
     walk = walk_of hop.query response.answers
 
-    each : (r : RecordValue) → Has (all_records response) r → (ttl : ℕ) → ttl ≤ r.ttl → Comes (record r { ttl = ttl })
+    each : (r : RecordValue) → ContainsByRecursion (all_records response) r → (ttl : ℕ) → ttl ≤ r.ttl → Comes (record r { ttl = ttl })
     each = received-arrives config sources now code x response zero there came
 
 -- ---- the result of a list of hops
 
 result-fresh : (s : LookupContext) (sources : List Dated) (hop : Hop) (count : ℕ) (last : ChainEnd) → KeepsType (type_code hop.query.query_type) hop → AreFreshEntries s.cache sources → HasNoLeast s.cache.config (type_code hop.query.query_type)
-    → AllByRecursion (λ x. Has sources (record { moment = s.now; exchange = x })) (asks_of hop last) → IsChainEnd s count hop last
+    → AllByRecursion (λ x. ContainsByRecursion sources (record { moment = s.now; exchange = x })) (asks_of hop last) → IsChainEnd s count hop last
     → IsFreshReply s.cache.config sources (type_code hop.query.query_type) s.now (result_of s hop last)
 result-fresh s sources hop count (Special reply) keeps fresh zero there ends = special_use_result-fresh s.cache.config sources hop.query s.now reply ends
 result-fresh s sources hop count (Hit entry) keeps fresh zero there ends =
     let found = find-has (λ e. is_for hop.query e && is_current s.now e) s.cache.entries entry ends.1 in
     let both = and_parts (is_for hop.query entry) (is_current s.now entry) found.1 in
-    hit-fresh s.cache.config sources hop.query s.now entry entry.outcome both.0 (leb-true _ _ both.1) zero (all-has (IsFreshEntry s.cache.config sources) s.cache.entries entry fresh found.0)
+    hit-fresh s.cache.config sources hop.query s.now entry entry.result both.0 (leb-true _ _ both.1) zero (all-has (IsFreshEntry s.cache.config sources) s.cache.entries entry fresh found.0)
 result-fresh s sources hop count (Asked outcome) keeps fresh zero there ends = by (kind_of outcome) refl
   where
     config : ConfigValue
@@ -182,13 +182,13 @@ result-fresh s sources hop count (Asked outcome) keeps fresh zero there ends = b
     on response came false false = tt
 
     by : (c : ResponseKind) → kind_of outcome ≡ c → IsFreshReply config sources code s.now (kind_result s hop c)
-    by (Answer response) e = on response (class-answer outcome response e) (is_accepted hop (walk_of hop.query response.answers) response) (is_none (walk_of hop.query response.answers).places)
+    by (Answer response) e = on response (class-answer outcome response e) (is_accepted hop (walk_of hop.query response.answers) response) (is_empty (walk_of hop.query response.answers).places)
     by (Negative none) e = tt
     by (Failed error) e = tt
 
 -- ---- what it stores
 
-last-arrives : (s : LookupContext) (sources : List Dated) (hop : Hop) (last : ChainEnd) → KeepsType (type_code hop.query.query_type) hop → AllByRecursion (λ x. Has sources (record { moment = s.now; exchange = x })) (asks_of hop last)
+last-arrives : (s : LookupContext) (sources : List Dated) (hop : Hop) (last : ChainEnd) → KeepsType (type_code hop.query.query_type) hop → AllByRecursion (λ x. ContainsByRecursion sources (record { moment = s.now; exchange = x })) (asks_of hop last)
     → AllByRecursion (StoresArrived s.cache.config sources s.now) (last_stores s hop last)
 last-arrives s sources hop (Special reply) keeps there = tt
 last-arrives s sources hop (Hit entry) keeps there = tt
@@ -207,7 +207,7 @@ last-arrives s sources hop (Asked outcome) keeps there = by (kind_of outcome) re
     on response came false false = tt
 
     by : (c : ResponseKind) → kind_of outcome ≡ c → AllByRecursion (StoresArrived config sources s.now) (kind_stores s hop c)
-    by (Answer response) e = on response (class-answer outcome response e) (is_accepted hop (walk_of hop.query response.answers) response) (is_none (walk_of hop.query response.answers).places)
+    by (Answer response) e = on response (class-answer outcome response e) (is_accepted hop (walk_of hop.query response.answers) response) (is_empty (walk_of hop.query response.answers).places)
     by (Negative none) e = (tt, tt)
     by (Failed error) e = tt
 
@@ -225,7 +225,7 @@ pub record AreFreshHops (s : LookupContext) (question : Query) (asks : List Exch
   pub reply : HasNoLeast s.cache.config (type_code question.query_type) → IsFreshReply s.cache.config sources (type_code question.query_type) s.now (result_of s h.last_hop h.last)
   pub stores : AllByRecursion (StoresArrived s.cache.config sources s.now) (stores_of s h.passed h.last_hop h.last)
 
-hops-fresh : (s : LookupContext) (question : Query) (asks : List Exchange) (sources : List Dated) (h : HopList s question asks) → AreFreshEntries s.cache sources → AllByRecursion (λ x. Has sources (record { moment = s.now; exchange = x })) asks
+hops-fresh : (s : LookupContext) (question : Query) (asks : List Exchange) (sources : List Dated) (h : HopList s question asks) → AreFreshEntries s.cache sources → AllByRecursion (λ x. ContainsByRecursion sources (record { moment = s.now; exchange = x })) asks
     → AreFreshHops s question asks sources h
 hops-fresh s question asks sources h fresh there = record {
   reply = reply;
@@ -247,20 +247,20 @@ hops-fresh s question asks sources h fresh there = record {
     own : KeepsType (type_code h.last_hop.query.query_type) h.last_hop
     own = subst (λ c. KeepsType c h.last_hop) (sym leads.0.type_is) leads.0
 
-    each : AllByRecursion (λ x. Has sources (record { moment = s.now; exchange = x })) (h.passed ++ asks_of h.last_hop h.last)
-    each = subst (AllByRecursion (λ x. Has sources (record { moment = s.now; exchange = x }))) h.asks_are there
+    each : AllByRecursion (λ x. ContainsByRecursion sources (record { moment = s.now; exchange = x })) (h.passed ++ asks_of h.last_hop h.last)
+    each = subst (AllByRecursion (λ x. ContainsByRecursion sources (record { moment = s.now; exchange = x }))) h.asks_are there
 
-    last_there : AllByRecursion (λ x. Has sources (record { moment = s.now; exchange = x })) (asks_of h.last_hop h.last)
-    last_there = all-back (λ x. Has sources (record { moment = s.now; exchange = x })) h.passed (asks_of h.last_hop h.last) each
+    last_there : AllByRecursion (λ x. ContainsByRecursion sources (record { moment = s.now; exchange = x })) (asks_of h.last_hop h.last)
+    last_there = all-back (λ x. ContainsByRecursion sources (record { moment = s.now; exchange = x })) h.passed (asks_of h.last_hop h.last) each
 
     reply : HasNoLeast s.cache.config code → IsFreshReply s.cache.config sources code s.now result
     reply zero = subst (λ c. IsFreshReply s.cache.config sources c s.now result) leads.0.type_is
         (result-fresh s sources h.last_hop _ h.last own fresh (subst (HasNoLeast s.cache.config) (sym leads.0.type_is) zero) last_there h.ends)
 
 -- the exchanges of a look-up are among its sources
-own-sources : (sources : List Dated) (now : ℕ) (asks : List Exchange) → AllByRecursion (λ x. Has (sources ++ dated_exchanges now asks) (record { moment = now; exchange = x })) asks
+own-sources : (sources : List Dated) (now : ℕ) (asks : List Exchange) → AllByRecursion (λ x. ContainsByRecursion (sources ++ dated_exchanges now asks) (record { moment = now; exchange = x })) asks
 own-sources sources now asks =
-    has-all (λ x. Has (sources ++ dated_exchanges now asks) (record { moment = now; exchange = x })) asks
+    has-all (λ x. ContainsByRecursion (sources ++ dated_exchanges now asks) (record { moment = now; exchange = x })) asks
     (λ x h. has-right sources (dated_exchanges now asks) (record { moment = now; exchange = x }) (has-map (λ y. record { moment = now; exchange = y }) asks x h))
 
 pub fresh : (s : LookupContext) (question : Query) (asks : List Exchange) (result : LookupResult) (after : CacheValue) → IsReply s question asks result after → IsFresh s question asks result after

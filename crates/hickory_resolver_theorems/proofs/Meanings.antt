@@ -24,9 +24,9 @@ use Rattle.hickory_resolver_model.specs.Bounds.{ConfigValue, clamped_message, cl
 use Rattle.hickory_resolver_model.specs.Lookup.{LookupResult}
 use Rattle.hickory_resolver_model.specs.SpecialUse.{special_use_result, loopback_zones, is_loopback_name, loopback_data, one_record, no_records, full_name}
 use Rattle.hickory_resolver_model.specs.AliasWalk.{walk_of}
-use Rattle.hickory_resolver_model.specs.Verdict.{Hop, Verdict, Exists, CnameChain, NoMatch, next_hop, verdict}
+use Rattle.hickory_resolver_model.specs.Verdict.{Hop, Verdict, Exists, CnameChain, NoMatch, next_hop, verdict, first_hop}
 use Rattle.hickory_resolver_model.specs.Hops.{LookupContext, kind_verdict, kind_result, verdict_result}
-use Rattle.hickory_resolver_theorems.specs.Cacheless.{first_hop, cacheless_context, ResolvesTo, at_special, at_last, at_alias}
+use Rattle.hickory_resolver_theorems.specs.Cacheless.{cacheless_context, ResolvesTo, at_special, at_last, at_alias}
 use Rattle.hickory_resolver_theorems.specs.WithoutTimes.{folded_name, folded_query, folded_data, record_without_times, sections, WithoutTimes, without_times}
 use Rattle.hickory_resolver_theorems.proofs.Folding.{lowers-twice, query_type-folded_name, query_class-folded_name, map-map}
 use Rattle.hickory_resolver_theorems.proofs.Verdicts.{alias-leads}

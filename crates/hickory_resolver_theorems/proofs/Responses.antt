@@ -18,9 +18,8 @@ use Rattle.hickory_proto_core.specs.records.net_error.NetError.{NetError}
 use Rattle.hickory_proto_core.specs.records.net_error.NetError.TheVariants.{Message, Timeout, Proto, Dns, NoOutcome, Bounds, OutOfMemory}
 use Rattle.hickory_proto_core.specs.records.net_error.DnsError.TheVariants.{ResponseCode, NoRecordsFound}
 use Rattle.hickory_resolver_model.specs.AliasWalk.{Walk, leads_to, walk_step, walk_from, walk_of, follows_aliases}
-use Rattle.hickory_resolver_model.specs.Verdict.{Verdict, Exists, CnameChain, NoMatch, is_none, is_match, is_last_match, is_accepted, is_filtered, is_intermediate, found_message, filtered_answers, next_hop, all_records, with_ttl_at_most, verdict}
+use Rattle.hickory_resolver_model.specs.Verdict.{Verdict, Exists, CnameChain, NoMatch, is_match, is_last_match, is_accepted, is_filtered, is_intermediate, found_message, filtered_answers, next_hop, all_records, with_ttl_at_most, verdict, first_hop}
 use Rattle.hickory_resolver_model.specs.Hops.{no_match}
-use Rattle.hickory_resolver_theorems.specs.Cacheless.{first_hop}
 use Rattle.hickory_resolver_theorems.specs.WithoutTimes.{folded_name, folded_query, record_without_times, Sections, sections, forward_without_times, error_without_times, WithoutTimes, ResponseWithoutTimes, outcome_without_times}
 use Rattle.hickory_resolver_theorems.proofs.Folding.{name_eq-folded_name, zone_of-folded_name, minimum-folded_name, target-folded_name, leads-folded_name, record_type-folded_name, query_type-folded_name, query_class-folded_name, record_class-folded_name, any-map, filter-map, find-map, map-map}
 
@@ -84,7 +83,7 @@ found_core q walk m =
 abbrev walk_core : Query → Walk → MessageValue → Next
 walk_core q walk m =
     if is_accepted (first_hop q) walk m then Ends (Ok (found_core q walk m))
-    else (if is_none walk.places then Ends (Err (no_match_core q m)) else GoesOn (record { name = walk.last; query_type = q.query_type; query_class = class.IN }))
+    else (if is_empty walk.places then Ends (Err (no_match_core q m)) else GoesOn (record { name = walk.last; query_type = q.query_type; query_class = class.IN }))
 
 abbrev answer_core : Query → MessageValue → Next
 answer_core q m = walk_core q (walk_of q m.answers) m
@@ -263,7 +262,7 @@ found-folded_name q walk m = by (is_filtered false (first_hop q) walk m) (is_fil
     same : is_filtered false (first_hop (folded_query q)) (at_walk walk) (folded_message m) ≡ is_filtered false (first_hop q) walk m
     same =
         let some = some-folded_name (is_last_match (folded_query q) (folded_name walk.last)) (is_last_match q walk.last) m (last_match-folded_name q walk.last) in
-        λ i. not true || ((not (is_none walk.places) && some i) && not false)
+        λ i. not true || ((not (is_empty walk.places) && some i) && not false)
 
     by : (a b : Bool) → b ≡ a → sections (if a then record m { answers = filtered_answers false (first_hop q) walk m } else m)
         ≡ record {
@@ -279,7 +278,7 @@ found-folded_name q walk m = by (is_filtered false (first_hop q) walk m) (is_fil
         λ i. record { answers = answers i; authorities = map record_without_times m.authorities; additionals = map record_without_times m.additionals }
 
 verdict-folded_name : (q : Query) (m : MessageValue) → next_verdict q m (verdict false (first_hop q) m) ≡ answer_core (folded_query q) (folded_message m)
-verdict-folded_name q m = by (is_accepted (first_hop q) walk m) (is_accepted (first_hop (folded_query q)) (at_walk walk) (folded_message m)) same (is_none walk.places) ∙ sym walks
+verdict-folded_name q m = by (is_accepted (first_hop q) walk m) (is_accepted (first_hop (folded_query q)) (at_walk walk) (folded_message m)) same (is_empty walk.places) ∙ sym walks
   where
     walk : Walk
     walk = walk_of q m.answers
@@ -292,7 +291,7 @@ verdict-folded_name q m = by (is_accepted (first_hop q) walk m) (is_accepted (fi
     same : is_accepted (first_hop (folded_query q)) (at_walk walk) (folded_message m) ≡ is_accepted (first_hop q) walk m
     same =
         let some = some-folded_name (is_match (folded_query q) (folded_name walk.last)) (is_match q walk.last) m (match-folded_name q walk.last) in
-        λ i. some i && (is_none walk.places || true)
+        λ i. some i && (is_empty walk.places || true)
 
     core_by : Bool → Bool → Next
     core_by accepted nowhere =

@@ -22,7 +22,7 @@ insert_entry-all P capacity es e all new = by (capacity == 0)
     room : (own free : Bool) → AllByRecursion P (if own then without e.query es else (if free then es else without_earliest es))
     room true free = all-filter P (λ x. not (is_for e.query x)) es all
     room false true = all
-    room false false = all-remove P es (position_or_len (λ x. x.deadline == least_deadline es) es) all
+    room false false = all-remove P es (position_or_len (λ x. x.valid_until == least_deadline es) es) all
 
     by : (b : Bool) → AllByRecursion P (if b then es else room_for capacity e.query es ++ e ∷ [])
     by true = all
@@ -54,15 +54,15 @@ stores-fresh cache sources now (s ∷ ss) fresh (arrive, all) = stores-fresh (st
 
 -- entries stay fresh with more sources
 outcome-more : (config : ConfigValue) (xs ys : List Dated) (e : Entry) (o : OutcomeValue) → IsFreshOutcome config xs e o → IsFreshOutcome config (xs ++ ys) e o
-outcome-more config xs ys e (Ok m) fresh = λ zero. all-weaker (IsFreshRecord config xs code e.moment e.deadline) (IsFreshRecord config (xs ++ ys) code e.moment e.deadline) (λ r h same. more r (h same)) m.answers (fresh zero)
+outcome-more config xs ys e (Ok m) fresh = λ zero. all-weaker (IsFreshRecord config xs code e.original_time e.valid_until) (IsFreshRecord config (xs ++ ys) code e.original_time e.valid_until) (λ r h same. more r (h same)) m.answers (fresh zero)
   where
     code : ℕ
     code = type_code e.query.query_type
 
-    more : (r : RecordValue) → IsLoopback r ⊎ (IsCovered config xs e.moment r × (r.ttl ≤ greatest_ttl config code) × (e.deadline ≤ e.moment + r.ttl)) → IsLoopback r ⊎ (IsCovered config (xs ++ ys) e.moment r × (r.ttl ≤ greatest_ttl config code) × (e.deadline ≤ e.moment + r.ttl))
+    more : (r : RecordValue) → IsLoopback r ⊎ (IsCovered config xs e.original_time r × (r.ttl ≤ greatest_ttl config code) × (e.valid_until ≤ e.original_time + r.ttl)) → IsLoopback r ⊎ (IsCovered config (xs ++ ys) e.original_time r × (r.ttl ≤ greatest_ttl config code) × (e.valid_until ≤ e.original_time + r.ttl))
     more r (inl loop) = inl loop
-    more r (inr (covered, short, live)) = inr (covered-left config xs ys e.moment r covered, short, live)
+    more r (inr (covered, short, live)) = inr (covered-left config xs ys e.original_time r covered, short, live)
 outcome-more config xs ys e (Err error) fresh = tt
 
 pub entries-more : (cache : CacheValue) (xs ys : List Dated) → AreFreshEntries cache xs → AreFreshEntries cache (xs ++ ys)
-entries-more cache xs ys fresh = all-weaker (IsFreshEntry cache.config xs) (IsFreshEntry cache.config (xs ++ ys)) (λ e h. outcome-more cache.config xs ys e e.outcome h) cache.entries fresh
+entries-more cache xs ys fresh = all-weaker (IsFreshEntry cache.config xs) (IsFreshEntry cache.config (xs ++ ys)) (λ e h. outcome-more cache.config xs ys e e.result h) cache.entries fresh

@@ -217,8 +217,8 @@ last-meaning s table hop count (Hit entry) r n off none meant tells ends means f
     let found = find-has (λ e. is_for hop.query e && is_current s.now e) s.cache.entries entry ends.1 in
     let own = (and_parts (is_for hop.query entry) (is_current s.now entry) found.1).0 in
     let kept = all-has (IsWhatItResolvesTo table) s.cache.entries entry meant found.0 in
-    let here = means-same table entry.query hop.query (stored_without_times entry.outcome) kept.0 (sym (query-same hop.query entry.query own)) kept.1 in
-    inr (hit-without_times hop.query s.now (age entry.moment s.now) entry.outcome ∙ means-one table hop.query (stored_without_times entry.outcome) r kept.0 n here means)
+    let here = means-same table entry.query hop.query (stored_without_times entry.result) kept.0 (sym (query-same hop.query entry.query own)) kept.1 in
+    inr (hit-without_times hop.query s.now (age entry.original_time s.now) entry.result ∙ means-one table hop.query (stored_without_times entry.result) r kept.0 n here means)
 last-meaning s table hop count (Asked (Err OutOfMemory)) r n off none meant tells ends means few = inl refl
 last-meaning s table hop count (Asked (Ok m)) r n off none meant tells ends means few = inr (asked-meaning s table hop count (Ok m) r n off none (λ e. cc) tells.0 ends means few)
 last-meaning s table hop count (Asked (Err (Message text))) r n off none meant tells ends means few = inr (asked-meaning s table hop count (Err (Message text)) r n off none (λ e. cc) tells.0 ends means few)

@@ -5,11 +5,11 @@ use Rattle.std.specs.List.{AllByRecursion}
 use Rattle.hickory_proto_core.specs.Codes.{type_code}
 use Rattle.hickory_proto_core.specs.Records.{RecordValue}
 use Rattle.hickory_proto_core.specs.Messages.{MessageValue}
-use Rattle.hickory_proto_core.specs.ResponseKind.{ResponseKind, Answer, Negative, Failed, kind_of, record_type_code}
+use Rattle.hickory_proto_core.specs.ResponseKind.{ResponseKind, Answer, Negative, Failed, kind_of, record_type_code, is_empty}
 use Rattle.hickory_proto_core.specs.records.query.Query.{Query}
 use Rattle.hickory_proto_core.specs.declared.recorded.Exchange.{Exchange}
 use Rattle.hickory_resolver_model.specs.AliasWalk.{Walk, walk_of, walk_from}
-use Rattle.hickory_resolver_model.specs.Verdict.{Hop, Exists, CnameChain, NoMatch, is_none, is_match, is_accepted, is_filtered, is_intermediate, has_class, found_message, filtered_answers, next_hop, all_records, with_ttl_at_most, verdict}
+use Rattle.hickory_resolver_model.specs.Verdict.{Hop, Exists, CnameChain, NoMatch, is_match, is_accepted, is_filtered, is_intermediate, has_class, found_message, filtered_answers, next_hop, all_records, with_ttl_at_most, verdict}
 use Rattle.hickory_resolver_model.specs.Hops.{LookupContext, IsAliasHop, FollowsAliases, kind_verdict}
 use Rattle.hickory_resolver_theorems.proofs.Lists.{all-weaker, all-append, all-front, all-filter, all-map, all-kept}
 
@@ -17,23 +17,23 @@ use Rattle.hickory_resolver_theorems.proofs.Lists.{all-weaker, all-append, all-f
 
 -- an alias was followed, and the next hop is that of the walk
 pub record LeadsOn (keep : Bool) (hop : Hop) (m : MessageValue) (next : Hop) : Type 0 where
-  pub followed : is_none (walk_of hop.query m.answers).places ≡ false
+  pub followed : is_empty (walk_of hop.query m.answers).places ≡ false
   pub next_is : next ≡ next_hop keep hop (walk_of hop.query m.answers) m
 
 pub alias-leads : (keep : Bool) (hop : Hop) (m : MessageValue) (next : Hop) → verdict keep hop m ≡ CnameChain next → LeadsOn keep hop m next
-alias-leads keep hop m next h = by (is_accepted hop walk m) (is_none walk.places) refl h
+alias-leads keep hop m next h = by (is_accepted hop walk m) (is_empty walk.places) refl h
   where
     walk : Walk
     walk = walk_of hop.query m.answers
 
-    by : (a b : Bool) → is_none walk.places ≡ b → (if a then Exists (found_message keep hop walk m) else (if b then NoMatch else CnameChain (next_hop keep hop walk m))) ≡ CnameChain next → LeadsOn keep hop m next
+    by : (a b : Bool) → is_empty walk.places ≡ b → (if a then Exists (found_message keep hop walk m) else (if b then NoMatch else CnameChain (next_hop keep hop walk m))) ≡ CnameChain next → LeadsOn keep hop m next
     by true b e k = cc
     by false true e k = cc
     by false false e k = let same : next_hop keep hop walk m ≡ next = cc in record { followed = e; next_is = sym same }
 
 -- a question for CNAMEs follows none
-pub follows-no_cname : (q : Query) (answers : List RecordValue) → type_code q.query_type ≡ 5 → is_none (walk_of q answers).places ≡ true
-follows-no_cname q answers e = ap (λ n. is_none (if (if n == 255 then false else (if n == 5 then false else true)) then walk_from 0 q.name answers else record { places = []; last = q.name; ttl = 86400 }).places) e
+pub follows-no_cname : (q : Query) (answers : List RecordValue) → type_code q.query_type ≡ 5 → is_empty (walk_of q answers).places ≡ true
+follows-no_cname q answers e = ap (λ n. is_empty (if (if n == 255 then false else (if n == 5 then false else true)) then walk_from 0 q.name answers else record { places = []; last = q.name; ttl = 86400 }).places) e
 
 -- the response that a hop before the last got
 pub record Passed (s : LookupContext) (hop : Hop) (x : Exchange) (next : Hop) : Type 0 where

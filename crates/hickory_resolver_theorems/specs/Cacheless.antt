@@ -10,7 +10,7 @@ use Rattle.hickory_proto_core.specs.records.query.Query.{Query}
 use Rattle.hickory_proto_core.specs.declared.recorded.Exchange.{Exchange}
 use Rattle.hickory_proto_core.specs.records.net_error.NetError.TheVariants.{OutOfMemory}
 use Rattle.hickory_resolver_model.specs.SpecialUse.{special_use_result}
-use Rattle.hickory_resolver_model.specs.Verdict.{Hop, CnameChain}
+use Rattle.hickory_resolver_model.specs.Verdict.{Hop, CnameChain, first_hop}
 use Rattle.hickory_resolver_model.specs.Hops.{LookupContext, kind_result, kind_verdict}
 use Rattle.hickory_resolver_model.specs.Client.{empty_cache}
 use Rattle.hickory_resolver_theorems.specs.WithoutTimes.{WithoutTimes, without_times, AgreeWithoutTimes}
@@ -19,10 +19,6 @@ use Rattle.hickory_resolver_model.specs.Lookup.{LookupResult}
 -- a table of outcomes, no two for equal questions
 abbrev pub IsTable : TableValue → Type 0
 IsTable table = IsDistinct query_eq (keys_of table)
-
--- a question with nothing preserved before it
-abbrev pub first_hop : Query → Hop
-first_hop q = record { query = q; preserved = [] }
 
 -- where a look-up without a cache starts: nothing is stored, intermediate records are not wanted. The bounds and the moment do
 -- not show in what a reply comes to

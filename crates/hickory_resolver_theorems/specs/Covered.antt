@@ -1,5 +1,5 @@
 -- Where a record that is given comes from: an exchange that brought it, whose TTL it does not outlive (RFC 2181, section 8).
-use Rattle.std.specs.Prelude.{◌≡◌, ◌⊎◌, ◌≤◌, ℕ, ◌+◌, true, List, [], ◌∷◌, map, min, Some, Ok}
+use Rattle.std.specs.Prelude.{◌≡◌, ◌⊎◌, ◌≤◌, ℕ, ◌+◌, true, List, [], ◌∷◌, map, min, Contains, Some, Ok}
 use Rattle.hickory_proto_core.specs.Codes.{class_code}
 use Rattle.hickory_proto_core.specs.Records.{RecordValue}
 use Rattle.hickory_proto_core.specs.Messages.{MessageValue}
@@ -22,18 +22,13 @@ dated_exchanges now xs = map (λ x. record { moment = now; exchange = x }) xs
 abbrev pub greatest_ttl : ConfigValue → ℕ → ℕ
 greatest_ttl config code = reduced_bound (positive_bounds (bounds_for config code)).1
 
--- an element of a list
-abbrev pub Has : {A : Type 0} → List A → A → Type 0
-Has [] x = ⊥
-Has (y ∷ ys) x = (x ≡ y) ⊎ Has ys x
-
 -- The record, given at a moment, is covered: some exchange brought an equal one (TTLs aside) in some section, and the moment and
 -- the record's TTL together are not past the exchange's moment and the TTL that it brought, cut at the greatest.
 pub record IsCoveredBy (config : ConfigValue) (now : ℕ) (r : RecordValue) (source : Dated) : Type 0 where
   pub response : MessageValue
   pub came : source.exchange.outcome ≡ Ok response
   pub received : RecordValue
-  pub brought : Has (all_records response) received
+  pub brought : Contains (all_records response) received
   pub equal : record_without_times received ≡ record_without_times r
   pub reaches : now + r.ttl ≤ source.moment + min received.ttl (greatest_ttl config (record_type_code r))
 

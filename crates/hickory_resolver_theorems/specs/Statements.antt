@@ -45,11 +45,11 @@ IsFreshReply config sources code now (Err e) = Unit {0}
 -- an entry of a positive answer, at its own moment
 abbrev pub IsFreshOutcome : ConfigValue → List Dated → Entry → OutcomeValue → Type 0
 IsFreshOutcome config sources e (Ok m) =
-    HasNoLeast config (type_code e.query.query_type) → AreFreshRecords config sources (type_code e.query.query_type) e.moment e.deadline m.answers
+    HasNoLeast config (type_code e.query.query_type) → AreFreshRecords config sources (type_code e.query.query_type) e.original_time e.valid_until m.answers
 IsFreshOutcome config sources e (Err error) = Unit {0}
 
 abbrev pub IsFreshEntry : ConfigValue → List Dated → Entry → Type 0
-IsFreshEntry config sources e = IsFreshOutcome config sources e e.outcome
+IsFreshEntry config sources e = IsFreshOutcome config sources e e.result
 
 abbrev pub AreFreshEntries : CacheValue → List Dated → Type 0
 AreFreshEntries cache sources = AllByRecursion (IsFreshEntry cache.config sources) cache.entries
@@ -66,7 +66,7 @@ IsFresh s question asks result after =
 
 -- an entry is what its question means under a table, however long the way there
 abbrev pub IsWhatItResolvesTo : TableValue → Entry → Type 0
-IsWhatItResolvesTo table e = (n : ℕ) × ResolvesTo table e.query (stored_without_times e.outcome) n
+IsWhatItResolvesTo table e = (n : ℕ) × ResolvesTo table e.query (stored_without_times e.result) n
 
 abbrev pub AreMeant : TableValue → CacheValue → Type 0
 AreMeant table cache = AllByRecursion (IsWhatItResolvesTo table) cache.entries

@@ -52,7 +52,7 @@ abbrev pub exchange : Query → List RecordValue → Exchange
 exchange q answers = record { query = q; outcome = Ok (response q answers) }
 
 abbrev pub entry : NameValue → ℕ → Entry
-entry n deadline = record { query = asks_a n; outcome = Err (no_records (asks_a n) NoError); moment = 0; deadline = deadline }
+entry n deadline = record { query = asks_a n; result = Err (no_records (asks_a n) NoError); original_time = 0; valid_until = deadline }
 
 -- ---- eviction
 
@@ -226,8 +226,8 @@ loop_asks = to_b ∷ to_a ∷ to_b ∷ to_a ∷ to_b ∷ to_a ∷ to_b ∷ to_a 
 
 abbrev pub after_loop : CacheValue
 after_loop = record (empty_cache 8) {
-  entries = record { query = asks_a (name (codes "b")); outcome = no_address; moment = 0; deadline = 0 }
-      ∷ record { query = asks_a (name (codes "a")); outcome = no_address; moment = 0; deadline = 0 } ∷ [];
+  entries = record { query = asks_a (name (codes "b")); result = no_address; original_time = 0; valid_until = 0 }
+      ∷ record { query = asks_a (name (codes "a")); result = no_address; original_time = 0; valid_until = 0 } ∷ [];
 }
 
 abbrev pub at_a : Hop

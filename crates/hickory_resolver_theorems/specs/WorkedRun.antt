@@ -57,7 +57,7 @@ abbrev pub run_asks : List Exchange
 run_asks = exchange (asks_a a) (rr a 10 address ∷ []) ∷ []
 
 abbrev pub after_run : CacheValue
-after_run = record (empty_cache 8) { entries = record { query = asks_a a; outcome = Ok (response (asks_a a) (rr a 10 address ∷ [])); moment = 0; deadline = 10 } ∷ [] }
+after_run = record (empty_cache 8) { entries = record { query = asks_a a; result = Ok (response (asks_a a) (rr a 10 address ∷ [])); original_time = 0; valid_until = 10 } ∷ [] }
 
 abbrev pub run_steps : List StepValue
 run_steps =
@@ -82,7 +82,7 @@ asked_reply = inl (record {
 
 hit_reply : IsReply (start after_run 4) (asks_a a) [] (Ok (found 6 10)) after_run
 hit_reply = inl (record {
-  hops = record { passed = []; last_hop = first (asks_a a); last = Hit (record { query = asks_a a; outcome = Ok (response (asks_a a) (rr a 10 address ∷ [])); moment = 0; deadline = 10 }); leads = refl; short = omega arith; ends = (refl, refl); asks_are = refl };
+  hops = record { passed = []; last_hop = first (asks_a a); last = Hit (record { query = asks_a a; result = Ok (response (asks_a a) (rr a 10 address ∷ [])); original_time = 0; valid_until = 10 }); leads = refl; short = omega arith; ends = (refl, refl); asks_are = refl };
   result_is = refl;
   after_is = refl;
 })
