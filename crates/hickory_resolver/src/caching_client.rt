@@ -94,7 +94,7 @@ impl<H: DnsHandle> CachingClient<H> {
         }
         let request = DnsRequest { query, options };
         let outcome = self.handle.send(&request);
-        self.settle(request.query, classify(outcome), now)
+        self.finish(request.query, classify(outcome), now)
     }
 
     /// Empties the cache. Takes no memory.
@@ -112,7 +112,7 @@ impl<H: DnsHandle> CachingClient<H> {
     }
 
     // The result of a question that was asked, kept where it may be.
-    fn settle(
+    fn finish(
         &mut self,
         query: Query,
         response_to: Result<DnsResponse, NetError>,
@@ -122,16 +122,16 @@ impl<H: DnsHandle> CachingClient<H> {
         ensures stays { KeepsHandle self.old self.new }
     {
         match response_to {
-            Ok(response) => self.accept(query, response, now),
+            Ok(response) => self.cache_answer(query, response, now),
             Err(error) => match error.into_no_records() {
-                Ok(none) => self.refuse(query, none, now),
+                Ok(none) => self.cache_negative(query, none, now),
                 Err(error) => Err(error),
             },
         }
     }
 
     // An answer, kept where it has what was asked for.
-    fn accept(&mut self, query: Query, response: DnsResponse, now: u64) -> Result<Lookup, NetError>
+    fn cache_answer(&mut self, query: Query, response: DnsResponse, now: u64) -> Result<Lookup, NetError>
         ensures settled { IsSettled (start_of self.old now) query (Answer response) result self.new.cache }
         ensures stays { KeepsHandle self.old self.new }
     {
@@ -147,7 +147,7 @@ impl<H: DnsHandle> CachingClient<H> {
     }
 
     // A negative answer, kept.
-    fn refuse(&mut self, query: Query, none: NoRecords, now: u64) -> Result<Lookup, NetError>
+    fn cache_negative(&mut self, query: Query, none: NoRecords, now: u64) -> Result<Lookup, NetError>
         ensures settled { IsSettled (start_of self.old now) query (Negative none) result self.new.cache }
         ensures stays { KeepsHandle self.old self.new }
     {

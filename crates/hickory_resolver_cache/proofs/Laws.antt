@@ -36,7 +36,7 @@ own-current q now (e ∷ es) was apart h =
 pub never_later-same : (q : Query) (now : ℕ) (es : List Entry) → AreApart es → NeverLater q now es es
 never_later-same q now es apart was is h k =
     let same : Some was ≡ Some is = sym (own-current q now es was apart h) ∙ k in
-    let deadlines : was.deadline ≡ is.deadline = cc in
+    let deadlines : was.valid_until ≡ is.valid_until = cc in
     omega arith
 
 -- a store whose deadline is limited
@@ -49,15 +49,15 @@ never_later-insert_entry capacity now es e apart was is h k = by (capacity == 0)
     room : List Entry
     room = room_for capacity e.query es
 
-    by : (b : Bool) → (capacity == 0) ≡ b → is.deadline ≤ was.deadline
+    by : (b : Bool) → (capacity == 0) ≡ b → is.valid_until ≤ was.valid_until
     by true z = never_later-same e.query now es apart was is h (sym (ap (λ b. find (is_for e.query) (if b then es else room ++ stored ∷ [])) z) ∙ k)
     by false z =
         let last : find (is_for e.query) (room ++ stored ∷ []) ≡ Some is = sym (ap (λ b. find (is_for e.query) (if b then es else room ++ stored ∷ [])) z) ∙ k in
         let found = find-append (is_for e.query) room (stored ∷ [])
         ∙ ap₂ (λ o b. option_or o (cond b (Some stored) None)) (find-none (is_for e.query) room (room_for-none capacity e.query es)) (query_equiv.refl e.query) in
         let same : Some stored ≡ Some is = sym found ∙ last in
-        let limit = ap (λ o. option_map_or (λ c. min e.deadline c.deadline) o e.deadline) h in
-        let deadlines : stored.deadline ≡ is.deadline = cc in
+        let limit = ap (λ o. option_map_or (λ c. min e.valid_until c.valid_until) o e.valid_until) h in
+        let deadlines : stored.valid_until ≡ is.valid_until = cc in
         omega (arith, limit)
 
 -- the entry that an outcome becomes is for its question

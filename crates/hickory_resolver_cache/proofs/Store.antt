@@ -35,10 +35,10 @@ room_for-place capacity q es apart = by (list_any (is_for q) es) refl (nat_lt (l
         ∙ sym (ap (λ o. leaves o (crowded_place capacity es)) at)
     by false h true k =
         ap rest h ∙ ap (λ b. if b then es else without_earliest es) k
-        ∙ sym (ap₂ leaves (position-none (is_for q) es h) (ap (λ b. if b then None else position (λ e. e.deadline == least_deadline es) es) k))
+        ∙ sym (ap₂ leaves (position-none (is_for q) es h) (ap (λ b. if b then None else position (λ e. e.valid_until == least_deadline es) es) k))
     by false h false k =
-        ap rest h ∙ ap (λ b. if b then es else without_earliest es) k ∙ sym (remove_at-position (λ e. e.deadline == least_deadline es) es)
-        ∙ sym (ap₂ leaves (position-none (is_for q) es h) (ap (λ b. if b then None else position (λ e. e.deadline == least_deadline es) es) k))
+        ap rest h ∙ ap (λ b. if b then es else without_earliest es) k ∙ sym (remove_at-position (λ e. e.valid_until == least_deadline es) es)
+        ∙ sym (ap₂ leaves (position-none (is_for q) es h) (ap (λ b. if b then None else position (λ e. e.valid_until == least_deadline es) es) k))
 
 -- the question has no entry among those that stay
 pub room_for-none : (capacity : ℕ) (q : Query) (es : List Entry) → list_any (is_for q) (room_for capacity q es) ≡ false
@@ -53,17 +53,17 @@ room_for-none capacity q es = by (list_any (is_for q) es) refl (nat_lt (length e
     by false h false k = ap₂ (λ b r. list_any (is_for q) (rest b r)) h k ∙ list_any-remove (is_for q) es _ h
 
 -- the least deadline is some entry's
-pub least_reached : (d : ℕ) (es : List Entry) → (fold (λ m x. min m x.deadline) d es ≡ d) ⊎ (list_any (λ e. e.deadline == fold (λ m x. min m x.deadline) d es) es ≡ true)
+pub least_reached : (d : ℕ) (es : List Entry) → (fold (λ m x. min m x.valid_until) d es ≡ d) ⊎ (list_any (λ e. e.valid_until == fold (λ m x. min m x.valid_until) d es) es ≡ true)
 least_reached d [] = inl refl
-least_reached d (e ∷ es) = by (least_reached (min d e.deadline) es) (cases_lt d e.deadline)
+least_reached d (e ∷ es) = by (least_reached (min d e.valid_until) es) (cases_lt d e.valid_until)
   where
     least : ℕ
-    least = fold (λ m x. min m x.deadline) (min d e.deadline) es
+    least = fold (λ m x. min m x.valid_until) (min d e.valid_until) es
 
-    by : (least ≡ min d e.deadline) ⊎ (list_any (λ x. x.deadline == least) es ≡ true) → (d < e.deadline) ⊎ (e.deadline ≤ d) → (least ≡ d) ⊎ ((e.deadline == least) || list_any (λ x. x.deadline == least) es ≡ true)
+    by : (least ≡ min d e.valid_until) ⊎ (list_any (λ x. x.valid_until == least) es ≡ true) → (d < e.valid_until) ⊎ (e.valid_until ≤ d) → (least ≡ d) ⊎ ((e.valid_until == least) || list_any (λ x. x.valid_until == least) es ≡ true)
     by (inl h) (inl k) = inl (omega arith)
-    by (inl h) (inr k) = inr (or_left (e.deadline == least) _ (eq-eqb e.deadline least (omega arith)))
-    by (inr h) k = inr (or_right (e.deadline == least) _ h)
+    by (inl h) (inr k) = inr (or_left (e.valid_until == least) _ (eq-eqb e.valid_until least (omega arith)))
+    by (inr h) k = inr (or_right (e.valid_until == least) _ h)
 
 -- with no place to leave, there is room
 pub room_left : (capacity : ℕ) (q : Query) (es : List Entry) → 0 < capacity → leaving_place capacity q es ≡ None → length es < capacity
@@ -73,13 +73,13 @@ room_left capacity q (e ∷ es) pos h = by (nat_lt (length (e ∷ es)) capacity)
     least : ℕ
     least = least_deadline (e ∷ es)
 
-    some : list_any (λ x. x.deadline == least) (e ∷ es) ≡ true
-    some = ⊎_elim (λ k. or_left (e.deadline == least) _ (eq-eqb e.deadline least (sym k))) (λ k. or_right (e.deadline == least) _ k) (least_reached e.deadline es)
+    some : list_any (λ x. x.valid_until == least) (e ∷ es) ≡ true
+    some = ⊎_elim (λ k. or_left (e.valid_until == least) _ (eq-eqb e.valid_until least (sym k))) (λ k. or_right (e.valid_until == least) _ k) (least_reached e.valid_until es)
 
     by : (b : Bool) → nat_lt (length (e ∷ es)) capacity ≡ b → length (e ∷ es) < capacity
     by true k = ltb-true _ _ k
     by false k =
-        let crowded = ap (λ b. if b then None else position (λ x. x.deadline == least) (e ∷ es)) k ∙ position-some (λ x. x.deadline == least) (e ∷ es) some in
+        let crowded = ap (λ b. if b then None else position (λ x. x.valid_until == least) (e ∷ es)) k ∙ position-some (λ x. x.valid_until == least) (e ∷ es) some in
         let or_some : (o : Option ℕ) (n : ℕ) → option_or o (Some n) ≡ None → ⊥ = elim [ None ↦ λ n z. cc | Some i ↦ λ n z. cc ] in
         absurd (or_some (position (is_for q) (e ∷ es)) _ (ap (option_or (position (is_for q) (e ∷ es))) (sym crowded) ∙ h))
 
@@ -92,10 +92,10 @@ place-within capacity q es i h = by (position (is_for q) es) refl (nat_lt (lengt
         let k_is : k ≡ i = cc in
         subst (λ n. n < length es) k_is (position-within (is_for q) es k e).0
     by None e true r =
-        let none : None ≡ Some i = ap₂ (λ o b. option_or o (if b then None else position (λ x. x.deadline == least_deadline es) es)) (sym e) (sym r) ∙ h in
+        let none : None ≡ Some i = ap₂ (λ o b. option_or o (if b then None else position (λ x. x.valid_until == least_deadline es) es)) (sym e) (sym r) ∙ h in
         cc
     by None e false r =
-        (position-within (λ x. x.deadline == least_deadline es) es i (ap₂ (λ o b. option_or o (if b then None else position (λ x. x.deadline == least_deadline es) es)) (sym e) (sym r) ∙ h)).0
+        (position-within (λ x. x.valid_until == least_deadline es) es i (ap₂ (λ o b. option_or o (if b then None else position (λ x. x.valid_until == least_deadline es) es)) (sym e) (sym r) ∙ h)).0
 
 pub IsCache-none : (capacity : ℕ) → IsCache capacity []
 unfolding IsDistinct

@@ -11,9 +11,9 @@ use std::marker::Model;
 #[derive(Drop)]
 pub struct CacheEntry {
     pub query: Query,
-    pub outcome: Result<Message, NetError>,
-    pub moment: u64,
-    pub deadline: u64,
+    pub result: Result<Message, NetError>,
+    pub original_time: u64,
+    pub valid_until: u64,
 }
 
 impl Model for CacheEntry {
@@ -21,7 +21,7 @@ impl Model for CacheEntry {
 
     ghost Value = { Entry };
 
-    ghost view = { λ e. record { query = e.query; outcome = e.outcome; moment = e.moment; deadline = e.deadline } };
+    ghost view = { λ e. record { query = e.query; result = e.result; original_time = e.original_time; valid_until = e.valid_until } };
 }
 
 impl CacheEntry {
@@ -29,8 +29,8 @@ impl CacheEntry {
     pub fn aged_result(&self, now: u64) -> Result<Message, NetError>
         ensures { (result ≡ aged_result now self.now) ⊎ (result ≡ Err NetError.OutOfMemory) }
     {
-        let seconds = age(self.moment, now);
-        match &self.outcome {
+        let seconds = age(self.original_time, now);
+        match &self.result {
             Ok(message) => {
                 let mut copy = message.clone()?;
                 age_message(&mut copy, seconds);
@@ -70,9 +70,9 @@ fn positive_entry(config: &TtlConfig, query: Query, mut message: Message, now: u
     let lifetime = config.positive_lifetime(&query, &message);
     CacheEntry {
         query,
-        outcome: Ok(message),
-        moment: now,
-        deadline: now.saturating_add(lifetime),
+        result: Ok(message),
+        original_time: now,
+        valid_until: now.saturating_add(lifetime),
     }
 }
 
@@ -82,8 +82,8 @@ fn negative_entry(config: &TtlConfig, query: Query, negative: NoRecords, now: u6
     let lifetime = config.negative_lifetime(&query, &negative);
     CacheEntry {
         query,
-        outcome: Err(NetError::from(negative)),
-        moment: now,
-        deadline: now.saturating_add(lifetime),
+        result: Err(NetError::from(negative)),
+        original_time: now,
+        valid_until: now.saturating_add(lifetime),
     }
 }

@@ -27,10 +27,10 @@ pub fn leaving(entries: &[CacheEntry], capacity: u64, query: &Query) -> Option<u
 
 // The place of the first entry of the least deadline.
 fn earliest(entries: &[CacheEntry]) -> Option<usize>
-    ensures { result ≡ position (λ e. e.deadline == least_deadline entries.now) entries.now }
+    ensures { result ≡ position (λ e. e.valid_until == least_deadline entries.now) entries.now }
 {
     let least = soonest(entries);
-    entries.iter().position(|e| e.deadline == least)
+    entries.iter().position(|e| e.valid_until == least)
 }
 
 fn soonest(entries: &[CacheEntry]) -> u64
@@ -39,9 +39,9 @@ fn soonest(entries: &[CacheEntry]) -> u64
     let Some((first, rest)) = entries.split_first() else {
         return 0;
     };
-    let mut least = first.deadline;
+    let mut least = first.valid_until;
     for e in rest {
-        least = least.min(e.deadline);
+        least = least.min(e.valid_until);
     }
     least
 }

@@ -150,10 +150,10 @@ impl ResponseCache {
         ensures { result ≡ not_after_current self.now.entries now entry }
     {
         let deadline = match self.current(&entry.query, now) {
-            Some(current) => entry.deadline.min(current.deadline),
-            None => entry.deadline,
+            Some(current) => entry.valid_until.min(current.valid_until),
+            None => entry.valid_until,
         };
-        entry.deadline = deadline;
+        entry.valid_until = deadline;
         entry
     }
 
@@ -162,6 +162,6 @@ impl ResponseCache {
     {
         self.entries
             .iter()
-            .find(|e| *query == e.query && now <= e.deadline)
+            .find(|e| *query == e.query && now <= e.valid_until)
     }
 }

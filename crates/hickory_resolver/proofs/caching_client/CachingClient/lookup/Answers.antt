@@ -15,8 +15,8 @@ returns-in-Some g c = rw (← c.self.view_is) (record {
 pub returns : goal.returns
 returns g c = rw (← c.self.view_is) (record {
   asks = record { query = c.args.query; outcome = c.send-outcome.result } ∷ [];
-  led = (c.send-outcome.new.self, c.send-outcome.ensures, c.settle.ensures.stays.handle_is);
-  reply = λ direct. asked_reply _ _ c.send-outcome.result _ _ c.get.result c.in_default.not-Some c.get.ensures (c.settle.ensures.settled (kind_of c.send-outcome.result) (never_fails c.send-outcome.result) c.classify.ensures) direct;
+  led = (c.send-outcome.new.self, c.send-outcome.ensures, c.finish.ensures.stays.handle_is);
+  reply = λ direct. asked_reply _ _ c.send-outcome.result _ _ c.get.result c.in_default.not-Some c.get.ensures (c.finish.ensures.settled (kind_of c.send-outcome.result) (never_fails c.send-outcome.result) c.classify.ensures) direct;
   once = omega arith;
-  option_stays = c.settle.ensures.stays.option_is;
+  option_stays = c.finish.ensures.stays.option_is;
 })
