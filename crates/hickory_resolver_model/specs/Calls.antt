@@ -1,9 +1,10 @@
 -- What a call of the resolver comes to: look-ups of its questions, one after another, and a reply made of their results.
-use Rattle.std.specs.Prelude.{◌≡◌, ◌⊎◌, ℕ, Bool, true, false, not, ◌||◌, List, [], ◌∷◌, ◌++◌, flat_map, Option, Some, None, Ok, Err}
+use Rattle.std.specs.Prelude.{◌≡◌, ◌⊎◌, ℕ, Bool, true, false, not, ◌||◌, List, [], ◌∷◌, ◌++◌, map, flat_map, Option, Some, None, Ok, Err, if◌then◌else◌}
 use Rattle.hickory_proto_core.specs.Name.{NameValue}
 use Rattle.hickory_proto_core.specs.Query.{root_query}
 use Rattle.hickory_proto_core.specs.ResponseKind.{is_empty}
-use Rattle.hickory_proto_core.specs.Records.{DataValue, RecordValue}
+use Rattle.hickory_proto_core.specs.Records.{data_type, data_of_address}
+use Rattle.std.specs.declared.net.IpAddr.{IpAddr}
 use Rattle.hickory_proto_core.specs.records.query.Query.{Query}
 use Rattle.hickory_proto_core.specs.codes.record_type.RecordType.{RecordType}
 use Rattle.hickory_proto_core.specs.codes.dns_class.DNSClass.TheVariants as class
@@ -90,63 +91,95 @@ both_results (Ok l) (Err e) = Ok l
 both_results (Err e) (Ok k) = Ok k
 both_results (Err e) (Err f) = Err e
 
--- two parts, the second over the cache that the first left
-pub record AreTwo (Answers : SubLookupRelation) (looked : Bool) (before : CacheValue) (q r : Query) (parts : List SubLookup) (after : CacheValue) : Type 0 where
-  pub first : SubLookup
-  pub second : SubLookup
-  pub between : CacheValue
-  pub are : parts ≡ first ∷ second ∷ []
-  pub first_is : Answers looked before q first between
-  pub second_is : Answers looked between r second after
-  pub goes_on : is_out_of_memory first.result ≡ false
+-- The next type that is looked up for a name after these results; none where the attempt is over. Out of memory ends it.
+abbrev pub next_type : Plan → List LookupResult → Option RecordType
+next_type (One t) [] = Some t
+next_type (One t) (r ∷ rs) = None
+next_type (Both t u) [] = Some t
+next_type (Both t u) (r ∷ []) = if is_out_of_memory r then None else Some u
+next_type (Both t u) (r ∷ k ∷ rs) = None
+next_type (Fallback t u) [] = Some t
+next_type (Fallback t u) (r ∷ []) = if has_answers r || is_out_of_memory r then None else Some u
+next_type (Fallback t u) (r ∷ k ∷ rs) = None
 
--- one part
-pub record IsOne (Answers : SubLookupRelation) (looked : Bool) (before : CacheValue) (q : Query) (parts : List SubLookup) (after : CacheValue) : Type 0 where
-  pub part : SubLookup
-  pub are : parts ≡ part ∷ []
-  pub is : Answers looked before q part after
+-- The result of an attempt, by the results of its sub-look-ups: the last one's; where both types are wanted, both as one.
+abbrev pub attempt_result : Plan → List LookupResult → LookupResult
+attempt_result plan [] = Err OutOfMemory
+attempt_result plan (r ∷ []) = r
+attempt_result (One t) (r ∷ k ∷ rs) = k
+attempt_result (Both t u) (r ∷ k ∷ rs) = if is_out_of_memory k then k else both_results r k
+attempt_result (Fallback t u) (r ∷ k ∷ rs) = k
 
--- An attempt at a name: its parts, the result made of theirs, and the cache after it. Want of memory ends it at once.
-abbrev pub IsAttempt : SubLookupRelation → Bool → CacheValue → NameValue → Plan → List SubLookup → LookupResult → CacheValue → Type 0
-IsAttempt Answers looked before n (One t) parts result after =
-    (one : IsOne Answers looked before (question_of n t) parts after) × (result ≡ one.part.result)
-IsAttempt Answers looked before n (Both t u) parts result after =
-    ((one : IsOne Answers looked before (question_of n t) parts after) × (is_out_of_memory one.part.result ≡ true) × (result ≡ one.part.result))
-    ⊎ ((two : AreTwo Answers looked before (question_of n t) (question_of n u) parts after)
-    × (((is_out_of_memory two.second.result ≡ false) × ((result ≡ both_results two.first.result two.second.result) ⊎ (result ≡ Err OutOfMemory)))
-    ⊎ ((is_out_of_memory two.second.result ≡ true) × (result ≡ Err OutOfMemory))))
-IsAttempt Answers looked before n (Fallback t u) parts result after =
-    ((one : IsOne Answers looked before (question_of n t) parts after) × ((has_answers one.part.result || is_out_of_memory one.part.result) ≡ true) × (result ≡ one.part.result))
-    ⊎ ((two : AreTwo Answers looked before (question_of n t) (question_of n u) parts after) × (has_answers two.first.result ≡ false) × (result ≡ two.second.result))
+-- whether two results are made one, which may find no memory
+abbrev pub joins_results : Plan → List LookupResult → Bool
+joins_results (Both t u) (r ∷ k ∷ rs) = true
+joins_results plan results = false
+
+-- The sub-look-ups of an attempt at a name, each over the cache that the one before it left, after those with these results.
+abbrev pub AreSubLookups : SubLookupRelation → Bool → NameValue → Plan → CacheValue → List LookupResult → List SubLookup → CacheValue → Type 0
+AreSubLookups Answers looked n plan before results [] after = (next_type plan results ≡ None) × (after ≡ before)
+AreSubLookups Answers looked n plan before results (p ∷ ps) after =
+    (t : RecordType) × (mid : CacheValue) × (next_type plan results ≡ Some t) × Answers looked before (question_of n t) p mid
+    × AreSubLookups Answers looked n plan mid (results ++ p.result ∷ []) ps after
+
+abbrev pub results_of : List SubLookup → List LookupResult
+results_of parts = map (λ p. p.result) parts
+
+-- An attempt at a name: its sub-look-ups, the result made of theirs, and the cache after it.
+pub record IsAttempt
+    (Answers : SubLookupRelation) (looked : Bool) (before : CacheValue) (n : NameValue) (plan : Plan)
+    (parts : List SubLookup) (result : LookupResult) (after : CacheValue)
+    : Type 0 where
+  pub are : AreSubLookups Answers looked n plan before [] parts after
+  pub result_is :
+    (result ≡ attempt_result plan (results_of parts))
+    ⊎ ((joins_results plan (results_of parts) ≡ true) × (result ≡ Err OutOfMemory))
 
 -- an attempt after which no other is made
 abbrev pub stops : LookupResult → Bool
 stops r = has_answers r || is_out_of_memory r
 
 -- the reply where no attempt has answers: the literal address, if there is one, else the last result
-abbrev pub IsFallback : Option LookupValue → LookupResult → LookupResult → Type 0
-IsFallback None last result = result ≡ last
-IsFallback (Some literal) last result = (result ≡ Ok literal) ⊎ (result ≡ Err OutOfMemory)
+abbrev pub IsLastReply : Option LookupValue → LookupResult → LookupResult → Type 0
+IsLastReply None last result = result ≡ last
+IsLastReply (Some literal) last result = (result ≡ Ok literal) ⊎ (result ≡ Err OutOfMemory)
 
--- Attempts at these names in order, none after the first that has answers. The hosts are looked at for the first name, and perhaps
--- for the others.
-abbrev pub AreAttempts : SubLookupRelation → Bool → Bool → Plan → Option LookupValue → CacheValue → List NameValue → LookupResult → List SubLookup → LookupResult → CacheValue → Type 0
-AreAttempts Answers looked later plan literal before [] last parts result after = (parts ≡ []) × IsFallback literal last result × (after ≡ before)
-AreAttempts Answers looked later plan literal before (n ∷ ns) last parts result after =
-    (front : List SubLookup) × (back : List SubLookup) × (r : LookupResult) × (mid : CacheValue) × (parts ≡ front ++ back) × IsAttempt Answers looked before n plan front r mid
+-- What a call does with each name: the types that are looked up, whether the hosts are looked at for every name or for the
+-- first alone, and the literal address that stands in where no attempt has answers.
+pub record CallPlan : Type 0 where
+  pub types : Plan
+  pub hosts_for_all : Bool
+  pub literal : Option LookupValue
+
+-- Attempts at these names in order, none after the first that has answers, and the reply of the call. The flag says whether
+-- the hosts are looked at for the first of the names; without a name left the reply is the last resort or the last result.
+abbrev pub AreAttempts : SubLookupRelation → CallPlan → Bool → CacheValue → List NameValue → LookupResult → List SubLookup → LookupResult → CacheValue → Type 0
+AreAttempts Answers plan looked before [] last parts result after =
+    (parts ≡ []) × IsLastReply plan.literal last result × (after ≡ before)
+AreAttempts Answers plan looked before (n ∷ ns) last parts result after =
+    (front : List SubLookup) × (back : List SubLookup) × (r : LookupResult) × (mid : CacheValue)
+    × (parts ≡ front ++ back) × IsAttempt Answers looked before n plan.types front r mid
     × (((stops r ≡ true) × (back ≡ []) × (result ≡ r) × (after ≡ mid))
-    ⊎ ((stops r ≡ false) × AreAttempts Answers later later plan literal mid ns r back result after))
+    ⊎ ((stops r ≡ false) × AreAttempts Answers plan plan.hosts_for_all mid ns r back result after))
 
 -- an address as the reply that it is by itself, for a day: owned by this name, under this question
-abbrev pub literal_lookup : Query → NameValue → DataValue → ℕ → LookupValue
+abbrev pub literal_lookup : Query → NameValue → IpAddr → ℕ → LookupValue
 literal_lookup q owner address now = record {
-  message = response_to q (record { name = owner; dns_class = class.IN; ttl = day; rdata = address } ∷ []);
+  message = response_to q (record { name = owner; dns_class = class.IN; ttl = day; rdata = data_of_address address } ∷ []);
   valid_until = saturating_sum now day;
 }
 
--- the literal address as the last resort: under the question for the root, owned by the relative name without labels
-abbrev pub last_resort : DataValue → ℕ → LookupValue
-last_resort address now = literal_lookup root_query (record { labels = []; fqdn = false }) address now
+-- the relative name without labels
+abbrev pub no_name : NameValue
+no_name = record { labels = []; fqdn = false }
+
+-- the address as the reply at once: owned by the name that was read, or by the name without labels, under a question for it
+abbrev pub literal_at_once : NameValue → IpAddr → ℕ → LookupValue
+literal_at_once owner address now = literal_lookup (question_of owner (data_type (data_of_address address))) owner address now
+
+-- the address as the last resort: under the question for the root, owned by the name without labels
+abbrev pub literal_at_last : IpAddr → ℕ → LookupValue
+literal_at_last address now = literal_lookup root_query no_name address now
 
 -- the exchanges of parts, in order
 abbrev pub asks_of_sub_lookups : List SubLookup → List Exchange

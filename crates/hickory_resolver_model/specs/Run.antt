@@ -1,10 +1,9 @@
 -- A run: a list of requests, one after another, over one cache; the exchanges of the whole run are cut into one piece for each.
-use Rattle.std.specs.Prelude.{◌≡◌, ◌⊎◌, ℕ, ◌≤◌, Bool, true, false, List, [], ◌∷◌, length, map, flat_map, Option, Some, None, Result, Ok, Err}
+use Rattle.std.specs.Prelude.{◌≡◌, ◌⊎◌, ℕ, Bool, nat_le, if◌then◌else◌, true, false, List, [], ◌∷◌, length, map, flat_map, Option, Some, None, Result, Ok, Err}
 use Rattle.hickory_proto_core.specs.Name.{NameValue}
-use Rattle.hickory_proto_core.specs.NameText.{Spells, HasFault}
+use Rattle.hickory_proto_core.specs.NameDecided.{IsReading}
+use Rattle.hickory_proto_core.specs.NameGiven.{IsReadAddress}
 use Rattle.hickory_proto_core.specs.NetErrors.{net_error_of}
-use Rattle.hickory_proto_core.specs.Addresses.{IsAddressText}
-use Rattle.hickory_proto_core.specs.Records.{data_type, data_of_address}
 use Rattle.hickory_proto_core.specs.Handles.{Step, Leads}
 use Rattle.hickory_proto_core.specs.codes.record_type.RecordType.{RecordType}
 use Rattle.hickory_proto_core.specs.codes.record_type.RecordType.TheVariants as type
@@ -18,7 +17,7 @@ use Rattle.hickory_resolver_model.specs.Cache.{CacheValue, without_query}
 use Rattle.hickory_resolver_model.specs.Lookup.{LookupValue, LookupResult}
 use Rattle.hickory_resolver_model.specs.Hosts.{Host}
 use Rattle.hickory_resolver_model.specs.Attempts.{Search, attempts}
-use Rattle.hickory_resolver_model.specs.Calls.{Setting, Plan, One, Both, Fallback, SubLookup, SubLookupRelation, IsSubLookupFor, AreAttempts, literal_lookup, last_resort, asks_of_sub_lookups, question_of, is_out_of_memory}
+use Rattle.hickory_resolver_model.specs.Calls.{Setting, Plan, One, Both, Fallback, SubLookup, SubLookupRelation, IsSubLookupFor, CallPlan, AreAttempts, no_name, literal_at_once, literal_at_last, asks_of_sub_lookups, question_of, is_out_of_memory}
 
 -- which addresses a look-up of addresses asks for
 pub data Strategy : Type 0 where
@@ -70,63 +69,69 @@ ends_run (LookedUp r) = is_out_of_memory r
 ends_run (Cleared (Ok u)) = false
 ends_run (Cleared (Err e)) = true
 
--- A look-up of a name: its attempts, the hosts being looked at for the first one; or the fault of a text that is no name, and nothing
--- asked. Want of memory may come before the first part.
-abbrev pub IsNameLookup : SubLookupRelation → Settings → CacheValue → List ℕ → RecordType → ℕ → List SubLookup → LookupResult → CacheValue → Type 0
-IsNameLookup Answers s before text t now parts reply after =
-    ((n : NameValue) × Spells text n × AreAttempts Answers true false (One t) None before (attempts s.search n) (Err OutOfMemory) parts reply after)
-    ⊎ ((fault : NameError) × HasFault text fault × (parts ≡ []) × (reply ≡ Err (net_error_of fault)) × (after ≡ before))
-    ⊎ ((parts ≡ []) × (reply ≡ Err OutOfMemory) × (after ≡ before))
+-- What is given for a name: the address that it spells, if it spells one, and the name, or why it is none.
+pub record GivenName : Type 0 where
+  pub address : Option IpAddr
+  pub name : Result NameValue NameError
 
--- the name that an address text is given for: the name that it spells, or the relative name without labels
-abbrev pub IsLiteralOwner : List ℕ → NameValue → Type 0
-IsLiteralOwner text n = Spells text n ⊎ (((m : NameValue) → Spells text m → ⊥) × (n ≡ record { labels = []; fqdn = false }))
+-- what a text gives
+abbrev pub IsGivenBy : List ℕ → GivenName → Type 0
+IsGivenBy text given = IsReadAddress text given.address × IsReading text given.name
 
--- An address text is the reply by itself, and nothing is asked, where few dots make a name absolute or it is no name.
-pub record IsLiteral (s : Settings) (before : CacheValue) (text : List ℕ) (now : ℕ) (parts : List SubLookup) (reply : LookupResult) (after : CacheValue) : Type 0 where
-  pub address : IpAddr
-  pub spelled : IsAddressText text address
-  pub at_once : (s.search.ndots ≤ 4) ⊎ ((m : NameValue) → Spells text m → ⊥)
-  pub owner : NameValue
-  pub owner_is : IsLiteralOwner text owner
-  pub nothing_asked : parts ≡ []
-  pub reply_is : reply ≡ Ok (literal_lookup (question_of owner (data_type (data_of_address address))) owner (data_of_address address) now)
-  pub unchanged : after ≡ before
+-- what a look-up does: it answers at once, or attempts a name
+pub data Call : Type 0 where
+  AtOnce : LookupResult → Call
+  Attempt : NameValue → CallPlan → Call
 
--- the address that stands in where no attempt has answers: the text's, if it is one
-abbrev pub IsLastResort : List ℕ → ℕ → Option LookupValue → Type 0
-IsLastResort text now None = (address : IpAddr) → IsAddressText text address → ⊥
-IsLastResort text now (Some literal) = (address : IpAddr) × IsAddressText text address × (literal ≡ last_resort (data_of_address address) now)
+-- A look-up of a name: the hosts are looked at for the first name that is attempted. What is no name is answered its fault.
+abbrev pub name_call : RecordType → Result NameValue NameError → Call
+name_call t (Ok n) = Attempt n (record { types = One t; hosts_for_all = false; literal = None })
+name_call t (Err fault) = AtOnce (Err (net_error_of fault))
 
--- the address is not the reply by itself
-abbrev pub IsAttempted : Settings → List ℕ → Type 0
-IsAttempted s text = ((address : IpAddr) → IsAddressText text address → ⊥) ⊎ (5 ≤ s.search.ndots)
+-- the attempts of a look-up of addresses: the hosts are looked at for every name
+abbrev pub address_plan : Strategy → Option LookupValue → CallPlan
+address_plan strategy literal = record { types = plan_of strategy; hosts_for_all = true; literal = literal }
 
--- A look-up of addresses: a literal; or its attempts, the hosts being looked at for every name, with the address as the last resort;
--- or the fault of a text that is neither.
-abbrev pub IsAddressLookup : SubLookupRelation → Settings → CacheValue → List ℕ → ℕ → List SubLookup → LookupResult → CacheValue → Type 0
-IsAddressLookup Answers s before text now parts reply after =
-    IsLiteral s before text now parts reply after
-    ⊎ ((n : NameValue) × (literal : Option LookupValue) × Spells text n × IsAttempted s text × IsLastResort text now literal
-    × AreAttempts Answers true true (plan_of s.strategy) literal before (attempts s.search n) (Err OutOfMemory) parts reply after)
-    ⊎ ((fault : NameError) × HasFault text fault × ((address : IpAddr) → IsAddressText text address → ⊥) × (parts ≡ []) × (reply ≡ Err (net_error_of fault)) × (after ≡ before))
-    ⊎ ((parts ≡ []) × (reply ≡ Err OutOfMemory) × (after ≡ before))
+-- A look-up of addresses: an address is the reply at once where few dots make a name absolute or it is no name; else it is
+-- the last resort. What is neither an address nor a name is answered its fault.
+abbrev pub address_call : Settings → Option IpAddr → Result NameValue NameError → ℕ → Call
+address_call s None (Ok n) now = Attempt n (address_plan s.strategy None)
+address_call s None (Err fault) now = AtOnce (Err (net_error_of fault))
+address_call s (Some address) (Ok n) now =
+    if nat_le s.search.ndots 4 then AtOnce (Ok (literal_at_once n address now))
+    else Attempt n (address_plan s.strategy (Some (literal_at_last address now)))
+address_call s (Some address) (Err fault) now = AtOnce (Ok (literal_at_once no_name address now))
 
--- the cache without the questions of a name's attempts; a text that is no name clears nothing
+-- the reply, the sub-look-ups and the cache after a look-up, which are answered in this way
+abbrev pub IsCall : SubLookupRelation → Settings → CacheValue → Call → List SubLookup → LookupResult → CacheValue → Type 0
+IsCall Answers s before (AtOnce answer) parts reply after = (parts ≡ []) × (reply ≡ answer) × (after ≡ before)
+IsCall Answers s before (Attempt n plan) parts reply after =
+    AreAttempts Answers plan true before (attempts s.search n) (Err OutOfMemory) parts reply after
+
+-- memory ran out before anything was asked
+abbrev pub IsUnserved : CacheValue → List SubLookup → LookupResult → CacheValue → Type 0
+IsUnserved before parts reply after = (parts ≡ []) × (reply ≡ Err OutOfMemory) × (after ≡ before)
+
+-- the cache without the questions of a name's attempts; what is no name clears nothing
 abbrev pub drop_each : RecordType → List NameValue → CacheValue → CacheValue
 drop_each t [] cache = cache
 drop_each t (n ∷ ns) cache = drop_each t ns (without_query cache (question_of n t))
 
-abbrev pub IsClear : Settings → CacheValue → List ℕ → RecordType → CacheValue → Type 0
-IsClear s before text t after =
-    ((n : NameValue) × Spells text n × (after ≡ drop_each t (attempts s.search n) before))
-    ⊎ ((fault : NameError) × HasFault text fault × (after ≡ before))
+abbrev pub after_clear : Settings → RecordType → Result NameValue NameError → CacheValue → CacheValue
+after_clear s t (Ok n) cache = drop_each t (attempts s.search n) cache
+after_clear s t (Err fault) cache = cache
 
--- a request is served: its parts, each of which is answered in this way, what it is answered, and the cache after it
+-- a request is served: its sub-look-ups, each of which is answered in this way, what it is answered, and the cache after it
 abbrev pub IsServed : (ℕ → SubLookupRelation) → Settings → CacheValue → RequestValue → List SubLookup → StepReply → CacheValue → Type 0
-IsServed Answers s before (Lookup text t now) parts (LookedUp reply) after = IsNameLookup (Answers now) s before text t now parts reply after
-IsServed Answers s before (LookupIp text now) parts (LookedUp reply) after = IsAddressLookup (Answers now) s before text now parts reply after
-IsServed Answers s before (ClearLookup text t now) parts (Cleared (Ok u)) after = (parts ≡ []) × IsClear s before text t after
+IsServed Answers s before (Lookup text t now) parts (LookedUp reply) after =
+    ((name : Result NameValue NameError) × IsReading text name × IsCall (Answers now) s before (name_call t name) parts reply after)
+    ⊎ IsUnserved before parts reply after
+IsServed Answers s before (LookupIp text now) parts (LookedUp reply) after =
+    ((given : GivenName) × IsGivenBy text given
+    × IsCall (Answers now) s before (address_call s given.address given.name now) parts reply after)
+    ⊎ IsUnserved before parts reply after
+IsServed Answers s before (ClearLookup text t now) parts (Cleared (Ok u)) after =
+    (parts ≡ []) × ((name : Result NameValue NameError) × IsReading text name × (after ≡ after_clear s t name before))
 IsServed Answers s before (ClearLookup text t now) parts (Cleared (Err e)) after = (parts ≡ []) × (e ≡ OutOfMemory) × (after ≡ before)
 IsServed Answers s before (Clear now) parts (Cleared (Ok u)) after = (parts ≡ []) × (after ≡ record before { entries = [] })
 IsServed Answers s before _ parts _ after = ⊥
@@ -135,7 +140,7 @@ IsServed Answers s before _ parts _ after = ⊥
 pub record StepValue : Type 0 where
   pub now : ℕ
   pub exchanges : ℕ
-  pub response_to : StepReply
+  pub reply : StepReply
 
 -- a step with what it was made of: the request, the cache before it, its piece of the exchanges, and its parts
 pub record Stage : Type 0 where
@@ -147,7 +152,7 @@ pub record Stage : Type 0 where
 
 -- the request is served, and asks exactly the questions of its piece
 pub record IsStage (s : Settings) (stage : Stage) (after : CacheValue) : Type 0 where
-  pub served : IsServed (λ now. IsSubLookupFor (setting_at s now)) s stage.before stage.request stage.parts stage.step.response_to after
+  pub served : IsServed (λ now. IsSubLookupFor (setting_at s now)) s stage.before stage.request stage.parts stage.step.reply after
   pub piece_is : stage.piece ≡ asks_of_sub_lookups stage.parts
   pub now_is : stage.step.now ≡ moment_of stage.request
   pub count_is : stage.step.exchanges ≡ length stage.piece
@@ -157,8 +162,8 @@ abbrev pub AreStages : Settings → CacheValue → List RequestValue → List St
 AreStages s before [] [] after = after ≡ before
 AreStages s before (request ∷ requests) (stage ∷ stages) after =
     (mid : CacheValue) × (stage.request ≡ request) × (stage.before ≡ before) × IsStage s stage mid
-    × (((ends_run stage.step.response_to ≡ true) × (stages ≡ []) × (after ≡ mid))
-    ⊎ ((ends_run stage.step.response_to ≡ false) × AreStages s mid requests stages after))
+    × (((ends_run stage.step.reply ≡ true) × (stages ≡ []) × (after ≡ mid))
+    ⊎ ((ends_run stage.step.reply ≡ false) × AreStages s mid requests stages after))
 AreStages s before _ _ after = ⊥
 
 abbrev pub exchanges_of : List Stage → List Exchange

@@ -1,12 +1,14 @@
 -- The parts of a call, one after another, each over the cache that the one before it left.
-use Rattle.std.proofs.Common.{◌≡◌, ℕ, Bool, List, [], ◌∷◌, ◌++◌, Option, refl, sym, subst, inl, inr}
+use Rattle.std.proofs.Common.{◌≡◌, ◌⊎◌, ℕ, Bool, true, List, [], ◌∷◌, ◌++◌, Result, sym, subst, inl, inr}
 use Rattle.hickory_proto_core.specs.Name.{NameValue}
+use Rattle.hickory_proto_core.specs.NameDecided.{IsReading}
+use Rattle.hickory_proto_core.specs.names.name_error.NameError.{NameError}
 use Rattle.hickory_proto_core.specs.records.query.Query.{Query}
 use Rattle.hickory_proto_core.specs.codes.record_type.RecordType.{RecordType}
 use Rattle.hickory_resolver_model.specs.Cache.{CacheValue}
-use Rattle.hickory_resolver_model.specs.Lookup.{LookupValue, LookupResult}
-use Rattle.hickory_resolver_model.specs.Calls.{SubLookup, SubLookupRelation, Plan, One, Both, Fallback, IsOne, AreTwo, IsAttempt, AreAttempts, question_of}
-use Rattle.hickory_resolver_model.specs.Run.{Settings, IsNameLookup, IsAddressLookup}
+use Rattle.hickory_resolver_model.specs.Lookup.{LookupResult}
+use Rattle.hickory_resolver_model.specs.Calls.{SubLookup, SubLookupRelation, Plan, AreSubLookups, CallPlan, AreAttempts, question_of}
+use Rattle.hickory_resolver_model.specs.Run.{Settings, GivenName, IsGivenBy, Call, AtOnce, Attempt, name_call, address_call, IsCall, IsUnserved}
 
 -- parts that answer some questions, from one cache to another
 abbrev pub Chain : SubLookupRelation → CacheValue → List SubLookup → CacheValue → Type 0
@@ -17,39 +19,40 @@ pub chain-append : (Answers : SubLookupRelation) (before mid after : CacheValue)
 chain-append Answers before mid after [] qs e k = subst (λ c. Chain Answers c qs after) e k
 chain-append Answers before mid after (p ∷ ps) qs (looked, q, next, is, rest) k = (looked, q, next, is, chain-append Answers next mid after ps qs rest k)
 
-chain-one : (Answers : SubLookupRelation) (looked : Bool) (before : CacheValue) (q : Query) (parts : List SubLookup) (after : CacheValue) → IsOne Answers looked before q parts after → Chain Answers before parts after
-chain-one Answers looked before q parts after one = subst (λ ps. Chain Answers before ps after) (sym one.are) (looked, q, after, one.is, refl)
-
-chain-two : (Answers : SubLookupRelation) (looked : Bool) (before : CacheValue) (q r : Query) (parts : List SubLookup) (after : CacheValue) → AreTwo Answers looked before q r parts after → Chain Answers before parts after
-chain-two Answers looked before q r parts after two = subst (λ ps. Chain Answers before ps after) (sym two.are) (looked, q, two.between, two.first_is, (looked, r, after, two.second_is, refl))
-
-pub chain-attempt : (Answers : SubLookupRelation) (looked : Bool) (before : CacheValue) (n : NameValue) (plan : Plan) (parts : List SubLookup) (result : LookupResult) (after : CacheValue) → IsAttempt Answers looked before n plan parts result after → Chain Answers before parts after
-chain-attempt Answers looked before n (One t) parts result after (one, e) = chain-one Answers looked before (question_of n t) parts after one
-chain-attempt Answers looked before n (Both t u) parts result after (inl (one, is, e)) = chain-one Answers looked before (question_of n t) parts after one
-chain-attempt Answers looked before n (Both t u) parts result after (inr (two, e)) = chain-two Answers looked before (question_of n t) (question_of n u) parts after two
-chain-attempt Answers looked before n (Fallback t u) parts result after (inl (one, is, e)) = chain-one Answers looked before (question_of n t) parts after one
-chain-attempt Answers looked before n (Fallback t u) parts result after (inr (two, is, e)) = chain-two Answers looked before (question_of n t) (question_of n u) parts after two
+pub chain-subs : (Answers : SubLookupRelation) (looked : Bool) (n : NameValue) (plan : Plan) (before : CacheValue) (results : List LookupResult) (parts : List SubLookup) (after : CacheValue)
+    → AreSubLookups Answers looked n plan before results parts after → Chain Answers before parts after
+chain-subs Answers looked n plan before results [] after (over, same) = same
+chain-subs Answers looked n plan before results (p ∷ ps) after (t, mid, next, is, rest) =
+    (looked, question_of n t, mid, is, chain-subs Answers looked n plan mid (results ++ p.result ∷ []) ps after rest)
 
 chain-none : (Answers : SubLookupRelation) (before : CacheValue) (parts : List SubLookup) (after : CacheValue) → parts ≡ [] → after ≡ before → Chain Answers before parts after
 chain-none Answers before parts after e same = subst (λ ps. Chain Answers before ps after) (sym e) same
 
-pub chain-attempts : (Answers : SubLookupRelation) (looked later : Bool) (plan : Plan) (literal : Option LookupValue) (before : CacheValue) (names : List NameValue) (last : LookupResult) (parts : List SubLookup) (result : LookupResult) (after : CacheValue)
-    → AreAttempts Answers looked later plan literal before names last parts result after → Chain Answers before parts after
-chain-attempts Answers looked later plan literal before [] last parts result after (none, is, same) = chain-none Answers before parts after none same
-chain-attempts Answers looked later plan literal before (n ∷ ns) last parts result after (front, back, r, mid, are, attempt, inl (stopped, none, e, same)) =
+pub chain-attempts : (Answers : SubLookupRelation) (plan : CallPlan) (looked : Bool) (before : CacheValue) (names : List NameValue) (last : LookupResult) (parts : List SubLookup) (result : LookupResult) (after : CacheValue)
+    → AreAttempts Answers plan looked before names last parts result after → Chain Answers before parts after
+chain-attempts Answers plan looked before [] last parts result after (none, is, same) = chain-none Answers before parts after none same
+chain-attempts Answers plan looked before (n ∷ ns) last parts result after (front, back, r, mid, are, attempt, inl (stopped, none, e, same)) =
     subst (λ ps. Chain Answers before ps after) (sym are)
-    (chain-append Answers before mid after front back (chain-attempt Answers looked before n plan front r mid attempt) (chain-none Answers mid back after none same))
-chain-attempts Answers looked later plan literal before (n ∷ ns) last parts result after (front, back, r, mid, are, attempt, inr (on, rest)) =
+    (chain-append Answers before mid after front back (chain-subs Answers looked n plan.types before [] front mid attempt.are) (chain-none Answers mid back after none same))
+chain-attempts Answers plan looked before (n ∷ ns) last parts result after (front, back, r, mid, are, attempt, inr (on, rest)) =
     subst (λ ps. Chain Answers before ps after) (sym are)
-    (chain-append Answers before mid after front back (chain-attempt Answers looked before n plan front r mid attempt) (chain-attempts Answers later later plan literal mid ns r back result after rest))
+    (chain-append Answers before mid after front back (chain-subs Answers looked n plan.types before [] front mid attempt.are) (chain-attempts Answers plan plan.hosts_for_all mid ns r back result after rest))
 
-pub chain-name : (Answers : SubLookupRelation) (s : Settings) (before : CacheValue) (text : List ℕ) (t : RecordType) (now : ℕ) (parts : List SubLookup) (reply : LookupResult) (after : CacheValue) → IsNameLookup Answers s before text t now parts reply after → Chain Answers before parts after
-chain-name Answers s before text t now parts reply after (inl (n, spelled, attempts)) = chain-attempts Answers _ _ _ _ before _ _ parts reply after attempts
-chain-name Answers s before text t now parts reply after (inr (inl (fault, is, none, e, same))) = chain-none Answers before parts after none same
-chain-name Answers s before text t now parts reply after (inr (inr (none, e, same))) = chain-none Answers before parts after none same
+chain-call : (Answers : SubLookupRelation) (s : Settings) (before : CacheValue) (call : Call) (parts : List SubLookup) (reply : LookupResult) (after : CacheValue)
+    → IsCall Answers s before call parts reply after → Chain Answers before parts after
+chain-call Answers s before (AtOnce answer) parts reply after (none, e, same) = chain-none Answers before parts after none same
+chain-call Answers s before (Attempt n plan) parts reply after attempts = chain-attempts Answers plan true before _ _ parts reply after attempts
 
-pub chain-addresses : (Answers : SubLookupRelation) (s : Settings) (before : CacheValue) (text : List ℕ) (now : ℕ) (parts : List SubLookup) (reply : LookupResult) (after : CacheValue) → IsAddressLookup Answers s before text now parts reply after → Chain Answers before parts after
-chain-addresses Answers s before text now parts reply after (inl literal) = chain-none Answers before parts after literal.nothing_asked literal.unchanged
-chain-addresses Answers s before text now parts reply after (inr (inl (n, literal, spelled, attempted, resort, attempts))) = chain-attempts Answers _ _ _ _ before _ _ parts reply after attempts
-chain-addresses Answers s before text now parts reply after (inr (inr (inl (fault, is, no_address, none, e, same)))) = chain-none Answers before parts after none same
-chain-addresses Answers s before text now parts reply after (inr (inr (inr (none, e, same)))) = chain-none Answers before parts after none same
+-- the sub-look-ups of a look-up by a name, and of one for addresses
+pub chain-name : (Answers : SubLookupRelation) (s : Settings) (before : CacheValue) (text : List ℕ) (t : RecordType) (parts : List SubLookup) (reply : LookupResult) (after : CacheValue)
+    → ((name : Result NameValue NameError) × IsReading text name × IsCall Answers s before (name_call t name) parts reply after) ⊎ IsUnserved before parts reply after
+    → Chain Answers before parts after
+chain-name Answers s before text t parts reply after (inl (name, said, is)) = chain-call Answers s before (name_call t name) parts reply after is
+chain-name Answers s before text t parts reply after (inr (none, e, same)) = chain-none Answers before parts after none same
+
+pub chain-addresses : (Answers : SubLookupRelation) (s : Settings) (before : CacheValue) (text : List ℕ) (now : ℕ) (parts : List SubLookup) (reply : LookupResult) (after : CacheValue)
+    → ((given : GivenName) × IsGivenBy text given × IsCall Answers s before (address_call s given.address given.name now) parts reply after) ⊎ IsUnserved before parts reply after
+    → Chain Answers before parts after
+chain-addresses Answers s before text now parts reply after (inl (given, said, is)) =
+    chain-call Answers s before (address_call s given.address given.name now) parts reply after is
+chain-addresses Answers s before text now parts reply after (inr (none, e, same)) = chain-none Answers before parts after none same

@@ -1,5 +1,5 @@
 -- Over a run: each attempt at one name and type asks eight questions at most, and nothing outlives what was received.
-use Rattle.std.proofs.Common.{◌≡◌, ◌⊎◌, ◌≤◌, ℕ, ◌+◌, Bool, not, List, [], ◌∷◌, ◌++◌, length, Ok, Err, append_assoc, append-nil, refl, sym, ap, ap₂, ◌∙◌, subst, arith, inl, inr}
+use Rattle.std.proofs.Common.{◌≡◌, ◌⊎◌, ◌≤◌, ℕ, ◌+◌, Bool, not, List, [], ◌∷◌, ◌++◌, length, Result, Ok, Err, append_assoc, append-nil, refl, sym, ap, ap₂, ◌∙◌, subst, arith, inl, inr}
 use Rattle.std.proofs.lemmas.List.{map-append}
 use Rattle.std.specs.List.{AllByRecursion}
 use Rattle.hickory_proto_core.specs.Name.{NameValue}
@@ -7,13 +7,14 @@ use Rattle.hickory_proto_core.specs.Codes.{type_code}
 use Rattle.hickory_proto_core.specs.Records.{RecordValue}
 use Rattle.hickory_proto_core.specs.records.query.Query.{Query}
 use Rattle.hickory_proto_core.specs.codes.record_type.RecordType.{RecordType}
+use Rattle.hickory_proto_core.specs.names.name_error.NameError.{NameError}
 use Rattle.hickory_proto_core.specs.declared.recorded.Exchange.{Exchange}
 use Rattle.hickory_resolver_model.specs.Bounds.{ConfigValue}
 use Rattle.hickory_resolver_model.specs.Cache.{CacheValue, is_for, without_query, store}
 use Rattle.hickory_resolver_model.specs.Lookup.{LookupResult}
 use Rattle.hickory_resolver_model.specs.Hops.{LookupContext, Store, IsReply, after_stores, stores_of}
 use Rattle.hickory_resolver_model.specs.Calls.{Setting, Source, Static, Client, SubLookup, IsSubLookupBy, IsSubLookupFor, start_at, question_of, asks_of_sub_lookups}
-use Rattle.hickory_resolver_model.specs.Run.{Settings, setting_at, RequestValue, Lookup, LookupIp, ClearLookup, Clear, moment_of, StepReply, LookedUp, Cleared, drop_each, IsClear, IsServed, StepValue, Stage, IsStage, AreStages, Run}
+use Rattle.hickory_resolver_model.specs.Run.{Settings, setting_at, RequestValue, Lookup, LookupIp, ClearLookup, Clear, moment_of, StepReply, LookedUp, Cleared, drop_each, after_clear, IsServed, StepValue, Stage, IsStage, AreStages, Run}
 use Rattle.hickory_resolver_model.specs.Attempts.{attempts}
 use Rattle.hickory_resolver_theorems.specs.Covered.{Dated, dated_exchanges, IsCovered, IsLoopback, greatest_ttl}
 use Rattle.hickory_resolver_theorems.specs.Statements.{IsFreshRecord, IsFreshReply, IsFreshEntry, AreFreshEntries, IsFreshSubLookup, AsksAtMostEight, NothingOutlives}
@@ -120,20 +121,20 @@ good-none now before sources ps after none entries config =
     subst (λ l. AreGoodParts now before sources l after) (sym none)
     (record { few = tt; fresh = tt; entries = subst (AreFreshEntries after) (sym (append-nil sources)) entries; config = config })
 
-good-clear : (s : Settings) (before : CacheValue) (sources : List Dated) (text : List ℕ) (t : RecordType) (now : ℕ) (ps : List SubLookup) (after : CacheValue) → AreFreshEntries before sources → ps ≡ [] → IsClear s before text t after → AreGoodParts now before sources ps after
-good-clear s before sources text t now ps after entries none (inl (n, spelled, e)) =
+good-clear : (s : Settings) (before : CacheValue) (sources : List Dated) (t : RecordType) (name : Result NameValue NameError) (now : ℕ) (ps : List SubLookup) (after : CacheValue) → AreFreshEntries before sources → ps ≡ [] → after ≡ after_clear s t name before → AreGoodParts now before sources ps after
+good-clear s before sources t (Ok n) now ps after entries none e =
     good-none now before sources ps after none (subst (λ c. AreFreshEntries c sources) (sym e) (drop_each-fresh sources t (attempts s.search n) before entries))
     (ap (λ c. c.config) e ∙ drop_each-config t (attempts s.search n) before)
-good-clear s before sources text t now ps after entries none (inr (fault, is, e)) =
+good-clear s before sources t (Err fault) now ps after entries none e =
     good-none now before sources ps after none (subst (λ c. AreFreshEntries c sources) (sym e) entries) (ap (λ c. c.config) e)
 
-good-served : (s : Settings) (before : CacheValue) (sources : List Dated) (request : RequestValue) (ps : List SubLookup) (response_to : StepReply) (after : CacheValue) → AreFreshEntries before sources
-    → IsServed (λ now. IsSubLookupFor (setting_at s now)) s before request ps response_to after → AreGoodParts (moment_of request) before sources ps after
+good-served : (s : Settings) (before : CacheValue) (sources : List Dated) (request : RequestValue) (ps : List SubLookup) (reply : StepReply) (after : CacheValue) → AreFreshEntries before sources
+    → IsServed (λ now. IsSubLookupFor (setting_at s now)) s before request ps reply after → AreGoodParts (moment_of request) before sources ps after
 good-served s before sources (Lookup text t now) ps (LookedUp reply) after entries is =
-    good-chain (setting_at s now) before sources ps after entries (chain-name (IsSubLookupFor (setting_at s now)) s before text t now ps reply after is)
+    good-chain (setting_at s now) before sources ps after entries (chain-name (IsSubLookupFor (setting_at s now)) s before text t ps reply after is)
 good-served s before sources (LookupIp text now) ps (LookedUp reply) after entries is =
     good-chain (setting_at s now) before sources ps after entries (chain-addresses (IsSubLookupFor (setting_at s now)) s before text now ps reply after is)
-good-served s before sources (ClearLookup text t now) ps (Cleared (Ok u)) after entries (none, is) = good-clear s before sources text t now ps after entries none is
+good-served s before sources (ClearLookup text t now) ps (Cleared (Ok u)) after entries (none, (name, said, is)) = good-clear s before sources t name now ps after entries none is
 good-served s before sources (ClearLookup text t now) ps (Cleared (Err e)) after entries (none, out, same) =
     good-none now before sources ps after none (subst (λ c. AreFreshEntries c sources) (sym same) entries) (ap (λ c. c.config) same)
 good-served s before sources (Clear now) ps (Cleared (Ok u)) after entries (none, e) =
@@ -152,7 +153,7 @@ good-served s before sources (Clear now) ps (Cleared (Err e)) after entries is =
 good-stage : (s : Settings) (sources : List Dated) (stage : Stage) (after : CacheValue) → AreFreshEntries stage.before sources → IsStage s stage after
     → AsksAtMostEight stage × AllByRecursion (IsFreshSubLookup stage.before.config (sources ++ dated_exchanges stage.step.now stage.piece) stage.step.now) stage.parts × AreFreshEntries after (sources ++ dated_exchanges stage.step.now stage.piece)
 good-stage s sources stage after entries is =
-    let good = good-served s stage.before sources stage.request stage.parts stage.step.response_to after entries is.served in
+    let good = good-served s stage.before sources stage.request stage.parts stage.step.reply after entries is.served in
     let same : sources ++ dated_exchanges (moment_of stage.request) (asks_of_sub_lookups stage.parts) ≡ sources ++ dated_exchanges stage.step.now stage.piece = ap₂ (λ now xs. sources ++ dated_exchanges now xs) (sym is.now_is) (sym is.piece_is) in (
       good.few,
       subst (λ now. AllByRecursion (IsFreshSubLookup stage.before.config (sources ++ dated_exchanges stage.step.now stage.piece) now) stage.parts) (sym is.now_is)

@@ -134,7 +134,7 @@ IsCacheless table s cache request (Cleared done) = Unit {0}
 
 -- the reply of a step is the cacheless resolver's, want of memory aside
 abbrev pub IsAsWithoutCache : TableValue → Settings → Stage → Type 0
-IsAsWithoutCache table s stage = (ends_run stage.step.response_to ≡ true) ⊎ IsCacheless table s stage.before stage.request stage.step.response_to
+IsAsWithoutCache table s stage = (ends_run stage.step.reply ≡ true) ⊎ IsCacheless table s stage.before stage.request stage.step.reply
 
 -- Where equal questions get equal outcomes (a table tells every exchange of the run), no chain needs a ninth question (in the whole run) and
 -- intermediate records are not preserved, every reply is the cacheless resolver's.

@@ -61,8 +61,8 @@ after_run = record (empty_cache 8) { entries = record { query = asks_a a; result
 
 abbrev pub run_steps : List StepValue
 run_steps =
-    record { now = 0; exchanges = 1; response_to = LookedUp (Ok (found 10 10)) }
-    ∷ record { now = 4; exchanges = 0; response_to = LookedUp (Ok (found 6 10)) } ∷ []
+    record { now = 0; exchanges = 1; reply = LookedUp (Ok (found 10 10)) }
+    ∷ record { now = 4; exchanges = 0; reply = LookedUp (Ok (found 6 10)) } ∷ []
 
 abbrev asked : SubLookup
 asked = record { question = asks_a a; source = Client; asks = run_asks; result = Ok (found 10 10) }
@@ -90,20 +90,20 @@ hit_reply = inl (record {
 not_static : (now : ℕ) → IsStatic (asks_a a) now [] None
 not_static now = (None, no_address, refl)
 
--- each look-up is one attempt of one part
+-- each look-up is one attempt of one sub-look-up
 first_served : IsServed (λ now. IsSubLookupFor (setting_at settings now)) settings (empty_cache 8) (Lookup (codes "a.") type.A 0) (asked ∷ []) (LookedUp (Ok (found 10 10))) after_run
 first_served =
-    inl (a, spells_a, (asked ∷ [], [], Ok (found 10 10), after_run, refl, (record { part = asked; are = refl; is = (refl, record { not_static = inr (not_static 0); reply = asked_reply }) }, refl), inl (refl, refl, refl, refl)))
+    inl (Ok a, spells_a, (asked ∷ [], [], Ok (found 10 10), after_run, refl, record { are = (type.A, after_run, refl, (refl, record { not_static = inr (not_static 0); reply = asked_reply }), (refl, refl)); result_is = inl refl }, inl (refl, refl, refl, refl)))
 
 second_served : IsServed (λ now. IsSubLookupFor (setting_at settings now)) settings after_run (Lookup (codes "a.") type.A 4) (hit ∷ []) (LookedUp (Ok (found 6 10))) after_run
 second_served =
-    inl (a, spells_a, (hit ∷ [], [], Ok (found 6 10), after_run, refl, (record { part = hit; are = refl; is = (refl, record { not_static = inr (not_static 4); reply = hit_reply }) }, refl), inl (refl, refl, refl, refl)))
+    inl (Ok a, spells_a, (hit ∷ [], [], Ok (found 6 10), after_run, refl, record { are = (type.A, after_run, refl, (refl, record { not_static = inr (not_static 4); reply = hit_reply }), (refl, refl)); result_is = inl refl }, inl (refl, refl, refl, refl)))
 
 abbrev first_stage : Stage
-first_stage = record { request = Lookup (codes "a.") type.A 0; before = empty_cache 8; piece = run_asks; parts = asked ∷ []; step = record { now = 0; exchanges = 1; response_to = LookedUp (Ok (found 10 10)) } }
+first_stage = record { request = Lookup (codes "a.") type.A 0; before = empty_cache 8; piece = run_asks; parts = asked ∷ []; step = record { now = 0; exchanges = 1; reply = LookedUp (Ok (found 10 10)) } }
 
 abbrev second_stage : Stage
-second_stage = record { request = Lookup (codes "a.") type.A 4; before = after_run; piece = []; parts = hit ∷ []; step = record { now = 4; exchanges = 0; response_to = LookedUp (Ok (found 6 10)) } }
+second_stage = record { request = Lookup (codes "a.") type.A 4; before = after_run; piece = []; parts = hit ∷ []; step = record { now = 4; exchanges = 0; reply = LookedUp (Ok (found 6 10)) } }
 
 pub record RunCases : Type 0 where
   -- the first look-up asks, and the second one is answered from the cache, its TTL counted down
