@@ -7,7 +7,7 @@ use Rattle.std.proofs.lemmas.Str.{IsUtf8-from_ascii}
 use Rattle.std.proofs.lemmas.Str.Ascii.{IsAscii-nil, IsAscii-cons}
 use Rattle.std.specs.List.{list_all}
 use Rattle.std.specs.Str.{IsAscii, IsUtf8}
-use Rattle.replay.specs.Lines.{is_allowed}
+use Rattle.replay.specs.Fields.{is_allowed}
 
 allowed_ascii : (b : ℕ) → is_allowed b ≡ true → b < 128
 allowed_ascii b h = grind (arith, nat_tests, common_steps)

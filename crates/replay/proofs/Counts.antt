@@ -1,6 +1,6 @@
 -- Lines with too few fields.
 use Rattle.std.proofs.Common.{◌≡◌, ◌≢◌, ◌<◌, ℕ, List, [], ◌∷◌, length, Bor, Err, refl, arith}
-use Rattle.replay.specs.Script.{texts, reply_of, request_of, lookup_of, IsAnswer}
+use Rattle.replay.specs.Line.{texts, reply_of, request_of, lookup_of, IsAnswer}
 use Rattle.replay.specs.declared.fault.ScriptFault.TheVariants.{FieldCount}
 
 pub reply_short : (fs : List (Bor (List ℕ))) → length fs < 3 → Err FieldCount ≡ reply_of (texts fs)

@@ -8,7 +8,7 @@ use Rattle.std.proofs.lemmas.List.Splits.{slice_split-cons_yes, slice_split-cons
 use Rattle.std.proofs.lemmas.Str.{IsCharBoundary-after_ascii, IsCharBoundary-start}
 use Rattle.std.specs.List.{take_while, slice_split, onto_first, prefix_len}
 use Rattle.std.specs.Str.{IsUtf8, IsCharBoundary}
-use Rattle.replay.specs.Lines.{is_blank, is_plain, fields}
+use Rattle.replay.specs.Fields.{is_blank, is_plain, fields}
 
 abbrev pub is_filled : List ℕ → Bool
 is_filled field = nat_lt 0 (length field)

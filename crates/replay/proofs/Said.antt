@@ -7,9 +7,9 @@ use Rattle.hickory_proto_core.specs.Messages.{MessageValue}
 use Rattle.hickory_proto_core.specs.Records.{RecordValue}
 use Rattle.hickory_proto_core.specs.records.query.Query.{Query}
 use Rattle.hickory_proto_core.specs.codes.response_code.ResponseCode.{ResponseCode}
-use Rattle.replay.specs.Requests.{RequestValue}
-use Rattle.replay.specs.Scripts.{answers_of, outcomes_of, requests_of, has_reply, latest_from, response_value}
-use Rattle.replay.specs.Readers.{ReaderValue, Keeps, opened, answered}
+use Rattle.replay.specs.Request.{RequestValue}
+use Rattle.replay.specs.Script.{answers_of, outcomes_of, requests_of, has_reply, latest_from, response_value}
+use Rattle.replay.specs.Reader.{ReaderValue, Keeps, opened, answered}
 use Rattle.replay.specs.declared.line.Line.{Line}
 use Rattle.replay.specs.declared.line.Line.TheVariants.{Blank, Reply, Answer, Request}
 use Rattle.replay.specs.declared.script.OpenReply.{OpenReply}

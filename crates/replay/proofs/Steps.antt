@@ -11,25 +11,27 @@ use Rattle.hickory_proto_core.specs.names.name_error.NameError.{NameError}
 use Rattle.hickory_proto_core.specs.names.name_error.NameError.TheVariants as name_error
 use Rattle.hickory_proto_core.specs.declared.recorded.Exchange.{Exchange}
 use Rattle.hickory_resolver_model.specs.Client.{IsLookup}
-use Rattle.hickory_resolver_model.specs.Lookup.{Reply}
-use Rattle.replay.specs.Requests.{RequestValue}
-use Rattle.replay.specs.Runs.{ScriptClient, request_options, question_of, IsAsked, Answers, AddsStep, RunTo, IsRun, first_client, is_out_of_memory}
-use Rattle.replay.specs.Scripts.{ScriptValue}
-use Rattle.replay.specs.Texts.{step_text}
+use Rattle.hickory_resolver_model.specs.Lookup.{LookupResult}
+use Rattle.replay.specs.Request.{RequestValue}
+use Rattle.replay.specs.Run.{ScriptClient, request_options, IsAsked, Answers, AddsStep, RunTo, IsScriptRun, first_client}
+use Rattle.hickory_resolver_model.specs.Hosts.{as_fqdn}
+use Rattle.hickory_resolver_model.specs.Calls.{question_of, is_out_of_memory}
+use Rattle.replay.specs.Script.{ScriptValue}
+use Rattle.replay.specs.Output.{step_text}
 
 named : (name : NameValue) (read : Result NameValue NameError) → (Ok name ≡ read) ⊎ (Ok name ≡ Err name_error.OutOfMemory) → Ok name ≡ read
 named name read (inl e) = e
 named name read (inr e) = absurd (let h = e in cc)
 
 -- a request whose text is a name was looked up
-pub looked_up : (before after : ScriptClient) (request : RequestValue) (now : ℕ) (text : List ℕ) (name : NameValue) (question : Query) (reply : Reply)
+pub looked_up : (before after : ScriptClient) (request : RequestValue) (now : ℕ) (text : List ℕ) (name : NameValue) (question : Query) (reply : LookupResult)
     → now ≡ request.now → text ≡ request.name → (Ok name ≡ text_name text) ⊎ (Ok name ≡ Err name_error.OutOfMemory)
     → question.name ≡ record name { fqdn = true } → question.query_type ≡ request.record_type → question.query_class ≡ class.IN
     → IsLookup (RecordedStep ScriptStep) request_options now before question reply after → Answers before request reply after
 looked_up before after request now text name question reply now_is text_is read name_is type_is class_is look =
     let kept = recorded_leads ScriptStep request_options before.handle after.handle look.asks look.led in
     let is_name : Ok name ≡ text_name request.name = named name (text_name text) read ∙ ap text_name text_is in
-    let question_is : question ≡ question_of request name = λ i. record { name = name_is i; query_type = type_is i; query_class = class_is i } in
+    let question_is : question ≡ question_of (as_fqdn name) request.record_type = λ i. record { name = name_is i; query_type = type_is i; query_class = class_is i } in
     let N : ℕ → Type 0 = λ n. IsLookup (RecordedStep ScriptStep) request_options n before question reply after in
     let P : Query → Type 0 = λ q. IsLookup (RecordedStep ScriptStep) request_options request.now before q reply after in
     let Q : Result NameValue NameError → Type 0 = λ n. IsAsked before request n reply after in
@@ -40,7 +42,7 @@ behind [] kept = refl
 behind (x ∷ old) kept = behind old kept
 
 -- the block of a request was added
-pub step_added : (before after : ScriptClient) (old new : List ℕ) (request : RequestValue) (reply : Reply) (shown : List Exchange)
+pub step_added : (before after : ScriptClient) (old new : List ℕ) (request : RequestValue) (reply : LookupResult) (shown : List Exchange)
     → Answers before request reply after → is_out_of_memory reply ≡ false → shown ≡ drop (length before.handle.exchanges) after.handle.exchanges
     → new ≡ old ++ step_text request (map (λ x. x.query) shown) reply → AddsStep before old request after new
 step_added before after old new request reply shown (inl answered) memory shown_is added =
@@ -79,7 +81,7 @@ run_ended first all text client runs =
 -- a run from the first client
 pub run_of : {Z E : Type 0} (script : ScriptValue) (client after : ScriptClient) (outcomes : List OutcomeValue) (requests : List RequestValue) (result : Result (String Z) E)
     → client ≡ first_client outcomes → outcomes ≡ map (λ o. o.1) script.outcomes → requests ≡ script.requests
-    → IfOk result (λ text. RunTo client requests (string_bytes text) after) → IfOk result (λ text. IsRun script (string_bytes text))
+    → IfOk result (λ text. RunTo client requests (string_bytes text) after) → IfOk result (λ text. IsScriptRun script (string_bytes text))
 run_of script client after outcomes requests (Ok text) client_is outcomes_are requests_are run =
     let P : ScriptClient → Type 0 = λ c. RunTo c requests (string_bytes text) after in
     let Q : List RequestValue → Type 0 = λ rs. RunTo (first_client (map (λ o. o.1) script.outcomes)) rs (string_bytes text) after in

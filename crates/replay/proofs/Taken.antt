@@ -11,11 +11,11 @@ use Rattle.hickory_proto_core.specs.records.query.Query.{Query}
 use Rattle.hickory_proto_core.specs.codes.record_type.RecordType.{RecordType}
 use Rattle.hickory_proto_core.specs.codes.dns_class.DNSClass.TheVariants as class
 use Rattle.hickory_proto_core.specs.codes.response_code.ResponseCode.{ResponseCode}
-use Rattle.replay.specs.Lines.{fields, is_skipped, is_allowed}
-use Rattle.replay.specs.Requests.{RequestValue}
-use Rattle.replay.specs.Script.{IsRead, IsSaid, IsAnswer, ◌>>=◌, name_field, reply_of, request_of, lookup_of, without_words, family_of, family_type}
-use Rattle.replay.specs.Scripts.{has_reply, latest_from, response_value}
-use Rattle.replay.specs.Readers.{ReaderValue, Keeps, IsTaken, IsAnswered, opened, answered}
+use Rattle.replay.specs.Fields.{fields, is_skipped, is_allowed}
+use Rattle.replay.specs.Request.{RequestValue}
+use Rattle.replay.specs.Line.{IsRead, IsSaid, IsAnswer, ◌>>=◌, name_field, reply_of, request_of, lookup_of, without_words, family_of, family_type}
+use Rattle.replay.specs.Script.{has_reply, latest_from, response_value}
+use Rattle.replay.specs.Reader.{ReaderValue, Keeps, IsTaken, IsAnswered, opened, answered}
 use Rattle.replay.specs.declared.fault.ScriptFault.{ScriptFault}
 use Rattle.replay.specs.declared.fault.ScriptFault.TheVariants.{BadByte, UnknownDirective, FieldCount, BadNumber, UnknownWord, NoReply, MomentBack, OutOfMemory}
 use Rattle.replay.specs.declared.line.Line.{Line}

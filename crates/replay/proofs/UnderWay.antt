@@ -5,8 +5,8 @@ use Rattle.std.proofs.lemmas.List.Sums.{count_by-le-length}
 use Rattle.std.specs.List.{slice_split}
 use Rattle.std.specs.Option.{is_some}
 use Rattle.std.specs.Str.Lines.{lines, lines_of_parts}
-use Rattle.replay.specs.Scripts.{AreRead}
-use Rattle.replay.specs.Readers.{ReaderValue, Keeps, opened}
+use Rattle.replay.specs.Script.{AreRead}
+use Rattle.replay.specs.Reader.{ReaderValue, Keeps, opened}
 use Rattle.replay.specs.declared.fault.ScriptError.{ScriptError}
 use Rattle.replay.specs.declared.line.Line.{Line}
 

@@ -1,9 +1,9 @@
 pub mod Faults
-pub mod Lines
-pub mod Readers
-pub mod Requests
-pub mod Runs
+pub mod Fields
+pub mod Line
+pub mod Output
+pub mod Reader
+pub mod Request
+pub mod Run
 pub mod Script
-pub mod Scripts
 pub mod Statuses
-pub mod Texts

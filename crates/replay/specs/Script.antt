@@ -1,151 +1,96 @@
--- What a line of a script says, and what is wrong with it.
-use Rattle.std.specs.Prelude.{◌≡◌, ◌^◌, ℕ, Bool, true, nat_lt, List, [], ◌∷◌, length, map, codes, Option, None, Some, Result, Ok, Err, MatchResult, MatchBool, if◌then◌else◌}
-use Rattle.std.specs.Borrow.{Bor}
-use Rattle.std.specs.Option.{ok_or}
-use Rattle.std.specs.List.{list_all}
-use Rattle.std.specs.Net.Grammar.{IsIpv4Text, IsIpv6Text}
-use Rattle.hickory_proto_core.specs.Name.{NameValue}
-use Rattle.hickory_proto_core.specs.NameDecided.{text_name}
-use Rattle.hickory_proto_core.specs.Codes.{decimal_below, is_text, type_named, class_named, response_named}
-use Rattle.hickory_proto_core.specs.Records.{DataValue, a_data, aaaa_data}
-use Rattle.std.specs.Net.Addr.{ipv4_octets, ipv6_segments}
-use Rattle.std.specs.declared.net.Ipv4Addr.{Ipv4Addr}
-use Rattle.std.specs.declared.net.Ipv6Addr.{Ipv6Addr}
-use Rattle.hickory_proto_core.specs.names.name_error.NameError.{NameError}
-use Rattle.hickory_proto_core.specs.codes.record_type.RecordType.{RecordType}
-use Rattle.hickory_proto_core.specs.codes.record_type.RecordType.TheVariants as type
-use Rattle.hickory_proto_core.specs.codes.dns_class.DNSClass.{DNSClass}
-use Rattle.hickory_proto_core.specs.codes.dns_class.DNSClass.TheVariants as class
-use Rattle.replay.specs.Faults.{name_fault}
-use Rattle.replay.specs.Lines.{fields, is_skipped, is_allowed}
+-- A script by its whole lines: what they say together, and the fault of the earliest line that has one.
+use Rattle.std.specs.Prelude.{◌≡◌, ◌⊎◌, ◌+◌, ℕ, Bool, true, false, nat_lt, List, [], ◌∷◌, ◌++◌, length, Result, Ok, Err, MatchResult, if◌then◌else◌}
+use Rattle.std.specs.Str.Lines.{lines}
+use Rattle.hickory_proto_core.specs.Handles.{OutcomeValue}
+use Rattle.hickory_proto_core.specs.Messages.{MessageValue, response_metadata}
+use Rattle.hickory_proto_core.specs.Records.{RecordValue}
+use Rattle.hickory_proto_core.specs.records.query.Query.{Query}
+use Rattle.hickory_proto_core.specs.codes.op_code.OpCode.TheVariants as op
+use Rattle.hickory_proto_core.specs.codes.response_code.ResponseCode.{ResponseCode}
+use Rattle.replay.specs.Request.{RequestValue}
+use Rattle.replay.specs.Line.{IsRead}
 use Rattle.replay.specs.declared.fault.ScriptFault.{ScriptFault}
-use Rattle.replay.specs.declared.fault.ScriptFault.TheVariants.{BadByte, UnknownDirective, FieldCount, BadNumber, BadAddress, UnknownWord, NoReply}
+use Rattle.replay.specs.declared.fault.ScriptFault.TheVariants.{MomentBack, OutOfMemory}
+use Rattle.replay.specs.declared.fault.ScriptError.{ScriptError}
 use Rattle.replay.specs.declared.line.Line.{Line}
 use Rattle.replay.specs.declared.line.Line.TheVariants.{Blank, Reply, Answer, Request}
-use Rattle.replay.specs.declared.line.RecordHead.{RecordHead}
-use Rattle.replay.specs.declared.line.AddressFamily.{AddressFamily}
-use Rattle.replay.specs.declared.line.AddressFamily.TheVariants.{V4, V6}
 
--- the first fault, or what comes of the value
-infixl 10 ◌>>=◌
-abbrev pub ◌>>=◌ : {A B : Type 0} → Result A ScriptFault → (A → Result B ScriptFault) → Result B ScriptFault
-(Ok x) >>= f = f x
-(Err fault) >>= f = Err fault
+-- a script: what the upstream answers, each beside the question of its line, and the requests
+pub record ScriptValue : Type 0 where
+  pub outcomes : List (Query × OutcomeValue)
+  pub requests : List RequestValue
 
--- a name is made fully qualified
-abbrev pub full_name : Result NameValue NameError → Result NameValue ScriptFault
-full_name (Ok name) = Ok (record name { fqdn = true })
-full_name (Err error) = Err (name_fault error)
+-- a response of this code to this question, with these answers
+abbrev pub response_value : Query → ResponseCode → List RecordValue → MessageValue
+response_value query code answers = record {
+  metadata = record (response_metadata 0 op.Query) { response_code = code };
+  queries = query ∷ [];
+  answers = answers;
+  authorities = [];
+  additionals = [];
+}
 
-abbrev pub name_field : List ℕ → Result NameValue ScriptFault
-name_field text = full_name (text_name text)
+-- the records of a reply are those of the lines behind it, up to the next reply
+abbrev pub answers_of : List Line → List RecordValue
+answers_of [] = []
+answers_of (Blank ∷ said) = answers_of said
+answers_of (Reply query code ∷ said) = []
+answers_of (Answer found ∷ said) = found ∷ answers_of said
+answers_of (Request request ∷ said) = answers_of said
 
--- what the fields say
-abbrev pub texts : List (Bor (List ℕ)) → List (List ℕ)
-texts fs = map (λ f. f.now) fs
+abbrev pub outcomes_of : List Line → List (Query × OutcomeValue)
+outcomes_of [] = []
+outcomes_of (Blank ∷ said) = outcomes_of said
+outcomes_of (Reply query code ∷ said) = (query, Ok (response_value query code (answers_of said))) ∷ outcomes_of said
+outcomes_of (Answer found ∷ said) = outcomes_of said
+outcomes_of (Request request ∷ said) = outcomes_of said
 
--- CODE NAME TYPE
-abbrev pub plain_reply_of : List ℕ → List ℕ → List ℕ → Result Line ScriptFault
-plain_reply_of code name type = do
-  c ← ok_or (response_named code) UnknownWord
-  n ← name_field name
-  t ← ok_or (type_named type) UnknownWord
-  Ok (Reply (record { name = n; query_type = t; query_class = class.IN }) c)
+abbrev pub requests_of : List Line → List RequestValue
+requests_of [] = []
+requests_of (Blank ∷ said) = requests_of said
+requests_of (Reply query code ∷ said) = requests_of said
+requests_of (Answer found ∷ said) = requests_of said
+requests_of (Request request ∷ said) = request ∷ requests_of said
 
--- no word behind them is taken
-abbrev pub without_words : List (List ℕ) → Line → Result Line ScriptFault
-without_words [] line = Ok line
-without_words (word ∷ words) line = Err UnknownWord
+abbrev pub script_of : List Line → ScriptValue
+script_of said = record { outcomes = outcomes_of said; requests = requests_of said }
 
--- `reply CODE NAME TYPE`, behind which up to three words may stand
-abbrev pub reply_of : List (List ℕ) → Result Line ScriptFault
-reply_of [] = Err FieldCount
-reply_of (code ∷ []) = Err FieldCount
-reply_of (code ∷ name ∷ []) = Err FieldCount
-reply_of (code ∷ name ∷ type ∷ words) =
-    if nat_lt 3 (length words) then Err FieldCount else (plain_reply_of code name type >>= without_words words)
+-- whether there is a reply that one more record could belong to
+abbrev pub has_reply : List Line → Bool
+has_reply [] = false
+has_reply (Blank ∷ said) = has_reply said
+has_reply (Reply query code ∷ said) = true
+has_reply (Answer found ∷ said) = has_reply said
+has_reply (Request request ∷ said) = has_reply said
 
--- the class of the Internet, and no other
-abbrev pub internet : Option DNSClass → Result DNSClass ScriptFault
-internet (Some class.IN) = Ok class.IN
-internet (Some other) = Err UnknownWord
-internet None = Err UnknownWord
+-- the moment of the last request, where there is one, and else this one
+abbrev pub latest_from : ℕ → List Line → ℕ
+latest_from moment [] = moment
+latest_from moment (Blank ∷ said) = latest_from moment said
+latest_from moment (Reply query code ∷ said) = latest_from moment said
+latest_from moment (Answer found ∷ said) = latest_from moment said
+latest_from moment (Request request ∷ said) = latest_from request.now said
 
--- the types of addresses, and no other
-abbrev pub family_of : Option RecordType → Result AddressFamily ScriptFault
-family_of (Some type.A) = Ok V4
-family_of (Some type.AAAA) = Ok V6
-family_of (Some other) = Err UnknownWord
-family_of None = Err UnknownWord
+-- a request is refused that is earlier than the one before it
+abbrev pub in_order : ℕ → Result Line ScriptFault → Result Line ScriptFault
+in_order moment (Ok Blank) = Ok Blank
+in_order moment (Ok (Reply query code)) = Ok (Reply query code)
+in_order moment (Ok (Answer found)) = Ok (Answer found)
+in_order moment (Ok (Request request)) = if nat_lt request.now moment then Err MomentBack else Ok (Request request)
+in_order moment (Err fault) = Err fault
 
-abbrev pub family_type : AddressFamily → RecordType
-family_type V4 = type.A
-family_type V6 = type.AAAA
+-- the lines behind those that said this: what all of them say, or the first fault and the number of its line
+abbrev pub AreRead : List Line → List (List ℕ) → Result (List Line) ScriptError → Type 0
+AreRead said [] result = result ≡ Ok said
+AreRead said (line ∷ others) result =
+    (read : Result Line ScriptFault) × IsRead (has_reply said) line read
+    × MatchResult (in_order (latest_from 0 said) read)
+    (λ more. AreRead (said ++ more ∷ []) others result)
+    (λ fault. result ≡ Err (record { line = length said + 1; fault = fault }))
 
--- NAME TTL CLASS TYPE
-abbrev pub head_of : List ℕ → List ℕ → List ℕ → List ℕ → Result RecordHead ScriptFault
-head_of name ttl class type = do
-  n ← name_field name
-  seconds ← ok_or (decimal_below (2 ^ 32) ttl) BadNumber
-  c ← internet (class_named class)
-  f ← family_of (type_named type)
-  Ok (record { name = n; ttl = seconds; dns_class = c; family = f })
-
--- the text writes this address of this family
-abbrev pub IsAddress : AddressFamily → List ℕ → DataValue → Type 0
-IsAddress V4 text rdata = (address : Ipv4Addr) × IsIpv4Text text address × (rdata ≡ a_data (ipv4_octets address))
-IsAddress V6 text rdata = (address : Ipv6Addr) × IsIpv6Text text address × (rdata ≡ aaaa_data (ipv6_segments address))
-
--- DATA is one address
-abbrev pub IsAddressed : RecordHead → List (List ℕ) → Result Line ScriptFault → Type 0
-IsAddressed head [] result = result ≡ Err FieldCount
-IsAddressed head (text ∷ []) result =
+-- a script is read whole, or the first line with a fault is found, or no memory is left
+abbrev pub IsScript : List ℕ → Result ScriptValue ScriptError → Type 0
+IsScript script result =
     MatchResult result
-    (λ line. (rdata : DataValue) × IsAddress head.family text rdata
-    × (line ≡ Answer (record { name = head.name; dns_class = head.dns_class; ttl = head.ttl; rdata = rdata })))
-    (λ fault. (fault ≡ BadAddress) × ((rdata : DataValue) → ¬ IsAddress head.family text rdata))
-IsAddressed head (text ∷ more ∷ others) result = result ≡ Err FieldCount
-
--- `answer NAME TTL CLASS TYPE DATA`
-abbrev pub IsAnswer : List (List ℕ) → Result Line ScriptFault → Type 0
-IsAnswer [] result = result ≡ Err FieldCount
-IsAnswer (name ∷ []) result = result ≡ Err FieldCount
-IsAnswer (name ∷ ttl ∷ []) result = result ≡ Err FieldCount
-IsAnswer (name ∷ ttl ∷ class ∷ []) result = result ≡ Err FieldCount
-IsAnswer (name ∷ ttl ∷ class ∷ type ∷ rest) result =
-    MatchResult (head_of name ttl class type) (λ head. IsAddressed head rest result) (λ fault. result ≡ Err fault)
-
--- NAME TYPE
-abbrev pub lookup_of : ℕ → List (List ℕ) → Result Line ScriptFault
-lookup_of moment [] = Err FieldCount
-lookup_of moment (name ∷ []) = Err FieldCount
-lookup_of moment (name ∷ type ∷ []) = do
-  f ← family_of (type_named type)
-  Ok (Request (record { now = moment; name = name; record_type = family_type f }))
-lookup_of moment (name ∷ type ∷ more ∷ others) = Err FieldCount
-
--- what is asked at a moment
-abbrev pub asked_of : ℕ → List ℕ → List (List ℕ) → Result Line ScriptFault
-asked_of moment verb rest = if is_text (codes "lookup") verb then lookup_of moment rest else Err UnknownWord
-
--- `at MOMENT lookup NAME TYPE`
-abbrev pub request_of : List (List ℕ) → Result Line ScriptFault
-request_of [] = Err FieldCount
-request_of (moment ∷ []) = Err FieldCount
-request_of (moment ∷ verb ∷ rest) = do
-  now ← ok_or (decimal_below (2 ^ 64) moment) BadNumber
-  asked_of now verb rest
-
--- the first field is the directive. A record needs a reply that it can belong to
-abbrev pub IsSaid : Bool → List (List ℕ) → Result Line ScriptFault → Type 0
-IsSaid has_reply [] result = result ≡ Ok Blank
-IsSaid has_reply (directive ∷ rest) result =
-    MatchBool (is_text (codes "reply") directive) (result ≡ reply_of rest)
-    (MatchBool (is_text (codes "answer") directive) (MatchBool has_reply (IsAnswer rest result) (result ≡ Err NoReply))
-    (MatchBool (is_text (codes "at") directive) (result ≡ request_of rest) (result ≡ Err UnknownDirective)))
-
--- what a line says, or its first fault
-abbrev pub IsRead : Bool → List ℕ → Result Line ScriptFault → Type 0
-IsRead has_reply line result =
-    MatchBool (is_skipped line) (result ≡ Ok Blank)
-    (MatchBool (list_all is_allowed line) (IsSaid has_reply (fields line) result) (result ≡ Err BadByte))
+    (λ read. (said : List Line) × AreRead [] (lines script) (Ok said) × (read ≡ script_of said))
+    (λ error. AreRead [] (lines script) (Err error) ⊎ (error ≡ record { line = 0; fault = OutOfMemory }))

@@ -2,7 +2,7 @@
 ghost use Rattle.std.specs.Prelude.{◌≡◌, ◌<◌, ◌==◌, ◌∷◌, length, drop, find, position};
 ghost use Rattle.std.specs.List.{take_while};
 ghost use Rattle.std.specs.Str.Lines.{strip_carriage_return, lines};
-ghost use Rattle.replay.specs.Lines.{is_blank, is_plain, is_allowed, is_skipped};
+ghost use Rattle.replay.specs.Fields.{is_blank, is_plain, is_allowed, is_skipped};
 
 /// The lines of a script, without their ends: each but the last is ended by LF, and a CR before that
 /// belongs to the end. Where nothing stands behind the last LF there is no further line.
@@ -75,7 +75,7 @@ pub struct Fields<'a> {
 }
 
 impl<'a> Fields<'a> {
-    ghost use Rattle.replay.specs.Lines.{fields};
+    ghost use Rattle.replay.specs.Fields.{fields};
 
     /// The fields of this line.
     pub fn new(line: &'a str) -> Fields<'a>
@@ -87,7 +87,7 @@ impl<'a> Fields<'a> {
 
 impl<'a> Iterator for Fields<'a> {
     ghost use Rattle.std.specs.Iterator.{YieldsFirstRef, item_count};
-    ghost use Rattle.replay.specs.Lines.{fields};
+    ghost use Rattle.replay.specs.Fields.{fields};
 
     type Item = &'a str;
 

@@ -7,10 +7,12 @@ pub mod fields;
 pub mod line;
 pub mod numbers;
 pub mod output;
+pub mod request;
 pub mod run;
 pub mod script;
 
 pub use fault::{ScriptError, ScriptFault};
 pub use line::Line;
 pub use run::{ReplayError, replay_text};
-pub use script::{Request, Script, read_script};
+pub use request::Request;
+pub use script::{Script, read_script};

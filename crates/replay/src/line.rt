@@ -3,13 +3,13 @@ ghost use Rattle.std.specs.Prelude.{◌≡◌, ◌⊎◌, true, false, Err, IfOk
 ghost use Rattle.std.specs.List.{list_all};
 ghost use Rattle.hickory_proto_core.specs.Codes.{type_named, class_named};
 ghost use Rattle.hickory_proto_core.specs.Records.{DataValue, data_of};
-ghost use Rattle.replay.specs.Lines.{fields, is_allowed};
-ghost use Rattle.replay.specs.Script.{IsAddress, IsAddressed, IsAnswer, IsRead, IsSaid, asked_of, family_of, family_type, head_of, internet, lookup_of, name_field, plain_reply_of, reply_of, request_of, texts};
+ghost use Rattle.replay.specs.Fields.{fields, is_allowed};
+ghost use Rattle.replay.specs.Line.{IsAddress, IsAddressed, IsAnswer, IsRead, IsSaid, asked_of, family_of, family_type, head_of, internet, lookup_of, name_field, plain_reply_of, reply_of, request_of, texts};
 
 use crate::fault::ScriptFault;
 use crate::fields::{Fields, is_allowed, is_skipped};
 use crate::numbers::{read_u32, read_u64};
-use crate::script::Request;
+use crate::request::Request;
 use hickory_proto_core::{DNSClass, Name, Query, RData, Record, RecordType, ResponseCode};
 use std::alloc::{AllocError, Global};
 use std::net::{Ipv4Addr, Ipv6Addr};

@@ -1,8 +1,8 @@
 //! The text that tells what happened.
 ghost use Rattle.std.specs.Prelude.{◌≡◌, ◌++◌, OnOk, codes, map, string_bytes};
-ghost use Rattle.replay.specs.Texts.{error_text, line_text, lookup_text, name_error_text, question_text, record_text, reply_text, request_text, section_text, sent_text, step_text};
+ghost use Rattle.replay.specs.Output.{error_text, line_text, lookup_text, name_error_text, question_text, record_text, reply_text, request_text, section_text, sent_text, step_text};
 
-use crate::script::Request;
+use crate::request::Request;
 use hickory_proto_core::{
     DnsError, Exchange, Name, NameError, NetError, NoRecords, Query, RData, Record,
 };
@@ -88,7 +88,7 @@ pub struct ShownName<'a>(pub &'a Name);
 
 impl fmt::Display for ShownName<'_> {
     ghost use Rattle.std.specs.Prelude.{Some};
-    ghost use Rattle.replay.specs.Texts.{shown_name};
+    ghost use Rattle.replay.specs.Output.{shown_name};
 
     ghost output = { λ x. Some (shown_name x.0.now) };
 
@@ -107,7 +107,7 @@ pub struct ShownQuery<'a>(pub &'a Query);
 
 impl fmt::Display for ShownQuery<'_> {
     ghost use Rattle.std.specs.Prelude.{Some};
-    ghost use Rattle.replay.specs.Texts.{question_text};
+    ghost use Rattle.replay.specs.Output.{question_text};
 
     ghost output = { λ x. Some (question_text x.0.now) };
 
@@ -125,7 +125,7 @@ pub struct ShownRecord<'a>(pub &'a Record);
 
 impl fmt::Display for ShownRecord<'_> {
     ghost use Rattle.std.specs.Prelude.{Some};
-    ghost use Rattle.replay.specs.Texts.{record_text};
+    ghost use Rattle.replay.specs.Output.{record_text};
 
     ghost output = { λ x. Some (record_text x.0.now) };
 
@@ -144,7 +144,7 @@ pub struct ShownKind<'a>(pub &'a Record);
 
 impl fmt::Display for ShownKind<'_> {
     ghost use Rattle.std.specs.Prelude.{Some};
-    ghost use Rattle.replay.specs.Texts.{kind_text};
+    ghost use Rattle.replay.specs.Output.{kind_text};
 
     ghost output = { λ x. Some (kind_text x.0.now) };
 
@@ -162,7 +162,7 @@ pub struct ShownData<'a>(pub &'a RData);
 impl fmt::Display for ShownData<'_> {
     ghost use Rattle.std.specs.Prelude.{Some};
     ghost use Rattle.hickory_proto_core.specs.Records.{data_of};
-    ghost use Rattle.replay.specs.Texts.{data_text};
+    ghost use Rattle.replay.specs.Output.{data_text};
 
     ghost output = { λ x. Some (data_text (data_of x.0.now)) };
 
@@ -222,7 +222,7 @@ pub struct ShownStrings<'a>(pub &'a [Vec<u8>]);
 impl fmt::Display for ShownStrings<'_> {
     ghost use Rattle.std.specs.Prelude.{Some};
     ghost use Rattle.hickory_proto_core.specs.Name.{label_bytes};
-    ghost use Rattle.replay.specs.Texts.{strings_text};
+    ghost use Rattle.replay.specs.Output.{strings_text};
 
     ghost output = { λ x. Some (strings_text (label_bytes x.0.now)) };
 
@@ -241,7 +241,7 @@ pub struct ShownBytes<'a>(pub &'a [u8]);
 
 impl fmt::Display for ShownBytes<'_> {
     ghost use Rattle.std.specs.Prelude.{Some};
-    ghost use Rattle.replay.specs.Texts.{bytes_text};
+    ghost use Rattle.replay.specs.Output.{bytes_text};
 
     ghost output = { λ x. Some (bytes_text x.0.now) };
 
@@ -262,7 +262,7 @@ pub struct ShownError<'a>(pub &'a NetError);
 
 impl fmt::Display for ShownError<'_> {
     ghost use Rattle.std.specs.Prelude.{Some};
-    ghost use Rattle.replay.specs.Texts.{error_text};
+    ghost use Rattle.replay.specs.Output.{error_text};
 
     ghost output = { λ x. Some (error_text x.0.now) };
 
@@ -292,7 +292,7 @@ pub struct ShownNoRecords<'a>(pub &'a NoRecords);
 
 impl fmt::Display for ShownNoRecords<'_> {
     ghost use Rattle.std.specs.Prelude.{Some};
-    ghost use Rattle.replay.specs.Texts.{no_records_text};
+    ghost use Rattle.replay.specs.Output.{no_records_text};
 
     ghost output = { λ x. Some (no_records_text x.0.now) };
 
@@ -311,7 +311,7 @@ pub struct ShownTtl(pub Option<u32>);
 
 impl fmt::Display for ShownTtl {
     ghost use Rattle.std.specs.Prelude.{Some};
-    ghost use Rattle.replay.specs.Texts.{ttl_text};
+    ghost use Rattle.replay.specs.Output.{ttl_text};
 
     ghost output = { λ x. Some (ttl_text x.0) };
 

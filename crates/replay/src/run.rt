@@ -1,10 +1,12 @@
 //! Runs a script.
 ghost use Rattle.std.specs.Prelude.{◌≡◌, IfErr, IfOk, IsOkUnless, OnOk, map, string_bytes};
-ghost use Rattle.replay.specs.Runs.{AddsStep, Answers, IsRefused, IsReplayed, IsRun, RunTo, is_out_of_memory};
+ghost use Rattle.replay.specs.Run.{AddsStep, Answers, IsRefused, IsReplayed, IsScriptRun, RunTo};
+ghost use Rattle.hickory_resolver_model.specs.Calls.{is_out_of_memory};
 
 use crate::fault::{ScriptError, ScriptFault};
 use crate::output::push_step;
-use crate::script::{Request, Script, read_script};
+use crate::request::Request;
+use crate::script::{Script, read_script};
 use hickory_proto_core::dns_handle::Outcome;
 use hickory_proto_core::{
     DnsRequestOptions, Name, NameError, NetError, Query, Recorded, ScriptHandle,
@@ -53,7 +55,7 @@ impl ReplayError {
 
 impl From<ScriptError> for ReplayError {
     ghost use Rattle.std.specs.Prelude.{◌≡◌};
-    ghost use Rattle.replay.specs.Runs.{replay_error_of};
+    ghost use Rattle.replay.specs.Run.{replay_error_of};
 
     ghost from_gives = { λ error x. x ≡ replay_error_of error };
 
@@ -86,7 +88,7 @@ pub fn replay_text(alloc: Global, script: &[u8]) -> Result<String, ReplayError>
 }
 
 fn run_script(alloc: Global, script: Script) -> Result<String, ReplayError>
-    ensures ok { IfOk result (λ text. IsRun script (string_bytes text)) }
+    ensures ok { IfOk result (λ text. IsScriptRun script (string_bytes text)) }
     ensures err { IsOkUnless result ReplayError.Memory }
 {
     let Script { outcomes, requests } = script;

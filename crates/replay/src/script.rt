@@ -1,15 +1,16 @@
 //! Scripts: what an upstream answers, and what is asked of the resolver.
 ghost use Rattle.std.specs.Prelude.{◌≡◌, ◌⊎◌, ◌≤◌, ◌<◌, ◌++◌, ◌∷◌, List, [], None, Some, IfOk, IfErr, OnOk, IsOkUnless, Ok, IsErr};
-ghost use Rattle.replay.specs.Readers.{IsAnswered, IsTaken, Keeps, opened};
-ghost use Rattle.replay.specs.Scripts.{IsScript, response_value};
+ghost use Rattle.replay.specs.Reader.{IsAnswered, IsTaken, Keeps, opened};
+ghost use Rattle.replay.specs.Script.{IsScript, response_value};
 ghost use Rattle.replay.specs.declared.line.Line.{Line};
 
 use crate::fault::{ScriptError, ScriptFault};
 use crate::fields::ScriptLines;
 use crate::line::{Line, read_line};
+use crate::request::Request;
 use hickory_proto_core::dns_handle::Outcome;
 use hickory_proto_core::{
-    DnsResponse, Message, NetError, OpCode, Query, Record, RecordType, ResponseCode,
+    DnsResponse, Message, NetError, OpCode, Query, Record, ResponseCode,
 };
 use std::alloc::Global;
 use std::marker::Model;
@@ -22,27 +23,8 @@ pub struct Script {
     pub requests: Vec<Request>,
 }
 
-/// A question for the resolver. The name is kept as it is written: whether it is one is found out when
-/// it is asked.
-#[derive(Debug, Drop)]
-pub struct Request {
-    /// The moment at which it is asked, in seconds.
-    pub now: u64,
-    pub name: String,
-    pub record_type: RecordType,
-}
-
-impl Model for Request {
-    ghost use Rattle.std.specs.Prelude.{string_bytes};
-    ghost use Rattle.replay.specs.Requests.{RequestValue};
-
-    ghost Value = { RequestValue };
-
-    ghost view = { λ r. record { now = r.now; name = string_bytes r.name; record_type = r.record_type } };
-}
-
 impl Model for Script {
-    ghost use Rattle.replay.specs.Scripts.{ScriptValue};
+    ghost use Rattle.replay.specs.Script.{ScriptValue};
 
     ghost Value = { ScriptValue };
 
@@ -82,7 +64,7 @@ struct OpenReply {
 }
 
 impl OpenReply {
-    ghost use Rattle.replay.specs.Readers.{answered};
+    ghost use Rattle.replay.specs.Reader.{answered};
 
     fn add_answer(&mut self, answer: Record) -> Result<(), ScriptFault>
         ensures ok { OnOk result (self.new ≡ answered self.old answer) }
@@ -103,7 +85,7 @@ struct Reader {
 }
 
 impl Model for Reader {
-    ghost use Rattle.replay.specs.Readers.{ReaderValue};
+    ghost use Rattle.replay.specs.Reader.{ReaderValue};
 
     ghost Value = { ReaderValue };
 

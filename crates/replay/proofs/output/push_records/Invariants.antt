@@ -1,5 +1,5 @@
 use Rattle.std.proofs.Common.{◌≡◌, ◌++◌, take, string_bytes}
-use Rattle.replay.specs.Texts.{section_text}
+use Rattle.replay.specs.Output.{section_text}
 use Rattle.replay.proofs.output.push_records.Given as goal
 
 abbrev pub invariant-loop-found : goal.invariant-loop-found

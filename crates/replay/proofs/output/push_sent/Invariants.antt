@@ -1,5 +1,5 @@
 use Rattle.std.proofs.Common.{◌≡◌, ◌++◌, take, map, string_bytes}
-use Rattle.replay.specs.Texts.{sent_text}
+use Rattle.replay.specs.Output.{sent_text}
 use Rattle.replay.proofs.output.push_sent.Given as goal
 
 abbrev pub invariant-loop-exchange : goal.invariant-loop-exchange

@@ -1,6 +1,6 @@
 use Rattle.std.proofs.Common.{◌≡◌, ◌∙◌, [], true, map, ap}
 use Rattle.hickory_resolver_model.specs.Client.{empty_cache}
-use Rattle.replay.specs.Runs.{first_client}
+use Rattle.replay.specs.Run.{first_client}
 use Rattle.replay.proofs.Steps.{run_of}
 use Rattle.replay.proofs.run.run_script.Goals as goal
 

@@ -1,6 +1,6 @@
 use Rattle.std.proofs.Common.{take}
 use Rattle.std.specs.Fmt.{HasWritten, IsPlainFormatter}
-use Rattle.replay.specs.Texts.{hex_text}
+use Rattle.replay.specs.Output.{hex_text}
 use Rattle.replay.proofs.output.ShownBytesDisplay.fmt.Given as goal
 
 abbrev pub invariant-loop-byte : goal.invariant-loop-byte

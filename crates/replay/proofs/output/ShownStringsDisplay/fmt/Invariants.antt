@@ -1,7 +1,7 @@
 use Rattle.std.proofs.Common.{take}
 use Rattle.std.specs.Fmt.{HasWritten, IsPlainFormatter}
 use Rattle.hickory_proto_core.specs.Name.{label_bytes}
-use Rattle.replay.specs.Texts.{strings_text}
+use Rattle.replay.specs.Output.{strings_text}
 use Rattle.replay.proofs.output.ShownStringsDisplay.fmt.Given as goal
 
 abbrev pub invariant-loop-string : goal.invariant-loop-string

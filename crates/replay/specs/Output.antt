@@ -15,8 +15,8 @@ use Rattle.hickory_proto_core.specs.names.name_error.NameError.TheVariants as na
 use Rattle.hickory_proto_core.specs.records.net_error.NetError.{NetError}
 use Rattle.hickory_proto_core.specs.records.net_error.NetError.TheVariants.{Message, Timeout, Proto, Dns, NoOutcome, Bounds, OutOfMemory}
 use Rattle.hickory_proto_core.specs.records.net_error.DnsError.TheVariants.{ResponseCode, NoRecordsFound}
-use Rattle.hickory_resolver_model.specs.Lookup.{LookupValue, Reply}
-use Rattle.replay.specs.Requests.{RequestValue}
+use Rattle.hickory_resolver_model.specs.Lookup.{LookupValue, LookupResult}
+use Rattle.replay.specs.Request.{RequestValue}
 
 -- a name, where `@` stands for the relative name without labels
 abbrev pub shown_name : NameValue → List ℕ
@@ -115,7 +115,7 @@ lookup_text l =
     ++ section_text (codes "authority") l.message.authorities
     ++ section_text (codes "additional") l.message.additionals
 
-abbrev pub reply_text : Reply → List ℕ
+abbrev pub reply_text : LookupResult → List ℕ
 reply_text (Ok lookup) = lookup_text lookup
 reply_text (Err error) = line_text (codes "err") (error_text error)
 
@@ -124,5 +124,5 @@ abbrev pub request_text : RequestValue → List ℕ
 request_text r = codes "at " ++ decimal r.now ++ codes " lookup " ++ r.name ++ codes " " ++ type_text (type_code r.record_type) ++ codes "\n"
 
 -- the block of a request: the request, each question that was sent for it, and the reply
-abbrev pub step_text : RequestValue → List Query → Reply → List ℕ
+abbrev pub step_text : RequestValue → List Query → LookupResult → List ℕ
 step_text request sent reply = request_text request ++ sent_text sent ++ reply_text reply

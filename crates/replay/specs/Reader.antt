@@ -4,9 +4,9 @@ use Rattle.std.specs.Option.{is_some}
 use Rattle.hickory_proto_core.specs.Handles.{OutcomeValue}
 use Rattle.hickory_proto_core.specs.records.query.Query.{Query}
 use Rattle.hickory_proto_core.specs.Records.{RecordValue}
-use Rattle.replay.specs.Requests.{RequestValue}
-use Rattle.replay.specs.Script.{IsRead}
-use Rattle.replay.specs.Scripts.{has_reply, in_order, latest_from, outcomes_of, requests_of}
+use Rattle.replay.specs.Request.{RequestValue}
+use Rattle.replay.specs.Line.{IsRead}
+use Rattle.replay.specs.Script.{has_reply, in_order, latest_from, outcomes_of, requests_of}
 use Rattle.replay.specs.declared.fault.ScriptFault.{ScriptFault}
 use Rattle.replay.specs.declared.fault.ScriptFault.TheVariants.{NoReply, OutOfMemory}
 use Rattle.replay.specs.declared.line.Line.{Line}

@@ -1,5 +1,5 @@
 -- A run of a script: its requests one after the other, and the text of their blocks.
-use Rattle.std.specs.Prelude.{◌≡◌, ◌⊎◌, ℕ, Bool, true, false, List, [], ◌∷◌, ◌++◌, map, Result, Ok, Err}
+use Rattle.std.specs.Prelude.{◌≡◌, ◌⊎◌, ℕ, true, false, List, [], ◌∷◌, ◌++◌, map, Result, Ok, Err}
 use Rattle.std.specs.Str.Lines.{lines}
 use Rattle.hickory_proto_core.specs.Name.{NameValue}
 use Rattle.hickory_proto_core.specs.NameDecided.{text_name}
@@ -8,15 +8,16 @@ use Rattle.hickory_proto_core.specs.NetErrors.{net_error_of}
 use Rattle.hickory_proto_core.specs.Recorded.{RecordedStep}
 use Rattle.hickory_proto_core.specs.records.query.Query.{Query}
 use Rattle.hickory_proto_core.specs.declared.dns_request.DnsRequestOptions.{DnsRequestOptions}
-use Rattle.hickory_proto_core.specs.codes.dns_class.DNSClass.TheVariants as class
 use Rattle.hickory_proto_core.specs.names.name_error.NameError.{NameError}
 use Rattle.hickory_proto_core.specs.records.net_error.NetError.TheVariants.{OutOfMemory}
 use Rattle.hickory_proto_core.specs.declared.recorded.Exchange.{Exchange}
 use Rattle.hickory_resolver_model.specs.Client.{ClientValue, IsLookup, empty_cache}
-use Rattle.hickory_resolver_model.specs.Lookup.{Reply}
-use Rattle.replay.specs.Requests.{RequestValue}
-use Rattle.replay.specs.Scripts.{AreRead, ScriptValue, script_of}
-use Rattle.replay.specs.Texts.{step_text}
+use Rattle.hickory_resolver_model.specs.Lookup.{LookupResult}
+use Rattle.hickory_resolver_model.specs.Hosts.{as_fqdn}
+use Rattle.hickory_resolver_model.specs.Calls.{question_of, is_out_of_memory}
+use Rattle.replay.specs.Request.{RequestValue}
+use Rattle.replay.specs.Script.{AreRead, ScriptValue, script_of}
+use Rattle.replay.specs.Output.{step_text}
 use Rattle.replay.specs.declared.fault.ScriptFault.TheVariants as fault
 use Rattle.replay.specs.declared.fault.ScriptFault.{ScriptFault}
 use Rattle.replay.specs.declared.fault.ScriptError.{ScriptError}
@@ -40,23 +41,13 @@ first_client outcomes = record {
 abbrev pub request_options : DnsRequestOptions
 request_options = record { recursion_desired = true; use_edns = true; edns_payload_len = 1232; case_randomization = false }
 
--- the question of a request, about its name made fully qualified
-abbrev pub question_of : RequestValue → NameValue → Query
-question_of request name = record { name = record name { fqdn = true }; query_type = request.record_type; query_class = class.IN }
-
 -- a request is looked up at its moment. What is no name is not, and changes nothing
-abbrev pub IsAsked : ScriptClient → RequestValue → Result NameValue NameError → Reply → ScriptClient → Type 0
-IsAsked before request (Ok name) reply after = IsLookup (RecordedStep ScriptStep) request_options request.now before (question_of request name) reply after
+abbrev pub IsAsked : ScriptClient → RequestValue → Result NameValue NameError → LookupResult → ScriptClient → Type 0
+IsAsked before request (Ok name) reply after = IsLookup (RecordedStep ScriptStep) request_options request.now before (question_of (as_fqdn name) request.record_type) reply after
 IsAsked before request (Err error) reply after = (reply ≡ Err (net_error_of error)) × (after ≡ before)
 
--- an answer of want of memory ends a run
-abbrev pub is_out_of_memory : Reply → Bool
-is_out_of_memory (Ok lookup) = false
-is_out_of_memory (Err OutOfMemory) = true
-is_out_of_memory (Err other) = false
-
 -- a request, the questions that were sent for it, and the reply, for which there was memory
-pub record IsStep (before : ScriptClient) (request : RequestValue) (sent : List Query) (reply : Reply) (after : ScriptClient) : Type 0 where
+pub record IsStep (before : ScriptClient) (request : RequestValue) (sent : List Query) (reply : LookupResult) (after : ScriptClient) : Type 0 where
   pub kept : List Exchange
   pub asked : IsAsked before request (text_name request.name) reply after
   pub exchanges_are : after.handle.exchanges ≡ before.handle.exchanges ++ kept
@@ -64,18 +55,18 @@ pub record IsStep (before : ScriptClient) (request : RequestValue) (sent : List 
   pub remembered : is_out_of_memory reply ≡ false
 
 -- what the client answers. What it kept goes on what it had kept
-pub record IsAnswered (before : ScriptClient) (request : RequestValue) (reply : Reply) (after : ScriptClient) : Type 0 where
+pub record IsAnswered (before : ScriptClient) (request : RequestValue) (reply : LookupResult) (after : ScriptClient) : Type 0 where
   pub kept : List Exchange
   pub asked : IsAsked before request (text_name request.name) reply after
   pub exchanges_are : after.handle.exchanges ≡ before.handle.exchanges ++ kept
 
-abbrev pub Answers : ScriptClient → RequestValue → Reply → ScriptClient → Type 0
+abbrev pub Answers : ScriptClient → RequestValue → LookupResult → ScriptClient → Type 0
 Answers before request reply after = IsAnswered before request reply after ⊎ (reply ≡ Err OutOfMemory)
 
 -- the block of a request is added to a text
 pub record AddsStep (before : ScriptClient) (old : List ℕ) (request : RequestValue) (after : ScriptClient) (new : List ℕ) : Type 0 where
   pub sent : List Query
-  pub reply : Reply
+  pub reply : LookupResult
   pub is_step : IsStep before request sent reply after
   pub added : new ≡ old ++ step_text request sent reply
 
@@ -83,20 +74,20 @@ pub record AddsStep (before : ScriptClient) (old : List ℕ) (request : RequestV
 abbrev pub RunTo : ScriptClient → List RequestValue → List ℕ → ScriptClient → Type 0
 RunTo before [] text after = (text ≡ []) × (after ≡ before)
 RunTo before (request ∷ requests) text after =
-    (sent : List Query) × (reply : Reply) × (between : ScriptClient) × (rest : List ℕ)
+    (sent : List Query) × (reply : LookupResult) × (between : ScriptClient) × (rest : List ℕ)
     × IsStep before request sent reply between
     × (text ≡ step_text request sent reply ++ rest)
     × RunTo between requests rest after
 
 -- the text of a run of a script
-abbrev pub IsRun : ScriptValue → List ℕ → Type 0
-IsRun script text = (after : ScriptClient) × RunTo (first_client (map (λ o. o.1) script.outcomes)) script.requests text after
+abbrev pub IsScriptRun : ScriptValue → List ℕ → Type 0
+IsScriptRun script text = (after : ScriptClient) × RunTo (first_client (map (λ o. o.1) script.outcomes)) script.requests text after
 
 -- the text of a run of what the lines of the script say
 pub record IsReplayed (script text : List ℕ) : Type 0 where
   pub said : List Line
   pub read : AreRead [] (lines script) (Ok said)
-  pub run : IsRun (script_of said) text
+  pub run : IsScriptRun (script_of said) text
 
 -- a script that cannot be read, or want of memory
 abbrev pub replay_fault : ScriptFault → ScriptError → ReplayError
