@@ -8,8 +8,8 @@ use Rattle.hickory_proto_core.specs.Records.{RecordValue, DataValue, a_data, aaa
 use Rattle.hickory_proto_core.specs.records.query.Query.{Query}
 use Rattle.hickory_resolver_model.specs.Bounds.{day}
 
--- the name that a record leads to from the name reached: of a CNAME that this name owns, and of any SRV. Data of an
--- unknown kind lead nowhere
+-- the name that a record leads to from the name reached: of a CNAME that this name owns, and of any SRV. Data
+-- of an unknown kind lead nowhere
 abbrev pub data_target : Bool → DataValue → Option NameValue
 data_target owned (a_data octets) = None
 data_target owned (aaaa_data segments) = None
@@ -27,15 +27,17 @@ leads_to reached r = data_target (name_eq reached r.name) r.rdata
 
 -- no record from one place up to another leads on from this name
 abbrev pub LeadNowhere : List RecordValue → NameValue → ℕ → ℕ → Type 0
-LeadNowhere answers reached low high = (k : ℕ) (r : RecordValue) → low ≤ k → k < high → slice_get answers k ≡ Some r → leads_to reached r ≡ None
+LeadNowhere answers reached low high =
+    (k : ℕ) (r : RecordValue) → low ≤ k → k < high → slice_get answers k ≡ Some r → leads_to reached r ≡ None
 
--- The places of a walk over answers from a place on: each is after the one before it, and its record leads on from the
--- name that was reached; no record that is left out would have led on at its place.
+-- The places of a walk over answers from a place on: each is after the one before it, and its record leads on
+-- from the name that was reached; no record that is left out would have led on at its place.
 abbrev pub IsWalk : List RecordValue → ℕ → NameValue → List ℕ → NameValue → Type 0
 IsWalk answers low reached [] last = (last ≡ reached) × LeadNowhere answers reached low (length answers)
 IsWalk answers low reached (p ∷ ps) last =
     (low ≤ p) × LeadNowhere answers reached low p
-    × ((r : RecordValue) × (next : NameValue) × (slice_get answers p ≡ Some r) × (leads_to reached r ≡ Some next) × IsWalk answers (p + 1) next ps last)
+    × ((r : RecordValue) × (next : NameValue) × (slice_get answers p ≡ Some r)
+        × (leads_to reached r ≡ Some next) × IsWalk answers (p + 1) next ps last)
 
 -- a walk: its places, the last name reached, and the least of a day and the TTLs on the way
 pub record Walk : Type 0 where
@@ -50,7 +52,8 @@ walk_step place ttl rest = record { places = place ∷ rest.places; last = rest.
 abbrev pub walk_from : ℕ → NameValue → List RecordValue → Walk
 walk_from place reached [] = record { places = []; last = reached; ttl = day }
 walk_from place reached (r ∷ rs) =
-    option_map_or (λ next. walk_step place r.ttl (walk_from (place + 1) next rs)) (leads_to reached r) (walk_from (place + 1) reached rs)
+    option_map_or (λ next. walk_step place r.ttl (walk_from (place + 1) next rs)) (leads_to reached r)
+        (walk_from (place + 1) reached rs)
 
 -- questions for every type and for CNAMEs are not led on
 abbrev pub follows_aliases : Query → Bool
@@ -58,4 +61,5 @@ follows_aliases q = if asks_for type.ANY q then false else (if asks_for type.CNA
 
 -- the one walk of a question over the answers to it
 abbrev pub walk_of : Query → List RecordValue → Walk
-walk_of q answers = if follows_aliases q then walk_from 0 q.name answers else record { places = []; last = q.name; ttl = day }
+walk_of q answers =
+    if follows_aliases q then walk_from 0 q.name answers else record { places = []; last = q.name; ttl = day }

@@ -7,7 +7,8 @@ use Rattle.std.specs.Cmp.Lexicographic.{pointwise}
 use Rattle.hickory_proto_core.specs.Name.{NameValue, name_eq, is_zone_of, num_labels_of, appended_name, wire_len, lower_label, localhost}
 use Rattle.hickory_resolver_model.specs.Hosts.{as_fqdn}
 
--- how names are attempted: from how many labels on a name is attempted as it is first, the domain, and the search list
+-- how names are attempted: from how many labels on a name is attempted as it is first, the domain, and the
+-- search list
 pub record Search : Type 0 where
   pub ndots : ℕ
   pub domain : Option NameValue
@@ -15,7 +16,8 @@ pub record Search : Type 0 where
 
 -- a name under `onion` whose label there has 56 bytes: the address of an onion service
 abbrev pub is_onion_address : List (List ℕ) → Bool
-is_onion_address (top ∷ service ∷ rest) = pointwise nat_eq (lower_label top) (codes "onion") && (length service == 56)
+is_onion_address (top ∷ service ∷ rest) =
+    pointwise nat_eq (lower_label top) (codes "onion") && (length service == 56)
 is_onion_address _ = false
 
 -- the name below a domain, where it is not too long
@@ -35,8 +37,10 @@ keep_last (n ∷ ns) = if list_any (name_eq n) ns then keep_last ns else n ∷ k
 abbrev pub raw_first : Search → NameValue → Bool
 raw_first s n = nat_lt s.ndots (num_labels_of n.labels) || is_zone_of localhost n
 
--- The names in the order in which they are attempted: a fully qualified name and an onion address alone, as they are.
+-- The names in the order in which they are attempted: a fully qualified name and an onion address alone, as
+-- they are.
 abbrev pub attempts : Search → NameValue → List NameValue
 attempts s n =
     if n.fqdn || is_onion_address (reverse n.labels) then n ∷ []
-    else (if raw_first s n then as_fqdn n ∷ keep_last (joined_names s n) else keep_last (joined_names s n ++ as_fqdn n ∷ []))
+    else (if raw_first s n then as_fqdn n ∷ keep_last (joined_names s n)
+        else keep_last (joined_names s n ++ as_fqdn n ∷ []))

@@ -24,13 +24,16 @@ pub record BoundsValue : Type 0 where
 -- bounds are equal where all four are
 abbrev pub bounds_eq : BoundsValue → BoundsValue → Bool
 bounds_eq a b =
-    option_eq nat_eq a.positive_min b.positive_min && option_eq nat_eq a.negative_min b.negative_min && option_eq nat_eq a.positive_max b.positive_max
+    option_eq nat_eq a.positive_min b.positive_min && option_eq nat_eq a.negative_min b.negative_min
+        && option_eq nat_eq a.positive_max b.positive_max
     && option_eq nat_eq a.negative_max b.negative_max
 
 pub bounds_equiv : IsEquivalence bounds_eq
 bounds_equiv =
-    and_equiv (and_equiv (and_equiv (on_equiv (λ b. b.positive_min) (options_equiv nat_eq_equiv)) (on_equiv (λ b. b.negative_min) (options_equiv nat_eq_equiv)))
-    (on_equiv (λ b. b.positive_max) (options_equiv nat_eq_equiv))) (on_equiv (λ b. b.negative_max) (options_equiv nat_eq_equiv))
+    and_equiv (and_equiv (and_equiv (on_equiv (λ b. b.positive_min) (options_equiv nat_eq_equiv))
+        (on_equiv (λ b. b.negative_min) (options_equiv nat_eq_equiv)))
+    (on_equiv (λ b. b.positive_max) (options_equiv nat_eq_equiv)))
+        (on_equiv (λ b. b.negative_max) (options_equiv nat_eq_equiv))
 
 -- a day
 abbrev pub day : ℕ
@@ -56,7 +59,8 @@ is_reversed b = nat_lt b.1 b.0
 -- the fault of bounds whose least is above their greatest
 abbrev pub bounds_fault : BoundsValue → Option BoundsError
 bounds_fault b =
-    if is_reversed (positive_bounds b) || is_reversed (reduced_bounds (positive_bounds b)) then Some PositiveReversed
+    if is_reversed (positive_bounds b) || is_reversed (reduced_bounds (positive_bounds b))
+        then Some PositiveReversed
     else (if is_reversed (negative_bounds b) then Some NegativeReversed else None)
 
 -- the bounds, or their fault
@@ -70,12 +74,14 @@ pub record ConfigValue : Type 0 where
 
 -- configurations are equal where both fields are
 abbrev pub config_eq : ConfigValue → ConfigValue → Bool
-config_eq c d = bounds_eq c.default d.default && pointwise (λ p q. (p.0 == q.0) && bounds_eq p.1 q.1) c.by_type d.by_type
+config_eq c d =
+    bounds_eq c.default d.default && pointwise (λ p q. (p.0 == q.0) && bounds_eq p.1 q.1) c.by_type d.by_type
 
 pub config_equiv : IsEquivalence config_eq
 config_equiv =
     and_equiv (on_equiv (λ c. c.default) bounds_equiv)
-    (on_equiv (λ c. c.by_type) (lists_equiv (and_equiv (on_equiv (λ p. p.0) nat_eq_equiv) (on_equiv (λ p. p.1) bounds_equiv))))
+    (on_equiv (λ c. c.by_type)
+        (lists_equiv (and_equiv (on_equiv (λ p. p.0) nat_eq_equiv) (on_equiv (λ p. p.1) bounds_equiv))))
 
 -- the bounds of one code in a list
 abbrev pub bounds_by_code : ℕ → List (ℕ × BoundsValue) → Option BoundsValue
@@ -93,7 +99,8 @@ no_bounds = record { positive_min = None; negative_min = None; positive_max = No
 pub record SetsBounds (old new : ConfigValue) (code : ℕ) (bounds : BoundsValue) : Type 0 where
   pub default : new.default ≡ old.default
   pub here : bounds_by_code code new.by_type ≡ Some bounds
-  pub others : (other : ℕ) → other ≢ code → bounds_by_code other new.by_type ≡ bounds_by_code other old.by_type
+  pub others : (other : ℕ) → other ≢ code
+      → bounds_by_code other new.by_type ≡ bounds_by_code other old.by_type
 
 -- a number brought between two
 abbrev pub clamp : ℕ × ℕ → ℕ → ℕ
@@ -101,7 +108,8 @@ clamp bounds n = max bounds.0 (min n bounds.1)
 
 -- a record with its TTL clamped by the bounds of its own type
 abbrev pub clamped_record : ConfigValue → RecordValue → RecordValue
-clamped_record config r = record r { ttl = clamp (reduced_bounds (positive_bounds (bounds_for config (record_type_code r)))) r.ttl }
+clamped_record config r =
+    record r { ttl = clamp (reduced_bounds (positive_bounds (bounds_for config (record_type_code r)))) r.ttl }
 
 abbrev pub clamped_records : ConfigValue → List RecordValue → List RecordValue
 clamped_records config rs = map (clamped_record config) rs

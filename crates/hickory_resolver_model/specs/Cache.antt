@@ -46,7 +46,8 @@ current q now es = find (λ e. is_for q e && is_current now e) es
 abbrev pub age : ℕ → ℕ → ℕ
 age moment now = min (now - moment) 4294967295
 
--- records, and with them a message or a negative answer, whose TTLs are so many seconds lower, and 0 at the least
+-- records, and with them a message or a negative answer, whose TTLs are so many seconds lower, and 0 at the
+-- least
 abbrev pub aged_record : ℕ → RecordValue → RecordValue
 aged_record seconds r = record r { ttl = r.ttl - seconds }
 
@@ -89,8 +90,8 @@ aged_outcome seconds (Err e) = Err (aged_error seconds e)
 abbrev pub aged_result : ℕ → Entry → OutcomeValue
 aged_result now e = aged_outcome (age e.original_time now) e.result
 
--- what a look-up in the cache gives: nothing without a current entry, else what the entry gives, or want of memory
--- for a copy of it
+-- what a look-up in the cache gives: nothing without a current entry, else what the entry gives, or want of
+-- memory for a copy of it
 abbrev pub IsGot : Option Entry → ℕ → Option OutcomeValue → Type 0
 IsGot None now got = got ≡ None
 IsGot (Some entry) now got = (got ≡ Some (aged_result now entry)) ⊎ (got ≡ Some (Err OutOfMemory))
@@ -107,8 +108,8 @@ least_deadline (e ∷ es) = fold (λ d x. min d x.valid_until) e.valid_until es
 abbrev pub without_earliest : List Entry → List Entry
 without_earliest es = remove es (position_or_len (λ e. e.valid_until == least_deadline es) es)
 
--- what stays when an entry for the question comes in: its old entry leaves, or where there is none and the cache is
--- full, the entry of the least deadline
+-- what stays when an entry for the question comes in: its old entry leaves, or where there is none and the
+-- cache is full, the entry of the least deadline
 abbrev pub room_for : ℕ → Query → List Entry → List Entry
 room_for capacity q es =
     if list_any (is_for q) es then without q es
@@ -118,11 +119,21 @@ room_for capacity q es =
 abbrev pub positive_entry : ConfigValue → Query → MessageValue → ℕ → Entry
 positive_entry config q m now =
     let kept = clamped_message config m in
-    record { query = q; result = Ok kept; original_time = now; valid_until = saturating_sum now (positive_lifetime config q kept) }
+    record {
+      query = q;
+      result = Ok kept;
+      original_time = now;
+      valid_until = saturating_sum now (positive_lifetime config q kept);
+    }
 
 abbrev pub negative_entry : ConfigValue → Query → NoRecordsValue → ℕ → Entry
 negative_entry config q n now =
-    record { query = q; result = Err (Dns (NoRecordsFound n)); original_time = now; valid_until = saturating_sum now (negative_lifetime config q n) }
+    record {
+      query = q;
+      result = Err (Dns (NoRecordsFound n));
+      original_time = now;
+      valid_until = saturating_sum now (negative_lifetime config q n);
+    }
 
 -- the entry that an outcome becomes, and none for an error other than a negative answer
 abbrev pub entry_of_error : ConfigValue → Query → NetError → ℕ → Option Entry
@@ -141,7 +152,11 @@ entry_of config q (Err error) now = entry_of_error config q error now
 
 -- a deadline that is not after that of the question's current entry, where there is one
 abbrev pub not_after_current : List Entry → ℕ → Entry → Entry
-not_after_current es now e = record e { valid_until = option_map_or (λ c. min e.valid_until c.valid_until) (current e.query now es) e.valid_until }
+not_after_current es now e =
+    record e {
+      valid_until = option_map_or (λ c. min e.valid_until c.valid_until)
+          (current e.query now es) e.valid_until;
+    }
 
 -- the list with an entry put in as the newest
 abbrev pub insert_entry : ℕ → List Entry → Entry → List Entry
@@ -149,12 +164,18 @@ insert_entry capacity es e = if capacity == 0 then es else room_for capacity e.q
 
 -- the cache after a store
 abbrev pub store : CacheValue → Query → OutcomeValue → ℕ → CacheValue
-store c q outcome now = record c { entries = option_map_or (insert_entry c.capacity c.entries) (entry_of c.config q outcome now) c.entries }
+store c q outcome now =
+    record c {
+      entries = option_map_or (insert_entry c.capacity c.entries) (entry_of c.config q outcome now) c.entries;
+    }
 
 -- the cache after a store whose deadline is not after that of the entry that was current
 abbrev pub store_clamped : CacheValue → Query → OutcomeValue → ℕ → CacheValue
 store_clamped c q outcome now =
-    record c { entries = option_map_or (λ e. insert_entry c.capacity c.entries (not_after_current c.entries now e)) (entry_of c.config q outcome now) c.entries }
+    record c {
+      entries = option_map_or (λ e. insert_entry c.capacity c.entries (not_after_current c.entries now e))
+          (entry_of c.config q outcome now) c.entries;
+    }
 
 -- the cache without the question's entry
 abbrev pub without_query : CacheValue → Query → CacheValue
@@ -172,4 +193,5 @@ IsNewest e es = (others : List Entry) × (es ≡ others ++ e ∷ [])
 -- the question's entry afterwards is current no longer than the one that was current before
 abbrev pub NeverLater : Query → ℕ → List Entry → List Entry → Type 0
 NeverLater q now before after =
-    (was is : Entry) → current q now before ≡ Some was → find (is_for q) after ≡ Some is → is.valid_until ≤ was.valid_until
+    (was is : Entry) → current q now before ≡ Some was → find (is_for q) after ≡ Some is
+        → is.valid_until ≤ was.valid_until

@@ -1,4 +1,5 @@
--- What a call of the resolver comes to: look-ups of its questions, one after another, and a reply made of their results.
+-- What a call of the resolver comes to: look-ups of its questions, one after another, and a reply made of
+-- their results.
 use Rattle.std.specs.Prelude.{◌≡◌, ◌⊎◌, ℕ, Bool, true, false, not, ◌||◌, List, [], ◌∷◌, ◌++◌, map, flat_map, Option, Some, None, Ok, Err, if◌then◌else◌}
 use Rattle.hickory_proto_core.specs.Name.{NameValue}
 use Rattle.hickory_proto_core.specs.Query.{root_query}
@@ -17,7 +18,8 @@ use Rattle.hickory_resolver_model.specs.SpecialUse.{response_to}
 use Rattle.hickory_resolver_model.specs.Hops.{LookupContext, IsReply}
 use Rattle.hickory_resolver_model.specs.Hosts.{Host, append, IsStatic}
 
--- where a call starts, the cache aside: the moment, whether intermediate records are preserved, and the table of hosts
+-- where a call starts, the cache aside: the moment, whether intermediate records are preserved, and the table
+-- of hosts
 pub record Setting : Type 0 where
   pub now : ℕ
   pub preserve_intermediates : Bool
@@ -38,7 +40,9 @@ pub record SubLookup : Type 0 where
   pub result : LookupResult
 
 -- the table of hosts is looked at for this question, and has it; a copy may find no memory
-pub record IsStaticSubLookup (s : Setting) (looked : Bool) (before : CacheValue) (p : SubLookup) (after : CacheValue) : Type 0 where
+pub record IsStaticSubLookup
+    (s : Setting) (looked : Bool) (before : CacheValue) (p : SubLookup) (after : CacheValue)
+    : Type 0 where
   pub asks_hosts : looked ≡ true
   pub found : LookupValue
   pub has : IsStatic p.question s.now s.hosts (Some found)
@@ -47,7 +51,9 @@ pub record IsStaticSubLookup (s : Setting) (looked : Bool) (before : CacheValue)
   pub unchanged : after ≡ before
 
 -- the table is not looked at, or has nothing, and the client's look-up is the hops'
-pub record IsClientSubLookup (s : Setting) (looked : Bool) (before : CacheValue) (p : SubLookup) (after : CacheValue) : Type 0 where
+pub record IsClientSubLookup
+    (s : Setting) (looked : Bool) (before : CacheValue) (p : SubLookup) (after : CacheValue)
+    : Type 0 where
   pub not_static : (looked ≡ false) ⊎ IsStatic p.question s.now s.hosts None
   pub reply : IsReply (start_at s before) p.question p.asks p.result after
 
@@ -58,7 +64,8 @@ IsSubLookupBy Client s looked before p after = IsClientSubLookup s looked before
 abbrev pub IsSubLookup : Setting → Bool → CacheValue → SubLookup → CacheValue → Type 0
 IsSubLookup s looked before p after = IsSubLookupBy p.source s looked before p after
 
--- how a question of a call is answered, over the cache that the part before left; the flag says whether the hosts are looked at
+-- how a question of a call is answered, over the cache that the part before left; the flag says whether the
+-- hosts are looked at
 abbrev pub SubLookupRelation : Type 1
 SubLookupRelation = Bool → CacheValue → Query → SubLookup → CacheValue → Type 0
 
@@ -91,7 +98,8 @@ both_results (Ok l) (Err e) = Ok l
 both_results (Err e) (Ok k) = Ok k
 both_results (Err e) (Err f) = Err e
 
--- The next type that is looked up for a name after these results; none where the attempt is over. Out of memory ends it.
+-- The next type that is looked up for a name after these results; none where the attempt is over. Out of
+-- memory ends it.
 abbrev pub next_type : Plan → List LookupResult → Option RecordType
 next_type (One t) [] = Some t
 next_type (One t) (r ∷ rs) = None
@@ -102,7 +110,8 @@ next_type (Fallback t u) [] = Some t
 next_type (Fallback t u) (r ∷ []) = if has_answers r || is_out_of_memory r then None else Some u
 next_type (Fallback t u) (r ∷ k ∷ rs) = None
 
--- The result of an attempt, by the results of its sub-look-ups: the last one's; where both types are wanted, both as one.
+-- The result of an attempt, by the results of its sub-look-ups: the last one's; where both types are wanted,
+-- both as one.
 abbrev pub attempt_result : Plan → List LookupResult → LookupResult
 attempt_result plan [] = Err OutOfMemory
 attempt_result plan (r ∷ []) = r
@@ -115,11 +124,15 @@ abbrev pub joins_results : Plan → List LookupResult → Bool
 joins_results (Both t u) (r ∷ k ∷ rs) = true
 joins_results plan results = false
 
--- The sub-look-ups of an attempt at a name, each over the cache that the one before it left, after those with these results.
-abbrev pub AreSubLookups : SubLookupRelation → Bool → NameValue → Plan → CacheValue → List LookupResult → List SubLookup → CacheValue → Type 0
-AreSubLookups Answers looked n plan before results [] after = (next_type plan results ≡ None) × (after ≡ before)
+-- The sub-look-ups of an attempt at a name, each over the cache that the one before it left, after those with
+-- these results.
+abbrev pub AreSubLookups : SubLookupRelation → Bool → NameValue → Plan → CacheValue → List LookupResult
+    → List SubLookup → CacheValue → Type 0
+AreSubLookups Answers looked n plan before results [] after =
+    (next_type plan results ≡ None) × (after ≡ before)
 AreSubLookups Answers looked n plan before results (p ∷ ps) after =
-    (t : RecordType) × (mid : CacheValue) × (next_type plan results ≡ Some t) × Answers looked before (question_of n t) p mid
+    (t : RecordType) × (mid : CacheValue) × (next_type plan results ≡ Some t)
+        × Answers looked before (question_of n t) p mid
     × AreSubLookups Answers looked n plan mid (results ++ p.result ∷ []) ps after
 
 abbrev pub results_of : List SubLookup → List LookupResult
@@ -144,16 +157,18 @@ abbrev pub IsLastReply : Option LookupValue → LookupResult → LookupResult �
 IsLastReply None last result = result ≡ last
 IsLastReply (Some literal) last result = (result ≡ Ok literal) ⊎ (result ≡ Err OutOfMemory)
 
--- What a call does with each name: the types that are looked up, whether the hosts are looked at for every name or for the
--- first alone, and the literal address that stands in where no attempt has answers.
+-- What a call does with each name: the types that are looked up, whether the hosts are looked at for every
+-- name or for the first alone, and the literal address that stands in where no attempt has answers.
 pub record CallPlan : Type 0 where
   pub types : Plan
   pub hosts_for_all : Bool
   pub literal : Option LookupValue
 
--- Attempts at these names in order, none after the first that has answers, and the reply of the call. The flag says whether
--- the hosts are looked at for the first of the names; without a name left the reply is the last resort or the last result.
-abbrev pub AreAttempts : SubLookupRelation → CallPlan → Bool → CacheValue → List NameValue → LookupResult → List SubLookup → LookupResult → CacheValue → Type 0
+-- Attempts at these names in order, none after the first that has answers, and the reply of the call. The
+-- flag says whether the hosts are looked at for the first of the names; without a name left the reply is the
+-- last resort or the last result.
+abbrev pub AreAttempts : SubLookupRelation → CallPlan → Bool → CacheValue → List NameValue → LookupResult
+    → List SubLookup → LookupResult → CacheValue → Type 0
 AreAttempts Answers plan looked before [] last parts result after =
     (parts ≡ []) × IsLastReply plan.literal last result × (after ≡ before)
 AreAttempts Answers plan looked before (n ∷ ns) last parts result after =
@@ -165,7 +180,13 @@ AreAttempts Answers plan looked before (n ∷ ns) last parts result after =
 -- an address as the reply that it is by itself, for a day: owned by this name, under this question
 abbrev pub literal_lookup : Query → NameValue → IpAddr → ℕ → LookupValue
 literal_lookup q owner address now = record {
-  message = response_to q (record { name = owner; dns_class = class.IN; ttl = day; rdata = data_of_address address } ∷ []);
+  message =
+      response_to q (record {
+        name = owner;
+        dns_class = class.IN;
+        ttl = day;
+        rdata = data_of_address address;
+      } ∷ []);
   valid_until = saturating_sum now day;
 }
 
@@ -173,9 +194,11 @@ literal_lookup q owner address now = record {
 abbrev pub no_name : NameValue
 no_name = record { labels = []; fqdn = false }
 
--- the address as the reply at once: owned by the name that was read, or by the name without labels, under a question for it
+-- the address as the reply at once: owned by the name that was read, or by the name without labels, under a
+-- question for it
 abbrev pub literal_at_once : NameValue → IpAddr → ℕ → LookupValue
-literal_at_once owner address now = literal_lookup (question_of owner (data_type (data_of_address address))) owner address now
+literal_at_once owner address now =
+    literal_lookup (question_of owner (data_type (data_of_address address))) owner address now
 
 -- the address as the last resort: under the question for the root, owned by the name without labels
 abbrev pub literal_at_last : IpAddr → ℕ → LookupValue

@@ -21,16 +21,21 @@ pub record ClientValue (H : Type 0) : Type 0 where
   pub preserve_intermediates : Bool
 
 abbrev pub start_of : {H : Type 0} → ClientValue H → ℕ → LookupContext
-start_of client now = record { cache = client.cache; now = now; preserve_intermediates = client.preserve_intermediates }
+start_of client now =
+    record { cache = client.cache; now = now; preserve_intermediates = client.preserve_intermediates }
 
 -- A question is direct where it is not special, and no answer that came back for it leads to another name.
 pub record IsDirect (question : Query) (now : ℕ) (asks : List Exchange) : Type 0 where
   pub plain : special_use_result question now ≡ None
-  pub leads_nowhere : AllByRecursion (λ x. (m : MessageValue) → kind_of x.outcome ≡ Answer m → (walk_of question m.answers).places ≡ []) asks
+  pub leads_nowhere : AllByRecursion
+      (λ x. (m : MessageValue) → kind_of x.outcome ≡ Answer m → (walk_of question m.answers).places ≡ []) asks
 
--- A look-up: the exchanges that it made led the handle, each with these options; it asked once at most. Of a direct
--- question the reply and the cache after it are those of the hops. (The client follows no alias yet.)
-pub record IsLookup {H : Type 0} (step : Step H) (options : DnsRequestOptions) (now : ℕ) (before : ClientValue H) (question : Query) (result : LookupResult) (after : ClientValue H) : Type 0 where
+-- A look-up: the exchanges that it made led the handle, each with these options; it asked once at most. Of a
+-- direct question the reply and the cache after it are those of the hops. (The client follows no alias yet.)
+pub record IsLookup
+    {H : Type 0} (step : Step H) (options : DnsRequestOptions) (now : ℕ) (before : ClientValue H)
+    (question : Query) (result : LookupResult) (after : ClientValue H)
+    : Type 0 where
   pub asks : List Exchange
   pub led : Leads step options before.handle asks after.handle
   pub once : length asks ≤ 1
@@ -44,4 +49,5 @@ pub record KeepsHandle {H : Type 0} (before after : ClientValue H) : Type 0 wher
 
 -- a cache without entries and with the default bounds: every least is 0, and every greatest a day
 abbrev pub empty_cache : ℕ → CacheValue
-empty_cache capacity = record { capacity = capacity; config = record { default = no_bounds; by_type = [] }; entries = [] }
+empty_cache capacity =
+    record { capacity = capacity; config = record { default = no_bounds; by_type = [] }; entries = [] }

@@ -1,5 +1,5 @@
--- What a look-up asks, answers and stores, as a list of hops: each is a question on the way of an alias to the
--- next, and the last one has the result.
+-- What a look-up asks, answers and stores, as a list of hops: each is a question on the way of an alias to
+-- the next, and the last one has the result.
 use Rattle.std.specs.Prelude.{◌≡◌, ◌⊎◌, ◌≤◌, ℕ, Bool, List, [], ◌∷◌, ◌++◌, length, map, reverse, Option, Some, None, Ok, Err}
 use Rattle.hickory_proto_core.specs.Messages.{MessageValue}
 use Rattle.hickory_proto_core.specs.Handles.{OutcomeValue}
@@ -21,8 +21,8 @@ pub record LookupContext : Type 0 where
   pub now : ℕ
   pub preserve_intermediates : Bool
 
--- a question is asked upstream where it is not special and has no current entry. All hits are read from the cache as
--- it was before the look-up
+-- a question is asked upstream where it is not special and has no current entry. All hits are read from the
+-- cache as it was before the look-up
 abbrev pub GoesUpstream : LookupContext → Query → Type 0
 GoesUpstream s q = (special_use_result q s.now ≡ None) × (current q s.now s.cache.entries ≡ None)
 
@@ -52,9 +52,11 @@ pub data ChainEnd : Type 0 where
 -- after so many hops this is the last: an alias ends the list only at the eighth question
 abbrev pub IsChainEnd : LookupContext → ℕ → Hop → ChainEnd → Type 0
 IsChainEnd s count hop (Special reply) = special_use_result hop.query s.now ≡ Some reply
-IsChainEnd s count hop (Hit entry) = (special_use_result hop.query s.now ≡ None) × (current hop.query s.now s.cache.entries ≡ Some entry)
+IsChainEnd s count hop (Hit entry) =
+    (special_use_result hop.query s.now ≡ None) × (current hop.query s.now s.cache.entries ≡ Some entry)
 IsChainEnd s count hop (Asked outcome) =
-    GoesUpstream s hop.query × ((next : Hop) → kind_verdict s hop (kind_of outcome) ≡ Some (CnameChain next) → count ≡ 7)
+    GoesUpstream s hop.query
+        × ((next : Hop) → kind_verdict s hop (kind_of outcome) ≡ Some (CnameChain next) → count ≡ 7)
 
 -- no such records, as a response without what was asked for says (RFC 2308, section 2.2)
 abbrev pub no_match : Query → MessageValue → NetError
@@ -80,7 +82,8 @@ verdict_result config q now response (CnameChain next) = Err (no_match q respons
 verdict_result config q now response NoMatch = Err (no_match q response)
 
 abbrev pub kind_result : LookupContext → Hop → ResponseKind → LookupResult
-kind_result s hop (Answer response) = verdict_result s.cache.config hop.query s.now response (verdict s.preserve_intermediates hop response)
+kind_result s hop (Answer response) =
+    verdict_result s.cache.config hop.query s.now response (verdict s.preserve_intermediates hop response)
 kind_result s hop (Negative none) = Err (Dns (NoRecordsFound none))
 kind_result s hop (Failed error) = Err error
 
@@ -108,7 +111,8 @@ verdict_stores q NoMatch = []
 
 abbrev pub kind_stores : LookupContext → Hop → ResponseKind → List Store
 kind_stores s hop (Answer response) = verdict_stores hop.query (verdict s.preserve_intermediates hop response)
-kind_stores s hop (Negative none) = record { query = hop.query; outcome = Err (Dns (NoRecordsFound none)) } ∷ []
+kind_stores s hop (Negative none) =
+    record { query = hop.query; outcome = Err (Dns (NoRecordsFound none)) } ∷ []
 kind_stores s hop (Failed error) = []
 
 abbrev pub last_stores : LookupContext → Hop → ChainEnd → List Store
@@ -116,15 +120,23 @@ last_stores s hop (Special reply) = []
 last_stores s hop (Hit entry) = []
 last_stores s hop (Asked outcome) = kind_stores s hop (kind_of outcome)
 
--- what is stored under an earlier question: a result as a fresh response with its sections, and an error as it is
+-- what is stored under an earlier question: a result as a fresh response with its sections, and an error as
+-- it is
 abbrev pub as_outcome : Query → LookupResult → OutcomeValue
-as_outcome q (Ok lookup) = Ok (record (response_to q lookup.message.answers) { authorities = lookup.message.authorities; additionals = lookup.message.additionals })
+as_outcome q (Ok lookup) =
+    Ok (record (response_to q lookup.message.answers) {
+      authorities = lookup.message.authorities;
+      additionals = lookup.message.additionals;
+    })
 as_outcome q (Err error) = Err error
 
 -- the last hop's own store, then the result under each earlier question, from the last to the first
 abbrev pub stores_of : LookupContext → List Exchange → Hop → ChainEnd → List Store
 stores_of s passed hop last =
-    last_stores s hop last ++ map (λ x. record { query = x.query; outcome = as_outcome x.query (result_of s hop last) }) (reverse passed)
+    last_stores s hop last ++ map (λ x. record {
+      query = x.query;
+      outcome = as_outcome x.query (result_of s hop last);
+    }) (reverse passed)
 
 -- the cache after these stores, in order. A store of an error other than a negative answer changes nothing
 abbrev pub after_stores : ℕ → List Store → CacheValue → CacheValue
@@ -142,26 +154,35 @@ pub record HopList (s : LookupContext) (question : Query) (asks : List Exchange)
   pub asks_are : asks ≡ passed ++ asks_of last_hop last
 
 -- the whole of it: the last hop's result, and every store
-pub record IsWhole (s : LookupContext) (question : Query) (asks : List Exchange) (result : LookupResult) (after : CacheValue) : Type 0 where
+pub record IsWhole
+    (s : LookupContext) (question : Query) (asks : List Exchange) (result : LookupResult) (after : CacheValue)
+    : Type 0 where
   pub hops : HopList s question asks
   pub result_is : result ≡ result_of s hops.last_hop hops.last
   pub after_is : after ≡ after_stores s.now (stores_of s hops.passed hops.last_hop hops.last) s.cache
 
 -- memory ran out among the stores: a beginning of them was made
-pub record IsCutInStores (s : LookupContext) (question : Query) (asks : List Exchange) (after : CacheValue) : Type 0 where
+pub record IsCutInStores
+    (s : LookupContext) (question : Query) (asks : List Exchange) (after : CacheValue)
+    : Type 0 where
   pub hops : HopList s question asks
   pub front : List Store
   pub back : List Store
   pub parts : front ++ back ≡ stores_of s hops.passed hops.last_hop hops.last
   pub after_is : after ≡ after_stores s.now front s.cache
 
--- memory ran out among the hops: first hops were asked, the last of them with any outcome, and nothing was stored
-pub record IsCutInAsks (s : LookupContext) (question : Query) (asks : List Exchange) (after : CacheValue) : Type 0 where
+-- memory ran out among the hops: first hops were asked, the last of them with any outcome, and nothing was
+-- stored
+pub record IsCutInAsks
+    (s : LookupContext) (question : Query) (asks : List Exchange) (after : CacheValue)
+    : Type 0 where
   pub passed : List Exchange
   pub last_hop : Hop
   pub leads : FollowsAliases s (first_hop question) passed last_hop
   pub short : length passed ≤ 7
-  pub asks_are : (asks ≡ passed) ⊎ ((x : Exchange) × GoesUpstream s last_hop.query × (x.query ≡ last_hop.query) × (asks ≡ passed ++ x ∷ []))
+  pub asks_are : (asks ≡ passed)
+      ⊎ ((x : Exchange) × GoesUpstream s last_hop.query × (x.query ≡ last_hop.query)
+      × (asks ≡ passed ++ x ∷ []))
   pub after_is : after ≡ s.cache
 
 -- what want of memory leaves of a look-up: a beginning of its events

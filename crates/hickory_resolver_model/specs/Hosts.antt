@@ -32,8 +32,8 @@ pub record Host : Type 0 where
 abbrev pub as_fqdn : NameValue → NameValue
 as_fqdn n = record n { fqdn = true }
 
--- two look-ups as one: each section of the one and then of the other; the rest of the first one's message, and the sooner
--- deadline
+-- two look-ups as one: each section of the one and then of the other; the rest of the first one's message,
+-- and the sooner deadline
 abbrev pub append_messages : MessageValue → MessageValue → MessageValue
 append_messages m n = record m {
   answers = m.answers ++ n.answers;
@@ -42,7 +42,8 @@ append_messages m n = record m {
 }
 
 abbrev pub append : LookupValue → LookupValue → LookupValue
-append l k = record { message = append_messages l.message k.message; valid_until = min l.valid_until k.valid_until }
+append l k =
+    record { message = append_messages l.message k.message; valid_until = min l.valid_until k.valid_until }
 
 -- what a name has at first: an answer without records
 abbrev pub no_addresses : NameValue → RecordType → ℕ → LookupValue
@@ -55,7 +56,8 @@ no_addresses n t now = record {
 abbrev pub family : RecordType → Host → Option LookupValue
 family t h = if type_code t == 1 then h.a else h.aaaa
 
--- a host with one more look-up of a type, given for this name: the first one of its family has the question of the name as it is given
+-- a host with one more look-up of a type, given for this name: the first one of its family has the question
+-- of the name as it is given
 abbrev pub with_lookup : NameValue → RecordType → LookupValue → ℕ → Host → Host
 with_lookup n t l now h =
     let joined = Some (append (option_map_or (λ k. k) (family t h) (no_addresses n t now)) l) in
@@ -87,7 +89,8 @@ one_address n address now = record {
 -- the table with these pairs of a name and an address put in, in order
 abbrev pub insert_pairs : ℕ → List (NameValue × DataValue) → List Host → List Host
 insert_pairs now [] hosts = hosts
-insert_pairs now (p ∷ ps) hosts = insert_pairs now ps (insert_host p.0 (address_type p.1) (one_address (as_fqdn p.0) p.1 now) now hosts)
+insert_pairs now (p ∷ ps) hosts =
+    insert_pairs now ps (insert_host p.0 (address_type p.1) (one_address (as_fqdn p.0) p.1 now) now hosts)
 
 -- a list cut at the elements that pass a test
 abbrev pub put_first : {A : Type 0} → A → List (List A) → List (List A)
@@ -115,27 +118,32 @@ line_fields line = filter is_nonempty (cut_at is_whitespace (before_first (λ c.
 
 -- the text spells an address, whose data are these
 abbrev pub IsAddressField : List ℕ → DataValue → Type 0
-IsAddressField text rdata = (address : IpAddr) × IsAddressText text address × (rdata ≡ data_of_address address)
+IsAddressField text rdata =
+    (address : IpAddr) × IsAddressText text address × (rdata ≡ data_of_address address)
 
 -- the names among these fields, lower-cased: a field that is past ASCII or no name is left out
 abbrev pub AreNames : List (List ℕ) → List NameValue → Type 0
 AreNames [] names = names ≡ []
 AreNames (f ∷ fs) names =
-    ((n : NameValue) × (ns : List NameValue) × (list_all is_ascii f ≡ true) × Spells (map to_ascii_lowercase f) n × (names ≡ n ∷ ns) × AreNames fs ns)
-    ⊎ (((list_all is_ascii f ≡ false) ⊎ ((n : NameValue) → Spells (map to_ascii_lowercase f) n → ⊥)) × AreNames fs names)
+    ((n : NameValue) × (ns : List NameValue) × (list_all is_ascii f ≡ true)
+        × Spells (map to_ascii_lowercase f) n × (names ≡ n ∷ ns) × AreNames fs ns)
+    ⊎ (((list_all is_ascii f ≡ false) ⊎ ((n : NameValue) → Spells (map to_ascii_lowercase f) n → ⊥))
+        × AreNames fs names)
 
 -- the pairs of a line: an address first, and then its names. A line without an address gives none
 abbrev pub AreLinePairs : List (List ℕ) → List (NameValue × DataValue) → Type 0
 AreLinePairs [] pairs = pairs ≡ []
 AreLinePairs (f ∷ fs) pairs =
-    ((address : DataValue) × (names : List NameValue) × IsAddressField f address × AreNames fs names × (pairs ≡ map (λ n. (n, address)) names))
+    ((address : DataValue) × (names : List NameValue) × IsAddressField f address × AreNames fs names
+        × (pairs ≡ map (λ n. (n, address)) names))
     ⊎ (((address : DataValue) → IsAddressField f address → ⊥) × (pairs ≡ []))
 
 -- the pairs of these lines up to the first that is not UTF-8, and whether there is such a line
 abbrev pub AreFilePairs : List (List ℕ) → List (NameValue × DataValue) → Bool → Type 0
 AreFilePairs [] pairs broken = (pairs ≡ []) × (broken ≡ false)
 AreFilePairs (line ∷ lines) pairs broken =
-    (IsUtf8 line × ((front : List (NameValue × DataValue)) × (back : List (NameValue × DataValue)) × AreLinePairs (line_fields line) front × AreFilePairs lines back broken × (pairs ≡ front ++ back)))
+    (IsUtf8 line × ((front : List (NameValue × DataValue)) × (back : List (NameValue × DataValue))
+        × AreLinePairs (line_fields line) front × AreFilePairs lines back broken × (pairs ≡ front ++ back)))
     ⊎ ((IsUtf8 line → ⊥) × (pairs ≡ []) × (broken ≡ true))
 
 -- the address among the answers of a look-up
@@ -147,25 +155,30 @@ has_address address h = option_map_or (has_answer address) (family (address_type
 
 -- the names of an address, in the order in which they were first seen, as PTR records of the asked name
 abbrev pub pointers : NameValue → List Host → List RecordValue
-pointers owner hosts = map (λ h. record { name = owner; dns_class = class.IN; ttl = day; rdata = ptr_data h.name }) hosts
+pointers owner hosts =
+    map (λ h. record { name = owner; dns_class = class.IN; ttl = day; rdata = ptr_data h.name }) hosts
 
 abbrev pub pointer_lookup : Query → List RecordValue → ℕ → Option LookupValue
 pointer_lookup q [] now = None
-pointer_lookup q (r ∷ rs) now = Some (record { message = response_to q (r ∷ rs); valid_until = saturating_sum now day })
+pointer_lookup q (r ∷ rs) now =
+    Some (record { message = response_to q (r ∷ rs); valid_until = saturating_sum now day })
 
 -- the address that a name under `in-addr.arpa.` or `ip6.arpa.` stands for, if it stands for one
 abbrev pub StandsFor : NameValue → Option DataValue → Type 0
 StandsFor n None = (net : IpNet) → IsArpaNameOf n net → ⊥
 StandsFor n (Some rdata) = (net : IpNet) × IsArpaNameOf n net × (rdata ≡ data_of_address net.addr)
 
--- what the table has for a question, given the address that the asked name stands for: the name's addresses for A and AAAA; for PTR
--- the names of that address; nothing for other types. The class is not looked at
+-- what the table has for a question, given the address that the asked name stands for: the name's addresses
+-- for A and AAAA; for PTR the names of that address; nothing for other types. The class is not looked at
 abbrev pub static_answer : Option DataValue → Query → ℕ → List Host → Option LookupValue
 static_answer address q now hosts =
     let n = as_fqdn q.name in
     let code = type_code q.query_type in
     if (code == 1) || (code == 28) then option_and_then (family q.query_type) (find (is_host n) hosts)
-    else (if code == 12 then option_and_then (λ a. pointer_lookup q (pointers n (filter (has_address a) hosts)) now) address else None)
+    else (if code == 12 then option_and_then
+        (λ a. pointer_lookup q (pointers n (filter (has_address a) hosts)) now) address else None)
 
 abbrev pub IsStatic : Query → ℕ → List Host → Option LookupValue → Type 0
-IsStatic q now hosts result = (address : Option DataValue) × StandsFor (as_fqdn q.name) address × (result ≡ static_answer address q now hosts)
+IsStatic q now hosts result =
+    (address : Option DataValue) × StandsFor (as_fqdn q.name) address
+    × (result ≡ static_answer address q now hosts)

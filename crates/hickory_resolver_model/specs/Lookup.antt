@@ -35,10 +35,14 @@ hit_lookup q m now = record { message = with_question q m; valid_until = saturat
 abbrev pub found_lookup : ConfigValue → Query → MessageValue → ℕ → LookupValue
 found_lookup config q m now =
     let kept = clamped_message config m in
-    record { message = with_question q kept; valid_until = saturating_sum now (positive_lifetime config q kept) }
+    record {
+      message = with_question q kept;
+      valid_until = saturating_sum now (positive_lifetime config q kept);
+    }
 
 abbrev pub lookup_eq : LookupValue → LookupValue → Bool
 lookup_eq a b = message_eq a.message b.message && (a.valid_until == b.valid_until)
 
 pub lookup_equiv : IsEquivalence lookup_eq
-lookup_equiv = and_equiv (on_equiv (λ l. l.message) message_equiv) (on_equiv (λ l. l.valid_until) nat_eq_equiv)
+lookup_equiv =
+    and_equiv (on_equiv (λ l. l.message) message_equiv) (on_equiv (λ l. l.valid_until) nat_eq_equiv)

@@ -1,4 +1,5 @@
--- A run: a list of requests, one after another, over one cache; the exchanges of the whole run are cut into one piece for each.
+-- A run: a list of requests, one after another, over one cache; the exchanges of the whole run are cut into
+-- one piece for each.
 use Rattle.std.specs.Prelude.{◌≡◌, ◌⊎◌, ℕ, Bool, nat_le, if◌then◌else◌, true, false, List, [], ◌∷◌, length, map, flat_map, Option, Some, None, Result, Ok, Err}
 use Rattle.hickory_proto_core.specs.Name.{NameValue}
 use Rattle.hickory_proto_core.specs.NameDecided.{IsReading}
@@ -83,7 +84,8 @@ pub data Call : Type 0 where
   AtOnce : LookupResult → Call
   Attempt : NameValue → CallPlan → Call
 
--- A look-up of a name: the hosts are looked at for the first name that is attempted. What is no name is answered its fault.
+-- A look-up of a name: the hosts are looked at for the first name that is attempted. What is no name is
+-- answered its fault.
 abbrev pub name_call : RecordType → Result NameValue NameError → Call
 name_call t (Ok n) = Attempt n (record { types = One t; hosts_for_all = false; literal = None })
 name_call t (Err fault) = AtOnce (Err (net_error_of fault))
@@ -92,8 +94,8 @@ name_call t (Err fault) = AtOnce (Err (net_error_of fault))
 abbrev pub address_plan : Strategy → Option LookupValue → CallPlan
 address_plan strategy literal = record { types = plan_of strategy; hosts_for_all = true; literal = literal }
 
--- A look-up of addresses: an address is the reply at once where few dots make a name absolute or it is no name; else it is
--- the last resort. What is neither an address nor a name is answered its fault.
+-- A look-up of addresses: an address is the reply at once where few dots make a name absolute or it is no
+-- name; else it is the last resort. What is neither an address nor a name is answered its fault.
 abbrev pub address_call : Settings → Option IpAddr → Result NameValue NameError → ℕ → Call
 address_call s None (Ok n) now = Attempt n (address_plan s.strategy None)
 address_call s None (Err fault) now = AtOnce (Err (net_error_of fault))
@@ -103,7 +105,8 @@ address_call s (Some address) (Ok n) now =
 address_call s (Some address) (Err fault) now = AtOnce (Ok (literal_at_once no_name address now))
 
 -- the reply, the sub-look-ups and the cache after a look-up, which are answered in this way
-abbrev pub IsCall : SubLookupRelation → Settings → CacheValue → Call → List SubLookup → LookupResult → CacheValue → Type 0
+abbrev pub IsCall : SubLookupRelation → Settings → CacheValue → Call → List SubLookup → LookupResult
+    → CacheValue → Type 0
 IsCall Answers s before (AtOnce answer) parts reply after = (parts ≡ []) × (reply ≡ answer) × (after ≡ before)
 IsCall Answers s before (Attempt n plan) parts reply after =
     AreAttempts Answers plan true before (attempts s.search n) (Err OutOfMemory) parts reply after
@@ -121,19 +124,25 @@ abbrev pub after_clear : Settings → RecordType → Result NameValue NameError 
 after_clear s t (Ok n) cache = drop_each t (attempts s.search n) cache
 after_clear s t (Err fault) cache = cache
 
--- a request is served: its sub-look-ups, each of which is answered in this way, what it is answered, and the cache after it
-abbrev pub IsServed : (ℕ → SubLookupRelation) → Settings → CacheValue → RequestValue → List SubLookup → StepReply → CacheValue → Type 0
+-- a request is served: its sub-look-ups, each of which is answered in this way, what it is answered, and the
+-- cache after it
+abbrev pub IsServed : (ℕ → SubLookupRelation) → Settings → CacheValue → RequestValue → List SubLookup
+    → StepReply → CacheValue → Type 0
 IsServed Answers s before (Lookup text t now) parts (LookedUp reply) after =
-    ((name : Result NameValue NameError) × IsReading text name × IsCall (Answers now) s before (name_call t name) parts reply after)
+    ((name : Result NameValue NameError) × IsReading text name
+        × IsCall (Answers now) s before (name_call t name) parts reply after)
     ⊎ IsUnserved before parts reply after
 IsServed Answers s before (LookupIp text now) parts (LookedUp reply) after =
     ((given : GivenName) × IsGivenBy text given
     × IsCall (Answers now) s before (address_call s given.address given.name now) parts reply after)
     ⊎ IsUnserved before parts reply after
 IsServed Answers s before (ClearLookup text t now) parts (Cleared (Ok u)) after =
-    (parts ≡ []) × ((name : Result NameValue NameError) × IsReading text name × (after ≡ after_clear s t name before))
-IsServed Answers s before (ClearLookup text t now) parts (Cleared (Err e)) after = (parts ≡ []) × (e ≡ OutOfMemory) × (after ≡ before)
-IsServed Answers s before (Clear now) parts (Cleared (Ok u)) after = (parts ≡ []) × (after ≡ record before { entries = [] })
+    (parts ≡ []) × ((name : Result NameValue NameError) × IsReading text name
+        × (after ≡ after_clear s t name before))
+IsServed Answers s before (ClearLookup text t now) parts (Cleared (Err e)) after =
+    (parts ≡ []) × (e ≡ OutOfMemory) × (after ≡ before)
+IsServed Answers s before (Clear now) parts (Cleared (Ok u)) after =
+    (parts ≡ []) × (after ≡ record before { entries = [] })
 IsServed Answers s before _ parts _ after = ⊥
 
 -- one step a request: its moment, how many exchanges it made, and what it is answered
@@ -142,7 +151,8 @@ pub record StepValue : Type 0 where
   pub exchanges : ℕ
   pub reply : StepReply
 
--- a step with what it was made of: the request, the cache before it, its piece of the exchanges, and its parts
+-- a step with what it was made of: the request, the cache before it, its piece of the exchanges, and its
+-- parts
 pub record Stage : Type 0 where
   pub request : RequestValue
   pub before : CacheValue
@@ -152,12 +162,15 @@ pub record Stage : Type 0 where
 
 -- the request is served, and asks exactly the questions of its piece
 pub record IsStage (s : Settings) (stage : Stage) (after : CacheValue) : Type 0 where
-  pub served : IsServed (λ now. IsSubLookupFor (setting_at s now)) s stage.before stage.request stage.parts stage.step.reply after
+  pub served : IsServed
+      (λ now. IsSubLookupFor
+      (setting_at s now)) s stage.before stage.request stage.parts stage.step.reply after
   pub piece_is : stage.piece ≡ asks_of_sub_lookups stage.parts
   pub now_is : stage.step.now ≡ moment_of stage.request
   pub count_is : stage.step.exchanges ≡ length stage.piece
 
--- One stage a request: each is served over the cache that the one before it left. A request that is answered want of memory is the last.
+-- One stage a request: each is served over the cache that the one before it left. A request that is answered
+-- want of memory is the last.
 abbrev pub AreStages : Settings → CacheValue → List RequestValue → List Stage → CacheValue → Type 0
 AreStages s before [] [] after = after ≡ before
 AreStages s before (request ∷ requests) (stage ∷ stages) after =
@@ -169,16 +182,24 @@ AreStages s before _ _ after = ⊥
 abbrev pub exchanges_of : List Stage → List Exchange
 exchanges_of stages = flat_map (λ stage. stage.piece) stages
 
--- A run: the exchanges are cut into pieces, one a request, and the steps are those of the requests over these pieces.
-pub record Run (s : Settings) (empty : CacheValue) (requests : List RequestValue) (steps : List StepValue) (exchanges : List Exchange) (after : CacheValue) : Type 0 where
+-- A run: the exchanges are cut into pieces, one a request, and the steps are those of the requests over these
+-- pieces.
+pub record Run
+    (s : Settings) (empty : CacheValue) (requests : List RequestValue) (steps : List StepValue)
+    (exchanges : List Exchange) (after : CacheValue)
+    : Type 0 where
   pub stages : List Stage
   pub joined : exchanges_of stages ≡ exchanges
   pub steps_are : map (λ stage. stage.step) stages ≡ steps
   pub are : AreStages s empty requests stages after
 
--- A run over a handle: the exchanges led the handle, each with these options, and the replies and the cache are those of a run from an
--- empty cache.
-pub record IsRun {H : Type 0} (step : Step H) (options : DnsRequestOptions) (s : Settings) (empty : CacheValue) (handle : H) (requests : List RequestValue) (steps : List StepValue) (exchanges : List Exchange) (handle_after : H) (cache_after : CacheValue) : Type 0 where
+-- A run over a handle: the exchanges led the handle, each with these options, and the replies and the cache
+-- are those of a run from an empty cache.
+pub record IsRun
+    {H : Type 0} (step : Step H) (options : DnsRequestOptions) (s : Settings) (empty : CacheValue)
+    (handle : H) (requests : List RequestValue) (steps : List StepValue) (exchanges : List Exchange)
+    (handle_after : H) (cache_after : CacheValue)
+    : Type 0 where
   pub starts_empty : empty.entries ≡ []
   pub led : Leads step options handle exchanges handle_after
   pub run : Run s empty requests steps exchanges cache_after

@@ -1,5 +1,5 @@
--- Names that are answered without asking (RFC 6761, sections 6.3 and 6.4; RFC 7686, section 2). Nothing is read from
--- the cache for them, and nothing is stored.
+-- Names that are answered without asking (RFC 6761, sections 6.3 and 6.4; RFC 7686, section 2). Nothing is
+-- read from the cache for them, and nothing is stored.
 use Rattle.std.specs.Prelude.{ℕ, Bool, true, ◌==◌, List, [], ◌∷◌, ◌++◌, replicate, codes, Option, Some, None, Ok, Err, if◌then◌else◌}
 use Rattle.std.specs.List.{list_any}
 use Rattle.std.specs.Option.{option_map_or}
@@ -41,7 +41,14 @@ loopback_data code =
 
 -- a fresh response to a question, with these answers
 abbrev pub response_to : Query → List RecordValue → MessageValue
-response_to q records = record { metadata = response_metadata 0 op.Query; queries = q ∷ []; answers = records; authorities = []; additionals = [] }
+response_to q records =
+    record {
+      metadata = response_metadata 0 op.Query;
+      queries = q ∷ [];
+      answers = records;
+      authorities = [];
+      additionals = [];
+    }
 
 -- one record of the question's name, for a day
 abbrev pub one_record : Query → DataValue → ℕ → LookupValue
@@ -53,14 +60,25 @@ one_record q rdata now = record {
 -- a negative answer of which nothing else is known
 abbrev pub no_records : Query → ResponseCode → NetError
 no_records q code =
-    Dns (NoRecordsFound (record { query = q; soa = None; ns = None; negative_ttl = None; response_code = code; authorities = None }))
+    Dns (NoRecordsFound (record {
+      query = q;
+      soa = None;
+      ns = None;
+      negative_ttl = None;
+      response_code = code;
+      authorities = None;
+    }))
 
--- the reply to a question about a special name, in the class of the Internet: the loopback names have their addresses,
--- and nothing else; names under `invalid.` and `onion.` do not exist. Names under `local.` are as any other
+-- the reply to a question about a special name, in the class of the Internet: the loopback names have their
+-- addresses, and nothing else; names under `invalid.` and `onion.` do not exist. Names under `local.` are as
+-- any other
 abbrev pub special_use_result : Query → ℕ → Option LookupResult
 special_use_result q now =
     if class_code q.query_class == class_code class.IN
-    then (if is_loopback_name q.name then Some (option_map_or (λ rdata. Ok (one_record q rdata now)) (loopback_data (type_code q.query_type)) (Err (no_records q NoError)))
+    then (if is_loopback_name q.name
+        then Some (option_map_or (λ rdata. Ok (one_record q rdata now))
+        (loopback_data (type_code q.query_type)) (Err (no_records q NoError)))
     else (if is_zone_of (full_name (codes "invalid" ∷ [])) q.name then Some (Err (no_records q NXDomain))
-    else (if is_zone_of (full_name (codes "onion" ∷ [])) q.name then Some (Err (no_records q NXDomain)) else None)))
+    else (if is_zone_of (full_name (codes "onion" ∷ [])) q.name then Some (Err (no_records q NXDomain))
+        else None)))
     else None

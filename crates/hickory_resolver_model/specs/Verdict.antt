@@ -1,5 +1,5 @@
--- Where a response leads the one who asked: it is accepted, or it is an alias of another name, or it has nothing that
--- was asked for (RFC 1034, section 3.6.2; RFC 1035, section 7.3).
+-- Where a response leads the one who asked: it is accepted, or it is an alias of another name, or it has
+-- nothing that was asked for (RFC 1034, section 3.6.2; RFC 1035, section 7.3).
 use Rattle.std.specs.Prelude.{ℕ, Bool, true, false, not, ◌&&◌, ◌||◌, ◌==◌, List, [], ◌∷◌, ◌++◌, map, filter, min, if◌then◌else◌}
 use Rattle.hickory_proto_core.specs.Name.{NameValue, name_eq}
 use Rattle.hickory_proto_core.specs.Codes.{type_code, class_code}
@@ -20,7 +20,8 @@ pub record Hop : Type 0 where
 abbrev pub first_hop : Query → Hop
 first_hop q = record { query = q; preserved = [] }
 
--- the response is accepted, with these sections; or it leads to another hop; or it has nothing that was asked for
+-- the response is accepted, with these sections; or it leads to another hop; or it has nothing that was asked
+-- for
 pub data Verdict : Type 0 where
   Exists : MessageValue → Verdict
   CnameChain : Hop → Verdict
@@ -32,7 +33,8 @@ has_class q r = class_code q.query_class == class_code r.dns_class
 abbrev pub has_type : Query → RecordValue → Bool
 has_type q r = is_any q || (type_code q.query_type == record_type_code r)
 
--- a record of the asked class and type (any, for ANY), owned by the asked name or by the last name of the walk
+-- a record of the asked class and type (any, for ANY), owned by the asked name or by the last name of the
+-- walk
 abbrev pub is_match : Query → NameValue → RecordValue → Bool
 is_match q last r = has_class q r && has_type q r && (name_eq q.name r.name || name_eq last r.name)
 
@@ -52,34 +54,43 @@ all_records m = m.answers ++ m.authorities ++ m.additionals
 
 -- Some record matches, and either no alias was followed or no record was preserved.
 abbrev pub is_accepted : Hop → Walk → MessageValue → Bool
-is_accepted hop walk m = some_record (is_match hop.query walk.last) m && (is_empty walk.places || is_empty hop.preserved)
+is_accepted hop walk m =
+    some_record (is_match hop.query walk.last) m && (is_empty walk.places || is_empty hop.preserved)
 
--- The answers of an accepted response are filtered where records were preserved; and where an alias was followed, the last
--- name owns a match, and intermediate records are not wanted.
+-- The answers of an accepted response are filtered where records were preserved; and where an alias was
+-- followed, the last name owns a match, and intermediate records are not wanted.
 abbrev pub is_filtered : Bool → Hop → Walk → MessageValue → Bool
-is_filtered keep hop walk m = not (is_empty hop.preserved) || (not (is_empty walk.places) && some_record (is_last_match hop.query walk.last) m && not keep)
+is_filtered keep hop walk m =
+    not (is_empty hop.preserved)
+    || (not (is_empty walk.places) && some_record (is_last_match hop.query walk.last) m && not keep)
 
--- the preserved records, then the matches and, where they are wanted, the intermediate records of this response, whose TTLs
--- are at most that of the walk
+-- the preserved records, then the matches and, where they are wanted, the intermediate records of this
+-- response, whose TTLs are at most that of the walk
 abbrev pub filtered_answers : Bool → Hop → Walk → MessageValue → List RecordValue
 filtered_answers keep hop walk m =
     hop.preserved
-    ++ map (with_ttl_at_most walk.ttl) (filter (λ r. is_match hop.query walk.last r || (keep && is_intermediate hop.query r)) (all_records m))
+    ++ map (with_ttl_at_most walk.ttl)
+        (filter (λ r. is_match hop.query walk.last r || (keep && is_intermediate hop.query r))
+        (all_records m))
 
 abbrev pub found_message : Bool → Hop → Walk → MessageValue → MessageValue
-found_message keep hop walk m = if is_filtered keep hop walk m then record m { answers = filtered_answers keep hop walk m } else m
+found_message keep hop walk m =
+    if is_filtered keep hop walk m then record m { answers = filtered_answers keep hop walk m } else m
 
--- the next hop of an alias: the last name of the walk, in the class of the Internet; where they are wanted, the intermediate
--- records of this response are preserved
+-- the next hop of an alias: the last name of the walk, in the class of the Internet; where they are wanted,
+-- the intermediate records of this response are preserved
 abbrev pub next_hop : Bool → Hop → Walk → MessageValue → Hop
 next_hop keep hop walk m = record {
   query = record { name = walk.last; query_type = hop.query.query_type; query_class = class.IN };
-  preserved = hop.preserved ++ (if keep then map (with_ttl_at_most walk.ttl) (filter (is_intermediate hop.query) (all_records m)) else []);
+  preserved =
+      hop.preserved ++ (if keep
+      then map (with_ttl_at_most walk.ttl) (filter (is_intermediate hop.query) (all_records m)) else []);
 }
 
 abbrev pub walk_verdict : Bool → Hop → Walk → MessageValue → Verdict
 walk_verdict keep hop walk m =
-    if is_accepted hop walk m then Exists (found_message keep hop walk m) else (if is_empty walk.places then NoMatch else CnameChain (next_hop keep hop walk m))
+    if is_accepted hop walk m then Exists (found_message keep hop walk m)
+        else (if is_empty walk.places then NoMatch else CnameChain (next_hop keep hop walk m))
 
 -- the verdict on a response to a hop; `keep` says whether intermediate records are wanted
 abbrev pub verdict : Bool → Hop → MessageValue → Verdict

@@ -20,7 +20,8 @@ abbrev pub AreApartButFirst : List NameValue → Type 0
 AreApartButFirst [] = Unit {0}
 AreApartButFirst (n ∷ ns) = AreApart ns
 
-pub keep_last-none : (n : NameValue) (ns : List NameValue) → list_any (name_eq n) ns ≡ false → list_any (name_eq n) (keep_last ns) ≡ false
+pub keep_last-none : (n : NameValue) (ns : List NameValue) → list_any (name_eq n) ns ≡ false
+    → list_any (name_eq n) (keep_last ns) ≡ false
 keep_last-none n [] h = refl
 keep_last-none n (m ∷ ms) h = at (list_any (name_eq m) ms) (keep_last-none n ms rest)
   where
@@ -30,7 +31,8 @@ keep_last-none n (m ∷ ms) h = at (list_any (name_eq m) ms) (keep_last-none n m
     rest : list_any (name_eq n) ms ≡ false
     rest = (or_false (name_eq n m) (list_any (name_eq n) ms) h).1
 
-    at : (b : Bool) → list_any (name_eq n) (keep_last ms) ≡ false → list_any (name_eq n) (cond b (keep_last ms) (m ∷ keep_last ms)) ≡ false
+    at : (b : Bool) → list_any (name_eq n) (keep_last ms) ≡ false
+        → list_any (name_eq n) (cond b (keep_last ms) (m ∷ keep_last ms)) ≡ false
     at true k = k
     at false k = ap (λ b. b || list_any (name_eq n) (keep_last ms)) differ ∙ k
 
@@ -39,7 +41,8 @@ pub keep_last-apart : (ns : List NameValue) → AreApart (keep_last ns)
 keep_last-apart [] = tt
 keep_last-apart (n ∷ ns) = at (list_any (name_eq n) ns) refl (keep_last-apart ns)
   where
-    at : (b : Bool) → list_any (name_eq n) ns ≡ b → AreApart (keep_last ns) → AreApart (cond b (keep_last ns) (n ∷ keep_last ns))
+    at : (b : Bool) → list_any (name_eq n) ns ≡ b → AreApart (keep_last ns)
+        → AreApart (cond b (keep_last ns) (n ∷ keep_last ns))
     at true e apart = apart
     at false e apart = (keep_last-none n ns e, apart)
 
@@ -53,15 +56,26 @@ pub record AreAttemptsApart (s : Search) (n : NameValue) : Type 0 where
   pub alone : n.fqdn ≡ true → attempts s n ≡ n ∷ []
 
 pub attempts_apart : (s : Search) (n : NameValue) → AreAttemptsApart s n
-attempts_apart s n = record { apart = whole (n.fqdn || is_onion_address (reverse n.labels)); alone = λ e. ap (λ b. cond (b || is_onion_address (reverse n.labels)) (n ∷ []) searched) e }
+attempts_apart s n =
+    record {
+      apart = whole (n.fqdn || is_onion_address (reverse n.labels));
+      alone = λ e. ap (λ b. cond (b || is_onion_address (reverse n.labels)) (n ∷ []) searched) e;
+    }
   where
     searched : List NameValue
-    searched = cond (raw_first s n) (as_fqdn n ∷ keep_last (joined_names s n)) (keep_last (joined_names s n ++ as_fqdn n ∷ []))
+    searched =
+        cond (raw_first s n) (as_fqdn n ∷ keep_last (joined_names s n))
+        (keep_last (joined_names s n ++ as_fqdn n ∷ []))
 
-    below : (b : Bool) → AreApartButFirst (cond b (as_fqdn n ∷ keep_last (joined_names s n)) (keep_last (joined_names s n ++ as_fqdn n ∷ [])))
+    below : (b : Bool) → AreApartButFirst
+        (cond b (as_fqdn n ∷ keep_last (joined_names s n)) (keep_last (joined_names s n ++ as_fqdn n ∷ [])))
     below true = keep_last-apart (joined_names s n)
-    below false = but_first (keep_last (joined_names s n ++ as_fqdn n ∷ [])) (keep_last-apart (joined_names s n ++ as_fqdn n ∷ []))
+    below false =
+        but_first (keep_last (joined_names s n ++ as_fqdn n ∷ []))
+        (keep_last-apart (joined_names s n ++ as_fqdn n ∷ []))
 
-    whole : (b : Bool) → AreApartButFirst (cond b (n ∷ []) (cond (raw_first s n) (as_fqdn n ∷ keep_last (joined_names s n)) (keep_last (joined_names s n ++ as_fqdn n ∷ []))))
+    whole : (b : Bool) → AreApartButFirst
+        (cond b (n ∷ []) (cond (raw_first s n) (as_fqdn n ∷ keep_last (joined_names s n))
+        (keep_last (joined_names s n ++ as_fqdn n ∷ []))))
     whole true = tt
     whole false = below (raw_first s n)

@@ -1,4 +1,5 @@
--- What a question means without a cache: by a table of outcomes alone, with no time, no store and no limit on hops.
+-- What a question means without a cache: by a table of outcomes alone, with no time, no store and no limit on
+-- hops.
 use Rattle.std.specs.Prelude.{◌≡◌, ℕ, suc, false, List, Some, None, Err}
 use Rattle.std.specs.List.{IsDistinct, AllByRecursion}
 use Rattle.std.specs.Map.{keys_of}
@@ -20,25 +21,32 @@ use Rattle.hickory_resolver_model.specs.Lookup.{LookupResult}
 abbrev pub IsTable : TableValue → Type 0
 IsTable table = IsDistinct query_eq (keys_of table)
 
--- where a look-up without a cache starts: nothing is stored, intermediate records are not wanted. The bounds and the moment do
--- not show in what a reply comes to
+-- where a look-up without a cache starts: nothing is stored, intermediate records are not wanted. The bounds
+-- and the moment do not show in what a reply comes to
 abbrev pub cacheless_context : LookupContext
 cacheless_context = record { cache = empty_cache 0; now = 0; preserve_intermediates = false }
 
--- The meaning of a question under a table, with the number of questions on its way: a special name's reply; the reply for an
--- outcome that leads to no other name; or the meaning of the name that it leads to.
+-- The meaning of a question under a table, with the number of questions on its way: a special name's reply;
+-- the reply for an outcome that leads to no other name; or the meaning of the name that it leads to.
 pub data ResolvesTo (table : TableValue) : Query → WithoutTimes → ℕ → Type 0 where
-  at_special : {q : Query} {reply : LookupResult} → special_use_result q 0 ≡ Some reply → ResolvesTo table q (without_times reply) 1
-  at_last : {q : Query} {outcome : OutcomeValue} → special_use_result q 0 ≡ None → outcome_in q table ≡ Some outcome
-      → ((next : Hop) → kind_verdict cacheless_context (first_hop q) (kind_of outcome) ≡ Some (CnameChain next) → ⊥)
+  at_special : {q : Query} {reply : LookupResult} → special_use_result q 0 ≡ Some reply
+      → ResolvesTo table q (without_times reply) 1
+  at_last : {q : Query} {outcome : OutcomeValue} → special_use_result q 0 ≡ None
+      → outcome_in q table ≡ Some outcome
+      → ((next : Hop) → kind_verdict cacheless_context (first_hop q) (kind_of outcome)
+      ≡ Some (CnameChain next) → ⊥)
       → ResolvesTo table q (without_times (kind_result cacheless_context (first_hop q) (kind_of outcome))) 1
-  at_alias : {q : Query} {next : Hop} {outcome : OutcomeValue} {reply : WithoutTimes} {n : ℕ} → special_use_result q 0 ≡ None → outcome_in q table ≡ Some outcome
+  at_alias : {q : Query} {next : Hop} {outcome : OutcomeValue} {reply : WithoutTimes} {n : ℕ}
+      → special_use_result q 0 ≡ None → outcome_in q table ≡ Some outcome
       → kind_verdict cacheless_context (first_hop q) (kind_of outcome) ≡ Some (CnameChain next)
       → ResolvesTo table next.query reply n → ResolvesTo table q reply (suc n)
 
 -- the table has each question that was asked, with an outcome that agrees, want of memory aside
 abbrev pub IsConsistentWith : TableValue → Exchange → Type 0
-IsConsistentWith table x = (x.outcome ≡ Err OutOfMemory → ⊥) → (outcome : OutcomeValue) × (outcome_in x.query table ≡ Some outcome) × AgreeWithoutTimes outcome x.outcome
+IsConsistentWith table x =
+    (x.outcome ≡ Err OutOfMemory → ⊥)
+    → (outcome : OutcomeValue) × (outcome_in x.query table ≡ Some outcome)
+    × AgreeWithoutTimes outcome x.outcome
 
 abbrev pub AreConsistentWith : TableValue → List Exchange → Type 0
 AreConsistentWith table xs = AllByRecursion (IsConsistentWith table) xs

@@ -1,4 +1,5 @@
--- Where a record that is given comes from: an exchange that brought it, whose TTL it does not outlive (RFC 2181, section 8).
+-- Where a record that is given comes from: an exchange that brought it, whose TTL it does not outlive (RFC
+-- 2181, section 8).
 use Rattle.std.specs.Prelude.{◌≡◌, ◌⊎◌, ◌≤◌, ℕ, ◌+◌, true, List, [], ◌∷◌, map, min, Contains, Some, Ok}
 use Rattle.hickory_proto_core.specs.Codes.{class_code}
 use Rattle.hickory_proto_core.specs.Records.{RecordValue}
@@ -22,8 +23,9 @@ dated_exchanges now xs = map (λ x. record { moment = now; exchange = x }) xs
 abbrev pub greatest_ttl : ConfigValue → ℕ → ℕ
 greatest_ttl config code = reduced_bound (positive_bounds (bounds_for config code)).1
 
--- The record, given at a moment, is covered: some exchange brought an equal one (TTLs aside) in some section, and the moment and
--- the record's TTL together are not past the exchange's moment and the TTL that it brought, cut at the greatest.
+-- The record, given at a moment, is covered: some exchange brought an equal one (TTLs aside) in some section,
+-- and the moment and the record's TTL together are not past the exchange's moment and the TTL that it
+-- brought, cut at the greatest.
 pub record IsCoveredBy (config : ConfigValue) (now : ℕ) (r : RecordValue) (source : Dated) : Type 0 where
   pub response : MessageValue
   pub came : source.exchange.outcome ≡ Ok response
@@ -39,4 +41,5 @@ IsCovered config (d ∷ ds) now r = IsCoveredBy config now r d ⊎ IsCovered con
 -- a record of a loopback name with what that name always has
 abbrev pub IsLoopback : RecordValue → Type 0
 IsLoopback r =
-    (class_code r.dns_class ≡ 1) × (is_loopback_name r.name ≡ true) × (loopback_data (record_type_code r) ≡ Some r.rdata)
+    (class_code r.dns_class ≡ 1) × (is_loopback_name r.name ≡ true)
+    × (loopback_data (record_type_code r) ≡ Some r.rdata)

@@ -28,24 +28,30 @@ use Rattle.hickory_resolver_theorems.specs.Covered.{Dated, dated_exchanges, IsCo
 abbrev pub HasNoLeast : ConfigValue → ℕ → Type 0
 HasNoLeast config code = (positive_bounds (bounds_for config code)).0 ≡ 0
 
--- a record of the asked type among the answers, given at a moment by what may be used up to a deadline: it is a loopback record; or it is
--- covered, its TTL is at most the greatest, and the deadline is not past the moment and its TTL
+-- a record of the asked type among the answers, given at a moment by what may be used up to a deadline: it is
+-- a loopback record; or it is covered, its TTL is at most the greatest, and the deadline is not past the
+-- moment and its TTL
 abbrev pub IsFreshRecord : ConfigValue → List Dated → ℕ → ℕ → ℕ → RecordValue → Type 0
 IsFreshRecord config sources code now deadline r =
     record_type_code r ≡ code
-    → IsLoopback r ⊎ (IsCovered config sources now r × (r.ttl ≤ greatest_ttl config code) × (deadline ≤ now + r.ttl))
+    → IsLoopback r ⊎ (IsCovered config sources now r × (r.ttl ≤ greatest_ttl config code)
+    × (deadline ≤ now + r.ttl))
 
 abbrev pub AreFreshRecords : ConfigValue → List Dated → ℕ → ℕ → ℕ → List RecordValue → Type 0
-AreFreshRecords config sources code now deadline rs = AllByRecursion (IsFreshRecord config sources code now deadline) rs
+AreFreshRecords config sources code now deadline rs =
+    AllByRecursion (IsFreshRecord config sources code now deadline) rs
 
 abbrev pub IsFreshReply : ConfigValue → List Dated → ℕ → ℕ → LookupResult → Type 0
-IsFreshReply config sources code now (Ok l) = AreFreshRecords config sources code now l.valid_until l.message.answers
+IsFreshReply config sources code now (Ok l) =
+    AreFreshRecords config sources code now l.valid_until l.message.answers
 IsFreshReply config sources code now (Err e) = Unit {0}
 
 -- an entry of a positive answer, at its own moment
 abbrev pub IsFreshOutcome : ConfigValue → List Dated → Entry → OutcomeValue → Type 0
 IsFreshOutcome config sources e (Ok m) =
-    HasNoLeast config (type_code e.query.query_type) → AreFreshRecords config sources (type_code e.query.query_type) e.original_time e.valid_until m.answers
+    HasNoLeast config (type_code e.query.query_type)
+    → AreFreshRecords config sources
+    (type_code e.query.query_type) e.original_time e.valid_until m.answers
 IsFreshOutcome config sources e (Err error) = Unit {0}
 
 abbrev pub IsFreshEntry : ConfigValue → List Dated → Entry → Type 0
@@ -54,12 +60,14 @@ IsFreshEntry config sources e = IsFreshOutcome config sources e e.result
 abbrev pub AreFreshEntries : CacheValue → List Dated → Type 0
 AreFreshEntries cache sources = AllByRecursion (IsFreshEntry cache.config sources) cache.entries
 
--- Of a look-up: whatever covers the entries before it, together with the exchanges of the look-up covers its reply and the entries
--- after it.
+-- Of a look-up: whatever covers the entries before it, together with the exchanges of the look-up covers its
+-- reply and the entries after it.
 abbrev pub IsFresh : LookupContext → Query → List Exchange → LookupResult → CacheValue → Type 0
 IsFresh s question asks result after =
     (sources : List Dated) → AreFreshEntries s.cache sources
-    → (HasNoLeast s.cache.config (type_code question.query_type) → IsFreshReply s.cache.config (sources ++ dated_exchanges s.now asks) (type_code question.query_type) s.now result)
+    → (HasNoLeast s.cache.config (type_code question.query_type)
+    → IsFreshReply s.cache.config (sources ++ dated_exchanges s.now asks)
+    (type_code question.query_type) s.now result)
     × AreFreshEntries after (sources ++ dated_exchanges s.now asks)
 
 -- ---- transparency: a cache does not change an answer
@@ -71,19 +79,24 @@ IsWhatItResolvesTo table e = (n : ℕ) × ResolvesTo table e.query (stored_witho
 abbrev pub AreMeant : TableValue → CacheValue → Type 0
 AreMeant table cache = AllByRecursion (IsWhatItResolvesTo table) cache.entries
 
--- Of a look-up without preserved intermediate records: under every table that tells its exchanges and means the entries before it, the reply
--- is the meaning of the question, where that takes eight questions at most, and the entries after it are meant.
+-- Of a look-up without preserved intermediate records: under every table that tells its exchanges and means
+-- the entries before it, the reply is the meaning of the question, where that takes eight questions at most,
+-- and the entries after it are meant.
 abbrev pub IsTransparent : LookupContext → Query → List Exchange → LookupResult → CacheValue → Type 0
 IsTransparent s question asks result after =
-    (table : TableValue) → s.preserve_intermediates ≡ false → IsTable table → AreConsistentWith table asks → AreMeant table s.cache
+    (table : TableValue) → s.preserve_intermediates ≡ false → IsTable table → AreConsistentWith table asks
+    → AreMeant table s.cache
     → (reply : WithoutTimes) (n : ℕ) → ResolvesTo table question reply n → n ≤ 8
     → ((result ≡ Err OutOfMemory) ⊎ (without_times result ≡ reply)) × AreMeant table after
 
 -- ---- a look-up of the client, whole
 
--- The exchanges that it made led the handle, each with these options, and there are eight at most; the reply and the cache after it are those
--- of the hops; and the two facts above hold of it.
-pub record IsWholeLookup {H : Type 0} (step : Step H) (options : DnsRequestOptions) (now : ℕ) (before : ClientValue H) (question : Query) (result : LookupResult) (after : ClientValue H) : Type 0 where
+-- The exchanges that it made led the handle, each with these options, and there are eight at most; the reply
+-- and the cache after it are those of the hops; and the two facts above hold of it.
+pub record IsWholeLookup
+    {H : Type 0} (step : Step H) (options : DnsRequestOptions) (now : ℕ) (before : ClientValue H)
+    (question : Query) (result : LookupResult) (after : ClientValue H)
+    : Type 0 where
   pub asks : List Exchange
   pub led : Leads step options before.handle asks after.handle
   pub few : length asks ≤ 8
@@ -98,24 +111,31 @@ pub record IsWholeLookup {H : Type 0} (step : Step H) (options : DnsRequestOptio
 abbrev pub AsksAtMostEight : Stage → Type 0
 AsksAtMostEight stage = AllByRecursion (λ p. length p.asks ≤ 8) stage.parts
 
--- Where the asked type's least TTL is zero, an answer of the client has no record of that type that outlives what was received.
+-- Where the asked type's least TTL is zero, an answer of the client has no record of that type that outlives
+-- what was received.
 abbrev pub IsFreshSubLookup : ConfigValue → List Dated → ℕ → SubLookup → Type 0
 IsFreshSubLookup config sources now p =
-    p.source ≡ Client → HasNoLeast config (type_code p.question.query_type) → IsFreshReply config sources (type_code p.question.query_type) now p.result
+    p.source ≡ Client → HasNoLeast config (type_code p.question.query_type)
+    → IsFreshReply config sources (type_code p.question.query_type) now p.result
 
 -- no record outlives what an exchange of the same step or of an earlier one brought
 abbrev pub NothingOutlives : List Dated → List Stage → Type 0
 NothingOutlives earlier [] = Unit {0}
 NothingOutlives earlier (stage ∷ stages) =
     let sources = earlier ++ dated_exchanges stage.step.now stage.piece in
-    AllByRecursion (IsFreshSubLookup stage.before.config sources stage.step.now) stage.parts × NothingOutlives sources stages
+    AllByRecursion (IsFreshSubLookup stage.before.config sources stage.step.now) stage.parts
+    × NothingOutlives sources stages
 
 -- a question of the client has a meaning of eight questions at most
 abbrev pub ResolvesWithinEight : TableValue → SubLookup → Type 0
-ResolvesWithinEight table p = p.source ≡ Client → (reply : WithoutTimes) × (n : ℕ) × ResolvesTo table p.question reply n × (n ≤ 8)
+ResolvesWithinEight table p =
+    p.source ≡ Client → (reply : WithoutTimes) × (n : ℕ) × ResolvesTo table p.question reply n × (n ≤ 8)
 
--- how the resolver without a cache answers a question: by the table of hosts, as any, or by the meaning of the question
-pub record IsCachelessSubLookup (table : TableValue) (s : Setting) (looked : Bool) (q : Query) (p : SubLookup) : Type 0 where
+-- how the resolver without a cache answers a question: by the table of hosts, as any, or by the meaning of
+-- the question
+pub record IsCachelessSubLookup
+    (table : TableValue) (s : Setting) (looked : Bool) (q : Query) (p : SubLookup)
+    : Type 0 where
   pub reply : WithoutTimes
   pub length_is : ℕ
   pub not_static : (looked ≡ false) ⊎ IsStatic q s.now s.hosts None
@@ -123,24 +143,31 @@ pub record IsCachelessSubLookup (table : TableValue) (s : Setting) (looked : Boo
   pub result_is : without_times p.result ≡ reply
 
 abbrev pub CachelessSubLookup : TableValue → Setting → SubLookupRelation
-CachelessSubLookup table s looked before q p after = (p.question ≡ q) × (IsStaticSubLookup s looked before p after ⊎ (IsCachelessSubLookup table s looked q p × (after ≡ before)))
+CachelessSubLookup table s looked before q p after =
+    (p.question ≡ q) × (IsStaticSubLookup s looked before p after
+    ⊎ (IsCachelessSubLookup table s looked q p × (after ≡ before)))
 
 -- a reply comes to what the resolver without a cache answers to the request
 abbrev pub IsCacheless : TableValue → Settings → CacheValue → RequestValue → StepReply → Type 0
 IsCacheless table s cache request (LookedUp reply) =
-    (parts : List SubLookup) × (cacheless : LookupResult) × IsServed (λ now. CachelessSubLookup table (setting_at s now)) s cache request parts (LookedUp cacheless) cache
+    (parts : List SubLookup) × (cacheless : LookupResult)
+    × IsServed (λ now. CachelessSubLookup table (setting_at s now)) s cache request parts
+    (LookedUp cacheless) cache
     × (without_times reply ≡ without_times cacheless)
 IsCacheless table s cache request (Cleared done) = Unit {0}
 
 -- the reply of a step is the cacheless resolver's, want of memory aside
 abbrev pub IsAsWithoutCache : TableValue → Settings → Stage → Type 0
-IsAsWithoutCache table s stage = (ends_run stage.step.reply ≡ true) ⊎ IsCacheless table s stage.before stage.request stage.step.reply
+IsAsWithoutCache table s stage =
+    (ends_run stage.step.reply ≡ true) ⊎ IsCacheless table s stage.before stage.request stage.step.reply
 
--- Where equal questions get equal outcomes (a table tells every exchange of the run), no chain needs a ninth question (in the whole run) and
--- intermediate records are not preserved, every reply is the cacheless resolver's.
+-- Where equal questions get equal outcomes (a table tells every exchange of the run), no chain needs a ninth
+-- question (in the whole run) and intermediate records are not preserved, every reply is the cacheless
+-- resolver's.
 abbrev pub AreAsWithoutCache : Settings → List Stage → Type 0
 AreAsWithoutCache s stages =
-    (table : TableValue) → s.preserve_intermediates ≡ false → IsTable table → AreConsistentWith table (exchanges_of stages)
+    (table : TableValue) → s.preserve_intermediates ≡ false → IsTable table
+    → AreConsistentWith table (exchanges_of stages)
     → AllByRecursion (λ stage. AllByRecursion (ResolvesWithinEight table) stage.parts) stages
     → AllByRecursion (IsAsWithoutCache table s) stages
 
@@ -149,11 +176,14 @@ abbrev pub NeverGoBack : ℕ → List StepValue → Type 0
 NeverGoBack now [] = Unit {0}
 NeverGoBack now (step ∷ steps) = (now ≤ step.now) × NeverGoBack step.now steps
 
--- From a new resolver, over every run whose moments never go back, each attempt at one name and type sends at most eight questions; where the
--- asked type's least TTL is zero, no upstream answer record of that type outlives its received TTL cut at the maximum; and where equal questions
--- get equal outcomes, no chain needs a ninth question and intermediate records are not preserved, every reply is the cacheless resolver's, TTLs,
+-- From a new resolver, over every run whose moments never go back, each attempt at one name and type sends at
+-- most eight questions; where the asked type's least TTL is zero, no upstream answer record of that type
+-- outlives its received TTL cut at the maximum; and where equal questions get equal outcomes, no chain needs
+-- a ninth question and intermediate records are not preserved, every reply is the cacheless resolver's, TTLs,
 -- deadlines and headers aside.
-abbrev pub Headline : Settings → CacheValue → List RequestValue → List StepValue → List Exchange → CacheValue → Type 0
+abbrev pub Headline : Settings → CacheValue → List RequestValue → List StepValue → List Exchange → CacheValue
+    → Type 0
 Headline s empty requests steps exchanges after =
     empty.entries ≡ [] → NeverGoBack 0 steps
-    → (run : Run s empty requests steps exchanges after) × AllByRecursion AsksAtMostEight run.stages × NothingOutlives [] run.stages × AreAsWithoutCache s run.stages
+    → (run : Run s empty requests steps exchanges after) × AllByRecursion AsksAtMostEight run.stages
+    × NothingOutlives [] run.stages × AreAsWithoutCache s run.stages

@@ -1,4 +1,5 @@
--- What is left of a reply and of an outcome where times to live, deadlines and the spelling of names are set aside.
+-- What is left of a reply and of an outcome where times to live, deadlines and the spelling of names are set
+-- aside.
 use Rattle.std.specs.Prelude.{◌≡◌, ℕ, Bool, List, map, None, Result, Ok, Err}
 use Rattle.std.specs.Option.{option_map}
 use Rattle.hickory_proto_core.specs.Name.{NameValue, lower_labels}
@@ -18,7 +19,12 @@ abbrev pub folded_name : NameValue → NameValue
 folded_name n = record { labels = lower_labels n.labels; fqdn = n.fqdn }
 
 abbrev pub folded_query : Query → Query
-folded_query q = record { name = folded_name q.name; query_type = type_of (type_code q.query_type); query_class = class_of (class_code q.query_class) }
+folded_query q =
+    record {
+      name = folded_name q.name;
+      query_type = type_of (type_code q.query_type);
+      query_class = class_of (class_code q.query_class);
+    }
 
 abbrev pub folded_data : DataValue → DataValue
 folded_data (a_data octets) = a_data octets
@@ -26,7 +32,8 @@ folded_data (aaaa_data segments) = aaaa_data segments
 folded_data (cname_data target) = cname_data (folded_name target)
 folded_data (ns_data target) = ns_data (folded_name target)
 folded_data (ptr_data target) = ptr_data (folded_name target)
-folded_data (soa_data mname rname serial refresh retry expire minimum) = soa_data (folded_name mname) (folded_name rname) serial refresh retry expire minimum
+folded_data (soa_data mname rname serial refresh retry expire minimum) =
+    soa_data (folded_name mname) (folded_name rname) serial refresh retry expire minimum
 folded_data (srv_data priority weight port target) = srv_data priority weight port (folded_name target)
 folded_data (mx_data preference exchange) = mx_data preference (folded_name exchange)
 folded_data (txt_data strings) = txt_data strings
@@ -34,7 +41,13 @@ folded_data (unknown_data code bytes) = unknown_data code bytes
 
 -- a record without its TTL
 abbrev pub record_without_times : RecordValue → RecordValue
-record_without_times r = record { name = folded_name r.name; dns_class = class_of (class_code r.dns_class); ttl = 0; rdata = folded_data r.rdata }
+record_without_times r =
+    record {
+      name = folded_name r.name;
+      dns_class = class_of (class_code r.dns_class);
+      ttl = 0;
+      rdata = folded_data r.rdata;
+    }
 
 -- the sections of a message without TTLs
 pub record Sections : Type 0 where
@@ -43,7 +56,12 @@ pub record Sections : Type 0 where
   pub additionals : List RecordValue
 
 abbrev pub sections : MessageValue → Sections
-sections m = record { answers = map record_without_times m.answers; authorities = map record_without_times m.authorities; additionals = map record_without_times m.additionals }
+sections m =
+    record {
+      answers = map record_without_times m.answers;
+      authorities = map record_without_times m.authorities;
+      additionals = map record_without_times m.additionals;
+    }
 
 abbrev pub forward_without_times : ForwardValue → ForwardValue
 forward_without_times f = record { ns = record_without_times f.ns; glue = map record_without_times f.glue }
@@ -69,7 +87,8 @@ error_without_times NoOutcome = NoOutcome
 error_without_times (Bounds e) = Bounds e
 error_without_times OutOfMemory = OutOfMemory
 
--- what a reply comes to: its sections, or its error. The question section, the header and the deadline are set aside
+-- what a reply comes to: its sections, or its error. The question section, the header and the deadline are
+-- set aside
 abbrev pub WithoutTimes : Type 0
 WithoutTimes = Result Sections NetError
 

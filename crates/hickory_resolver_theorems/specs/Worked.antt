@@ -52,7 +52,13 @@ abbrev pub exchange : Query → List RecordValue → Exchange
 exchange q answers = record { query = q; outcome = Ok (response q answers) }
 
 abbrev pub entry : NameValue → ℕ → Entry
-entry n deadline = record { query = asks_a n; result = Err (no_records (asks_a n) NoError); original_time = 0; valid_until = deadline }
+entry n deadline =
+    record {
+      query = asks_a n;
+      result = Err (no_records (asks_a n) NoError);
+      original_time = 0;
+      valid_until = deadline;
+    }
 
 -- ---- eviction
 
@@ -61,13 +67,22 @@ abbrev pub three_places : List Entry → List ℕ → ℕ → List Entry
 three_places es label deadline = insert_entry 3 es (entry (name label) deadline)
 
 pub record EvictionCases : Type 0 where
-  -- a new entry in a full cache: the entry of the earliest deadline leaves, the oldest of several, and never the new one
-  pub evicts_oldest_of_ties : insert_entry 2 (entry (name (codes "p")) 10 ∷ entry (name (codes "q")) 10 ∷ []) (entry (name (codes "r")) 5) ≡ entry (name (codes "q")) 10 ∷ entry (name (codes "r")) 5 ∷ []
-  pub evicts_earliest : insert_entry 2 (entry (name (codes "q")) 10 ∷ entry (name (codes "r")) 5 ∷ []) (entry (name (codes "s")) 7) ≡ entry (name (codes "q")) 10 ∷ entry (name (codes "s")) 7 ∷ []
+  -- a new entry in a full cache: the entry of the earliest deadline leaves, the oldest of several, and never
+  -- the new one
+  pub evicts_oldest_of_ties : insert_entry 2 (entry (name (codes "p")) 10 ∷ entry (name (codes "q")) 10 ∷ [])
+      (entry (name (codes "r")) 5) ≡ entry (name (codes "q")) 10 ∷ entry (name (codes "r")) 5 ∷ []
+  pub evicts_earliest : insert_entry 2 (entry (name (codes "q")) 10 ∷ entry (name (codes "r")) 5 ∷ [])
+      (entry (name (codes "s")) 7) ≡ entry (name (codes "q")) 10 ∷ entry (name (codes "s")) 7 ∷ []
   pub keeps_nothing_without_room : insert_entry 0 [] (entry (name (codes "p")) 10) ≡ []
   -- an entry that is stored again becomes the newest
-  pub stored_again_is_newest : insert_entry 2 (insert_entry 2 (entry (name (codes "p")) 10 ∷ entry (name (codes "q")) 10 ∷ []) (entry (name (codes "p")) 10)) (entry (name (codes "r")) 10) ≡ entry (name (codes "p")) 10 ∷ entry (name (codes "r")) 10 ∷ []
-  pub evictions_in_turn : three_places (three_places (three_places (three_places (three_places (three_places (three_places [] (codes "p") 50) (codes "q") 20) (codes "r") 20) (codes "p") 20) (codes "s") 90) (codes "t") 1) (codes "u") 1
+  pub stored_again_is_newest : insert_entry 2
+      (insert_entry 2 (entry (name (codes "p")) 10 ∷ entry (name (codes "q")) 10 ∷ [])
+      (entry (name (codes "p")) 10)) (entry (name (codes "r")) 10)
+      ≡ entry (name (codes "p")) 10 ∷ entry (name (codes "r")) 10 ∷ []
+  pub evictions_in_turn : three_places
+      (three_places (three_places
+      (three_places (three_places (three_places (three_places [] (codes "p") 50) (codes "q") 20)
+      (codes "r") 20) (codes "p") 20) (codes "s") 90) (codes "t") 1) (codes "u") 1
       ≡ entry (name (codes "p")) 20 ∷ entry (name (codes "s")) 90 ∷ entry (name (codes "u")) 1 ∷ []
 
 pub eviction_cases : EvictionCases
@@ -93,7 +108,11 @@ hour = with_bounds (record no_bounds { positive_min = Some 3600 })
 
 abbrev pub stored_for_an_hour : List Entry
 stored_for_an_hour =
-    (store (record { capacity = 8; config = hour; entries = [] }) (asks_a (name (codes "a"))) (Ok (response (asks_a (name (codes "a"))) (rr (name (codes "a")) 60 address ∷ []))) 0).entries
+    (store (record {
+      capacity = 8;
+      config = hour;
+      entries = [];
+    }) (asks_a (name (codes "a"))) (Ok (response (asks_a (name (codes "a"))) (rr (name (codes "a")) 60 address ∷ []))) 0).entries
 
 abbrev pub ttl_at : ℕ → List Entry → Option (List ℕ)
 ttl_at now es = ttls (current (asks_a (name (codes "A"))) now es)
@@ -108,18 +127,38 @@ ttl_at now es = ttls (current (asks_a (name (codes "A"))) now es)
 
 pub record LifetimeCases : Type 0 where
   -- a least of 90000 alone is above the greatest, a day
-  pub least_above_a_day : bounds_fault (record no_bounds { positive_min = Some 90000 }) ≡ Some PositiveReversed
+  pub least_above_a_day : bounds_fault (record no_bounds {
+    positive_min = Some 90000;
+  }) ≡ Some PositiveReversed
   -- bounds past 32 bits are reduced_bound to a day, and then they are reversed
-  pub reversed_once_reduced : bounds_fault (record no_bounds { positive_min = Some 100000; positive_max = Some 4294967296 }) ≡ Some PositiveReversed
-  pub wide_bounds_are_taken : bounds_fault (record no_bounds { positive_min = Some 4294967296; positive_max = Some 8589934592 }) ≡ None
+  pub reversed_once_reduced : bounds_fault (record no_bounds {
+    positive_min = Some 100000;
+    positive_max = Some 4294967296;
+  }) ≡ Some PositiveReversed
+  pub wide_bounds_are_taken : bounds_fault (record no_bounds {
+    positive_min = Some 4294967296;
+    positive_max = Some 8589934592;
+  }) ≡ None
   -- the answers of the asked type and CNAMEs count, and no other answer does
-  pub other_answers_do_not_count : positive_lifetime default_config (asks_a (name (codes "a"))) (response (asks_a (name (codes "a"))) (rr (name (codes "a")) 100 address ∷ rr (name (codes "a")) 10 (aaaa_data []) ∷ [])) ≡ 100
-  pub aliases_count : positive_lifetime default_config (asks_a (name (codes "a"))) (response (asks_a (name (codes "a"))) (rr (name (codes "a")) 5 (cname_data (name (codes "b"))) ∷ rr (name (codes "b")) 86400 address ∷ [])) ≡ 5
+  pub other_answers_do_not_count : positive_lifetime default_config (asks_a (name (codes "a")))
+      (response (asks_a (name (codes "a")))
+      (rr (name (codes "a")) 100 address ∷ rr (name (codes "a")) 10 (aaaa_data []) ∷ [])) ≡ 100
+  pub aliases_count : positive_lifetime default_config (asks_a (name (codes "a")))
+      (response (asks_a (name (codes "a")))
+      (rr (name (codes "a")) 5 (cname_data (name (codes "b"))) ∷ rr (name (codes "b")) 86400 address ∷ []))
+      ≡ 5
   -- for name servers the authorities count
-  pub authorities_count_for_servers : positive_lifetime default_config (query (name (codes "a")) type.NS) (record (response (query (name (codes "a")) type.NS) []) { authorities = rr (name (codes "a")) 300 (ns_data (name (codes "b"))) ∷ [] }) ≡ 300
+  pub authorities_count_for_servers : positive_lifetime default_config (query (name (codes "a")) type.NS)
+      (record (response (query (name (codes "a")) type.NS) []) {
+        authorities = rr (name (codes "a")) 300
+            (ns_data (name (codes "b"))) ∷ [];
+      }) ≡ 300
   -- an answer to a question for every type lives no second
-  pub every_type_lives_no_second : positive_lifetime default_config (query (name (codes "a")) type.ANY) (response (query (name (codes "a")) type.ANY) (rr (name (codes "a")) 100 address ∷ [])) ≡ 0
-  pub counted_down : (ttl_at 0 stored_for_an_hour ≡ Some (3600 ∷ [])) × (ttl_at 61 stored_for_an_hour ≡ Some (3539 ∷ [])) × (ttl_at 3600 stored_for_an_hour ≡ Some (0 ∷ [])) × (ttl_at 3601 stored_for_an_hour ≡ None)
+  pub every_type_lives_no_second : positive_lifetime default_config (query (name (codes "a")) type.ANY)
+      (response (query (name (codes "a")) type.ANY) (rr (name (codes "a")) 100 address ∷ [])) ≡ 0
+  pub counted_down : (ttl_at 0 stored_for_an_hour ≡ Some (3600 ∷ []))
+      × (ttl_at 61 stored_for_an_hour ≡ Some (3539 ∷ [])) × (ttl_at 3600 stored_for_an_hour ≡ Some (0 ∷ []))
+      × (ttl_at 3601 stored_for_an_hour ≡ None)
 
 pub lifetime_cases : LifetimeCases
 lifetime_cases = record {
@@ -140,13 +179,20 @@ below domain search = record { ndots = 1; domain = domain; search = search }
 
 pub record AttemptCases : Type 0 where
   -- of equal names the latest place stays
-  pub search_after_domain : attempts (below (Some (name (codes "x"))) (name (codes "y") ∷ name (codes "x") ∷ [])) (relative (codes "www" ∷ []))
-      ≡ full (codes "www" ∷ codes "y" ∷ []) ∷ full (codes "www" ∷ codes "x" ∷ []) ∷ full (codes "www" ∷ []) ∷ []
+  pub search_after_domain : attempts
+      (below (Some (name (codes "x"))) (name (codes "y") ∷ name (codes "x") ∷ []))
+      (relative (codes "www" ∷ []))
+      ≡ full (codes "www" ∷ codes "y" ∷ []) ∷ full (codes "www" ∷ codes "x" ∷ []) ∷ full (codes "www" ∷ [])
+      ∷ []
   -- a raw name that is first is not compared
-  pub raw_name_first : attempts (below None (full [] ∷ [])) (relative (codes "a" ∷ codes "b" ∷ [])) ≡ full (codes "a" ∷ codes "b" ∷ []) ∷ full (codes "a" ∷ codes "b" ∷ []) ∷ []
-  pub localhost_is_first : attempts (below (Some (name (codes "x"))) []) (relative (codes "localhost" ∷ [])) ≡ localhost ∷ full (codes "localhost" ∷ codes "x" ∷ []) ∷ []
+  pub raw_name_first : attempts (below None (full [] ∷ [])) (relative (codes "a" ∷ codes "b" ∷ []))
+      ≡ full (codes "a" ∷ codes "b" ∷ []) ∷ full (codes "a" ∷ codes "b" ∷ []) ∷ []
+  pub localhost_is_first : attempts (below (Some (name (codes "x"))) []) (relative (codes "localhost" ∷ []))
+      ≡ localhost ∷ full (codes "localhost" ∷ codes "x" ∷ []) ∷ []
   -- the address of an onion service is attempted alone, as it is
-  pub onion_address_alone : attempts (below (Some (name (codes "x"))) []) (relative (replicate 56 120 ∷ codes "onion" ∷ [])) ≡ relative (replicate 56 120 ∷ codes "onion" ∷ []) ∷ []
+  pub onion_address_alone : attempts (below (Some (name (codes "x"))) [])
+      (relative (replicate 56 120 ∷ codes "onion" ∷ []))
+      ≡ relative (replicate 56 120 ∷ codes "onion" ∷ []) ∷ []
 
 pub attempt_cases : AttemptCases
 attempt_cases = record {
@@ -159,9 +205,16 @@ attempt_cases = record {
 -- ---- special names
 
 pub record SpecialCases : Type 0 where
-  pub invalid_is_not_there : special_use_result (asks_a (full (codes "x" ∷ codes "invalid" ∷ []))) 7 ≡ Some (Err (no_records (asks_a (full (codes "x" ∷ codes "invalid" ∷ []))) NXDomain))
-  pub localhost_has_its_address : special_use_result (asks_a (full (codes "my" ∷ codes "localhost" ∷ []))) 7 ≡ Some (Ok (one_record (asks_a (full (codes "my" ∷ codes "localhost" ∷ []))) (a_data (127 ∷ 0 ∷ 0 ∷ 1 ∷ [])) 7))
-  pub chaos_is_not_special : special_use_result (record { name = full (codes "x" ∷ codes "invalid" ∷ []); query_type = type.A; query_class = class.CH }) 7 ≡ None
+  pub invalid_is_not_there : special_use_result (asks_a (full (codes "x" ∷ codes "invalid" ∷ []))) 7
+      ≡ Some (Err (no_records (asks_a (full (codes "x" ∷ codes "invalid" ∷ []))) NXDomain))
+  pub localhost_has_its_address : special_use_result (asks_a (full (codes "my" ∷ codes "localhost" ∷ []))) 7
+      ≡ Some (Ok (one_record (asks_a (full (codes "my" ∷ codes "localhost" ∷ [])))
+      (a_data (127 ∷ 0 ∷ 0 ∷ 1 ∷ [])) 7))
+  pub chaos_is_not_special : special_use_result (record {
+    name = full (codes "x" ∷ codes "invalid" ∷ []);
+    query_type = type.A;
+    query_class = class.CH;
+  }) 7 ≡ None
 
 pub special_cases : SpecialCases
 special_cases = record {
@@ -176,25 +229,44 @@ abbrev pub first : Query → Hop
 first q = record { query = q; preserved = [] }
 
 abbrev pub alias_and_address : List RecordValue
-alias_and_address = rr (name (codes "a")) 5 (cname_data (name (codes "b"))) ∷ rr (name (codes "b")) 100 address ∷ []
+alias_and_address =
+    rr (name (codes "a")) 5 (cname_data (name (codes "b"))) ∷ rr (name (codes "b")) 100 address ∷ []
 
 -- an alias alone: the next question is about its target, and the alias is preserved where it is wanted
 abbrev pub alias_alone : List RecordValue
 alias_alone = rr (name (codes "a")) 300 (cname_data (name (codes "b"))) ∷ []
 
 pub record AliasCases : Type 0 where
-  pub walks_along_an_alias : walk_of (asks_a (name (codes "A"))) alias_and_address ≡ record { places = 0 ∷ []; last = name (codes "b"); ttl = 5 }
-  -- an alias and its address in one response: without intermediate records the address alone, as long as the alias; with them the
-  -- response as it was sent
-  pub address_behind_an_alias : verdict false (first (asks_a (name (codes "a")))) (response (asks_a (name (codes "a"))) alias_and_address)
+  pub walks_along_an_alias : walk_of (asks_a (name (codes "A"))) alias_and_address ≡ record {
+    places = 0 ∷ [];
+    last = name (codes "b");
+    ttl = 5;
+  }
+  -- an alias and its address in one response: without intermediate records the address alone, as long as the
+  -- alias; with them the response as it was sent
+  pub address_behind_an_alias : verdict false (first (asks_a (name (codes "a"))))
+      (response (asks_a (name (codes "a"))) alias_and_address)
       ≡ Exists (response (asks_a (name (codes "a"))) (rr (name (codes "b")) 5 address ∷ []))
-  pub alias_kept_with_its_address : verdict true (first (asks_a (name (codes "a")))) (response (asks_a (name (codes "a"))) alias_and_address) ≡ Exists (response (asks_a (name (codes "a"))) alias_and_address)
-  pub alias_leads_on : verdict true (first (asks_a (name (codes "a")))) (response (asks_a (name (codes "a"))) alias_alone) ≡ CnameChain (record { query = asks_a (name (codes "b")); preserved = alias_alone })
+  pub alias_kept_with_its_address : verdict true (first (asks_a (name (codes "a"))))
+      (response (asks_a (name (codes "a"))) alias_and_address)
+      ≡ Exists (response (asks_a (name (codes "a"))) alias_and_address)
+  pub alias_leads_on : verdict true (first (asks_a (name (codes "a"))))
+      (response (asks_a (name (codes "a"))) alias_alone) ≡ CnameChain (record {
+        query = asks_a (name (codes "b"));
+        preserved = alias_alone;
+      })
   -- an SRV leads on, whoever owns it
-  pub service_leads_on : verdict false (first (query (name (codes "s")) type.SRV)) (response (query (name (codes "s")) type.SRV) (rr (name (codes "s")) 30 (cname_data (name (codes "t"))) ∷ rr (name (codes "t")) 60 (srv_data 1 2 3 (name (codes "h"))) ∷ []))
+  pub service_leads_on : verdict false (first (query (name (codes "s")) type.SRV))
+      (response (query (name (codes "s")) type.SRV)
+      (rr (name (codes "s")) 30 (cname_data (name (codes "t")))
+      ∷ rr (name (codes "t")) 60 (srv_data 1 2 3 (name (codes "h"))) ∷ []))
       ≡ CnameChain (record { query = query (name (codes "h")) type.SRV; preserved = [] })
   -- the next question of an alias of another class is asked in the class of the Internet
-  pub next_class_is_internet : verdict false (first (record { name = name (codes "a"); query_type = type.A; query_class = class.CH })) (response (asks_a (name (codes "a"))) alias_alone)
+  pub next_class_is_internet : verdict false (first (record {
+    name = name (codes "a");
+    query_type = type.A;
+    query_class = class.CH;
+  })) (response (asks_a (name (codes "a"))) alias_alone)
       ≡ CnameChain (record { query = asks_a (name (codes "b")); preserved = [] })
 
 pub alias_cases : AliasCases
@@ -226,8 +298,14 @@ loop_asks = to_b ∷ to_a ∷ to_b ∷ to_a ∷ to_b ∷ to_a ∷ to_b ∷ to_a 
 
 abbrev pub after_loop : CacheValue
 after_loop = record (empty_cache 8) {
-  entries = record { query = asks_a (name (codes "b")); result = no_address; original_time = 0; valid_until = 0 }
-      ∷ record { query = asks_a (name (codes "a")); result = no_address; original_time = 0; valid_until = 0 } ∷ [];
+  entries =
+      record { query = asks_a (name (codes "b")); result = no_address; original_time = 0; valid_until = 0 }
+      ∷ record {
+        query = asks_a (name (codes "a"));
+        result = no_address;
+        original_time = 0;
+        valid_until = 0;
+      } ∷ [];
 }
 
 abbrev pub at_a : Hop

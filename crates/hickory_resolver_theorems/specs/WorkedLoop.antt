@@ -15,7 +15,15 @@ loop_hops = record {
   passed = to_b ∷ to_a ∷ to_b ∷ to_a ∷ to_b ∷ to_a ∷ to_b ∷ [];
   last_hop = at_b;
   last = Asked to_a.outcome;
-  leads = (at_b, follows_a, (at_a, follows_b, (at_b, follows_a, (at_a, follows_b, (at_b, follows_a, (at_a, follows_b, (at_b, follows_a, refl)))))));
+  leads = (
+    at_b,
+    follows_a,
+    (
+      at_a,
+      follows_b,
+      (at_b, follows_a, (at_a, follows_b, (at_b, follows_a, (at_a, follows_b, (at_b, follows_a, refl))))),
+    ),
+  );
   short = omega arith;
   ends = ((refl, refl), λ next h. refl);
   asks_are = refl;
@@ -27,22 +35,37 @@ loop_hops = record {
     follows_b : IsAliasHop loop_start at_b to_a at_a
     follows_b = record { upstream = (refl, refl); asked = refl; alias = refl }
 
--- the reply is a negative answer of the last question, and the cache has it for both questions, up to this moment
-pub loop_ends : IsWhole loop_start (asks_a (name (codes "a"))) loop_asks (Err (no_records (asks_a (name (codes "b"))) NoError)) after_loop
+-- the reply is a negative answer of the last question, and the cache has it for both questions, up to this
+-- moment
+pub loop_ends : IsWhole loop_start (asks_a (name (codes "a"))) loop_asks
+    (Err (no_records (asks_a (name (codes "b"))) NoError)) after_loop
 loop_ends = record { hops = loop_hops; result_is = refl; after_is = refl }
 
 -- a chain of two: an alias, and the address of its target
 abbrev pub chain : TableValue
-chain = (asks_a (name (codes "a")), Ok (response (asks_a (name (codes "a"))) alias_alone)) ∷ (asks_a (name (codes "b")), Ok (response (asks_a (name (codes "b"))) (rr (name (codes "b")) 10 address ∷ []))) ∷ []
+chain =
+    (asks_a (name (codes "a")), Ok (response (asks_a (name (codes "a"))) alias_alone))
+    ∷ (
+      asks_a (name (codes "b")),
+      Ok
+          (response (asks_a (name (codes "b"))) (rr (name (codes "b")) 10 address ∷ [])),
+    ) ∷ []
 
 abbrev pub chain_reply : WithoutTimes
-chain_reply = Ok (record { answers = rr (name (codes "b")) 0 address ∷ []; authorities = []; additionals = [] })
+chain_reply =
+    Ok (record { answers = rr (name (codes "b")) 0 address ∷ []; authorities = []; additionals = [] })
 
 pub record LoopCases : Type 0 where
-  -- the reply of the loop is a negative answer of its last question, and the cache has it for both questions, up to this moment
-  pub loop_ends : IsWhole loop_start (asks_a (name (codes "a"))) loop_asks (Err (no_records (asks_a (name (codes "b"))) NoError)) after_loop
+  -- the reply of the loop is a negative answer of its last question, and the cache has it for both questions,
+  -- up to this moment
+  pub loop_ends : IsWhole loop_start (asks_a (name (codes "a"))) loop_asks
+      (Err (no_records (asks_a (name (codes "b"))) NoError)) after_loop
   -- the chain means its address, by two questions
   pub chain_means_its_address : ResolvesTo chain (asks_a (name (codes "a"))) chain_reply 2
 
 pub loop_cases : LoopCases
-loop_cases = record { loop_ends = loop_ends; chain_means_its_address = at_alias refl refl refl (at_last refl refl (λ next h. cc)) }
+loop_cases =
+    record {
+      loop_ends = loop_ends;
+      chain_means_its_address = at_alias refl refl refl (at_last refl refl (λ next h. cc));
+    }

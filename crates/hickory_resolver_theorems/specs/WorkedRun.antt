@@ -34,7 +34,9 @@ spells_a = record {
 
 -- the name is no address's
 no_address : (net : IpNet) → IsArpaNameOf a net → ⊥
-no_address net is = by net.addr (labels ∙ length-map (net_labels net ++ arpa_zone net.addr) lower_label ∙ length-append (net_labels net) (arpa_zone net.addr))
+no_address net is =
+    by net.addr (labels ∙ length-map (net_labels net ++ arpa_zone net.addr) lower_label
+    ∙ length-append (net_labels net) (arpa_zone net.addr))
   where
     labels : 1 ≡ length (map lower_label (net_labels net ++ arpa_zone net.addr))
     labels = ap length (same_from_name_eq a (arpa_name net) is.1).1
@@ -57,7 +59,15 @@ abbrev pub run_asks : List Exchange
 run_asks = exchange (asks_a a) (rr a 10 address ∷ []) ∷ []
 
 abbrev pub after_run : CacheValue
-after_run = record (empty_cache 8) { entries = record { query = asks_a a; result = Ok (response (asks_a a) (rr a 10 address ∷ [])); original_time = 0; valid_until = 10 } ∷ [] }
+after_run =
+    record (empty_cache 8) {
+      entries = record {
+        query = asks_a a;
+        result = Ok (response (asks_a a) (rr a 10 address ∷ []));
+        original_time = 0;
+        valid_until = 10;
+      } ∷ [];
+    }
 
 abbrev pub run_steps : List StepValue
 run_steps =
@@ -75,14 +85,37 @@ start cache now = record { cache = cache; now = now; preserve_intermediates = fa
 
 asked_reply : IsReply (start (empty_cache 8) 0) (asks_a a) run_asks (Ok (found 10 10)) after_run
 asked_reply = inl (record {
-  hops = record { passed = []; last_hop = first (asks_a a); last = Asked (Ok (response (asks_a a) (rr a 10 address ∷ []))); leads = refl; short = omega arith; ends = ((refl, refl), λ next h. cc); asks_are = refl };
+  hops =
+      record {
+        passed = [];
+        last_hop = first (asks_a a);
+        last = Asked (Ok (response (asks_a a) (rr a 10 address ∷ [])));
+        leads = refl;
+        short = omega arith;
+        ends = ((refl, refl), λ next h. cc);
+        asks_are = refl;
+      };
   result_is = refl;
   after_is = refl;
 })
 
 hit_reply : IsReply (start after_run 4) (asks_a a) [] (Ok (found 6 10)) after_run
 hit_reply = inl (record {
-  hops = record { passed = []; last_hop = first (asks_a a); last = Hit (record { query = asks_a a; result = Ok (response (asks_a a) (rr a 10 address ∷ [])); original_time = 0; valid_until = 10 }); leads = refl; short = omega arith; ends = (refl, refl); asks_are = refl };
+  hops =
+      record {
+        passed = [];
+        last_hop = first (asks_a a);
+        last = Hit (record {
+          query = asks_a a;
+          result = Ok (response (asks_a a) (rr a 10 address ∷ []));
+          original_time = 0;
+          valid_until = 10;
+        });
+        leads = refl;
+        short = omega arith;
+        ends = (refl, refl);
+        asks_are = refl;
+      };
   result_is = refl;
   after_is = refl;
 })
@@ -91,19 +124,89 @@ not_static : (now : ℕ) → IsStatic (asks_a a) now [] None
 not_static now = (None, no_address, refl)
 
 -- each look-up is one attempt of one sub-look-up
-first_served : IsServed (λ now. IsSubLookupFor (setting_at settings now)) settings (empty_cache 8) (Lookup (codes "a.") type.A 0) (asked ∷ []) (LookedUp (Ok (found 10 10))) after_run
+first_served : IsServed (λ now. IsSubLookupFor (setting_at settings now)) settings (empty_cache 8)
+    (Lookup (codes "a.") type.A 0) (asked ∷ []) (LookedUp (Ok (found 10 10))) after_run
 first_served =
-    inl (Ok a, spells_a, (asked ∷ [], [], Ok (found 10 10), after_run, refl, record { are = (type.A, after_run, refl, (refl, record { not_static = inr (not_static 0); reply = asked_reply }), (refl, refl)); result_is = inl refl }, inl (refl, refl, refl, refl)))
+    inl (
+      Ok a,
+      spells_a,
+      (
+        asked ∷ [],
+        [],
+        Ok (found 10 10),
+        after_run,
+        refl,
+        record {
+          are = (
+            type.A,
+            after_run,
+            refl,
+            (
+              refl,
+              record {
+                not_static = inr (not_static 0);
+                reply = asked_reply;
+              },
+            ),
+            (refl, refl),
+          );
+          result_is = inl refl;
+        },
+        inl (refl, refl, refl, refl),
+      ),
+    )
 
-second_served : IsServed (λ now. IsSubLookupFor (setting_at settings now)) settings after_run (Lookup (codes "a.") type.A 4) (hit ∷ []) (LookedUp (Ok (found 6 10))) after_run
+second_served : IsServed (λ now. IsSubLookupFor (setting_at settings now)) settings after_run
+    (Lookup (codes "a.") type.A 4) (hit ∷ []) (LookedUp (Ok (found 6 10))) after_run
 second_served =
-    inl (Ok a, spells_a, (hit ∷ [], [], Ok (found 6 10), after_run, refl, record { are = (type.A, after_run, refl, (refl, record { not_static = inr (not_static 4); reply = hit_reply }), (refl, refl)); result_is = inl refl }, inl (refl, refl, refl, refl)))
+    inl (
+      Ok a,
+      spells_a,
+      (
+        hit ∷ [],
+        [],
+        Ok (found 6 10),
+        after_run,
+        refl,
+        record {
+          are = (
+            type.A,
+            after_run,
+            refl,
+            (
+              refl,
+              record {
+                not_static = inr (not_static 4);
+                reply = hit_reply;
+              },
+            ),
+            (refl, refl),
+          );
+          result_is = inl refl;
+        },
+        inl (refl, refl, refl, refl),
+      ),
+    )
 
 abbrev first_stage : Stage
-first_stage = record { request = Lookup (codes "a.") type.A 0; before = empty_cache 8; piece = run_asks; parts = asked ∷ []; step = record { now = 0; exchanges = 1; reply = LookedUp (Ok (found 10 10)) } }
+first_stage =
+    record {
+      request = Lookup (codes "a.") type.A 0;
+      before = empty_cache 8;
+      piece = run_asks;
+      parts = asked ∷ [];
+      step = record { now = 0; exchanges = 1; reply = LookedUp (Ok (found 10 10)) };
+    }
 
 abbrev second_stage : Stage
-second_stage = record { request = Lookup (codes "a.") type.A 4; before = after_run; piece = []; parts = hit ∷ []; step = record { now = 4; exchanges = 0; reply = LookedUp (Ok (found 6 10)) } }
+second_stage =
+    record {
+      request = Lookup (codes "a.") type.A 4;
+      before = after_run;
+      piece = [];
+      parts = hit ∷ [];
+      step = record { now = 4; exchanges = 0; reply = LookedUp (Ok (found 6 10)) };
+    }
 
 pub record RunCases : Type 0 where
   -- the first look-up asks, and the second one is answered from the cache, its TTL counted down
@@ -115,6 +218,17 @@ run_cases = record {
     stages = first_stage ∷ second_stage ∷ [];
     joined = refl;
     steps_are = refl;
-    are = (after_run, refl, refl, record { served = first_served; piece_is = refl; now_is = refl; count_is = refl }, inr (refl, (after_run, refl, refl, record { served = second_served; piece_is = refl; now_is = refl; count_is = refl }, inr (refl, refl))));
+    are = (
+      after_run,
+      refl,
+      refl,
+      record {
+        served = first_served;
+        piece_is = refl;
+        now_is = refl;
+        count_is = refl;
+      },
+      inr (refl, (after_run, refl, refl, record { served = second_served; piece_is = refl; now_is = refl; count_is = refl }, inr (refl, refl))),
+    );
   };
 }

@@ -18,29 +18,36 @@ pub fn one_walk()
     ensures { (q : Query) (answers : List RecordValue) → IsOneWalk q answers }
 {}
 
-/// No two attempts at a name are equal, but for a raw name that stands first; a fully qualified name is attempted alone.
+/// No two attempts at a name are equal, but for a raw name that stands first; a fully qualified name is
+/// attempted alone.
 pub fn attempts_apart()
     ensures { (s : Search) (n : NameValue) → AreAttemptsApart s n }
 {}
 
 /// A look-up that is what the hops say makes eight exchanges at most.
 pub fn eight_questions()
-    ensures { (s : LookupContext) (question : Query) (asks : List Exchange) (result : LookupResult) (after : CacheValue) → IsReply s question asks result after → length asks ≤ 8 }
+    ensures { (s : LookupContext) (question : Query) (asks : List Exchange) (result : LookupResult)
+        (after : CacheValue) → IsReply s question asks result after → length asks ≤ 8 }
 {}
 
-/// A look-up that is what the hops say is fresh: no record of the asked type that it gives or stores outlives what was
-/// received.
+/// A look-up that is what the hops say is fresh: no record of the asked type that it gives or stores outlives
+/// what was received.
 pub fn nothing_outlives()
-    ensures { (s : LookupContext) (question : Query) (asks : List Exchange) (result : LookupResult) (after : CacheValue) → IsReply s question asks result after → IsFresh s question asks result after }
+    ensures { (s : LookupContext) (question : Query) (asks : List Exchange) (result : LookupResult)
+        (after : CacheValue) → IsReply s question asks result after → IsFresh s question asks result after }
 {}
 
-/// A look-up that is what the hops say is transparent: under every table that tells its exchanges it comes to what its
-/// question means without a cache, and so does every entry that it leaves.
+/// A look-up that is what the hops say is transparent: under every table that tells its exchanges it comes to
+/// what its question means without a cache, and so does every entry that it leaves.
 pub fn a_cache_changes_no_answer()
-    ensures { (s : LookupContext) (question : Query) (asks : List Exchange) (result : LookupResult) (after : CacheValue) → IsReply s question asks result after → IsTransparent s question asks result after }
+    ensures { (s : LookupContext) (question : Query) (asks : List Exchange) (result : LookupResult)
+        (after : CacheValue) → IsReply s question asks result after
+        → IsTransparent s question asks result after }
 {}
 
 /// The headline holds of every run, whatever the requests and whatever came back.
 pub fn headline()
-    ensures { (s : Settings) (empty : CacheValue) (requests : List RequestValue) (steps : List StepValue) (exchanges : List Exchange) (after : CacheValue) → Run s empty requests steps exchanges after → Headline s empty requests steps exchanges after }
+    ensures { (s : Settings) (empty : CacheValue) (requests : List RequestValue) (steps : List StepValue)
+        (exchanges : List Exchange) (after : CacheValue) → Run s empty requests steps exchanges after
+        → Headline s empty requests steps exchanges after }
 {}
