@@ -13,8 +13,7 @@ use Rattle.hickory_proto_core.specs.declared.recorded.Exchange.{Exchange}
 use Rattle.hickory_proto_core.specs.records.net_error.NetError.TheVariants.{OutOfMemory}
 use Rattle.hickory_resolver_model.specs.Bounds.{day}
 use Rattle.hickory_resolver_model.specs.Cache.{CacheValue, saturating_sum}
-use Rattle.hickory_resolver_model.specs.Lookup.{LookupValue, LookupResult}
-use Rattle.hickory_resolver_model.specs.SpecialUse.{response_to}
+use Rattle.hickory_resolver_model.specs.Lookup.{LookupValue, LookupResult, answers_for_day}
 use Rattle.hickory_resolver_model.specs.Hops.{LookupContext, IsReply}
 use Rattle.hickory_resolver_model.specs.Hosts.{Host, append, IsStatic}
 
@@ -179,16 +178,13 @@ AreAttempts Answers plan looked before (n ∷ ns) last parts result after =
 
 -- an address as the reply that it is by itself, for a day: owned by this name, under this question
 abbrev pub literal_lookup : Query → NameValue → IpAddr → ℕ → LookupValue
-literal_lookup q owner address now = record {
-  message =
-      response_to q (record {
-        name = owner;
-        dns_class = class.IN;
-        ttl = day;
-        rdata = data_of_address address;
-      } ∷ []);
-  valid_until = saturating_sum now day;
-}
+literal_lookup q owner address now =
+    answers_for_day q (record {
+      name = owner;
+      dns_class = class.IN;
+      ttl = day;
+      rdata = data_of_address address;
+    } ∷ []) now
 
 -- the relative name without labels
 abbrev pub no_name : NameValue

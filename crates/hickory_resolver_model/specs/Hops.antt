@@ -11,8 +11,8 @@ use Rattle.hickory_proto_core.specs.records.net_error.NetError.TheVariants.{Dns,
 use Rattle.hickory_proto_core.specs.records.net_error.DnsError.TheVariants.{NoRecordsFound}
 use Rattle.hickory_resolver_model.specs.Bounds.{ConfigValue}
 use Rattle.hickory_resolver_model.specs.Cache.{CacheValue, Entry, current, aged_result, store}
-use Rattle.hickory_resolver_model.specs.Lookup.{LookupResult, hit_lookup, found_lookup}
-use Rattle.hickory_resolver_model.specs.SpecialUse.{response_to, special_use_result}
+use Rattle.hickory_resolver_model.specs.Lookup.{LookupResult, hit_lookup, found_lookup, response_to}
+use Rattle.hickory_resolver_model.specs.SpecialUse.{special_use_result}
 use Rattle.hickory_resolver_model.specs.Verdict.{Hop, first_hop, Verdict, Exists, CnameChain, NoMatch, verdict}
 
 -- where a look-up starts: the cache before it, the moment, and whether intermediate records are preserved

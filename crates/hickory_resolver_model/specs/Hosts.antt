@@ -1,6 +1,6 @@
 -- The table of hosts: names in the order in which they were first seen, each with its IPv4 and IPv6 addresses
 -- (RFC 952; RFC 1123, section 6.1.3.1), and the files that it is read from.
-use Rattle.std.specs.Prelude.{◌≡◌, ◌⊎◌, ℕ, Bool, true, false, ◌||◌, ◌==◌, nat_eq, drop, List, [], ◌∷◌, ◌++◌, map, filter, find, min, option_and_then, Option, Some, None, if◌then◌else◌}
+use Rattle.std.specs.Prelude.{◌≡◌, ◌⊎◌, ℕ, Bool, true, false, not, IsTrue, ◌||◌, ◌==◌, nat_eq, drop, List, [], ◌∷◌, ◌++◌, map, filter, find, min, option_and_then, Option, Some, None, if◌then◌else◌}
 use Rattle.std.specs.List.{list_any, before_first, list_all, starts_with}
 use Rattle.std.specs.Option.{option_map_or}
 use Rattle.std.specs.Char.{is_whitespace, to_ascii_lowercase, is_ascii}
@@ -14,14 +14,13 @@ use Rattle.std.specs.declared.net.IpAddr.{IpAddr}
 use Rattle.hickory_proto_core.specs.Codes.{type_code}
 use Rattle.hickory_proto_core.specs.Records.{RecordValue, DataValue, a_data, ptr_data, data_eq, data_of_address}
 use Rattle.hickory_proto_core.specs.Messages.{MessageValue}
+use Rattle.hickory_proto_core.specs.ResponseKind.{asks_for, is_empty}
 use Rattle.hickory_proto_core.specs.records.query.Query.{Query}
 use Rattle.hickory_proto_core.specs.codes.record_type.RecordType.{RecordType}
 use Rattle.hickory_proto_core.specs.codes.record_type.RecordType.TheVariants as type
 use Rattle.hickory_proto_core.specs.codes.dns_class.DNSClass.TheVariants as class
 use Rattle.hickory_resolver_model.specs.Bounds.{day}
-use Rattle.hickory_resolver_model.specs.Cache.{saturating_sum}
-use Rattle.hickory_resolver_model.specs.Lookup.{LookupValue}
-use Rattle.hickory_resolver_model.specs.SpecialUse.{response_to}
+use Rattle.hickory_resolver_model.specs.Lookup.{LookupValue, answers_for_day}
 
 -- a name and what is known of it
 pub record Host : Type 0 where
@@ -47,21 +46,21 @@ append l k =
 
 -- what a name has at first: an answer without records
 abbrev pub no_addresses : NameValue → RecordType → ℕ → LookupValue
-no_addresses n t now = record {
-  message = response_to (record { name = n; query_type = t; query_class = class.IN }) [];
-  valid_until = saturating_sum now day;
-}
+no_addresses n t now = answers_for_day (record { name = n; query_type = t; query_class = class.IN }) [] now
 
 -- the family of a type: A is the first, every other type the second
+abbrev pub is_ipv4_type : RecordType → Bool
+is_ipv4_type t = type_code t == type_code type.A
+
 abbrev pub family : RecordType → Host → Option LookupValue
-family t h = if type_code t == 1 then h.a else h.aaaa
+family t h = if is_ipv4_type t then h.a else h.aaaa
 
 -- a host with one more look-up of a type, given for this name: the first one of its family has the question
 -- of the name as it is given
 abbrev pub with_lookup : NameValue → RecordType → LookupValue → ℕ → Host → Host
 with_lookup n t l now h =
     let joined = Some (append (option_map_or (λ k. k) (family t h) (no_addresses n t now)) l) in
-    if type_code t == 1 then record h { a = joined } else record h { aaaa = joined }
+    if is_ipv4_type t then record h { a = joined } else record h { aaaa = joined }
 
 abbrev pub is_host : NameValue → Host → Bool
 is_host n h = name_eq n h.name
@@ -80,11 +79,9 @@ address_type _ = type.AAAA
 
 -- one address of a name, for a day
 abbrev pub one_address : NameValue → DataValue → ℕ → LookupValue
-one_address n address now = record {
-  message = response_to (record { name = n; query_type = address_type address; query_class = class.IN })
-      (record { name = n; dns_class = class.IN; ttl = day; rdata = address } ∷ []);
-  valid_until = saturating_sum now day;
-}
+one_address n address now =
+    answers_for_day (record { name = n; query_type = address_type address; query_class = class.IN })
+    (record { name = n; dns_class = class.IN; ttl = day; rdata = address } ∷ []) now
 
 -- the table with these pairs of a name and an address put in, in order
 abbrev pub insert_pairs : ℕ → List (NameValue × DataValue) → List Host → List Host
@@ -101,10 +98,6 @@ abbrev pub cut_at : {A : Type 0} → (A → Bool) → List A → List (List A)
 cut_at p [] = [] ∷ []
 cut_at p (x ∷ xs) = if p x then [] ∷ cut_at p xs else put_first x (cut_at p xs)
 
-abbrev pub is_nonempty : {A : Type 0} → List A → Bool
-is_nonempty [] = false
-is_nonempty (x ∷ xs) = true
-
 -- a file's bytes without a byte order mark (U+FEFF), and its lines, each ended by LF
 abbrev pub without_mark : List ℕ → List ℕ
 without_mark bytes = if starts_with nat_eq bytes (239 ∷ 187 ∷ 191 ∷ []) then drop 3 bytes else bytes
@@ -114,7 +107,8 @@ file_lines bytes = cut_at (λ b. b == 10) (without_mark bytes)
 
 -- the fields of a line: its characters up to a `#`, cut at white space (a CR before the LF is white space)
 abbrev pub line_fields : List ℕ → List (List ℕ)
-line_fields line = filter is_nonempty (cut_at is_whitespace (before_first (λ c. c == 35) (chars line)))
+line_fields line =
+    filter (λ field. not (is_empty field)) (cut_at is_whitespace (before_first (λ c. c == 35) (chars line)))
 
 -- the text spells an address, whose data are these
 abbrev pub IsAddressField : List ℕ → DataValue → Type 0
@@ -160,8 +154,7 @@ pointers owner hosts =
 
 abbrev pub pointer_lookup : Query → List RecordValue → ℕ → Option LookupValue
 pointer_lookup q [] now = None
-pointer_lookup q (r ∷ rs) now =
-    Some (record { message = response_to q (r ∷ rs); valid_until = saturating_sum now day })
+pointer_lookup q (r ∷ rs) now = Some (answers_for_day q (r ∷ rs) now)
 
 -- the address that a name under `in-addr.arpa.` or `ip6.arpa.` stands for, if it stands for one
 abbrev pub StandsFor : NameValue → Option DataValue → Type 0
@@ -173,12 +166,14 @@ StandsFor n (Some rdata) = (net : IpNet) × IsArpaNameOf n net × (rdata ≡ dat
 abbrev pub static_answer : Option DataValue → Query → ℕ → List Host → Option LookupValue
 static_answer address q now hosts =
     let n = as_fqdn q.name in
-    let code = type_code q.query_type in
-    if (code == 1) || (code == 28) then option_and_then (family q.query_type) (find (is_host n) hosts)
-    else (if code == 12 then option_and_then
-        (λ a. pointer_lookup q (pointers n (filter (has_address a) hosts)) now) address else None)
+    if asks_for type.A q || asks_for type.AAAA q
+        then option_and_then (family q.query_type) (find (is_host n) hosts)
+    else (if asks_for type.PTR q
+    then option_and_then (λ a. pointer_lookup q (pointers n (filter (has_address a) hosts)) now) address
+        else None)
 
+-- only a question for PTR records asks which address its name stands for
 abbrev pub IsStatic : Query → ℕ → List Host → Option LookupValue → Type 0
 IsStatic q now hosts result =
-    (address : Option DataValue) × StandsFor (as_fqdn q.name) address
+    (address : Option DataValue) × (IsTrue (asks_for type.PTR q) → StandsFor (as_fqdn q.name) address)
     × (result ≡ static_answer address q now hosts)

@@ -1,7 +1,9 @@
 -- What a look-up gives: a message with a question, and until when it may be used.
-use Rattle.std.specs.Prelude.{ℕ, Bool, ◌&&◌, ◌==◌, List, [], ◌∷◌, map, Result, unwrap_or}
+use Rattle.std.specs.Prelude.{ℕ, Bool, ◌&&◌, ◌==◌, List, [], ◌∷◌, ◌++◌, map, Result, unwrap_or}
 use Rattle.std.specs.Cmp.{IsEquivalence, and_equiv, on_equiv, nat_eq_equiv}
-use Rattle.hickory_proto_core.specs.Messages.{MessageValue, message_eq, message_equiv}
+use Rattle.hickory_proto_core.specs.Messages.{MessageValue, response_metadata, message_eq, message_equiv}
+use Rattle.hickory_proto_core.specs.Records.{RecordValue}
+use Rattle.hickory_proto_core.specs.codes.op_code.OpCode.TheVariants as op
 use Rattle.hickory_proto_core.specs.records.query.Query.{Query}
 use Rattle.hickory_proto_core.specs.records.net_error.NetError.{NetError}
 use Rattle.hickory_resolver_model.specs.Bounds.{ConfigValue, day, least, clamped_message, positive_lifetime}
@@ -10,6 +12,34 @@ use Rattle.hickory_resolver_model.specs.Cache.{saturating_sum}
 pub record LookupValue : Type 0 where
   pub message : MessageValue
   pub valid_until : ℕ
+
+-- a fresh response to a question, with these answers
+abbrev pub response_to : Query → List RecordValue → MessageValue
+response_to q records =
+    record {
+      metadata = response_metadata 0 op.Query;
+      queries = q ∷ [];
+      answers = records;
+      authorities = [];
+      additionals = [];
+    }
+
+-- a look-up of these answers to a question that may be used until a moment (seconds), and one that may be
+-- used for a day
+abbrev pub answers_until : Query → List RecordValue → ℕ → LookupValue
+answers_until q records deadline = record { message = response_to q records; valid_until = deadline }
+
+abbrev pub answers_for_day : Query → List RecordValue → ℕ → LookupValue
+answers_for_day q records now = answers_until q records (saturating_sum now day)
+
+-- a look-up with more records at the end of its authority section, and of its additional section
+abbrev pub more_authorities : LookupValue → List RecordValue → LookupValue
+more_authorities l records =
+    record l { message = record l.message { authorities = l.message.authorities ++ records } }
+
+abbrev pub more_additionals : LookupValue → List RecordValue → LookupValue
+more_additionals l records =
+    record l { message = record l.message { additionals = l.message.additionals ++ records } }
 
 -- what a look-up comes to
 abbrev pub LookupResult : Type 0

@@ -18,7 +18,7 @@ use Rattle.hickory_proto_core.specs.records.net_error.NetError.TheVariants.{Dns}
 use Rattle.hickory_proto_core.specs.records.net_error.DnsError.TheVariants.{NoRecordsFound}
 use Rattle.hickory_resolver_model.specs.Bounds.{day}
 use Rattle.hickory_resolver_model.specs.Cache.{saturating_sum}
-use Rattle.hickory_resolver_model.specs.Lookup.{LookupValue, LookupResult}
+use Rattle.hickory_resolver_model.specs.Lookup.{LookupValue, LookupResult, answers_for_day}
 
 abbrev pub full_name : List (List ℕ) → NameValue
 full_name labels = record { labels = labels; fqdn = true }
@@ -39,23 +39,10 @@ loopback_data code =
     else (if code == type_code type.AAAA then Some (aaaa_data (0 ∷ 0 ∷ 0 ∷ 0 ∷ 0 ∷ 0 ∷ 0 ∷ 1 ∷ []))
     else (if code == type_code type.PTR then Some (ptr_data localhost) else None))
 
--- a fresh response to a question, with these answers
-abbrev pub response_to : Query → List RecordValue → MessageValue
-response_to q records =
-    record {
-      metadata = response_metadata 0 op.Query;
-      queries = q ∷ [];
-      answers = records;
-      authorities = [];
-      additionals = [];
-    }
-
 -- one record of the question's name, for a day
 abbrev pub one_record : Query → DataValue → ℕ → LookupValue
-one_record q rdata now = record {
-  message = response_to q (record { name = q.name; dns_class = class.IN; ttl = day; rdata = rdata } ∷ []);
-  valid_until = saturating_sum now day;
-}
+one_record q rdata now =
+    answers_for_day q (record { name = q.name; dns_class = class.IN; ttl = day; rdata = rdata } ∷ []) now
 
 -- a negative answer of which nothing else is known
 abbrev pub no_records : Query → ResponseCode → NetError

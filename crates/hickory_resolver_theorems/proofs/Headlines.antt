@@ -16,7 +16,7 @@ use Rattle.hickory_resolver_model.specs.Attempts.{attempts}
 use Rattle.hickory_resolver_model.specs.Run.{Settings, setting_at, RequestValue, Lookup, LookupIp, ClearLookup, Clear, StepReply, LookedUp, Cleared, ends_run, drop_each, after_clear, Call, AtOnce, Attempt, name_call, address_call, IsCall, IsServed, StepValue, Stage, IsStage, AreStages, exchanges_of, Run}
 use Rattle.hickory_resolver_theorems.specs.Cacheless.{IsTable, ResolvesTo, IsConsistentWith, AreConsistentWith}
 use Rattle.hickory_resolver_theorems.specs.WithoutTimes.{without_times}
-use Rattle.hickory_resolver_theorems.specs.Statements.{IsWhatItResolvesTo, AreMeant, ResolvesWithinEight, CachelessSubLookup, IsCacheless, IsAsWithoutCache, Headline}
+use Rattle.hickory_resolver_theorems.specs.Statements.{IsWhatItResolvesTo, AreWhatTheyResolveTo, ResolvesWithinEight, CachelessSubLookup, IsCacheless, IsAsWithoutCache, Headline}
 use Rattle.hickory_resolver_theorems.proofs.Lists.{all-front, all-back, all-filter}
 use Rattle.hickory_resolver_theorems.proofs.Transparent.{transparent}
 use Rattle.hickory_resolver_theorems.proofs.Runs.{first_clauses}
@@ -34,15 +34,15 @@ asks-append (p ∷ ps) qs = ap (λ xs. p.asks ++ xs) (asks-append ps qs) ∙ sym
 
 -- a part is want of memory, or the cacheless resolver's, at whatever cache; and the entries after it are meant
 abbrev PartAlike : TableValue → Setting → Bool → CacheValue → Query → SubLookup → CacheValue → Type 0
-PartAlike table t looked c q p after = ((is_out_of_memory p.result ≡ true) ⊎ CachelessSubLookup table t looked c q p c) × AreMeant table after
+PartAlike table t looked c q p after = ((is_out_of_memory p.result ≡ true) ⊎ CachelessSubLookup table t looked c q p c) × AreWhatTheyResolveTo table after
 
-part-alike : (table : TableValue) (t : Setting) (looked : Bool) (c before : CacheValue) (q : Query) (p : SubLookup) (after : CacheValue) → Seen table t → AreMeant table before → ResolvesWithinEight table p → AreConsistentWith table p.asks → IsSubLookupFor t looked before q p after → PartAlike table t looked c q p after
+part-alike : (table : TableValue) (t : Setting) (looked : Bool) (c before : CacheValue) (q : Query) (p : SubLookup) (after : CacheValue) → Seen table t → AreWhatTheyResolveTo table before → ResolvesWithinEight table p → AreConsistentWith table p.asks → IsSubLookupFor t looked before q p after → PartAlike table t looked c q p after
 part-alike table t looked c before q p after seen meant has tells (for, is) = by p.source refl is
   where
     by : (source : Source) → p.source ≡ source → IsSubLookupBy source t looked before p after → PartAlike table t looked c q p after
     by Static e part = (
       inr (for, inl (record { asks_hosts = part.asks_hosts; found = part.found; has = part.has; result_is = part.result_is; nothing_asked = part.nothing_asked; unchanged = refl })),
-      subst (AreMeant table) (sym part.unchanged) meant,
+      subst (AreWhatTheyResolveTo table) (sym part.unchanged) meant,
     )
     by Client e part =
         let meaning = has e in
@@ -103,11 +103,11 @@ goes-on (Fallback t v) (x ∷ []) r u h = let clash : None ≡ Some u = h in cc
 goes-on (Fallback t v) (x ∷ y ∷ ys) r u h = let clash : None ≡ Some u = h in cc
 
 -- the sub-look-ups of an attempt: the last one ran out of memory, or they are the cacheless resolver's
-subs-alike : (table : TableValue) (t : Setting) (looked : Bool) (n : NameValue) (plan : Plan) (c before : CacheValue) (results : List LookupResult) (ps : List SubLookup) (after : CacheValue) → Seen table t → AreMeant table before
+subs-alike : (table : TableValue) (t : Setting) (looked : Bool) (n : NameValue) (plan : Plan) (c before : CacheValue) (results : List LookupResult) (ps : List SubLookup) (after : CacheValue) → Seen table t → AreWhatTheyResolveTo table before
     → AllByRecursion (ResolvesWithinEight table) ps → AreConsistentWith table (asks_of_sub_lookups ps) → AreSubLookups (IsSubLookupFor t) looked n plan before results ps after
-    → ((last_is_out ps ≡ true) ⊎ AreSubLookups (CachelessSubLookup table t) looked n plan c results ps c) × AreMeant table after
-subs-alike table t looked n plan c before results [] after seen meant has tells (over, same) = (inr (over, refl), subst (AreMeant table) (sym same) meant)
-subs-alike table t looked n plan c before results (p ∷ []) after seen meant (each, none) tells (u, mid, next, is, (over, same)) = (by here.0, subst (AreMeant table) (sym same) here.1)
+    → ((last_is_out ps ≡ true) ⊎ AreSubLookups (CachelessSubLookup table t) looked n plan c results ps c) × AreWhatTheyResolveTo table after
+subs-alike table t looked n plan c before results [] after seen meant has tells (over, same) = (inr (over, refl), subst (AreWhatTheyResolveTo table) (sym same) meant)
+subs-alike table t looked n plan c before results (p ∷ []) after seen meant (each, none) tells (u, mid, next, is, (over, same)) = (by here.0, subst (AreWhatTheyResolveTo table) (sym same) here.1)
   where
     here : PartAlike table t looked c (question_of n u) p mid
     here = part-alike table t looked c before (question_of n u) p mid seen meant each (all-front (IsConsistentWith table) p.asks [] tells) is
@@ -149,11 +149,11 @@ out-result Answers looked n (One t) before (p ∷ q ∷ x ∷ xs) after (a, b, n
 out-result Answers looked n (Both t u) before (p ∷ q ∷ x ∷ xs) after (a, b, next, is, (v, m, on, second, (w, k, more, third, rest))) out = let clash : None ≡ Some w = more in cc
 out-result Answers looked n (Fallback t u) before (p ∷ q ∷ x ∷ xs) after (a, b, next, is, (v, m, on, second, (w, k, more, third, rest))) out = let clash : None ≡ Some w = more in cc
 
-attempt-alike : (table : TableValue) (t : Setting) (looked : Bool) (c before : CacheValue) (n : NameValue) (plan : Plan) (parts : List SubLookup) (r : LookupResult) (after : CacheValue) → Seen table t → AreMeant table before → AllByRecursion (ResolvesWithinEight table) parts → AreConsistentWith table (asks_of_sub_lookups parts)
-    → IsAttempt (IsSubLookupFor t) looked before n plan parts r after → ((is_out_of_memory r ≡ true) ⊎ IsAttempt (CachelessSubLookup table t) looked c n plan parts r c) × AreMeant table after
+attempt-alike : (table : TableValue) (t : Setting) (looked : Bool) (c before : CacheValue) (n : NameValue) (plan : Plan) (parts : List SubLookup) (r : LookupResult) (after : CacheValue) → Seen table t → AreWhatTheyResolveTo table before → AllByRecursion (ResolvesWithinEight table) parts → AreConsistentWith table (asks_of_sub_lookups parts)
+    → IsAttempt (IsSubLookupFor t) looked before n plan parts r after → ((is_out_of_memory r ≡ true) ⊎ IsAttempt (CachelessSubLookup table t) looked c n plan parts r c) × AreWhatTheyResolveTo table after
 attempt-alike table t looked c before n plan parts r after seen meant has tells attempt = (by there.0 attempt.result_is, there.1)
   where
-    there : ((last_is_out parts ≡ true) ⊎ AreSubLookups (CachelessSubLookup table t) looked n plan c [] parts c) × AreMeant table after
+    there : ((last_is_out parts ≡ true) ⊎ AreSubLookups (CachelessSubLookup table t) looked n plan c [] parts c) × AreWhatTheyResolveTo table after
     there = subs-alike table t looked n plan c before [] parts after seen meant has tells attempt.are
 
     by : (last_is_out parts ≡ true) ⊎ AreSubLookups (CachelessSubLookup table t) looked n plan c [] parts c
@@ -165,10 +165,10 @@ attempt-alike table t looked c before n plan parts r after seen meant has tells 
 
 -- ---- attempts
 
-attempts-alike : (table : TableValue) (t : Setting) (plan : CallPlan) (looked : Bool) (c before : CacheValue) (names : List NameValue) (last : LookupResult) (parts : List SubLookup) (r : LookupResult) (after : CacheValue) → Seen table t → AreMeant table before
+attempts-alike : (table : TableValue) (t : Setting) (plan : CallPlan) (looked : Bool) (c before : CacheValue) (names : List NameValue) (last : LookupResult) (parts : List SubLookup) (r : LookupResult) (after : CacheValue) → Seen table t → AreWhatTheyResolveTo table before
     → AllByRecursion (ResolvesWithinEight table) parts → AreConsistentWith table (asks_of_sub_lookups parts) → AreAttempts (IsSubLookupFor t) plan looked before names last parts r after
-    → ((is_out_of_memory r ≡ true) ⊎ AreAttempts (CachelessSubLookup table t) plan looked c names last parts r c) × AreMeant table after
-attempts-alike table t plan looked c before [] last parts r after seen meant has tells (none, fallback, same) = (inr (none, fallback, refl), subst (AreMeant table) (sym same) meant)
+    → ((is_out_of_memory r ≡ true) ⊎ AreAttempts (CachelessSubLookup table t) plan looked c names last parts r c) × AreWhatTheyResolveTo table after
+attempts-alike table t plan looked c before [] last parts r after seen meant has tells (none, fallback, same) = (inr (none, fallback, refl), subst (AreWhatTheyResolveTo table) (sym same) meant)
 attempts-alike table t plan looked c before (n ∷ ns) last parts r after seen meant has tells (front, back, result, mid, are, attempt, goes) =
     by first.0 goes (λ rest. attempts-alike table t plan plan.hosts_for_all c mid ns result back r after seen first.1 (all-back (ResolvesWithinEight table) front back each) (all-back (IsConsistentWith table) (asks_of_sub_lookups front) (asks_of_sub_lookups back) told) rest)
   where
@@ -178,7 +178,7 @@ attempts-alike table t plan looked c before (n ∷ ns) last parts r after seen m
     told : AreConsistentWith table (asks_of_sub_lookups front ++ asks_of_sub_lookups back)
     told = subst (AreConsistentWith table) (asks-append front back) (subst (λ ps. AreConsistentWith table (asks_of_sub_lookups ps)) are tells)
 
-    first : ((is_out_of_memory result ≡ true) ⊎ IsAttempt (CachelessSubLookup table t) looked c n plan.types front result c) × AreMeant table mid
+    first : ((is_out_of_memory result ≡ true) ⊎ IsAttempt (CachelessSubLookup table t) looked c n plan.types front result c) × AreWhatTheyResolveTo table mid
     first = attempt-alike table t looked c before n plan.types front result mid seen meant (all-front (ResolvesWithinEight table) front back each) (all-front (IsConsistentWith table) (asks_of_sub_lookups front) (asks_of_sub_lookups back) told) attempt
 
     on_with : IsAttempt (CachelessSubLookup table t) looked c n plan.types front result c → stops result ≡ false → (is_out_of_memory r ≡ true) ⊎ AreAttempts (CachelessSubLookup table t) plan plan.hosts_for_all c ns result back r c
@@ -188,10 +188,10 @@ attempts-alike table t plan looked c before (n ∷ ns) last parts r after seen m
 
     by : (is_out_of_memory result ≡ true) ⊎ IsAttempt (CachelessSubLookup table t) looked c n plan.types front result c
         → ((stops result ≡ true) × (back ≡ []) × (r ≡ result) × (after ≡ mid)) ⊎ ((stops result ≡ false) × AreAttempts (IsSubLookupFor t) plan plan.hosts_for_all mid ns result back r after)
-        → (AreAttempts (IsSubLookupFor t) plan plan.hosts_for_all mid ns result back r after → ((is_out_of_memory r ≡ true) ⊎ AreAttempts (CachelessSubLookup table t) plan plan.hosts_for_all c ns result back r c) × AreMeant table after)
-        → ((is_out_of_memory r ≡ true) ⊎ AreAttempts (CachelessSubLookup table t) plan looked c (n ∷ ns) last parts r c) × AreMeant table after
-    by (inl out) (inl (stopped, none, e, same)) rest = (inl (ap is_out_of_memory e ∙ out), subst (AreMeant table) (sym same) first.1)
-    by (inr is) (inl (stopped, none, e, same)) rest = (inr (front, back, result, c, are, is, inl (stopped, none, e, refl)), subst (AreMeant table) (sym same) first.1)
+        → (AreAttempts (IsSubLookupFor t) plan plan.hosts_for_all mid ns result back r after → ((is_out_of_memory r ≡ true) ⊎ AreAttempts (CachelessSubLookup table t) plan plan.hosts_for_all c ns result back r c) × AreWhatTheyResolveTo table after)
+        → ((is_out_of_memory r ≡ true) ⊎ AreAttempts (CachelessSubLookup table t) plan looked c (n ∷ ns) last parts r c) × AreWhatTheyResolveTo table after
+    by (inl out) (inl (stopped, none, e, same)) rest = (inl (ap is_out_of_memory e ∙ out), subst (AreWhatTheyResolveTo table) (sym same) first.1)
+    by (inr is) (inl (stopped, none, e, same)) rest = (inr (front, back, result, c, are, is, inl (stopped, none, e, refl)), subst (AreWhatTheyResolveTo table) (sym same) first.1)
     by (inl out) (inr (live, k)) rest = let clash : false ≡ true = sym (or_right-false (has_answers result) (is_out_of_memory result) live) ∙ out in cc
     by (inr is) (inr (live, k)) rest = let more = rest k in (on_with is live more.0, more.1)
 
@@ -199,57 +199,57 @@ attempts-alike table t plan looked c before (n ∷ ns) last parts r after seen m
 
 -- a request that is answered: want of memory, or the cacheless resolver's reply; and the entries after it are meant
 abbrev ServedAlike : TableValue → Settings → CacheValue → RequestValue → StepReply → CacheValue → Type 0
-ServedAlike table s c request reply after = ((ends_run reply ≡ true) ⊎ IsCacheless table s c request reply) × AreMeant table after
+ServedAlike table s c request reply after = ((ends_run reply ≡ true) ⊎ IsCacheless table s c request reply) × AreWhatTheyResolveTo table after
 
-call-alike : (table : TableValue) (s : Settings) (c before : CacheValue) (now : ℕ) (call : Call) (parts : List SubLookup) (reply : LookupResult) (after : CacheValue) → Seen table (setting_at s now) → AreMeant table before → AllByRecursion (ResolvesWithinEight table) parts → AreConsistentWith table (asks_of_sub_lookups parts)
+call-alike : (table : TableValue) (s : Settings) (c before : CacheValue) (now : ℕ) (call : Call) (parts : List SubLookup) (reply : LookupResult) (after : CacheValue) → Seen table (setting_at s now) → AreWhatTheyResolveTo table before → AllByRecursion (ResolvesWithinEight table) parts → AreConsistentWith table (asks_of_sub_lookups parts)
     → IsCall (IsSubLookupFor (setting_at s now)) s before call parts reply after
-    → ((is_out_of_memory reply ≡ true) ⊎ IsCall (CachelessSubLookup table (setting_at s now)) s c call parts reply c) × AreMeant table after
-call-alike table s c before now (AtOnce answer) parts reply after seen meant has tells (none, e, same) = (inr (none, e, refl), subst (AreMeant table) (sym same) meant)
+    → ((is_out_of_memory reply ≡ true) ⊎ IsCall (CachelessSubLookup table (setting_at s now)) s c call parts reply c) × AreWhatTheyResolveTo table after
+call-alike table s c before now (AtOnce answer) parts reply after seen meant has tells (none, e, same) = (inr (none, e, refl), subst (AreWhatTheyResolveTo table) (sym same) meant)
 call-alike table s c before now (Attempt n plan) parts reply after seen meant has tells tries =
     attempts-alike table (setting_at s now) plan true c before (attempts s.search n) (Err OutOfMemory) parts reply after seen meant has tells tries
 
-name-alike : (table : TableValue) (s : Settings) (c before : CacheValue) (text : List ℕ) (u : RecordType) (now : ℕ) (parts : List SubLookup) (reply : LookupResult) (after : CacheValue) → Seen table (setting_at s now) → AreMeant table before → AllByRecursion (ResolvesWithinEight table) parts → AreConsistentWith table (asks_of_sub_lookups parts)
+name-alike : (table : TableValue) (s : Settings) (c before : CacheValue) (text : List ℕ) (u : RecordType) (now : ℕ) (parts : List SubLookup) (reply : LookupResult) (after : CacheValue) → Seen table (setting_at s now) → AreWhatTheyResolveTo table before → AllByRecursion (ResolvesWithinEight table) parts → AreConsistentWith table (asks_of_sub_lookups parts)
     → IsServed (λ at. IsSubLookupFor (setting_at s at)) s before (Lookup text u now) parts (LookedUp reply) after → ServedAlike table s c (Lookup text u now) (LookedUp reply) after
 name-alike table s c before text u now parts reply after seen meant has tells (inl (name, said, is)) = (by there.0, there.1)
   where
-    there : ((is_out_of_memory reply ≡ true) ⊎ IsCall (CachelessSubLookup table (setting_at s now)) s c (name_call u name) parts reply c) × AreMeant table after
+    there : ((is_out_of_memory reply ≡ true) ⊎ IsCall (CachelessSubLookup table (setting_at s now)) s c (name_call u name) parts reply c) × AreWhatTheyResolveTo table after
     there = call-alike table s c before now (name_call u name) parts reply after seen meant has tells is
 
     by : (is_out_of_memory reply ≡ true) ⊎ IsCall (CachelessSubLookup table (setting_at s now)) s c (name_call u name) parts reply c → (is_out_of_memory reply ≡ true) ⊎ IsCacheless table s c (Lookup text u now) (LookedUp reply)
     by (inl out) = inl out
     by (inr alike) = inr (parts, reply, inl (name, said, alike), refl)
-name-alike table s c before text u now parts reply after seen meant has tells (inr (none, e, same)) = (inl (ap is_out_of_memory e), subst (AreMeant table) (sym same) meant)
+name-alike table s c before text u now parts reply after seen meant has tells (inr (none, e, same)) = (inl (ap is_out_of_memory e), subst (AreWhatTheyResolveTo table) (sym same) meant)
 
-addresses-alike : (table : TableValue) (s : Settings) (c before : CacheValue) (text : List ℕ) (now : ℕ) (parts : List SubLookup) (reply : LookupResult) (after : CacheValue) → Seen table (setting_at s now) → AreMeant table before → AllByRecursion (ResolvesWithinEight table) parts → AreConsistentWith table (asks_of_sub_lookups parts)
+addresses-alike : (table : TableValue) (s : Settings) (c before : CacheValue) (text : List ℕ) (now : ℕ) (parts : List SubLookup) (reply : LookupResult) (after : CacheValue) → Seen table (setting_at s now) → AreWhatTheyResolveTo table before → AllByRecursion (ResolvesWithinEight table) parts → AreConsistentWith table (asks_of_sub_lookups parts)
     → IsServed (λ at. IsSubLookupFor (setting_at s at)) s before (LookupIp text now) parts (LookedUp reply) after → ServedAlike table s c (LookupIp text now) (LookedUp reply) after
 addresses-alike table s c before text now parts reply after seen meant has tells (inl (given, said, is)) = (by there.0, there.1)
   where
     call : Call
     call = address_call s given.address given.name now
 
-    there : ((is_out_of_memory reply ≡ true) ⊎ IsCall (CachelessSubLookup table (setting_at s now)) s c call parts reply c) × AreMeant table after
+    there : ((is_out_of_memory reply ≡ true) ⊎ IsCall (CachelessSubLookup table (setting_at s now)) s c call parts reply c) × AreWhatTheyResolveTo table after
     there = call-alike table s c before now call parts reply after seen meant has tells is
 
     by : (is_out_of_memory reply ≡ true) ⊎ IsCall (CachelessSubLookup table (setting_at s now)) s c call parts reply c → (is_out_of_memory reply ≡ true) ⊎ IsCacheless table s c (LookupIp text now) (LookedUp reply)
     by (inl out) = inl out
     by (inr alike) = inr (parts, reply, inl (given, said, alike), refl)
-addresses-alike table s c before text now parts reply after seen meant has tells (inr (none, e, same)) = (inl (ap is_out_of_memory e), subst (AreMeant table) (sym same) meant)
+addresses-alike table s c before text now parts reply after seen meant has tells (inr (none, e, same)) = (inl (ap is_out_of_memory e), subst (AreWhatTheyResolveTo table) (sym same) meant)
 
-drop_each-meant : (table : TableValue) (u : RecordType) (names : List NameValue) (cache : CacheValue) → AreMeant table cache → AreMeant table (drop_each u names cache)
+drop_each-meant : (table : TableValue) (u : RecordType) (names : List NameValue) (cache : CacheValue) → AreWhatTheyResolveTo table cache → AreWhatTheyResolveTo table (drop_each u names cache)
 drop_each-meant table u [] cache meant = meant
 drop_each-meant table u (n ∷ ns) cache meant = drop_each-meant table u ns (without_query cache (question_of n u)) (all-filter (IsWhatItResolvesTo table) (λ e. not (is_for (question_of n u) e)) cache.entries meant)
 
-clear-meant : (table : TableValue) (s : Settings) (before : CacheValue) (u : RecordType) (name : Result NameValue NameError) (after : CacheValue) → AreMeant table before → after ≡ after_clear s u name before → AreMeant table after
-clear-meant table s before u (Ok n) after meant e = subst (AreMeant table) (sym e) (drop_each-meant table u (attempts s.search n) before meant)
-clear-meant table s before u (Err fault) after meant e = subst (AreMeant table) (sym e) meant
+clear-meant : (table : TableValue) (s : Settings) (before : CacheValue) (u : RecordType) (name : Result NameValue NameError) (after : CacheValue) → AreWhatTheyResolveTo table before → after ≡ after_clear s u name before → AreWhatTheyResolveTo table after
+clear-meant table s before u (Ok n) after meant e = subst (AreWhatTheyResolveTo table) (sym e) (drop_each-meant table u (attempts s.search n) before meant)
+clear-meant table s before u (Err fault) after meant e = subst (AreWhatTheyResolveTo table) (sym e) meant
 
-served-alike : (table : TableValue) (s : Settings) (c before : CacheValue) (request : RequestValue) (parts : List SubLookup) (reply : StepReply) (after : CacheValue) → IsTable table → s.preserve_intermediates ≡ false → AreMeant table before → AllByRecursion (ResolvesWithinEight table) parts → AreConsistentWith table (asks_of_sub_lookups parts)
+served-alike : (table : TableValue) (s : Settings) (c before : CacheValue) (request : RequestValue) (parts : List SubLookup) (reply : StepReply) (after : CacheValue) → IsTable table → s.preserve_intermediates ≡ false → AreWhatTheyResolveTo table before → AllByRecursion (ResolvesWithinEight table) parts → AreConsistentWith table (asks_of_sub_lookups parts)
     → IsServed (λ now. IsSubLookupFor (setting_at s now)) s before request parts reply after → ServedAlike table s c request reply after
 served-alike table s c before (Lookup text u now) parts (LookedUp reply) after apart off meant has tells is = name-alike table s c before text u now parts reply after (record { apart = apart; off = off }) meant has tells is
 served-alike table s c before (LookupIp text now) parts (LookedUp reply) after apart off meant has tells is = addresses-alike table s c before text now parts reply after (record { apart = apart; off = off }) meant has tells is
 served-alike table s c before (ClearLookup text u now) parts (Cleared (Ok x)) after apart off meant has tells (none, (name, said, is)) = (inr tt, clear-meant table s before u name after meant is)
-served-alike table s c before (ClearLookup text u now) parts (Cleared (Err e)) after apart off meant has tells (none, out, same) = (inl refl, subst (AreMeant table) (sym same) meant)
-served-alike table s c before (Clear now) parts (Cleared (Ok x)) after apart off meant has tells (none, e) = (inr tt, subst (AreMeant table) (sym e) tt)
+served-alike table s c before (ClearLookup text u now) parts (Cleared (Err e)) after apart off meant has tells (none, out, same) = (inl refl, subst (AreWhatTheyResolveTo table) (sym same) meant)
+served-alike table s c before (Clear now) parts (Cleared (Ok x)) after apart off meant has tells (none, e) = (inr tt, subst (AreWhatTheyResolveTo table) (sym e) tt)
 served-alike table s c before (Lookup text u now) parts (Cleared (Ok x)) after apart off meant has tells is = absurd is
 served-alike table s c before (Lookup text u now) parts (Cleared (Err e)) after apart off meant has tells is = absurd is
 served-alike table s c before (LookupIp text now) parts (Cleared (Ok x)) after apart off meant has tells is = absurd is
@@ -260,20 +260,20 @@ served-alike table s c before (Clear now) parts (Cleared (Err e)) after apart of
 
 -- ---- a run
 
-stage-alike : (table : TableValue) (s : Settings) (stage : Stage) (after : CacheValue) → IsTable table → s.preserve_intermediates ≡ false → AreMeant table stage.before → AllByRecursion (ResolvesWithinEight table) stage.parts → AreConsistentWith table stage.piece → IsStage s stage after → IsAsWithoutCache table s stage × AreMeant table after
+stage-alike : (table : TableValue) (s : Settings) (stage : Stage) (after : CacheValue) → IsTable table → s.preserve_intermediates ≡ false → AreWhatTheyResolveTo table stage.before → AllByRecursion (ResolvesWithinEight table) stage.parts → AreConsistentWith table stage.piece → IsStage s stage after → IsAsWithoutCache table s stage × AreWhatTheyResolveTo table after
 stage-alike table s stage after apart off meant has tells is =
     served-alike table s stage.before stage.before stage.request stage.parts stage.step.reply after apart off meant has (subst (AreConsistentWith table) is.piece_is tells) is.served
 
-stages-alike : (table : TableValue) (s : Settings) (before : CacheValue) (requests : List RequestValue) (stages : List Stage) (after : CacheValue) → IsTable table → s.preserve_intermediates ≡ false → AreMeant table before → AreConsistentWith table (exchanges_of stages)
+stages-alike : (table : TableValue) (s : Settings) (before : CacheValue) (requests : List RequestValue) (stages : List Stage) (after : CacheValue) → IsTable table → s.preserve_intermediates ≡ false → AreWhatTheyResolveTo table before → AreConsistentWith table (exchanges_of stages)
     → AllByRecursion (λ stage. AllByRecursion (ResolvesWithinEight table) stage.parts) stages → AreStages s before requests stages after → AllByRecursion (IsAsWithoutCache table s) stages
 stages-alike table s before [] [] after apart off meant tells has e = tt
 stages-alike table s before [] (stage ∷ stages) after apart off meant tells has e = absurd e
 stages-alike table s before (request ∷ requests) [] after apart off meant tells has e = absurd e
 stages-alike table s before (request ∷ requests) (stage ∷ stages) after apart off meant tells (own, has) (mid, for, starts, is, inl (ended, none, same)) =
-    let here = stage-alike table s stage mid apart off (subst (AreMeant table) (sym starts) meant) own (all-front (IsConsistentWith table) stage.piece (exchanges_of stages) tells) is in
+    let here = stage-alike table s stage mid apart off (subst (AreWhatTheyResolveTo table) (sym starts) meant) own (all-front (IsConsistentWith table) stage.piece (exchanges_of stages) tells) is in
     (here.0, subst (AllByRecursion (IsAsWithoutCache table s)) (sym none) tt)
 stages-alike table s before (request ∷ requests) (stage ∷ stages) after apart off meant tells (own, has) (mid, for, starts, is, inr (on, rest)) =
-    let here = stage-alike table s stage mid apart off (subst (AreMeant table) (sym starts) meant) own (all-front (IsConsistentWith table) stage.piece (exchanges_of stages) tells) is in
+    let here = stage-alike table s stage mid apart off (subst (AreWhatTheyResolveTo table) (sym starts) meant) own (all-front (IsConsistentWith table) stage.piece (exchanges_of stages) tells) is in
     (here.0, stages-alike table s mid requests stages after apart off here.1 (all-back (IsConsistentWith table) stage.piece (exchanges_of stages) tells) has rest)
 
 pub headline : (s : Settings) (empty : CacheValue) (requests : List RequestValue) (steps : List StepValue) (exchanges : List Exchange) (after : CacheValue) → Run s empty requests steps exchanges after → Headline s empty requests steps exchanges after

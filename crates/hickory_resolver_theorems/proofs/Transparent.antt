@@ -21,7 +21,7 @@ use Rattle.hickory_resolver_model.specs.Verdict.{Hop, Verdict, Exists, CnameChai
 use Rattle.hickory_resolver_model.specs.Hops.{LookupContext, IsAliasHop, FollowsAliases, ChainEnd, Special, Hit, Asked, IsChainEnd, HopList, Store, IsReply, asks_of, kind_result, verdict_result, hit_result, result_of, verdict_stores, kind_stores, last_stores, as_outcome, stores_of, after_stores}
 use Rattle.hickory_resolver_theorems.specs.Cacheless.{ResolvesTo, IsConsistentWith, AreConsistentWith}
 use Rattle.hickory_resolver_theorems.specs.WithoutTimes.{folded_query, record_without_times, sections, forward_without_times, negative_without_times, error_without_times, WithoutTimes, without_times, stored_without_times}
-use Rattle.hickory_resolver_theorems.specs.Statements.{IsWhatItResolvesTo, AreMeant, IsTransparent}
+use Rattle.hickory_resolver_theorems.specs.Statements.{IsWhatItResolvesTo, AreWhatTheyResolveTo, IsTransparent}
 use Rattle.hickory_resolver_theorems.proofs.Lists.{all-weaker, all-append, all-front, all-back, all-map, all-has, all-reverse, find-has}
 use Rattle.hickory_resolver_theorems.proofs.Stores.{insert_entry-all}
 use Rattle.hickory_resolver_theorems.proofs.Folding.{map-map, query-same}
@@ -199,7 +199,7 @@ asked-meaning s table hop count outcome r n off none live tells ends means few =
         absurd (omega (arith, ends.1 there.next there.alias, on.2, means-some table there.next.query r on.0 on.1, few))
     by (inr last) = ends-means table hop.query outcome r (without_times (kind_result s hop (kind_of outcome))) n plain t last.ends means
 
-last-meaning : (s : LookupContext) (table : TableValue) (hop : Hop) (count : ℕ) (last : ChainEnd) (r : WithoutTimes) (n : ℕ) → s.preserve_intermediates ≡ false → hop.preserved ≡ [] → AreMeant table s.cache → AreConsistentWith table (asks_of hop last) → IsChainEnd s count hop last → ResolvesTo table hop.query r n → count + n ≤ 8
+last-meaning : (s : LookupContext) (table : TableValue) (hop : Hop) (count : ℕ) (last : ChainEnd) (r : WithoutTimes) (n : ℕ) → s.preserve_intermediates ≡ false → hop.preserved ≡ [] → AreWhatTheyResolveTo table s.cache → AreConsistentWith table (asks_of hop last) → IsChainEnd s count hop last → ResolvesTo table hop.query r n → count + n ≤ 8
     → IsOutOr (result_of s hop last) r
 last-meaning s table hop count (Special reply) r n off none meant tells ends means few = inr (by (means-cases table hop.query r n means))
   where
@@ -234,7 +234,7 @@ last-meaning s table hop count (Asked (Err (Bounds error))) r n off none meant t
 abbrev pub StoresMeant : TableValue → Store → Type 0
 StoresMeant table s = (s.outcome ≡ Err OutOfMemory) ⊎ ((k : ℕ) × ResolvesTo table s.query (stored_without_times s.outcome) k)
 
-store-meant : (table : TableValue) (cache : CacheValue) (now : ℕ) (q : Query) (outcome : OutcomeValue) → AreMeant table cache → StoresMeant table (record { query = q; outcome = outcome }) → AreMeant table (store cache q outcome now)
+store-meant : (table : TableValue) (cache : CacheValue) (now : ℕ) (q : Query) (outcome : OutcomeValue) → AreWhatTheyResolveTo table cache → StoresMeant table (record { query = q; outcome = outcome }) → AreWhatTheyResolveTo table (store cache q outcome now)
 store-meant table cache now q (Ok m) meant (inl e) = let clash : Ok m ≡ Err OutOfMemory = e in cc
 store-meant table cache now q (Ok m) meant (inr (k, means)) =
     insert_entry-all (IsWhatItResolvesTo table) cache.capacity cache.entries (positive_entry cache.config q m now) meant (k, subst (λ c. ResolvesTo table q (Ok c) k) (sym (sections-clamped_message cache.config m)) means)
@@ -248,7 +248,7 @@ store-meant table cache now q (Err NoOutcome) meant is = meant
 store-meant table cache now q (Err (Bounds error)) meant is = meant
 store-meant table cache now q (Err OutOfMemory) meant is = meant
 
-stores-meant : (table : TableValue) (now : ℕ) (stores : List Store) (cache : CacheValue) → AreMeant table cache → AllByRecursion (StoresMeant table) stores → AreMeant table (after_stores now stores cache)
+stores-meant : (table : TableValue) (now : ℕ) (stores : List Store) (cache : CacheValue) → AreWhatTheyResolveTo table cache → AllByRecursion (StoresMeant table) stores → AreWhatTheyResolveTo table (after_stores now stores cache)
 stores-meant table now [] cache meant all = meant
 stores-meant table now (s ∷ ss) cache meant (is, all) = stores-meant table now ss (store cache s.query s.outcome now) (store-meant table cache now s.query s.outcome meant is) all
 
@@ -283,7 +283,7 @@ pub record AreMeantHops (s : LookupContext) (table : TableValue) (question : Que
   pub reply : IsOutOr (result_of s h.last_hop h.last) r
   pub stores : AllByRecursion (StoresMeant table) (stores_of s h.passed h.last_hop h.last)
 
-hops-meant : (s : LookupContext) (table : TableValue) (question : Query) (asks : List Exchange) (r : WithoutTimes) (n : ℕ) (h : HopList s question asks) → s.preserve_intermediates ≡ false → AreConsistentWith table asks → AreMeant table s.cache → ResolvesTo table question r n → n ≤ 8 → AreMeantHops s table question asks r h
+hops-meant : (s : LookupContext) (table : TableValue) (question : Query) (asks : List Exchange) (r : WithoutTimes) (n : ℕ) (h : HopList s question asks) → s.preserve_intermediates ≡ false → AreConsistentWith table asks → AreWhatTheyResolveTo table s.cache → ResolvesTo table question r n → n ≤ 8 → AreMeantHops s table question asks r h
 hops-meant s table question asks r n h off tells meant means few = record {
   reply = reply;
   stores = all-append (StoresMeant table) (last_stores s h.last_hop h.last) _ (last-stored s table h.last_hop h.last r led.rest led.means reply)
@@ -305,14 +305,14 @@ hops-meant s table question asks r n h off tells meant means few = record {
 pub transparent : (s : LookupContext) (question : Query) (asks : List Exchange) (result : LookupResult) (after : CacheValue) → IsReply s question asks result after → IsTransparent s question asks result after
 transparent s question asks result after is table off apart tells meant r n means few = by is
   where
-    stored : (stores : List Store) → AllByRecursion (StoresMeant table) stores → after ≡ after_stores s.now stores s.cache → AreMeant table after
-    stored stores all e = subst (AreMeant table) (sym e) (stores-meant table s.now stores s.cache meant all)
+    stored : (stores : List Store) → AllByRecursion (StoresMeant table) stores → after ≡ after_stores s.now stores s.cache → AreWhatTheyResolveTo table after
+    stored stores all e = subst (AreWhatTheyResolveTo table) (sym e) (stores-meant table s.now stores s.cache meant all)
 
-    by : IsReply s question asks result after → ((result ≡ Err OutOfMemory) ⊎ (without_times result ≡ r)) × AreMeant table after
+    by : IsReply s question asks result after → ((result ≡ Err OutOfMemory) ⊎ (without_times result ≡ r)) × AreWhatTheyResolveTo table after
     by (inl whole) =
         let hops = hops-meant s table question asks r n whole.hops off tells meant means few in
         (subst (λ x. IsOutOr x r) (sym whole.result_is) hops.reply, stored _ hops.stores whole.after_is)
     by (inr (e, inl cut)) =
         let hops = hops-meant s table question asks r n cut.hops off tells meant means few in
         (inl e, stored cut.front (all-front (StoresMeant table) cut.front cut.back (subst (AllByRecursion (StoresMeant table)) (sym cut.parts) hops.stores)) cut.after_is)
-    by (inr (e, inr cut)) = (inl e, subst (AreMeant table) (sym cut.after_is) meant)
+    by (inr (e, inr cut)) = (inl e, subst (AreWhatTheyResolveTo table) (sym cut.after_is) meant)

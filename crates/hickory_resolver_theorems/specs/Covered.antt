@@ -2,6 +2,7 @@
 -- 2181, section 8).
 use Rattle.std.specs.Prelude.{◌≡◌, ◌⊎◌, ◌≤◌, ℕ, ◌+◌, true, List, [], ◌∷◌, map, min, Contains, Some, Ok}
 use Rattle.hickory_proto_core.specs.Codes.{class_code}
+use Rattle.hickory_proto_core.specs.codes.dns_class.DNSClass.TheVariants as class
 use Rattle.hickory_proto_core.specs.Records.{RecordValue}
 use Rattle.hickory_proto_core.specs.Messages.{MessageValue}
 use Rattle.hickory_proto_core.specs.ResponseKind.{record_type_code}
@@ -41,5 +42,5 @@ IsCovered config (d ∷ ds) now r = IsCoveredBy config now r d ⊎ IsCovered con
 -- a record of a loopback name with what that name always has
 abbrev pub IsLoopback : RecordValue → Type 0
 IsLoopback r =
-    (class_code r.dns_class ≡ 1) × (is_loopback_name r.name ≡ true)
+    (class_code r.dns_class ≡ class_code class.IN) × (is_loopback_name r.name ≡ true)
     × (loopback_data (record_type_code r) ≡ Some r.rdata)

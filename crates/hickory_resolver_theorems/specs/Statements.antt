@@ -76,8 +76,8 @@ IsFresh s question asks result after =
 abbrev pub IsWhatItResolvesTo : TableValue → Entry → Type 0
 IsWhatItResolvesTo table e = (n : ℕ) × ResolvesTo table e.query (stored_without_times e.result) n
 
-abbrev pub AreMeant : TableValue → CacheValue → Type 0
-AreMeant table cache = AllByRecursion (IsWhatItResolvesTo table) cache.entries
+abbrev pub AreWhatTheyResolveTo : TableValue → CacheValue → Type 0
+AreWhatTheyResolveTo table cache = AllByRecursion (IsWhatItResolvesTo table) cache.entries
 
 -- Of a look-up without preserved intermediate records: under every table that tells its exchanges and means
 -- the entries before it, the reply is the meaning of the question, where that takes eight questions at most,
@@ -85,9 +85,9 @@ AreMeant table cache = AllByRecursion (IsWhatItResolvesTo table) cache.entries
 abbrev pub IsTransparent : LookupContext → Query → List Exchange → LookupResult → CacheValue → Type 0
 IsTransparent s question asks result after =
     (table : TableValue) → s.preserve_intermediates ≡ false → IsTable table → AreConsistentWith table asks
-    → AreMeant table s.cache
+    → AreWhatTheyResolveTo table s.cache
     → (reply : WithoutTimes) (n : ℕ) → ResolvesTo table question reply n → n ≤ 8
-    → ((result ≡ Err OutOfMemory) ⊎ (without_times result ≡ reply)) × AreMeant table after
+    → ((result ≡ Err OutOfMemory) ⊎ (without_times result ≡ reply)) × AreWhatTheyResolveTo table after
 
 -- ---- a look-up of the client, whole
 

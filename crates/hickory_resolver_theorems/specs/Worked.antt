@@ -10,9 +10,10 @@ use Rattle.hickory_proto_core.specs.codes.record_type.RecordType.TheVariants as 
 use Rattle.hickory_proto_core.specs.codes.dns_class.DNSClass.TheVariants as class
 use Rattle.hickory_proto_core.specs.codes.response_code.ResponseCode.TheVariants.{NoError, NXDomain}
 use Rattle.hickory_proto_core.specs.declared.recorded.Exchange.{Exchange}
+use Rattle.hickory_resolver_model.specs.Lookup.{response_to}
 use Rattle.hickory_resolver_model.specs.Bounds.{BoundsValue, ConfigValue, no_bounds, bounds_fault, positive_lifetime}
 use Rattle.hickory_resolver_model.specs.Cache.{CacheValue, Entry, insert_entry, store, aged_result, current}
-use Rattle.hickory_resolver_model.specs.SpecialUse.{response_to, one_record, no_records, special_use_result}
+use Rattle.hickory_resolver_model.specs.SpecialUse.{one_record, no_records, special_use_result}
 use Rattle.hickory_resolver_model.specs.AliasWalk.{walk_of}
 use Rattle.hickory_resolver_model.specs.Verdict.{Hop, Exists, CnameChain, verdict}
 use Rattle.hickory_resolver_model.specs.Hops.{LookupContext}

@@ -1,14 +1,8 @@
 -- The worked case of a run of two look-ups: the first one asks, and the second one is a hit.
-use Rattle.std.specs.Prelude.{◌≡◌, ◌+◌, ℕ, false, List, [], ◌∷◌, ◌++◌, length, map, codes, None, Ok, refl}
-use Rattle.std.specs.declared.net.IpAddr.{IpAddr}
-use Rattle.std.specs.declared.net.IpAddr.TheVariants.{V4, V6}
-use Rattle.std.proofs.Common.{ap, ◌∙◌, arith, inl, inr, length-append}
-use Rattle.std.proofs.lemmas.List.{length-map}
-use Rattle.hickory_proto_core.specs.Name.{NameValue, lower_label}
-use Rattle.hickory_proto_core.specs.NameLaws.{same_from_name_eq}
+use Rattle.std.specs.Prelude.{◌≡◌, ℕ, true, false, List, [], ◌∷◌, codes, None, Ok, refl}
+use Rattle.std.proofs.Common.{arith, inl, inr}
+use Rattle.hickory_proto_core.specs.Name.{NameValue}
 use Rattle.hickory_proto_core.specs.NameText.{itself, Spells}
-use Rattle.hickory_proto_core.specs.Arpa.{IsArpaNameOf, arpa_name, arpa_zone, net_labels}
-use Rattle.hickory_proto_core.specs.names.ip.IpNet.{IpNet}
 use Rattle.hickory_proto_core.specs.codes.record_type.RecordType.TheVariants as type
 use Rattle.hickory_proto_core.specs.declared.recorded.Exchange.{Exchange}
 use Rattle.hickory_resolver_model.specs.Cache.{CacheValue}
@@ -31,19 +25,6 @@ spells_a = record {
   named = refl;
   valid = refl;
 }
-
--- the name is no address's
-no_address : (net : IpNet) → IsArpaNameOf a net → ⊥
-no_address net is =
-    by net.addr (labels ∙ length-map (net_labels net ++ arpa_zone net.addr) lower_label
-    ∙ length-append (net_labels net) (arpa_zone net.addr))
-  where
-    labels : 1 ≡ length (map lower_label (net_labels net ++ arpa_zone net.addr))
-    labels = ap length (same_from_name_eq a (arpa_name net) is.1).1
-
-    by : (ip : IpAddr) → 1 ≡ length (net_labels net) + length (arpa_zone ip) → ⊥
-    by (V4 ip) e = absurd (omega arith)
-    by (V6 ip) e = absurd (omega arith)
 
 abbrev pub settings : Settings
 settings = record { search = below None []; strategy = Ipv4Only; preserve_intermediates = false; hosts = [] }
@@ -121,7 +102,7 @@ hit_reply = inl (record {
 })
 
 not_static : (now : ℕ) → IsStatic (asks_a a) now [] None
-not_static now = (None, no_address, refl)
+not_static now = (None, λ asked. (let clash : false ≡ true = asked in cc), refl)
 
 -- each look-up is one attempt of one sub-look-up
 first_served : IsServed (λ now. IsSubLookupFor (setting_at settings now)) settings (empty_cache 8)
