@@ -41,6 +41,7 @@ impl Name {
         ensures ok { IfOk result (λ n. Spells text.now n) }
         ensures err { IfErr result (λ e. (e ≡ NameError.OutOfMemory) ⊎ HasFault text.now e) }
         ensures unambiguous { IsUnambiguous text.now }
+        ensures computed { (result ≡ text_name text.now) ⊎ (result ≡ Err NameError.OutOfMemory) }
     {
         Name::from_ascii(alloc, text)
     }
