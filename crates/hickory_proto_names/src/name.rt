@@ -6,7 +6,7 @@ ghost use Rattle.std.specs.Ordering.{nat_cmp};
 ghost use Rattle.hickory_proto_names.specs.Name.{NameValue, label_bytes, label_fault, lower_label, lower_labels, fed_label, labels_eq, labels_cmp, is_empty_label, is_long_label, wire_len, is_bytes, are_bytes, num_labels_of, appended_name, append_fault, trimmed_name, base_of, localhost, is_zone_of};
 
 use crate::name_error::NameError;
-use std::alloc::Global;
+use std::alloc::{AllocError, Global};
 use std::cmp::Ordering;
 use std::hash::{Hash, Hasher};
 use std::marker::Model;
@@ -175,6 +175,17 @@ impl Name {
         ensures ok { IfOk result (λ n. n ≡ self.now) }
         ensures err { IsOkUnless result NameError.OutOfMemory }
     {
+        Ok(Clone::clone(self)?)
+    }
+}
+
+/// A copy equals its source.
+impl Clone for Name {
+    ghost use Rattle.std.specs.Prelude.{◌≡◌};
+
+    ghost is_clone = { λ name copy. copy ≡ name };
+
+    fn clone(&self) -> Result<Name, AllocError> {
         let labels = self.labels.clone()?;
         Ok(Name {
             labels,
