@@ -6,7 +6,7 @@ use crate::net_error::NetError;
 use crate::query::Query;
 use crate::resource::Record;
 use hickory_proto_codes::{OpCode, ResponseCode};
-use std::alloc::Global;
+use std::alloc::{AllocError, Global};
 use std::marker::Model;
 
 /// The header of a message (RFC 1035, section 4.1.1).
@@ -155,6 +155,17 @@ impl Message {
         ensures ok { IfOk result (λ m. m ≡ self.now) }
         ensures err { IsOkUnless result NetError.OutOfMemory }
     {
+        Ok(Clone::clone(self)?)
+    }
+}
+
+/// A copy equals its source.
+impl Clone for Message {
+    ghost use Rattle.std.specs.Prelude.{◌≡◌};
+
+    ghost is_clone = { λ message copy. copy ≡ message };
+
+    fn clone(&self) -> Result<Message, AllocError> {
         Ok(Message {
             metadata: self.metadata,
             queries: self.queries.clone()?,

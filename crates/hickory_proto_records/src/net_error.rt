@@ -112,8 +112,19 @@ impl NoRecords {
         ensures ok { IfOk result (λ n. n ≡ self.now) }
         ensures err { IsOkUnless result NetError.OutOfMemory }
     {
+        Ok(Clone::clone(self)?)
+    }
+}
+
+/// A copy equals its source.
+impl Clone for NoRecords {
+    ghost use Rattle.std.specs.Prelude.{◌≡◌};
+
+    ghost is_clone = { λ none copy. copy ≡ none };
+
+    fn clone(&self) -> Result<NoRecords, AllocError> {
         Ok(NoRecords {
-            query: self.query.clone()?,
+            query: Clone::clone(&self.query)?,
             soa: self.soa.as_ref().cloned()?,
             ns: self.ns.as_ref().cloned()?,
             negative_ttl: self.negative_ttl,
@@ -129,9 +140,20 @@ impl DnsError {
         ensures ok { IfOk result (λ e. e ≡ self.now) }
         ensures err { IsOkUnless result NetError.OutOfMemory }
     {
+        Ok(Clone::clone(self)?)
+    }
+}
+
+/// A copy equals its source.
+impl Clone for DnsError {
+    ghost use Rattle.std.specs.Prelude.{◌≡◌};
+
+    ghost is_clone = { λ error copy. copy ≡ error };
+
+    fn clone(&self) -> Result<DnsError, AllocError> {
         match self {
             DnsError::ResponseCode(code) => Ok(DnsError::ResponseCode(*code)),
-            DnsError::NoRecordsFound(none) => Ok(DnsError::NoRecordsFound(none.clone()?)),
+            DnsError::NoRecordsFound(none) => Ok(DnsError::NoRecordsFound(Clone::clone(none)?)),
         }
     }
 }
@@ -160,11 +182,22 @@ impl NetError {
         ensures ok { IfOk result (λ e. e ≡ self.now) }
         ensures err { IsOkUnless result NetError.OutOfMemory }
     {
+        Ok(Clone::clone(self)?)
+    }
+}
+
+/// A copy equals its source.
+impl Clone for NetError {
+    ghost use Rattle.std.specs.Prelude.{◌≡◌};
+
+    ghost is_clone = { λ error copy. copy ≡ error };
+
+    fn clone(&self) -> Result<NetError, AllocError> {
         match self {
             NetError::Message(text) => Ok(NetError::Message(text)),
             NetError::Timeout => Ok(NetError::Timeout),
             NetError::Proto(error) => Ok(NetError::Proto(*error)),
-            NetError::Dns(error) => Ok(NetError::Dns(error.clone()?)),
+            NetError::Dns(error) => Ok(NetError::Dns(Clone::clone(error)?)),
             NetError::NoOutcome => Ok(NetError::NoOutcome),
             NetError::Bounds(error) => Ok(NetError::Bounds(*error)),
             NetError::OutOfMemory => Ok(NetError::OutOfMemory),
