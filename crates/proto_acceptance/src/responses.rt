@@ -122,7 +122,7 @@ fn table_has_the_last_outcome(rt: HostRuntime) -> Result<(), Fail> {
     ))?;
     let found = DnsResponse::from_message(Message::query(alloc));
     outcomes.push((question(alloc, "A.", RecordType::A)?, Ok(found)))?;
-    let mut table = Recorded::new(alloc, TableHandle::new(alloc, outcomes)?);
+    let mut table = Recorded::new(alloc, TableHandle::new(outcomes)?);
     for (asked, has) in [("a.", true), ("b.", false)] {
         let request = DnsRequest {
             query: question(alloc, asked, RecordType::A)?,
