@@ -6,8 +6,8 @@ ghost use Rattle.hickory_proto_names.specs.NameDecided.{text_name};
 ghost use Rattle.hickory_proto_names.specs.NameText.{HasFault, IsUnambiguous, Spells, ends_empty, front_fault, is_plain, is_number, escape_fault, pieces_name, name_text, labels_text, piece_text, printed_label, printed, written_text};
 ghost use Rattle.hickory_proto_names.specs.NameTextParts.{ArePieces, Begins, IsEscape, IsNamed, no_labels, with_label, with_last, measure_fault};
 
-use crate::name_error::NameError;
 use crate::name::Name;
+use crate::name_error::NameError;
 use std::alloc::Global;
 use std::fmt;
 
