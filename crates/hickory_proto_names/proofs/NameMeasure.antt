@@ -1,5 +1,5 @@
 -- What a scan of a text knows of the labels that it does not keep.
-use Rattle.std.proofs.Common.{◌≡◌, ℕ, ◌+◌, ◌-◌, ◌<◌, ◌≤◌, ◌==◌, ◌||◌, nat_lt, min, Bool, true, false, cond, List, [], ◌∷◌, ◌++◌, length, map, take, sum_by, Option, Some, None, Result, Ok, Err, OnOk, IfErr, if◌then◌else◌, sym, refl, ap, ap₂, ◌∙◌, arith, subst}
+use Rattle.std.proofs.Common.{◌≡◌, ℕ, ◌+◌, ◌-◌, ◌<◌, ◌≤◌, ◌==◌, ◌||◌, nat_lt, min, Bool, true, false, List, [], ◌∷◌, ◌++◌, length, map, take, Option, Some, None, Result, Ok, Err, OnOk, IfErr, if◌then◌else◌, sym, refl, ap, ap₂, ◌∙◌, arith, subst}
 use Rattle.std.proofs.Math.Bool.{or-false}
 use Rattle.std.proofs.Math.Seq.{take-append_seam}
 use Rattle.std.proofs.lemmas.Bool.{lt-ltb, le-ltb, ne_eqb}
@@ -7,13 +7,12 @@ use Rattle.std.proofs.lemmas.Bool.Decides.{nat_tests}
 use Rattle.std.proofs.lemmas.List.{length-append, length-map, map-append}
 use Rattle.std.proofs.lemmas.List.Folds.{list_any-append}
 use Rattle.std.proofs.lemmas.List.Sums.{sum_by-append, sum_by-cons}
-use Rattle.std.specs.List.{list_any}
 use Rattle.std.specs.Ordering.{nat_cmp, ord_min}
 use Rattle.hickory_proto_names.specs.declared.name_error.NameError.{NameError}
 use Rattle.hickory_proto_names.specs.declared.name_error.NameError.TheVariants.{EmptyLabel, LabelTooLong, NameTooLong}
 use Rattle.hickory_proto_names.specs.declared.name_text.Measure.{Measure}
-use Rattle.hickory_proto_names.specs.Name.{NameValue, wire_len, is_empty_label, is_long_label, label_fault}
-use Rattle.hickory_proto_names.specs.NameText.{Written, IsCutInto, HasFault, piece_bytes, written_byte, pieces_name, marked_name, is_empty, ends_empty}
+use Rattle.hickory_proto_names.specs.Name.{wire_len, is_empty_label, is_long_label, label_fault}
+use Rattle.hickory_proto_names.specs.NameText.{Written, IsCutInto, HasFault, piece_bytes, written_byte, pieces_name, marked_name, is_empty}
 use Rattle.hickory_proto_names.specs.NameSteps.{ends_empty-last}
 use Rattle.hickory_proto_names.specs.NameTextParts.{IsMeasure, IsNamed, no_labels, with_label, with_last, measure_fault}
 

@@ -1,7 +1,6 @@
-use Rattle.std.proofs.Common.{◌++◌, ◌∷◌, [], ◌==◌, ◌≡◌, refl, sym, ◌∙◌, ap, map, length, min, arith}
+use Rattle.std.proofs.Common.{◌++◌, ◌∷◌, [], refl, sym, ◌∙◌, ap, arith}
 use Rattle.std.proofs.lemmas.Result.{err_from_is_err_and}
-use Rattle.hickory_proto_names.specs.NameText.{front_fault, may_stand, written_byte, piece_bytes, is_empty}
-use Rattle.hickory_proto_names.specs.NameTextParts.{IsMeasure, with_label}
+use Rattle.hickory_proto_names.specs.NameText.{front_fault, may_stand}
 use Rattle.hickory_proto_names.specs.NameSteps.{cut-char, cut-dot, fault_here}
 use Rattle.hickory_proto_names.proofs.NameMeasure.{empty_at, none_measured, one_longer, pieces_measured, named_at_end, fault_at_end}
 use Rattle.hickory_proto_names.proofs.name_text.check_text.Goals as goal
