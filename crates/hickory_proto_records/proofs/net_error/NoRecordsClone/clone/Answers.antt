@@ -1,4 +1,4 @@
-use Rattle.std.proofs.Common.{◌≡◌, ◌∙◌}
+use Rattle.std.proofs.Common.{◌∙◌}
 use Rattle.hickory_proto_records.specs.Errors.{NoRecordsValue, items_or_none}
 use Rattle.hickory_proto_records.proofs.Copies.{same_copy, same_items}
 use Rattle.hickory_proto_records.proofs.net_error.NoRecordsClone.clone.Goals as goal
