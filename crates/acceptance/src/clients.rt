@@ -194,7 +194,7 @@ fn a_table_holds_many_outcomes(rt: HostRuntime) -> Result<(), Fail> {
         question(rt.alloc(), "N7.")?,
         address(rt.alloc(), "n7.", 30)?,
     ))?;
-    let table = TableHandle::new(rt.alloc(), outcomes)?;
+    let table = TableHandle::new(outcomes)?;
     let mut client = CachingClient::new(rt.alloc(), 8, table, false);
     let options = DnsRequestOptions::default();
     let (last, first) = (

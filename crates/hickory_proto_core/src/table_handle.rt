@@ -9,7 +9,7 @@ use crate::dns_handle::{DnsHandle, Outcome};
 use crate::dns_request::DnsRequest;
 use crate::recorded::clone_outcome;
 use hickory_proto_records::{DnsResponse, NetError, Query};
-use std::alloc::{AllocError, Global};
+use std::alloc::AllocError;
 use std::collections::HashMap;
 use std::marker::Model;
 
@@ -30,22 +30,20 @@ impl Model for TableHandle {
 
 impl TableHandle {
     /// The handle of these questions and outcomes. Of equal questions the last one's outcome counts.
-    pub fn new(alloc: Global, outcomes: Vec<(Query, Outcome)>) -> Result<TableHandle, NetError>
+    pub fn new(outcomes: Vec<(Query, Outcome)>) -> Result<TableHandle, NetError>
         ensures ok { IfOk result (λ table. (q : Query) → outcome_in q table ≡ last_given q outcomes.items) }
         ensures err { IsOkUnless result NetError.OutOfMemory }
     {
-        let outcomes = map_of(alloc, outcomes)?;
+        let outcomes = map_of(outcomes)?;
         Ok(TableHandle { outcomes })
     }
 }
 
 // The pairs put in one after another.
-fn map_of(
-    alloc: Global,
-    outcomes: Vec<(Query, Outcome)>,
-) -> Result<HashMap<Query, Outcome>, AllocError>
+fn map_of(outcomes: Vec<(Query, Outcome)>) -> Result<HashMap<Query, Outcome>, AllocError>
     ensures { IfOk result (IsFromIterResult query_eq outcomes.items) }
 {
+    let alloc = *outcomes.allocator();
     outcomes.into_iter().collect(alloc)
 }
 

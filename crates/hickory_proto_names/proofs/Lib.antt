@@ -4,6 +4,7 @@ pub mod ArpaMade
 pub mod ArpaNames
 pub mod ArpaNets
 pub mod Labels
+pub mod NameMeasure
 pub mod NameOnce
 pub mod NameParts
 pub mod NamePrinting

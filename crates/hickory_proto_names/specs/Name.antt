@@ -65,9 +65,13 @@ labels_cmp = on (λ ls. reverse (lower_labels ls)) (slice_cmp (slice_cmp nat_cmp
 abbrev pub name_cmp : NameValue → NameValue → Ordering
 name_cmp = then_cmp (on (λ n. n.fqdn) bool_cmp) (on (λ n. reverse (lower_labels n.labels)) (slice_cmp (slice_cmp nat_cmp)))
 
+-- what a label in lower case feeds a hasher: its length, and then its bytes in one piece
+abbrev pub fed_label : List ℕ → List (List ℕ)
+fed_label l = fed.usize (length l) ++ l ∷ []
+
 -- what a name feeds a hasher
 abbrev pub name_hash_input : NameValue → List (List ℕ)
-name_hash_input n = fed.bool n.fqdn ++ fed.slice (fed.slice fed.u8) (lower_labels n.labels)
+name_hash_input n = fed.bool n.fqdn ++ fed.slice fed_label (lower_labels n.labels)
 
 -- the zone's labels end the name's; the marks aren't looked at
 abbrev pub is_zone_of : NameValue → NameValue → Bool

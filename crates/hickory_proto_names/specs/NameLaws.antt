@@ -9,7 +9,7 @@ use Rattle.std.specs.Cmp.{booleans_Decides, both_tied, unsigned_ties, nat_cmp_to
 use Rattle.std.specs.Cmp.Lexicographic.{pointwise, pointwise_decides, bytes_decides, slice_cmp, lists_ties, lists_total, lists_equiv}
 use Rattle.std.specs.Ordering.{bool_cmp, nat_cmp, eq_by_cmp, is_eq, as_partial_cmp}
 use Rattle.std.specs.Hash as fed
-use Rattle.hickory_proto_names.specs.Name.{NameValue, name_eq, name_cmp, name_hash_input, lower_labels}
+use Rattle.hickory_proto_names.specs.Name.{NameValue, name_eq, name_cmp, name_hash_input, fed_label, lower_labels}
 
 -- the lists are equal where the test says so
 pub label_lists_Decides : (xs ys : List (List ℕ)) → Decides (pointwise (pointwise nat_eq) xs ys) (xs ≡ ys)
@@ -51,7 +51,7 @@ same_from_name_eq x y h =
 pub name_respects_eq : (x y : NameValue) → name_eq x y ≡ true → name_hash_input x ≡ name_hash_input y
 name_respects_eq x y h =
     let same = same_from_name_eq x y h in
-    λ i. fed.bool (same.0 i) ++ fed.slice (fed.slice fed.u8) (same.1 i)
+    λ i. fed.bool (same.0 i) ++ fed.slice fed_label (same.1 i)
 
 pub name_equiv : IsEquivalence name_eq
 name_equiv = and_equiv (on_equiv (λ n. n.fqdn) bool_eq_equiv) (on_equiv (λ n. lower_labels n.labels) (lists_equiv (lists_equiv nat_eq_equiv)))

@@ -1,8 +1,13 @@
 -- What the steps of reading a name's text find.
-use Rattle.std.specs.Prelude.{◌≡◌, ℕ, Bool, IsTrue, List, [], ◌∷◌, ◌++◌, map}
+use Rattle.std.specs.Prelude.{◌≡◌, ℕ, ◌+◌, ◌==◌, ◌||◌, min, nat_lt, Bool, false, IsTrue, List, [], ◌∷◌, ◌++◌, map, Option, Some, None, if◌then◌else◌}
+use Rattle.std.specs.List.{list_any}
+use Rattle.hickory_proto_names.specs.declared.name_error.NameError.{NameError}
+use Rattle.hickory_proto_names.specs.declared.name_error.NameError.TheVariants.{EmptyLabel, LabelTooLong, NameTooLong}
+use Rattle.hickory_proto_names.specs.declared.name_text.Measure.{Measure}
+use Rattle.hickory_proto_names.specs.Name.{NameValue, wire_len, is_empty_label, is_long_label}
 use Rattle.hickory_proto_names.specs.declared.name_text.Character.{Character}
 use Rattle.hickory_proto_names.specs.declared.name_text.Character.TheVariants.{Dot, Byte}
-use Rattle.hickory_proto_names.specs.NameText.{Written, written_text, written_byte, may_stand, IsCutInto, piece_bytes}
+use Rattle.hickory_proto_names.specs.NameText.{Written, written_text, written_byte, may_stand, IsCutInto, Spells, piece_bytes}
 
 -- the whole text is pieces of these bytes
 abbrev pub ArePieces : List ℕ → List (List ℕ) → Type 0
@@ -16,3 +21,28 @@ Begins first text (Byte b) rest = (w : Written) × (text ≡ written_text w ++ r
 -- behind a `\` the text has what stands for this byte at any place, and then the rest
 abbrev pub IsEscape : List ℕ → ℕ → List ℕ → Type 0
 IsEscape text b rest = (w : Written) × (92 ∷ text ≡ written_text w ++ rest) × ((first : Bool) → IsTrue (may_stand first w)) × (written_byte w ≡ b)
+
+-- the text spells a name
+abbrev pub IsNamed : List ℕ → Type 0
+IsNamed text = (name : NameValue) × Spells text name
+
+-- what is known of the labels
+pub record IsMeasure (m : Measure) (labels : List (List ℕ)) : Type 0 where
+  pub wire_length : m.wire_length ≡ min 256 (wire_len labels)
+  pub has_empty : m.has_empty ≡ list_any is_empty_label labels
+  pub has_long : m.has_long ≡ list_any is_long_label labels
+
+abbrev pub no_labels : Measure
+no_labels = record { wire_length = 1; has_empty = false; has_long = false }
+
+-- one more label, of this length
+abbrev pub with_label : Measure → ℕ → Measure
+with_label m n = record { wire_length = min 256 (m.wire_length + n + 1); has_empty = m.has_empty || (n == 0); has_long = m.has_long || nat_lt 63 n }
+
+-- the last piece, of this length: an empty one is the mark, and an only label before it that is empty is none
+abbrev pub with_last : Measure → ℕ → Measure
+with_last m n = if nat_lt 0 n then with_label m n else (if nat_lt 2 m.wire_length then m else no_labels)
+
+-- the first fault of the labels
+abbrev pub measure_fault : Measure → Option NameError
+measure_fault m = if m.has_empty then Some EmptyLabel else (if m.has_long then Some LabelTooLong else (if nat_lt 255 m.wire_length then Some NameTooLong else None))

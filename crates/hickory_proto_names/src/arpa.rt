@@ -5,9 +5,9 @@ ghost use Rattle.hickory_proto_names.specs.Name.{lower_label, label_bytes};
 ghost use Rattle.hickory_proto_names.specs.Arpa.{IsArpaNameOf, arpa_name, whole_net, IsWritten, IsNeverWritten, IsNetOfLabels, hex_label, nibbles_of};
 ghost use Rattle.hickory_proto_names.specs.declared.ip.IpNet.{IpNet};
 
-use crate::name_error::NameError;
 use crate::ip::IpNet;
 use crate::name::Name;
+use crate::name_error::NameError;
 use std::alloc::Global;
 use std::net::{IpAddr, Ipv4Addr, Ipv6Addr};
 use std::str;

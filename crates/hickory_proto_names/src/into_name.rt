@@ -4,9 +4,9 @@ ghost use Rattle.std.specs.declared.net.IpAddr.{IpAddr};
 ghost use Rattle.hickory_proto_names.specs.Name.{NameValue};
 ghost use Rattle.hickory_proto_names.specs.declared.name_error.NameError.{NameError};
 
-use crate::name_error::NameError;
 use crate::ip::read_ip;
 use crate::name::Name;
+use crate::name_error::NameError;
 use std::alloc::Global;
 use std::net::{IpAddr, Ipv4Addr, Ipv6Addr};
 

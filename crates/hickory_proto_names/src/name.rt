@@ -3,11 +3,10 @@ ghost use Rattle.std.specs.Prelude.{◌≡◌, ◌≤◌, ◌<◌, ◌+◌, min,
 ghost use Rattle.std.specs.List.{list_any};
 ghost use Rattle.std.specs.Cmp.Lexicographic.{pointwise, slice_cmp};
 ghost use Rattle.std.specs.Ordering.{nat_cmp};
-ghost use Rattle.std.specs.Hash as fed;
-ghost use Rattle.hickory_proto_names.specs.Name.{NameValue, label_bytes, label_fault, lower_label, lower_labels, labels_eq, labels_cmp, is_empty_label, is_long_label, wire_len, is_bytes, are_bytes, num_labels_of, appended_name, append_fault, trimmed_name, base_of, localhost, is_zone_of};
+ghost use Rattle.hickory_proto_names.specs.Name.{NameValue, label_bytes, label_fault, lower_label, lower_labels, fed_label, labels_eq, labels_cmp, is_empty_label, is_long_label, wire_len, is_bytes, are_bytes, num_labels_of, appended_name, append_fault, trimmed_name, base_of, localhost, is_zone_of};
 
 use crate::name_error::NameError;
-use std::alloc::Global;
+use std::alloc::{AllocError, Global};
 use std::cmp::Ordering;
 use std::hash::{Hash, Hasher};
 use std::marker::Model;
@@ -176,6 +175,17 @@ impl Name {
         ensures ok { IfOk result (λ n. n ≡ self.now) }
         ensures err { IsOkUnless result NameError.OutOfMemory }
     {
+        Ok(Clone::clone(self)?)
+    }
+}
+
+/// A copy equals its source.
+impl Clone for Name {
+    ghost use Rattle.std.specs.Prelude.{◌≡◌};
+
+    ghost is_clone = { λ name copy. copy ≡ name };
+
+    fn clone(&self) -> Result<Name, AllocError> {
         let labels = self.labels.clone()?;
         Ok(Name {
             labels,
@@ -334,11 +344,15 @@ fn labels_cmp(a: &[Vec<u8>], b: &[Vec<u8>]) -> Ordering
     a.len().cmp(&b.len())
 }
 
+// Feeds the length, and then the bytes in lower case in one piece.
 fn hash_label<H: Hasher>(label: &[u8], state: &mut H)
-    ensures { state.new ≡ fold H.write state.old (fed.slice fed.u8 (lower_label label.now)) }
+    requires { length label.now ≤ 63 }
+    ensures { state.new ≡ fold H.write state.old (fed_label (lower_label label.now)) }
 {
+    let mut buffer = [0; 63];
+    let lower = &mut buffer[..label.len()];
+    lower.copy_from_slice(label);
+    lower.make_ascii_lowercase();
     label.len().hash(state);
-    for byte in label {
-        byte.to_ascii_lowercase().hash(state);
-    }
+    state.write(lower);
 }

@@ -1,13 +1,13 @@
 //! The text of names (RFC 1035, sections 2.3.1 and 5.1).
-ghost use Rattle.std.specs.Prelude.{◌≡◌, ◌++◌, ◌∷◌, ◌⊎◌, [], IfOk, IfErr, IfSome, IfNone, IsOkUnless, MatchOption, Some, false};
+ghost use Rattle.std.specs.Prelude.{◌≡◌, ◌≤◌, ◌++◌, ◌∷◌, ◌⊎◌, [], IfOk, IfErr, IfSome, IfNone, OnOk, IsOkUnless, MatchOption, Some, None, false};
 ghost use Rattle.std.specs.String.{string_bytes};
 ghost use Rattle.hickory_proto_names.specs.Name.{label_bytes};
 ghost use Rattle.hickory_proto_names.specs.NameDecided.{text_name};
 ghost use Rattle.hickory_proto_names.specs.NameText.{HasFault, IsUnambiguous, Spells, ends_empty, front_fault, is_plain, is_number, escape_fault, pieces_name, name_text, labels_text, piece_text, printed_label, printed, written_text};
-ghost use Rattle.hickory_proto_names.specs.NameTextParts.{ArePieces, Begins, IsEscape};
+ghost use Rattle.hickory_proto_names.specs.NameTextParts.{ArePieces, Begins, IsEscape, IsNamed, no_labels, with_label, with_last, measure_fault};
 
-use crate::name_error::NameError;
 use crate::name::Name;
+use crate::name_error::NameError;
 use std::alloc::Global;
 use std::fmt;
 
@@ -41,6 +41,7 @@ impl Name {
         ensures ok { IfOk result (λ n. Spells text.now n) }
         ensures err { IfErr result (λ e. (e ≡ NameError.OutOfMemory) ⊎ HasFault text.now e) }
         ensures unambiguous { IsUnambiguous text.now }
+        ensures computed { (result ≡ text_name text.now) ⊎ (result ≡ Err NameError.OutOfMemory) }
     {
         Name::from_ascii(alloc, text)
     }
@@ -62,6 +63,7 @@ fn read_name(alloc: Global, text: &str) -> Result<Name, NameError>
     ensures ok { IfOk result (λ n. Spells text.now n) }
     ensures err { IfErr result (λ e. (e ≡ NameError.OutOfMemory) ⊎ HasFault text.now e) }
 {
+    check_text(text.as_bytes())?;
     let mut pieces = read_pieces(alloc, text.as_bytes())?;
     let fqdn = take_mark(&mut pieces);
     let mut name = Name::from_labels(pieces)?;
@@ -154,6 +156,95 @@ impl fmt::Display for ByteText {
             write!(f, "\\{}{}{}", byte / 100, byte / 10 % 10, byte % 10)
         }
     }
+}
+
+// What has to be known of labels to say what is wrong with them.
+#[derive(Clone, Copy)]
+struct Measure {
+    // How many bytes they take on the wire, or 256 where that is more than 255.
+    wire_length: usize,
+    has_empty: bool,
+    has_long: bool,
+}
+
+impl Measure {
+    // That of no labels.
+    fn new() -> Measure
+        ensures { result ≡ no_labels }
+    {
+        Measure {
+            wire_length: 1,
+            has_empty: false,
+            has_long: false,
+        }
+    }
+
+    // With one more label of this length.
+    fn with_label(self, length: usize) -> Measure
+        requires labels { self.wire_length ≤ 256 }
+        requires label { length ≤ 256 }
+        ensures { result ≡ with_label self length }
+    {
+        Measure {
+            wire_length: 256.min(self.wire_length + length + 1),
+            has_empty: self.has_empty || length == 0,
+            has_long: self.has_long || 63 < length,
+        }
+    }
+
+    // With the last piece of a text, which is the mark where it is empty, and the label before it nothing where it
+    // is the only one and empty.
+    fn with_last(self, length: usize) -> Measure
+        requires labels { self.wire_length ≤ 256 }
+        requires label { length ≤ 256 }
+        ensures { result ≡ with_last self length }
+    {
+        if 0 < length {
+            self.with_label(length)
+        } else if 2 < self.wire_length {
+            self
+        } else {
+            Measure::new()
+        }
+    }
+
+    // The first fault of the labels.
+    fn check(self) -> Result<(), NameError>
+        ensures ok { OnOk result (measure_fault self ≡ None) }
+        ensures err { IfErr result (λ e. measure_fault self ≡ Some e) }
+    {
+        if self.has_empty {
+            return Err(NameError::EmptyLabel);
+        }
+        if self.has_long {
+            return Err(NameError::LabelTooLong);
+        }
+        if 255 < self.wire_length {
+            return Err(NameError::NameTooLong);
+        }
+        Ok(())
+    }
+}
+
+// The fault that comes first in the text, by a scan that keeps nothing of it.
+fn check_text(text: &[u8]) -> Result<(), NameError>
+    ensures ok { OnOk result (IsNamed text.now) }
+    ensures err { IfErr result (λ e. HasFault text.now e) }
+{
+    let mut labels = Measure::new();
+    let mut length = 0;
+    let mut rest = text;
+    while let Some((character, after)) = read_character(length == 0, rest)? {
+        match character {
+            Character::Byte(_) => length = 256.min(length + 1),
+            Character::Dot => {
+                labels = labels.with_label(length);
+                length = 0;
+            }
+        }
+        rest = after;
+    }
+    labels.with_last(length).check()
 }
 
 // The bytes of the pieces between the dots, an empty one at the end too.

@@ -12,7 +12,7 @@ use crate::query::Query;
 use crate::resource::Record;
 use hickory_proto_codes::{RecordType, ResponseCode};
 use hickory_proto_names::Name;
-use std::alloc::Global;
+use std::alloc::{AllocError, Global};
 use std::marker::Model;
 
 /// A message that came back from an upstream.
@@ -84,8 +84,19 @@ impl DnsResponse {
         ensures ok { IfOk result (λ r. r ≡ self.now) }
         ensures err { IsOkUnless result NetError.OutOfMemory }
     {
+        Ok(Clone::clone(self)?)
+    }
+}
+
+/// A copy equals its source.
+impl Clone for DnsResponse {
+    ghost use Rattle.std.specs.Prelude.{◌≡◌};
+
+    ghost is_clone = { λ response copy. copy ≡ response };
+
+    fn clone(&self) -> Result<DnsResponse, AllocError> {
         Ok(DnsResponse {
-            message: self.message.clone()?,
+            message: Clone::clone(&self.message)?,
         })
     }
 }

@@ -4,9 +4,9 @@ ghost use Rattle.hickory_proto_records.specs.Messages.{response_metadata, Messag
 
 use crate::net_error::NetError;
 use crate::query::Query;
-use crate::resource::{Record, clone_records};
+use crate::resource::Record;
 use hickory_proto_codes::{OpCode, ResponseCode};
-use std::alloc::Global;
+use std::alloc::{AllocError, Global};
 use std::marker::Model;
 
 /// The header of a message (RFC 1035, section 4.1.1).
@@ -155,12 +155,23 @@ impl Message {
         ensures ok { IfOk result (λ m. m ≡ self.now) }
         ensures err { IsOkUnless result NetError.OutOfMemory }
     {
+        Ok(Clone::clone(self)?)
+    }
+}
+
+/// A copy equals its source.
+impl Clone for Message {
+    ghost use Rattle.std.specs.Prelude.{◌≡◌};
+
+    ghost is_clone = { λ message copy. copy ≡ message };
+
+    fn clone(&self) -> Result<Message, AllocError> {
         Ok(Message {
             metadata: self.metadata,
-            queries: clone_queries(&self.queries)?,
-            answers: clone_records(&self.answers)?,
-            authorities: clone_records(&self.authorities)?,
-            additionals: clone_records(&self.additionals)?,
+            queries: self.queries.clone()?,
+            answers: self.answers.clone()?,
+            authorities: self.authorities.clone()?,
+            additionals: self.additionals.clone()?,
         })
     }
 }
@@ -186,15 +197,4 @@ impl Eq for Message {
     ghost use Rattle.hickory_proto_records.specs.Messages.{message_equiv};
 
     ghost laws = { message_equiv };
-}
-
-fn clone_queries(queries: &Vec<Query>) -> Result<Vec<Query>, NetError>
-    ensures ok { IfOk result (λ copies. copies.items ≡ queries.now.items) }
-    ensures err { IsOkUnless result NetError.OutOfMemory }
-{
-    let mut copies = Vec::new(*queries.allocator());
-    for query in queries {
-        copies.push(query.clone()?)?;
-    }
-    Ok(copies)
 }

@@ -5,7 +5,7 @@ ghost use Rattle.hickory_proto_records.specs.NetErrors.{no_records_or};
 
 use crate::bounds_error::BoundsError;
 use crate::query::Query;
-use crate::resource::{Record, clone_records};
+use crate::resource::Record;
 use hickory_proto_codes::ResponseCode;
 use hickory_proto_names::NameError;
 use std::alloc::{AllocError, AllocFailed};
@@ -112,13 +112,24 @@ impl NoRecords {
         ensures ok { IfOk result (λ n. n ≡ self.now) }
         ensures err { IsOkUnless result NetError.OutOfMemory }
     {
+        Ok(Clone::clone(self)?)
+    }
+}
+
+/// A copy equals its source.
+impl Clone for NoRecords {
+    ghost use Rattle.std.specs.Prelude.{◌≡◌};
+
+    ghost is_clone = { λ none copy. copy ≡ none };
+
+    fn clone(&self) -> Result<NoRecords, AllocError> {
         Ok(NoRecords {
-            query: self.query.clone()?,
-            soa: clone_record(&self.soa)?,
-            ns: clone_forwards(&self.ns)?,
+            query: Clone::clone(&self.query)?,
+            soa: self.soa.as_ref().cloned()?,
+            ns: self.ns.as_ref().cloned()?,
             negative_ttl: self.negative_ttl,
             response_code: self.response_code,
-            authorities: clone_section(&self.authorities)?,
+            authorities: self.authorities.as_ref().cloned()?,
         })
     }
 }
@@ -129,9 +140,20 @@ impl DnsError {
         ensures ok { IfOk result (λ e. e ≡ self.now) }
         ensures err { IsOkUnless result NetError.OutOfMemory }
     {
+        Ok(Clone::clone(self)?)
+    }
+}
+
+/// A copy equals its source.
+impl Clone for DnsError {
+    ghost use Rattle.std.specs.Prelude.{◌≡◌};
+
+    ghost is_clone = { λ error copy. copy ≡ error };
+
+    fn clone(&self) -> Result<DnsError, AllocError> {
         match self {
             DnsError::ResponseCode(code) => Ok(DnsError::ResponseCode(*code)),
-            DnsError::NoRecordsFound(none) => Ok(DnsError::NoRecordsFound(none.clone()?)),
+            DnsError::NoRecordsFound(none) => Ok(DnsError::NoRecordsFound(Clone::clone(none)?)),
         }
     }
 }
@@ -160,11 +182,22 @@ impl NetError {
         ensures ok { IfOk result (λ e. e ≡ self.now) }
         ensures err { IsOkUnless result NetError.OutOfMemory }
     {
+        Ok(Clone::clone(self)?)
+    }
+}
+
+/// A copy equals its source.
+impl Clone for NetError {
+    ghost use Rattle.std.specs.Prelude.{◌≡◌};
+
+    ghost is_clone = { λ error copy. copy ≡ error };
+
+    fn clone(&self) -> Result<NetError, AllocError> {
         match self {
             NetError::Message(text) => Ok(NetError::Message(text)),
             NetError::Timeout => Ok(NetError::Timeout),
             NetError::Proto(error) => Ok(NetError::Proto(*error)),
-            NetError::Dns(error) => Ok(NetError::Dns(error.clone()?)),
+            NetError::Dns(error) => Ok(NetError::Dns(Clone::clone(error)?)),
             NetError::NoOutcome => Ok(NetError::NoOutcome),
             NetError::Bounds(error) => Ok(NetError::Bounds(*error)),
             NetError::OutOfMemory => Ok(NetError::OutOfMemory),
@@ -178,9 +211,20 @@ impl ForwardNSData {
         ensures ok { IfOk result (λ f. f ≡ self.now) }
         ensures err { IsOkUnless result NetError.OutOfMemory }
     {
+        Ok(Clone::clone(self)?)
+    }
+}
+
+/// A copy equals its source.
+impl Clone for ForwardNSData {
+    ghost use Rattle.std.specs.Prelude.{◌≡◌};
+
+    ghost is_clone = { λ forward copy. copy ≡ forward };
+
+    fn clone(&self) -> Result<ForwardNSData, AllocError> {
         Ok(ForwardNSData {
-            ns: self.ns.clone()?,
-            glue: clone_records(&self.glue)?,
+            ns: Clone::clone(&self.ns)?,
+            glue: self.glue.clone()?,
         })
     }
 }
@@ -242,40 +286,4 @@ impl From<&'static str> for NetError {
     fn from(text: &'static str) -> NetError {
         NetError::Message(text)
     }
-}
-
-fn clone_record(soa: &Option<Record>) -> Result<Option<Record>, NetError>
-    ensures ok { IfOk result (λ copy. copy ≡ soa.now) }
-    ensures err { IsOkUnless result NetError.OutOfMemory }
-{
-    match soa {
-        None => Ok(None),
-        Some(soa) => Ok(Some(soa.clone()?)),
-    }
-}
-
-fn clone_section(section: &Option<Vec<Record>>) -> Result<Option<Vec<Record>>, NetError>
-    ensures ok { IfOk result (λ copy. items_or_none copy ≡ items_or_none section.now) }
-    ensures err { IsOkUnless result NetError.OutOfMemory }
-{
-    match section {
-        None => Ok(None),
-        Some(records) => Ok(Some(clone_records(records)?)),
-    }
-}
-
-fn clone_forwards(
-    forwards: &Option<Vec<ForwardNSData>>,
-) -> Result<Option<Vec<ForwardNSData>>, NetError>
-    ensures ok { IfOk result (λ copy. items_or_none copy ≡ items_or_none forwards.now) }
-    ensures err { IsOkUnless result NetError.OutOfMemory }
-{
-    let Some(forwards) = forwards else {
-        return Ok(None);
-    };
-    let mut copies = Vec::new(*forwards.allocator());
-    for forward in forwards {
-        copies.push(forward.clone()?)?;
-    }
-    Ok(Some(copies))
 }

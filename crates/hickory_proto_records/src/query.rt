@@ -4,7 +4,7 @@ ghost use Rattle.std.specs.Prelude.{◌≡◌, IfOk, IsOkUnless};
 use crate::net_error::NetError;
 use hickory_proto_codes::{DNSClass, RecordType};
 use hickory_proto_names::Name;
-use std::alloc::Global;
+use std::alloc::{AllocError, Global};
 use std::hash::{Hash, Hasher};
 
 /// What is asked: a name, a type and a class (RFC 1035, section 4.1.2).
@@ -68,8 +68,19 @@ impl Query {
         ensures ok { IfOk result (λ q. q ≡ self.now) }
         ensures err { IsOkUnless result NetError.OutOfMemory }
     {
+        Ok(Clone::clone(self)?)
+    }
+}
+
+/// A copy equals its source.
+impl Clone for Query {
+    ghost use Rattle.std.specs.Prelude.{◌≡◌};
+
+    ghost is_clone = { λ query copy. copy ≡ query };
+
+    fn clone(&self) -> Result<Query, AllocError> {
         Ok(Query {
-            name: self.name.clone()?,
+            name: Clone::clone(&self.name)?,
             query_type: self.query_type,
             query_class: self.query_class,
         })

@@ -6,6 +6,7 @@ ghost use Rattle.hickory_proto_codes.specs.Codes.{type_code};
 use crate::net_error::NetError;
 use hickory_proto_codes::RecordType;
 use hickory_proto_names::Name;
+use std::alloc::AllocError;
 use std::net::{IpAddr, Ipv4Addr, Ipv6Addr};
 
 /// What a record says of its owner (RFC 1035, section 3.2.1). Data are equal where all their fields are: names
@@ -124,12 +125,24 @@ impl RData {
         ensures ok { IfOk result (λ d. data_of d ≡ data_of self.now) }
         ensures err { IsOkUnless result NetError.OutOfMemory }
     {
+        Ok(Clone::clone(self)?)
+    }
+}
+
+/// A copy equals its source.
+impl Clone for RData {
+    ghost use Rattle.std.specs.Prelude.{◌≡◌};
+    ghost use Rattle.hickory_proto_records.specs.Records.{data_of};
+
+    ghost is_clone = { λ source copy. data_of copy ≡ data_of source };
+
+    fn clone(&self) -> Result<RData, AllocError> {
         match self {
             RData::A(address) => Ok(RData::A(*address)),
             RData::AAAA(address) => Ok(RData::AAAA(*address)),
-            RData::CNAME(name) => Ok(RData::CNAME(name.clone()?)),
-            RData::NS(name) => Ok(RData::NS(name.clone()?)),
-            RData::PTR(name) => Ok(RData::PTR(name.clone()?)),
+            RData::CNAME(name) => Ok(RData::CNAME(Clone::clone(name)?)),
+            RData::NS(name) => Ok(RData::NS(Clone::clone(name)?)),
+            RData::PTR(name) => Ok(RData::PTR(Clone::clone(name)?)),
             RData::SOA {
                 mname,
                 rname,
@@ -139,8 +152,8 @@ impl RData {
                 expire,
                 minimum,
             } => Ok(RData::SOA {
-                mname: mname.clone()?,
-                rname: rname.clone()?,
+                mname: Clone::clone(mname)?,
+                rname: Clone::clone(rname)?,
                 serial: *serial,
                 refresh: *refresh,
                 retry: *retry,
@@ -156,14 +169,14 @@ impl RData {
                 priority: *priority,
                 weight: *weight,
                 port: *port,
-                target: target.clone()?,
+                target: Clone::clone(target)?,
             }),
             RData::MX {
                 preference,
                 exchange,
             } => Ok(RData::MX {
                 preference: *preference,
-                exchange: exchange.clone()?,
+                exchange: Clone::clone(exchange)?,
             }),
             RData::TXT(strings) => Ok(RData::TXT(strings.clone()?)),
             RData::Unknown { code, bytes } => Ok(RData::Unknown {

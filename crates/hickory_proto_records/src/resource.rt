@@ -6,6 +6,7 @@ use crate::net_error::NetError;
 use crate::record_data::RData;
 use hickory_proto_codes::{DNSClass, RecordType};
 use hickory_proto_names::Name;
+use std::alloc::AllocError;
 use std::marker::Model;
 
 /// A resource record (RFC 1035, section 3.2.1).
@@ -61,11 +62,22 @@ impl Record {
         ensures ok { IfOk result (λ r. r ≡ self.now) }
         ensures err { IsOkUnless result NetError.OutOfMemory }
     {
+        Ok(Clone::clone(self)?)
+    }
+}
+
+/// A copy equals its source.
+impl Clone for Record {
+    ghost use Rattle.std.specs.Prelude.{◌≡◌};
+
+    ghost is_clone = { λ source copy. copy ≡ source };
+
+    fn clone(&self) -> Result<Record, AllocError> {
         Ok(Record {
-            name: self.name.clone()?,
+            name: Clone::clone(&self.name)?,
             dns_class: self.dns_class,
             ttl: self.ttl,
-            rdata: self.rdata.clone()?,
+            rdata: Clone::clone(&self.rdata)?,
         })
     }
 }
@@ -96,16 +108,4 @@ fn same_data(a: &RData, b: &RData) -> bool
     ensures { result ≡ data_eq (data_of a.now) (data_of b.now) }
 {
     a == b
-}
-
-/// A copy of each record.
-pub fn clone_records(records: &Vec<Record>) -> Result<Vec<Record>, NetError>
-    ensures ok { IfOk result (λ copies. copies.items ≡ records.now.items) }
-    ensures err { IsOkUnless result NetError.OutOfMemory }
-{
-    let mut copies = Vec::new(*records.allocator());
-    for entry in records {
-        copies.push(entry.clone()?)?;
-    }
-    Ok(copies)
 }

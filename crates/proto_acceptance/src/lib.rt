@@ -6,6 +6,14 @@ mod addresses;
 #[cfg(test)]
 mod arpa_names;
 #[cfg(test)]
+mod debug;
+#[cfg(test)]
+mod errors;
+#[cfg(test)]
+mod memory;
+#[cfg(test)]
 mod names;
 #[cfg(test)]
 mod responses;
+#[cfg(test)]
+mod samples;

@@ -1,52 +1,11 @@
 //! Responses, their classes, and handles.
+use crate::samples::{address, name, question, response, soa};
 use hickory_proto_core::{
-    DNSClass, DnsError, DnsHandle, DnsRequest, DnsRequestOptions, DnsResponse, IntoName, Message, Name,
-    NetError, OpCode, Query, RData, Record, RecordType, Recorded, ResponseCode, ScriptHandle,
-    TableHandle,
+    DnsError, DnsHandle, DnsRequest, DnsRequestOptions, DnsResponse, IntoName, Message, NetError,
+    Query, RData, Record, RecordType, Recorded, ResponseCode, ScriptHandle, TableHandle,
 };
-use std::alloc::Global;
 use std::net::{IpAddr, Ipv4Addr, Ipv6Addr};
 use std::test::Fail;
-
-fn name(alloc: Global, text: &str) -> Result<Name, NetError> {
-    let mut name = Name::from_ascii(alloc, text)?;
-    name.set_fqdn(true);
-    Ok(name)
-}
-
-fn question(alloc: Global, text: &str, record_type: RecordType) -> Result<Query, NetError> {
-    Ok(Query::query(name(alloc, text)?, record_type))
-}
-
-fn response(
-    alloc: Global,
-    code: ResponseCode,
-    text: &str,
-    record_type: RecordType,
-) -> Result<Message, NetError> {
-    let mut message = Message::response(alloc, 0, OpCode::Query);
-    message.metadata.response_code = code;
-    message.add_query(question(alloc, text, record_type)?)?;
-    Ok(message)
-}
-
-fn soa(alloc: Global, owner: &str, ttl: u32, minimum: u32) -> Result<Record, NetError> {
-    let rdata = RData::SOA {
-        mname: name(alloc, "m.")?,
-        rname: name(alloc, "r.")?,
-        serial: 1,
-        refresh: 2,
-        retry: 3,
-        expire: 4,
-        minimum,
-    };
-    Ok(Record::from_rdata(name(alloc, owner)?, ttl, rdata))
-}
-
-fn address(alloc: Global, owner: &str, last: u8) -> Result<Record, NetError> {
-    let rdata = RData::A(Ipv4Addr::new(192, 0, 2, last));
-    Ok(Record::from_rdata(name(alloc, owner)?, 60, rdata))
-}
 
 #[test]
 fn negative_answer_with_an_soa(rt: HostRuntime) -> Result<(), Fail> {
@@ -122,7 +81,7 @@ fn table_has_the_last_outcome(rt: HostRuntime) -> Result<(), Fail> {
     ))?;
     let found = DnsResponse::from_message(Message::query(alloc));
     outcomes.push((question(alloc, "A.", RecordType::A)?, Ok(found)))?;
-    let mut table = Recorded::new(alloc, TableHandle::new(alloc, outcomes)?);
+    let mut table = Recorded::new(alloc, TableHandle::new(outcomes)?);
     for (asked, has) in [("a.", true), ("b.", false)] {
         let request = DnsRequest {
             query: question(alloc, asked, RecordType::A)?,
@@ -156,34 +115,20 @@ fn script_ends(rt: HostRuntime) -> Result<(), Fail> {
 }
 
 #[test]
-fn texts_of_errors_and_codes(rt: HostRuntime) -> Result<(), Fail> {
-    let alloc = rt.alloc();
-    let refused = NetError::Dns(DnsError::ResponseCode(ResponseCode::from(5)));
-    assert_eq!(rt; refused.to_string(alloc)?.as_str(), "response code REFUSED");
-    let unknown = NetError::Dns(DnsError::ResponseCode(ResponseCode::from(77)));
-    assert_eq!(rt; unknown.to_string(alloc)?.as_str(), "response code CODE77");
-    let fault = NetError::from(Name::from_ascii(alloc, "a..b").err().ok_or("a name")?);
-    assert_eq!(rt; fault.to_string(alloc)?.as_str(), "empty label");
-    assert_eq!(rt;
-        NetError::Timeout.to_string(alloc)?.as_str(),
-        "request timed out"
-    );
-    assert_eq!(rt; RecordType::Unknown(1).to_string(alloc)?.as_str(), "A");
-    assert!(rt; RecordType::Unknown(28) == RecordType::AAAA);
-    assert_eq!(rt; DNSClass::from(9).to_string(alloc)?.as_str(), "CLASS9");
-    Ok(())
-}
-
-#[test]
 fn names_are_given(rt: HostRuntime) -> Result<(), Fail> {
     let alloc = rt.alloc();
+    let v4 = Ipv4Addr::new(192, 0, 2, 1);
     assert!(rt; "::1".to_ip() == Some(IpAddr::V6(Ipv6Addr::LOCALHOST)));
-    assert!(rt; Ipv4Addr::LOCALHOST.to_ip().is_none());
-    let pointer = Ipv4Addr::new(192, 0, 2, 1).into_name(alloc)?;
-    assert_eq!(rt;
-        pointer.to_string(alloc)?.as_str(),
-        "1.2.0.192.in-addr.arpa."
-    );
+    assert!(rt; String::from_str(alloc, "192.0.2.1")?.to_ip() == Some(IpAddr::V4(v4)));
+    assert!(rt; v4.to_ip().is_none());
+    let wanted = name(alloc, "1.2.0.192.in-addr.arpa.")?;
+    assert!(rt; v4.into_name(alloc)? == wanted);
+    assert!(rt; IpAddr::V4(v4).into_name(alloc)? == wanted);
+    let one = "1.0.0.0.0.0.0.0.0.0.0.0.0.0.0.0.0.0.0.0.0.0.0.0.0.0.0.0.0.0.0.0.ip6.arpa.";
+    assert!(rt; Ipv6Addr::LOCALHOST.into_name(alloc)? == name(alloc, one)?);
+    let text = String::from_str(alloc, "WWW.b.")?;
+    assert!(rt; text.into_name(alloc)? == name(alloc, "www.B")?);
     assert!(rt; "WWW.b.".into_name(alloc)? == name(alloc, "www.B")?);
+    assert!(rt; wanted.into_name(alloc)?.is_fqdn());
     Ok(())
 }

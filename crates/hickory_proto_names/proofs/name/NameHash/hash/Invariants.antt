@@ -1,9 +1,8 @@
 use Rattle.std.proofs.Common.{◌≡◌, take, fold}
 use Rattle.std.specs.Prelude.{flat_map}
-use Rattle.std.specs.Hash as fed
-use Rattle.hickory_proto_names.specs.Name.{lower_label}
+use Rattle.hickory_proto_names.specs.Name.{lower_label, fed_label}
 use Rattle.hickory_proto_names.proofs.name.NameHash.hash.Given as goal
 
 abbrev pub invariant-loop-label : goal.invariant-loop-label
 invariant-loop-label g l =
-    l.state ≡ fold g.H.Hasher.write l.initial.state (flat_map (λ v. fed.slice fed.u8 (lower_label v.items)) (take l.label-index l.label-items))
+    l.state ≡ fold g.H.Hasher.write l.initial.state (flat_map (λ v. fed_label (lower_label v.items)) (take l.label-index l.label-items))

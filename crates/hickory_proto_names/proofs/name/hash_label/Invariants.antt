@@ -1,9 +1,0 @@
-use Rattle.std.proofs.Common.{◌≡◌, take, map, fold}
-use Rattle.std.specs.Prelude.{flat_map}
-use Rattle.std.specs.Char.{to_ascii_lowercase}
-use Rattle.std.specs.Hash as fed
-use Rattle.hickory_proto_names.proofs.name.hash_label.Given as goal
-
-abbrev pub invariant-loop-byte : goal.invariant-loop-byte
-invariant-loop-byte g l =
-    l.state ≡ fold g.H.Hasher.write l.initial.state (flat_map fed.u8 (map to_ascii_lowercase (take l.byte-index l.label)))

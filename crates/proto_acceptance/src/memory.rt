@@ -1,0 +1,139 @@
+//! Calls that take memory, where there is enough, and texts that must not take much.
+use crate::samples::{
+    address, data_of_each_kind, full_message, full_no_records, name, question, soa,
+};
+use hickory_proto_core::{
+    BoundsError, DnsError, DnsHandle, DnsRequest, DnsRequestOptions, DnsResponse, Message, Name,
+    NameError, NetError, OpCode, RecordType, Recorded, ResponseCode, TableHandle, clone_outcome,
+};
+use std::alloc::{AllocError, Global};
+use std::fmt::Debug;
+use std::test::Fail;
+
+// A copy by generic code.
+fn copy<T: Clone>(value: &T) -> Result<T, AllocError> {
+    value.clone()
+}
+
+// Whether both print alike by `Debug`.
+fn same<T: Debug>(alloc: Global, a: &T, b: &T) -> Result<bool, Fail> {
+    Ok(format!(in alloc; "{a:?}")? == format!(in alloc; "{b:?}")?)
+}
+
+#[test]
+fn sections(rt: HostRuntime) -> Result<(), Fail> {
+    let alloc = rt.alloc();
+    let mut message = Message::response(alloc, 7, OpCode::Query);
+    let mut two = Vec::new(alloc);
+    two.push(address(alloc, "a.", 1)?)?;
+    two.push(address(alloc, "a.", 2)?)?;
+    message.add_query(question(alloc, "a.", RecordType::A)?)?;
+    message.add_answers(copy(&two)?)?;
+    message.add_answer(address(alloc, "a.", 3)?)?;
+    message.add_authority(soa(alloc, "b.", 300, 60)?)?;
+    message.add_authorities(copy(&two)?)?;
+    message.add_additional(address(alloc, "c.", 4)?)?;
+    message.add_additionals(two)?;
+    assert_eq!(rt; message.queries.len(), 1);
+    assert!(rt; message.answers[0] == address(alloc, "A.", 1)?);
+    assert!(rt; message.answers[1] == message.authorities[2]);
+    assert!(rt; message.answers[2] == address(alloc, "a.", 3)?);
+    assert!(rt; message.authorities[0] == soa(alloc, "b.", 300, 60)?);
+    assert!(rt; message.additionals[0] == address(alloc, "c.", 4)?);
+    assert!(rt; message.additionals[2] == address(alloc, "a.", 2)?);
+    assert_eq!(rt; message.additionals.len(), 3);
+    Ok(())
+}
+
+#[test]
+fn copies_of_records_and_messages(rt: HostRuntime) -> Result<(), Fail> {
+    let alloc = rt.alloc();
+    let owner = name(alloc, "WWW.a.")?;
+    assert!(rt; owner.clone()?.labels() == owner.labels());
+    assert!(rt; copy(&owner)?.labels() == owner.labels());
+    let query = question(alloc, "a.", RecordType::A)?;
+    assert!(rt; query.clone()? == query && copy(&query)? == query);
+    for data in &data_of_each_kind(alloc)? {
+        assert!(rt; same(alloc, &data.clone()?, data)?);
+        assert!(rt; copy(data)? == *data);
+    }
+    let whole = full_message(alloc)?;
+    assert!(rt; whole.answers[0].clone()? == whole.answers[0]);
+    assert!(rt; whole.clone()? == whole && copy(&whole)? == whole);
+    let response = DnsResponse::from_message(whole);
+    assert!(rt; same(alloc, &response.clone()?, &response)?);
+    assert!(rt; same(alloc, &copy(&response)?, &response)?);
+    Ok(())
+}
+
+#[test]
+fn copies_of_errors(rt: HostRuntime) -> Result<(), Fail> {
+    let alloc = rt.alloc();
+    let none = full_no_records(alloc)?;
+    assert!(rt; same(alloc, &none.clone()?, &none)?);
+    if let Some(servers) = &none.ns {
+        assert!(rt; same(alloc, &servers[0].clone()?, &servers[0])?);
+        assert!(rt; same(alloc, &copy(servers)?, servers)?);
+    }
+    let code = DnsError::ResponseCode(ResponseCode::ServFail);
+    assert!(rt; same(alloc, &code.clone()?, &code)?);
+    let errors = [
+        NetError::from("no luck"),
+        NetError::Timeout,
+        NetError::Proto(NameError::NotArpa),
+        NetError::Dns(code),
+        NetError::Dns(DnsError::NoRecordsFound(none)),
+        NetError::NoOutcome,
+        NetError::Bounds(BoundsError::NegativeReversed),
+        NetError::OutOfMemory,
+    ];
+    for error in &errors {
+        assert!(rt; same(alloc, &error.clone()?, error)?);
+        assert!(rt; same(alloc, &copy(error)?, error)?);
+    }
+    Ok(())
+}
+
+#[test]
+fn outcomes_are_recorded(rt: HostRuntime) -> Result<(), Fail> {
+    let alloc = rt.alloc();
+    let given = Ok(DnsResponse::from_message(full_message(alloc)?));
+    let query = question(alloc, "a.", RecordType::A)?;
+    let mut outcomes = Vec::new(alloc);
+    outcomes.push((query.clone()?, clone_outcome(&given)?))?;
+    let mut handle = Recorded::new(alloc, TableHandle::new(outcomes)?);
+    let request = DnsRequest {
+        query,
+        options: DnsRequestOptions::default(),
+    };
+    let answer = handle.send(&request);
+    assert!(rt; same(alloc, &answer, &given)?);
+    assert_eq!(rt; handle.exchanges().len(), 1);
+    assert!(rt; same(alloc, &handle.exchanges()[0].outcome, &given)?);
+    Ok(())
+}
+
+#[test]
+fn hostile_texts_of_names(rt: HostRuntime) -> Result<(), Fail> {
+    let alloc = rt.alloc();
+    let labels = "a.".repeat(alloc, 200_000)?;
+    assert_eq!(rt;
+        Name::from_ascii(alloc, &labels).err(),
+        Some(NameError::NameTooLong)
+    );
+    let label = "a".repeat(alloc, 1_000_000)?;
+    assert_eq!(rt;
+        Name::from_ascii(alloc, &label).err(),
+        Some(NameError::LabelTooLong)
+    );
+    let behind = [
+        (".", NameError::EmptyLabel),
+        ("a b", NameError::BadCharacter),
+        ("\\256.", NameError::BadEscape),
+    ];
+    for (end, fault) in behind {
+        let text = format!(in alloc; "{labels}{end}")?;
+        assert_eq!(rt; Name::from_ascii(alloc, &text).err(), Some(fault));
+    }
+    Ok(())
+}
