@@ -11,7 +11,11 @@ use Rattle.hickory_proto_core.specs.records.net_error.DnsError.TheVariants.{Resp
 use Rattle.hickory_resolver_model.specs.Bounds.{ConfigValue}
 use Rattle.hickory_resolver_model.specs.Cache.{Entry, NeverLater, current, entry_of, is_current, is_for, not_after_current, insert_entry, room_for}
 use Rattle.hickory_resolver_cache.proofs.Lists.{find-none, none_alike}
-use Rattle.hickory_resolver_cache.proofs.Store.{AreApart, room_for-none}
+use Rattle.std.specs.List.{IsDistinct}
+use Rattle.hickory_resolver_cache.proofs.Store.{room_for-none}
+
+abbrev pub AreApart : List Entry → Type 0
+AreApart es = IsDistinct query_eq (map (λ e. e.query) es)
 
 -- of entries apart, the question's current one is its own
 pub own-current : (q : Query) (now : ℕ) (es : List Entry) (was : Entry) → AreApart es → current q now es ≡ Some was → find (is_for q) es ≡ Some was

@@ -1,3 +1,7 @@
-pub mod Laws
-pub mod Lists
-pub mod Store
+mod Lists
+mod Listed
+mod TurnOrder
+mod Store
+mod Timely
+mod Renumbered
+mod Laws

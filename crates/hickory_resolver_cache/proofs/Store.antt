@@ -1,46 +1,252 @@
--- A store, as one entry taken out and one put at the end.
-use Rattle.std.proofs.Common.{◌≡◌, ℕ, ◌<◌, ◌≤◌, Bool, true, false, List, [], ◌∷◌, ◌++◌, map, length, Option, None, Some, nat_lt, ◌==◌, sym, refl, ap, ap₂, ◌∙◌, subst, arith, remove, position, length-append, if◌then◌else◌, ◌⊎◌, inl, inr, ⊎_elim, fold, min, ◌||◌}
-use Rattle.std.proofs.lemmas.Bool.{ltb-true, cases_lt, or_left, or_right, eq-eqb, eqb-true}
-use Rattle.std.proofs.lemmas.List.{map-append}
-use Rattle.std.proofs.lemmas.List.Edits.{length-remove, remove-append_left}
-use Rattle.std.proofs.lemmas.Map.Keys.{IsDistinct-push}
-use Rattle.std.specs.List.{list_any, position_or_len, IsDistinct}
-use Rattle.std.specs.Option.{option_map_or, option_or}
+-- The list of entries after a store or a removal.
+use Rattle.std.proofs.Common.{◌≡◌, ℕ, ◌+◌, ◌<◌, ◌≤◌, suc, zero, Bool, true, false, not, cond, ◌==◌, ◌||◌, nat_lt, nat_eq, List, [], ◌∷◌, ◌++◌, map, length, fold, min, Option, None, Some, refl, sym, ap, ap₂, ◌∙◌, subst, arith, ◌⊎◌, inl, inr, if◌then◌else◌, is_some, remove, length-append, le-leb}
+use Rattle.std.proofs.lemmas.Bool.{eqb-true, eq-eqb, ne_eqb, cases_lt, cases_eq, false≢true, lt-leb, lt-ltb, le-ltb, or_left}
+use Rattle.std.proofs.lemmas.List.{map-append, length-map}
+use Rattle.std.proofs.lemmas.List.Sorted.{IsPermutation-map, length_permutation}
+use Rattle.std.proofs.lemmas.Map.{NonePasses}
+use Rattle.std.proofs.lemmas.Map.Entries.{none_past_head, place_from_lookup}
+use Rattle.std.proofs.lemmas.Map.Keys.{IsDistinct-head, IsDistinct-tail}
+use Rattle.std.proofs.lemmas.Option.{same_Some}
+use Rattle.std.specs.List.{IsDistinct, AllByRecursion, list_any, position_or_len}
+use Rattle.std.specs.List.Sorted.{IsPermutation}
+use Rattle.std.specs.Prelude.{Result, Ok, Err, IsOk, OnOk}
+use Rattle.std.specs.Map.{lookup, keys_of}
+use Rattle.std.specs.BTreeMap.{get, is_at, IsLowerBound}
+use Rattle.std.specs.Option.{option_map, option_to_list, IsSome}
+use Rattle.indexmap.proofs.MapLemmas.{distinct_permutation, lookup_permutation}
 use Rattle.hickory_proto_core.specs.records.query.Query.{Query}
+use Rattle.hickory_proto_core.specs.Handles.{OutcomeValue}
+use Rattle.hickory_resolver_cache.specs.declared.kept.Kept.{Kept}
 use Rattle.hickory_proto_core.specs.Query.{query_eq, query_equiv}
-use Rattle.hickory_resolver_model.specs.Cache.{Entry, IsCache, is_for, without, without_earliest, least_deadline, room_for, insert_entry}
-use Rattle.hickory_resolver_cache.specs.Places.{leaving_place, crowded_place}
-use Rattle.hickory_resolver_cache.proofs.Lists.{remove_at-position, position-within, filter-apart, apart-remove, list_any-filter_not, list_any-remove, list_any-mapped, position-some, position-none, length-remove-le}
+use Rattle.std.specs.Prelude.{◌&&◌, nat_le}
+use Rattle.hickory_resolver_model.specs.Cache.{Entry, current, is_for, without, without_earliest, least_deadline, room_for, insert_entry}
+use Rattle.hickory_resolver_cache.specs.Turns.{Pair, Turn, Order, turn_cmp, stored_entry, by_number, numbered, listed, in_order, entries_of, IsNumbered, IsPlaced, IsKept, StandsAt, Gone, TurnGone, IsTaken, IsTurnOf, IsSomeTurn, IsFirstTurn, MakesRoom, Drops, shown, shown_entry}
+use Rattle.hickory_resolver_cache.proofs.Lists.{all-map, all-map_at, all-weaker, remove-first, list_any-filter_not, list_any-remove, filter-none}
+use Rattle.hickory_resolver_cache.proofs.Listed.{listed-same, all-listed, Around, around, in_order-permutes, numbered-at}
+use Rattle.hickory_resolver_cache.proofs.TurnOrder.{left, turn-below, taken-from_stands, numbered-push, found-query, numbers-left, numbers-push, placed-left, placed-push, gone-push, stands-push}
 
-abbrev pub AreApart : List Entry → Type 0
-AreApart es = IsDistinct query_eq (map (λ e. e.query) es)
-
-pub without-position : (q : Query) (es : List Entry) → AreApart es → without q es ≡ option_map_or (λ i. remove es i) (position (is_for q) es) es
-without-position q es apart = filter-apart query_eq query_equiv (λ e. e.query) q es apart ∙ sym (remove_at-position (is_for q) es)
-
--- what stays is the list without the entry at the leaving place
-pub room_for-place : (capacity : ℕ) (q : Query) (es : List Entry) → AreApart es → room_for capacity q es ≡ option_map_or (λ i. remove es i) (leaving_place capacity q es) es
-room_for-place capacity q es apart = by (list_any (is_for q) es) refl (nat_lt (length es) capacity) refl
+-- ---- the question's entry is taken out
+passed-on : (q : Query) (a p : Query) → query_eq a p ≡ false → query_eq q p ≡ true → query_eq q a ≡ false
+passed-on q a p apart h = by (query_eq q a) refl
   where
-    rest : Bool → List Entry
-    rest own = if own then without q es else (if nat_lt (length es) capacity then es else without_earliest es)
+    by : (b : Bool) → query_eq q a ≡ b → query_eq q a ≡ false
+    by true e = absurd (false≢true (sym apart ∙ sym (query_equiv.congr q a p e) ∙ h))
+    by false e = e
 
-    leaves : Option ℕ → Option ℕ → List Entry
-    leaves own crowded = option_map_or (λ i. remove es i) (option_or own crowded) es
+without-none : (q : Query) (ps : List Pair) → NonePasses (query_eq q) ps → without q (map stored_entry ps) ≡ map stored_entry ps
+without-none q [] h = refl
+without-none q (p ∷ ps) h =
+    ap (λ b. cond (not b) (stored_entry p ∷ without q (map stored_entry ps)) (without q (map stored_entry ps))) h.0
+    ∙ ap (λ l. stored_entry p ∷ l) (without-none q ps h.1)
 
-    by : (own : Bool) → list_any (is_for q) es ≡ own → (room : Bool) → nat_lt (length es) capacity ≡ room → room_for capacity q es ≡ option_map_or (λ i. remove es i) (leaving_place capacity q es) es
-    by true h room k =
-        let at = position-some (is_for q) es h in
-        ap rest h ∙ without-position q es apart ∙ ap (λ o. option_map_or (λ i. remove es i) o es) at
-        ∙ sym (ap (λ o. leaves o (crowded_place capacity es)) at)
-    by false h true k =
-        ap rest h ∙ ap (λ b. if b then es else without_earliest es) k
-        ∙ sym (ap₂ leaves (position-none (is_for q) es h) (ap (λ b. if b then None else position (λ e. e.valid_until == least_deadline es) es) k))
-    by false h false k =
-        ap rest h ∙ ap (λ b. if b then es else without_earliest es) k ∙ sym (remove_at-position (λ e. e.valid_until == least_deadline es) es)
-        ∙ sym (ap₂ leaves (position-none (is_for q) es h) (ap (λ b. if b then None else position (λ e. e.valid_until == least_deadline es) es) k))
+without-middle : (q : Query) (A : List Pair) (p : Pair) (B : List Pair) → IsDistinct query_eq (keys_of (A ++ p ∷ B)) → query_eq q p.0 ≡ true → without q (map stored_entry (A ++ p ∷ B)) ≡ map stored_entry (A ++ B)
+without-middle q [] p B d h =
+    ap (λ b. cond (not b) (stored_entry p ∷ without q (map stored_entry B)) (without q (map stored_entry B))) h
+    ∙ without-none q B (none_past_head query_equiv q p B d h)
+without-middle q (a ∷ A) p B d h =
+    let other = passed-on q a.0 p.0 (all-map_at (λ y. query_eq a.0 y ≡ false) (λ (x : Pair). x.0) A p B (IsDistinct-head query_eq a.0 (keys_of (A ++ p ∷ B)) d)) h in
+    ap (λ b. cond (not b) (stored_entry a ∷ without q (map stored_entry (A ++ p ∷ B))) (without q (map stored_entry (A ++ p ∷ B)))) other
+    ∙ ap (λ l. stored_entry a ∷ l) (without-middle q A p B (IsDistinct-tail query_eq a.0 (keys_of (A ++ p ∷ B)) d) h)
 
--- the question has no entry among those that stay
+-- ---- the first entry of the least deadline is taken out
+fold-le : (m : ℕ) (zs : List Entry) → fold (λ d x. min d x.valid_until) m zs ≤ m
+fold-le m [] = omega arith
+fold-le m (z ∷ zs) = let h = fold-le (min m z.valid_until) zs in omega (arith, h)
+
+fold-least : (d m : ℕ) (zs : List Entry) → d ≤ m → AllByRecursion (λ z. d ≤ z.valid_until) zs → d ≤ fold (λ k x. min k x.valid_until) m zs
+fold-least d m [] l h = l
+fold-least d m (z ∷ zs) l h = let z_above = h.0 in fold-least d (min m z.valid_until) zs (omega arith) h.1
+
+fold-at : (m : ℕ) (xs : List Entry) (e : Entry) (ys : List Entry) → fold (λ d x. min d x.valid_until) m (xs ++ e ∷ ys) ≤ e.valid_until
+fold-at m [] e ys = let h = fold-le (min m e.valid_until) ys in omega (arith, h)
+fold-at m (x ∷ xs) e ys = fold-at (min m x.valid_until) xs e ys
+
+least-at : (xs : List Entry) (e : Entry) (ys : List Entry) → AllByRecursion (λ z. e.valid_until ≤ z.valid_until) (xs ++ e ∷ ys) → least_deadline (xs ++ e ∷ ys) ≡ e.valid_until
+least-at [] e ys h =
+    let above = fold-least e.valid_until e.valid_until ys (omega arith) h.1 in
+    let below = fold-le e.valid_until ys in
+    omega (arith, above, below)
+least-at (x ∷ xs) e ys h =
+    let first = h.0 in
+    let above = fold-least e.valid_until x.valid_until (xs ++ e ∷ ys) first h.1 in
+    let below = fold-at x.valid_until xs e ys in
+    omega (arith, above, below)
+
+without_earliest-middle : (xs : List Entry) (e : Entry) (ys : List Entry) → AllByRecursion (λ z. e.valid_until ≤ z.valid_until) (xs ++ e ∷ ys) → AllByRecursion (λ z. e.valid_until < z.valid_until) xs → without_earliest (xs ++ e ∷ ys) ≡ xs ++ ys
+without_earliest-middle xs e ys all above =
+    let least = least-at xs e ys all in
+    ap (λ m. remove (xs ++ e ∷ ys) (position_or_len (λ z. z.valid_until == m) (xs ++ e ∷ ys))) least
+    ∙ remove-first (λ z. z.valid_until == e.valid_until) xs e ys
+    (all-weaker (λ z. e.valid_until < z.valid_until) (λ z. (z.valid_until == e.valid_until) ≡ false) (λ z l. ne_eqb z.valid_until e.valid_until (λ s. omega arith)) xs above)
+    (eq-eqb e.valid_until e.valid_until refl)
+
+-- ---- look-ups in the list in order
+lookup-agree : (t u : Query → Bool) → ((k : Query) → t k ≡ u k) → (ps : List Pair) → lookup t ps ≡ lookup u ps
+lookup-agree t u same [] = refl
+lookup-agree t u same (p ∷ ps) = ap₂ (λ b r. cond b (Some p.1) r) (same p.0) (lookup-agree t u same ps)
+
+list_any-entries : (q : Query) (ps : List Pair) → list_any (is_for q) (map stored_entry ps) ≡ is_some (lookup (query_eq q) ps)
+list_any-entries q [] = refl
+list_any-entries q (p ∷ ps) = by (query_eq q p.0) refl (list_any-entries q ps)
+  where
+    by : (b : Bool) → query_eq q p.0 ≡ b → list_any (is_for q) (map stored_entry ps) ≡ is_some (lookup (query_eq q) ps) → list_any (is_for q) (map stored_entry (p ∷ ps)) ≡ is_some (lookup (query_eq q) (p ∷ ps))
+    by true e h = or_true e ∙ sym (ap (λ b. is_some (cond b (Some p.1) (lookup (query_eq q) ps))) e)
+      where
+        or_true : query_eq q p.0 ≡ true → list_any (is_for q) (map stored_entry (p ∷ ps)) ≡ true
+        or_true z = or_left (query_eq q p.0) (list_any (is_for q) (map stored_entry ps)) z
+    by false e h = ap (λ b. b || list_any (is_for q) (map stored_entry ps)) e ∙ h ∙ sym (ap (λ b. is_some (cond b (Some p.1) (lookup (query_eq q) ps))) e)
+
+abbrev pub if_current : ℕ → Option Kept → Option Kept
+if_current now None = None
+if_current now (Some k) = if nat_le now k.valid_until then Some k else None
+
+current-none : (q : Query) (now : ℕ) (ps : List Pair) → NonePasses (query_eq q) ps → current q now (map stored_entry ps) ≡ None
+current-none q now [] h = refl
+current-none q now (p ∷ ps) h = ap (λ b. cond (b && nat_le now p.1.valid_until) (Some (stored_entry p)) (current q now (map stored_entry ps))) h.0 ∙ current-none q now ps h.1
+
+current-entries : (q : Query) (now : ℕ) (ps : List Pair) → IsDistinct query_eq (keys_of ps) → option_map shown_entry (current q now (map stored_entry ps)) ≡ option_map shown (if_current now (lookup (query_eq q) ps))
+current-entries q now [] d = refl
+current-entries q now (p ∷ ps) d = by (query_eq q p.0) refl (nat_le now p.1.valid_until) refl (current-entries q now ps (IsDistinct-tail query_eq p.0 (keys_of ps) d))
+  where
+    rest : Option Entry
+    rest = current q now (map stored_entry ps)
+
+    found : Bool → Option (OutcomeValue × ℕ × ℕ)
+    found b = option_map shown (if_current now (cond b (Some p.1) (lookup (query_eq q) ps)))
+
+    by : (own : Bool) → query_eq q p.0 ≡ own → (now_is : Bool) → nat_le now p.1.valid_until ≡ now_is → option_map shown_entry rest ≡ option_map shown (if_current now (lookup (query_eq q) ps))
+        → option_map shown_entry (current q now (map stored_entry (p ∷ ps))) ≡ found (query_eq q p.0)
+    by true h true k tail =
+        ap₂ (λ a b. option_map shown_entry (cond (a && b) (Some (stored_entry p)) rest)) h k
+        ∙ sym (ap found h ∙ ap (λ b. option_map shown (if b then Some p.1 else None)) k)
+    by true h false k tail =
+        ap₂ (λ a b. option_map shown_entry (cond (a && b) (Some (stored_entry p)) rest)) h k
+        ∙ ap (option_map shown_entry) (current-none q now ps (none_past_head query_equiv q p ps d h))
+        ∙ sym (ap found h ∙ ap (λ b. option_map shown (if b then Some p.1 else None)) k)
+    by false h b k tail =
+        ap (λ a. option_map shown_entry (cond (a && nat_le now p.1.valid_until) (Some (stored_entry p)) rest)) h ∙ tail ∙ sym (ap found h)
+
+module _ (next : ℕ) (ps : List Pair) (h : IsNumbered next ps) where
+  pub length-entries : length (entries_of ps next) ≡ length ps
+  length-entries = length-map (in_order ps next) stored_entry ∙ length_permutation ps (in_order ps next) (in_order-permutes next ps h)
+
+  module _ (apart : IsDistinct query_eq (keys_of ps)) where
+    keys-in_order : IsDistinct query_eq (keys_of (in_order ps next))
+    keys-in_order = distinct_permutation query_equiv (keys_of ps) (keys_of (in_order ps next)) (IsPermutation-map (λ p. p.0) ps (in_order ps next) (in_order-permutes next ps h)) apart
+
+    lookup-in_order : (q : Query) → lookup (query_eq q) (in_order ps next) ≡ lookup (query_eq q) ps
+    lookup-in_order q = lookup_permutation query_equiv ps (in_order ps next) (in_order-permutes next ps h) keys-in_order (query_eq q) (query_equiv.congr q)
+
+    pub any-lookup : (q : Query) → list_any (is_for q) (entries_of ps next) ≡ is_some (lookup (query_eq q) ps)
+    any-lookup q = list_any-entries q (in_order ps next) ∙ ap is_some (lookup-in_order q)
+
+    pub current-lookup : (q : Query) (now : ℕ) → option_map shown_entry (current q now (entries_of ps next)) ≡ option_map shown (if_current now (lookup (query_eq q) ps))
+    current-lookup q now = current-entries q now (in_order ps next) keys-in_order ∙ ap (λ o. option_map shown (if_current now o)) (lookup-in_order q)
+
+    pub current-some : (q : Query) (now : ℕ) (k : Kept) → Some k ≡ lookup (query_eq q) ps → now ≤ k.valid_until → Some (shown k) ≡ option_map shown_entry (current q now (entries_of ps next))
+    current-some q now k found live =
+        sym (ap (λ b. option_map shown (if b then Some k else None)) (le-leb now k.valid_until live)) ∙ ap (λ o. option_map shown (if_current now o)) found ∙ sym (current-lookup q now)
+
+    pub current-past : (q : Query) (now : ℕ) (k : Kept) → Some k ≡ lookup (query_eq q) ps → k.valid_until < now → None ≡ option_map shown_entry (current q now (entries_of ps next))
+    current-past q now k found past =
+        sym (ap (λ b. option_map shown (if b then Some k else None)) (lt-leb now k.valid_until past)) ∙ ap (λ o. option_map shown (if_current now o)) found ∙ sym (current-lookup q now)
+
+    pub current-missing : (q : Query) (now : ℕ) → None ≡ lookup (query_eq q) ps → None ≡ option_map shown_entry (current q now (entries_of ps next))
+    current-missing q now found = ap (λ o. option_map shown (if_current now o)) found ∙ sym (current-lookup q now)
+
+    -- the list round the pair of a turn, when it leaves
+    module _ (rs : List Pair) (t : Turn) (p : Pair) (s : StandsAt ps t p) (moves : IsPermutation ps (p ∷ rs)) where
+      below : t.1 < next
+      below = by (cases_lt t.1 next)
+        where
+          by : (t.1 < next) ⊎ (next ≤ t.1) → t.1 < next
+          by (inl l) = l
+          by (inr l) = let e = sym s.number ∙ h.below t.1 l in cc
+
+      parts : Around (numbered ps) (numbered rs) next t.1 p
+      parts = around (numbered ps) (numbered rs) t.1 p s.number (left ps rs t p h.apart s moves) next below
+
+      pub without-own : (q : Query) → query_eq q p.0 ≡ true → entries_of rs next ≡ without q (entries_of ps next)
+      without-own q own =
+          ap (map stored_entry) parts.left
+          ∙ sym (without-middle q (listed (numbered ps) t.1) p parts.after (subst (λ l. IsDistinct query_eq (keys_of l)) parts.whole keys-in_order) own)
+          ∙ sym (ap (λ l. without q (map stored_entry l)) parts.whole)
+
+      pub without-first : (((n : ℕ) (x : Pair) → numbered ps n ≡ Some x → (t.0 ≤ x.1.valid_until) × (t.0 ≡ x.1.valid_until → t.1 ≤ n))) → entries_of rs next ≡ without_earliest (entries_of ps next)
+      without-first least =
+          ap (map stored_entry) parts.left ∙ map-append stored_entry (listed (numbered ps) t.1) parts.after
+          ∙ sym (without_earliest-middle (map stored_entry (listed (numbered ps) t.1)) (stored_entry p) (map stored_entry parts.after) all above)
+          ∙ sym (ap without_earliest split)
+        where
+          split : entries_of ps next ≡ map stored_entry (listed (numbered ps) t.1) ++ stored_entry p ∷ map stored_entry parts.after
+          split = ap (map stored_entry) parts.whole ∙ map-append stored_entry (listed (numbered ps) t.1) (p ∷ parts.after)
+
+          all : AllByRecursion (λ z. p.1.valid_until ≤ z.valid_until) (map stored_entry (listed (numbered ps) t.1) ++ stored_entry p ∷ map stored_entry parts.after)
+          all = subst (AllByRecursion (λ z. p.1.valid_until ≤ z.valid_until)) split
+              (all-map (λ z. p.1.valid_until ≤ z.valid_until) stored_entry (in_order ps next)
+              (all-listed (λ x. p.1.valid_until ≤ x.1.valid_until) (numbered ps) next (λ n x l e. let k = (least n x e).0 in let d = s.valid_until in omega (arith, k, d))))
+
+          above : AllByRecursion (λ z. p.1.valid_until < z.valid_until) (map stored_entry (listed (numbered ps) t.1))
+          above =
+              all-map (λ z. p.1.valid_until < z.valid_until) stored_entry (listed (numbered ps) t.1)
+              (all-listed (λ x. p.1.valid_until < x.1.valid_until) (numbered ps) t.1 (λ n x l e. strict n x l (least n x e)))
+            where
+              strict : (n : ℕ) (x : Pair) → n < t.1 → (t.0 ≤ x.1.valid_until) × (t.0 ≡ x.1.valid_until → t.1 ≤ n) → p.1.valid_until < x.1.valid_until
+              strict n x l k = by (cases_eq t.0 x.1.valid_until)
+                where
+                  d : p.1.valid_until ≡ t.0
+                  d = s.valid_until
+
+                  by : (t.0 ≡ x.1.valid_until) ⊎ (t.0 ≡ x.1.valid_until → ⊥) → p.1.valid_until < x.1.valid_until
+                  by (inl e) = let m = k.1 e in absurd (omega (arith, m, l))
+                  by (inr ne) = let m = k.0 in by_order (cases_lt t.0 x.1.valid_until) m
+                    where
+                      by_order : (t.0 < x.1.valid_until) ⊎ (x.1.valid_until ≤ t.0) → t.0 ≤ x.1.valid_until → p.1.valid_until < x.1.valid_until
+                      by_order (inl m) n = omega (arith, m, d)
+                      by_order (inr m) n = absurd (ne (omega (arith, m, n)))
+
+    -- ---- the turn that leaves
+    pub drops : (q : Query) (o : Option Turn) → IsTurnOf q ps o → Drops next q ps o
+    drops q None none rs gone =
+        ap (λ l. entries_of l next) gone ∙ sym (filter-none (is_for q) (entries_of ps next) (any-lookup q ∙ ap is_some none))
+    drops q (Some t) own rs gone =
+        let same : own.0 ≡ gone.0 = same_Some own.0 gone.0 (sym own.1.number ∙ gone.1.number) in
+        without-own rs t gone.0 gone.1 gone.2 q (subst (λ (y : Pair). query_eq q y.0 ≡ true) same own.2)
+
+    pub makes_room-own : (capacity : ℕ) (q : Query) (t : Turn) → IsTurnOf q ps (Some t) → MakesRoom capacity next q ps (Some t)
+    makes_room-own capacity q t own = record {
+      stays = λ rs gone. drops q (Some t) own rs gone
+          ∙ sym (ap (λ b. if b then without q (entries_of ps next) else (if nat_lt (length (entries_of ps next)) capacity then entries_of ps next else without_earliest (entries_of ps next))) some);
+      room = λ e. cc;
+    }
+      where
+        found : is_some (lookup (query_eq q) ps) ≡ true
+        found = ap is_some (lookup-agree (query_eq q) (query_eq own.0.0) (λ k. query_equiv.congr q own.0.0 k own.2) ps ∙ found-query ps t.1 own.0 apart own.1.number)
+
+        some : list_any (is_for q) (entries_of ps next) ≡ true
+        some = any-lookup q ∙ found
+
+    pub makes_room-none : (capacity : ℕ) (q : Query) → lookup (query_eq q) ps ≡ None → length ps < capacity → MakesRoom capacity next q ps None
+    makes_room-none capacity q none room = record {
+      stays = λ rs gone. ap (λ l. entries_of l next) gone ∙ sym (ap₂ (λ b c. if b then without q (entries_of ps next) else (if c then entries_of ps next else without_earliest (entries_of ps next)))
+          (any-lookup q ∙ ap is_some none) (lt-ltb (length (entries_of ps next)) capacity (subst (λ n. n < capacity) (sym length-entries) room)));
+      room = λ e. room;
+    }
+
+    pub makes_room-first : (capacity : ℕ) (q : Query) (order : Order) (t : Turn) (k : Query) → lookup (query_eq q) ps ≡ None → capacity ≤ length ps → IsPlaced ps order → get turn_cmp order t ≡ Some k → IsLowerBound turn_cmp order t
+        → MakesRoom capacity next q ps (Some t)
+    makes_room-first capacity q order t k none full placed at lower = record {
+      stays = λ rs gone. without-first rs t gone.0 gone.1 gone.2 least
+          ∙ sym (ap₂ (λ b c. if b then without q (entries_of ps next) else (if c then entries_of ps next else without_earliest (entries_of ps next)))
+          (any-lookup q ∙ ap is_some none) (le-ltb (length (entries_of ps next)) capacity (subst (λ n. capacity ≤ n) (sym length-entries) full)));
+      room = λ e. cc;
+    }
+      where
+        least : (n : ℕ) (x : Pair) → numbered ps n ≡ Some x → (t.0 ≤ x.1.valid_until) × (t.0 ≡ x.1.valid_until → t.1 ≤ n)
+        least n x e =
+            turn-below t (x.1.valid_until, n) (lower (x.1.valid_until, n) (subst IsSome (sym (taken-from_stands ps order (x.1.valid_until, n) x placed (record { number = e; valid_until = refl }))) refl))
+
+-- ---- a store
 pub room_for-none : (capacity : ℕ) (q : Query) (es : List Entry) → list_any (is_for q) (room_for capacity q es) ≡ false
 room_for-none capacity q es = by (list_any (is_for q) es) refl (nat_lt (length es) capacity) refl
   where
@@ -52,114 +258,128 @@ room_for-none capacity q es = by (list_any (is_for q) es) refl (nat_lt (length e
     by false h true k = ap₂ (λ b r. list_any (is_for q) (rest b r)) h k ∙ h
     by false h false k = ap₂ (λ b r. list_any (is_for q) (rest b r)) h k ∙ list_any-remove (is_for q) es _ h
 
--- the least deadline is some entry's
-pub least_reached : (d : ℕ) (es : List Entry) → (fold (λ m x. min m x.valid_until) d es ≡ d) ⊎ (list_any (λ e. e.valid_until == fold (λ m x. min m x.valid_until) d es) es ≡ true)
-least_reached d [] = inl refl
-least_reached d (e ∷ es) = by (least_reached (min d e.valid_until) es) (cases_lt d e.valid_until)
+none-from_is_some : {X : Type 0} (o : Option X) → is_some o ≡ false → o ≡ None
+none-from_is_some None h = refl
+none-from_is_some (Some x) h = cc
+
+-- once the pair has left, the question has none
+pub none-left : (capacity next : ℕ) (q : Query) (ps rs : List Pair) (o : Option Turn) → IsNumbered next ps → IsDistinct query_eq (keys_of rs) → MakesRoom capacity next q ps o → Gone o ps rs → lookup (query_eq q) rs ≡ None
+none-left capacity next q ps rs o h apart room gone =
+    none-from_is_some (lookup (query_eq q) rs)
+    (sym (any-lookup next rs (numbers-left next ps rs o h gone) apart q) ∙ ap (list_any (is_for q)) (room.stays rs gone) ∙ room_for-none capacity q (entries_of ps next))
+
+-- the pair that comes in stands last
+pub entries-push : (next : ℕ) (rs : List Pair) (p : Pair) → IsNumbered next rs → p.1.number ≡ next → entries_of (rs ++ p ∷ []) (next + 1) ≡ entries_of rs next ++ stored_entry p ∷ []
+entries-push next rs p h is =
+    ap (entries_of (rs ++ p ∷ [])) more
+    ∙ ap (map stored_entry) (ap₂ (λ l o. l ++ option_to_list o)
+    (listed-same (numbered (rs ++ p ∷ [])) (numbered rs) next (λ n l. numbered-push next rs p h is n ∙ ap (λ b. cond b (Some p) (numbered rs n)) (ne_eqb n next (λ e. omega arith))))
+    (numbered-push next rs p h is next ∙ ap (λ b. cond b (Some p) (numbered rs next)) (eq-eqb next next refl)))
+    ∙ map-append stored_entry (in_order rs next) (p ∷ [])
   where
-    least : ℕ
-    least = fold (λ m x. min m x.valid_until) (min d e.valid_until) es
+    more : next + 1 ≡ suc next
+    more = omega arith
 
-    by : (least ≡ min d e.valid_until) ⊎ (list_any (λ x. x.valid_until == least) es ≡ true) → (d < e.valid_until) ⊎ (e.valid_until ≤ d) → (least ≡ d) ⊎ ((e.valid_until == least) || list_any (λ x. x.valid_until == least) es ≡ true)
-    by (inl h) (inl k) = inl (omega arith)
-    by (inl h) (inr k) = inr (or_left (e.valid_until == least) _ (eq-eqb e.valid_until least (omega arith)))
-    by (inr h) k = inr (or_right (e.valid_until == least) _ h)
+length-gone : (capacity : ℕ) (ps rs : List Pair) (o : Option Turn) → length ps ≤ capacity → (o ≡ None → length ps < capacity) → Gone o ps rs → length rs < capacity
+length-gone capacity ps rs None short room gone = subst (λ l. length l < capacity) (sym gone) (room refl)
+length-gone capacity ps rs (Some t) short room gone = let n = length_permutation ps (gone.0 ∷ rs) gone.2 in omega (arith, n)
 
--- with no place to leave, there is room
-pub room_left : (capacity : ℕ) (q : Query) (es : List Entry) → 0 < capacity → leaving_place capacity q es ≡ None → length es < capacity
-room_left capacity q [] pos h = pos
-room_left capacity q (e ∷ es) pos h = by (nat_lt (length (e ∷ es)) capacity) refl
-  where
-    least : ℕ
-    least = least_deadline (e ∷ es)
+pub length-left : (ps rs : List Pair) (o : Option Turn) → Gone o ps rs → length rs ≤ length ps
+length-left ps rs None gone = let n = ap length gone in omega (arith, n)
+length-left ps rs (Some t) gone = let n = length_permutation ps (gone.0 ∷ rs) gone.2 in omega (arith, n)
 
-    some : list_any (λ x. x.valid_until == least) (e ∷ es) ≡ true
-    some = ⊎_elim (λ k. or_left (e.valid_until == least) _ (eq-eqb e.valid_until least (sym k))) (λ k. or_right (e.valid_until == least) _ k) (least_reached e.valid_until es)
+-- what holds after a store
+pub kept-store : (capacity next : ℕ) (ps rs : List Pair) (p : Pair) (old mid new : Order) (o : Option Turn) → IsKept capacity next ps old → p.1.number ≡ next → MakesRoom capacity next p.0 ps o
+    → ((u : Turn) → get turn_cmp mid u ≡ cond (is_at (turn_cmp (p.1.valid_until, next)) u) (Some p.0) (get turn_cmp old u)) → Gone o ps rs → TurnGone o mid new
+    → IsKept capacity (next + 1) (rs ++ p ∷ []) new
+kept-store capacity next ps rs p old mid new o h is room updates gone turns =
+    let pushed = numbers-push next ps p h.numbers is in
+    record {
+      short = let n = length-append rs (p ∷ []) in let m = length-gone capacity ps rs o h.short room.room gone in omega (arith, n, m);
+      numbers = numbers-push next rs p (numbers-left next ps rs o h.numbers gone) is;
+      placed = placed-left (ps ++ p ∷ []) (rs ++ p ∷ []) mid new o pushed.apart (placed-push next ps p old mid h.numbers is h.placed updates) (gone-push ps rs p o gone) turns;
+    }
 
-    by : (b : Bool) → nat_lt (length (e ∷ es)) capacity ≡ b → length (e ∷ es) < capacity
-    by true k = ltb-true _ _ k
-    by false k =
-        let crowded = ap (λ b. if b then None else position (λ x. x.valid_until == least) (e ∷ es)) k ∙ position-some (λ x. x.valid_until == least) (e ∷ es) some in
-        let or_some : (o : Option ℕ) (n : ℕ) → option_or o (Some n) ≡ None → ⊥ = elim [ None ↦ λ n z. cc | Some i ↦ λ n z. cc ] in
-        absurd (or_some (position (is_for q) (e ∷ es)) _ (ap (option_or (position (is_for q) (e ∷ es))) (sym crowded) ∙ h))
-
-pub place-within : (capacity : ℕ) (q : Query) (es : List Entry) (i : ℕ) → leaving_place capacity q es ≡ Some i → i < length es
-place-within capacity q es i h = by (position (is_for q) es) refl (nat_lt (length es) capacity) refl
-  where
-    by : (own : Option ℕ) → position (is_for q) es ≡ own → (room : Bool) → nat_lt (length es) capacity ≡ room → i < length es
-    by (Some k) e room r =
-        let same : Some k ≡ Some i = ap (λ o. option_or o (crowded_place capacity es)) (sym e) ∙ h in
-        let k_is : k ≡ i = cc in
-        subst (λ n. n < length es) k_is (position-within (is_for q) es k e).0
-    by None e true r =
-        let none : None ≡ Some i = ap₂ (λ o b. option_or o (if b then None else position (λ x. x.valid_until == least_deadline es) es)) (sym e) (sym r) ∙ h in
-        cc
-    by None e false r =
-        (position-within (λ x. x.valid_until == least_deadline es) es i (ap₂ (λ o b. option_or o (if b then None else position (λ x. x.valid_until == least_deadline es) es)) (sym e) (sym r) ∙ h)).0
-
-pub IsCache-none : (capacity : ℕ) → IsCache capacity []
-unfolding IsDistinct
-IsCache-none capacity = record { short = omega arith; apart = tt }
-
-pub IsCache-remove : (capacity : ℕ) (es : List Entry) (i : ℕ) → IsCache capacity es → IsCache capacity (remove es i)
-IsCache-remove capacity es i h = record {
-  short = omega (arith, length-remove-le es i, h.short);
-  apart = apart-remove query_eq query_equiv (λ e. e.query) es i h.apart;
+pub kept-left : (capacity next : ℕ) (ps rs : List Pair) (old new : Order) (o : Option Turn) → IsKept capacity next ps old → Gone o ps rs → TurnGone o old new → IsKept capacity next rs new
+kept-left capacity next ps rs old new o h gone turns = record {
+  short = let n = length-left ps rs o gone in let m = h.short in omega (arith, n, m);
+  numbers = numbers-left next ps rs o h.numbers gone;
+  placed = placed-left ps rs old new o h.numbers.apart h.placed gone turns;
 }
 
--- the list after a store is a cache
-pub IsCache-stored : (capacity : ℕ) (es : List Entry) (e : Entry) → 0 < capacity → IsCache capacity es → IsCache capacity (room_for capacity e.query es ++ e ∷ [])
-IsCache-stored capacity es e pos h =
-    record {
-      short = omega (arith, length-append (room_for capacity e.query es) (e ∷ []), short);
-      apart = subst (IsDistinct query_eq) (sym (map-append (λ x. x.query) (room_for capacity e.query es) (e ∷ [])))
-          (IsDistinct-push query_equiv (map (λ x. x.query) (room_for capacity e.query es)) e.query apart
-          (list_any-mapped (query_eq e.query) (λ x. x.query) (room_for capacity e.query es) ∙ room_for-none capacity e.query es));
-    }
-  where
-    after : Option ℕ → List Entry
-    after o = option_map_or (λ i. remove es i) o es
+-- some pair stands where the turn points to, also when another turn has come in
+pub taken-push : (next : ℕ) (ps : List Pair) (p : Pair) (old mid : Order) (o : Option Turn) → IsNumbered next ps → p.1.number ≡ next → IsPlaced ps old → IsSomeTurn ps o
+    → ((u : Turn) → get turn_cmp mid u ≡ cond (is_at (turn_cmp (p.1.valid_until, next)) u) (Some p.0) (get turn_cmp old u)) → IsTaken ps mid o
+taken-push next ps p old mid None h is placed some updates = tt
+taken-push next ps p old mid (Some t) h is placed some updates =
+    (some.0, some.1, taken-from_stands (ps ++ p ∷ []) mid t some.0 (placed-push next ps p old mid h is placed updates) (stands-push next ps p t some.0 some.1))
 
-    is_after : room_for capacity e.query es ≡ after (leaving_place capacity e.query es)
-    is_after = room_for-place capacity e.query es h.apart
-
-    by : (o : Option ℕ) → leaving_place capacity e.query es ≡ o → (length (after o) < capacity) × AreApart (after o)
-    by None k = (room_left capacity e.query es pos k, h.apart)
-    by (Some i) k = (omega (arith, length-remove es i (place-within capacity e.query es i k), h.short), apart-remove query_eq query_equiv (λ x. x.query) es i h.apart)
-
-    short : length (room_for capacity e.query es) < capacity
-    short = subst (λ l. length l < capacity) (sym is_after) (by _ refl).0
-
-    apart : AreApart (room_for capacity e.query es)
-    apart = subst AreApart (sym is_after) (by _ refl).1
-
--- the entry put at the end before the other is taken out
-pub stored : (capacity : ℕ) (es : List Entry) (e : Entry) (i : ℕ) → AreApart es → leaving_place capacity e.query es ≡ Some i → remove (es ++ e ∷ []) i ≡ room_for capacity e.query es ++ e ∷ []
-stored capacity es e i apart h =
-    remove-append_left es (e ∷ []) i (place-within capacity e.query es i h)
-    ∙ ap (λ l. l ++ e ∷ []) (sym (room_for-place capacity e.query es apart ∙ ap (λ o. option_map_or (λ k. remove es k) o es) h))
-
-pub stored_last : (capacity : ℕ) (es : List Entry) (e : Entry) → AreApart es → leaving_place capacity e.query es ≡ None → es ++ e ∷ [] ≡ room_for capacity e.query es ++ e ∷ []
-stored_last capacity es e apart h =
-    ap (λ l. l ++ e ∷ []) (sym (room_for-place capacity e.query es apart ∙ ap (λ o. option_map_or (λ k. remove es k) o es) h))
-
--- the list without the question's own entry
-pub cleared : (q : Query) (es : List Entry) (o : Option ℕ) → AreApart es → o ≡ position (is_for q) es → option_map_or (λ i. remove es i) o es ≡ without q es
-cleared q es o apart h = ap (λ p. option_map_or (λ i. remove es i) p es) h ∙ sym (without-position q es apart)
-
-pub IsCache-without : (capacity : ℕ) (q : Query) (es : List Entry) → IsCache capacity es → IsCache capacity (without q es)
-IsCache-without capacity q es h =
-    subst (IsCache capacity) (sym (filter-apart query_eq query_equiv (λ e. e.query) q es h.apart)) (IsCache-remove capacity es (position_or_len (is_for q) es) h)
-
--- a cache that holds something stores
 pub insert_entry-room_for : (capacity : ℕ) (es : List Entry) (e : Entry) → 0 < capacity → room_for capacity e.query es ++ e ∷ [] ≡ insert_entry capacity es e
 insert_entry-room_for capacity es e pos = by (capacity == 0) refl
   where
     by : (b : Bool) → (capacity == 0) ≡ b → room_for capacity e.query es ++ e ∷ [] ≡ insert_entry capacity es e
-    by true h = absurd (omega (arith, eqb-true capacity 0 h))
+    by true h = let z = eqb-true capacity 0 h in absurd (omega (arith, z, pos))
     by false h = sym (ap (λ b. if b then es else room_for capacity e.query es ++ e ∷ []) h)
 
--- whether an entry leaves or none does
-pub stored_at : (capacity : ℕ) (es : List Entry) (e : Entry) (o : Option ℕ) → AreApart es → o ≡ leaving_place capacity e.query es → option_map_or (λ i. remove (es ++ e ∷ []) i) o (es ++ e ∷ []) ≡ room_for capacity e.query es ++ e ∷ []
-stored_at capacity es e None apart h = stored_last capacity es e apart (sym h)
-stored_at capacity es e (Some i) apart h = stored capacity es e i apart (sym h)
+-- a turn of the question's entry, from the look-up
+pub turn-found : (q : Query) (ps : List Pair) (k : Kept) → IsDistinct nat_eq (keys_of (by_number ps)) → lookup (query_eq q) ps ≡ Some k → IsTurnOf q ps (Some (k.valid_until, k.number))
+turn-found q ps k numbers h =
+    let at = place_from_lookup (query_eq q) ps k h in
+    ((at.1, k), record { number = numbered-at ps at.0 (at.1, k) numbers at.2; valid_until = refl }, at.3)
+
+-- an order with no turn
+pub no_pairs : (next : ℕ) (ps : List Pair) (order : Order) → IsNumbered next ps → IsPlaced ps order → ((t : Turn) → get turn_cmp order t ≡ None) → length ps ≡ 0
+no_pairs next ps order h placed none =
+    sym (length-entries next ps h) ∙ length-map (in_order ps next) stored_entry ∙ ap length (empty next)
+  where
+    no : (n : ℕ) (o : Option Pair) → numbered ps n ≡ o → numbered ps n ≡ None
+    no n None e = e
+    no n (Some x) e = let t = sym (none (x.1.valid_until, n)) ∙ taken-from_stands ps order (x.1.valid_until, n) x placed (record { number = e; valid_until = refl }) in cc
+
+    empty : (k : ℕ) → listed (numbered ps) k ≡ []
+    empty zero = refl
+    empty (suc k) = ap₂ (λ l o. l ++ option_to_list o) (empty k) (no k (numbered ps k) refl)
+
+pub ok_fact : {T E P : Type 0} (r : Result T E) → IsOk r → OnOk r P → P
+ok_fact (Ok v) h p = p
+ok_fact (Err e) h p = absurd (false≢true h)
+
+pub kept-empty : (capacity : ℕ) (ps : List Pair) (order : Order) → ps ≡ [] → order.entries ≡ [] → IsKept capacity 0 ps order
+unfolding IsDistinct
+kept-empty capacity ps order e o = subst (λ l. IsKept capacity 0 l order) (sym e) none
+  where
+    none : IsKept capacity 0 [] order
+    none = record {
+      short = omega arith;
+      numbers = record { apart = tt; below = λ n l. refl };
+      placed = λ t. ap (lookup (is_at (turn_cmp t))) o;
+    }
+
+pub no_turns : (order : Order) → length order.entries ≡ 0 → (t : Turn) → get turn_cmp order t ≡ None
+no_turns order e t = by order.entries e
+  where
+    by : (l : List (Turn × Query)) → length l ≡ 0 → lookup (is_at (turn_cmp t)) l ≡ None
+    by [] h = refl
+    by (x ∷ l) h = absurd (omega (arith, h))
+
+pub query-at_turn : (ps : List Pair) (order : Order) (t : Turn) (k : Query) (taken : IsTaken ps order (Some t)) → get turn_cmp order t ≡ Some k → k ≡ taken.0.0
+query-at_turn ps order t k taken h = same_Some k taken.0.0 (sym h ∙ taken.2)
+
+-- the first turn leaves, where the cache is full
+pub makes_room-any : (next : ℕ) (ps : List Pair) → IsNumbered next ps → IsDistinct query_eq (keys_of ps) → (capacity : ℕ) (q : Query) (order : Order) (o : Option Turn) → 0 < capacity → lookup (query_eq q) ps ≡ None → capacity ≤ length ps → IsPlaced ps order → IsFirstTurn order o
+    → MakesRoom capacity next q ps o
+makes_room-any next ps h apart capacity q order None pos none full placed first = let n = no_pairs next ps order h placed first in absurd (omega (arith, n, pos, full))
+makes_room-any next ps h apart capacity q order (Some t) pos none full placed first = makes_room-first next ps h apart capacity q order t first.0.0 none full placed first.0.1 first.1
+
+keys-entries : (ps : List Pair) → map (λ e. e.query) (map stored_entry ps) ≡ keys_of ps
+keys-entries [] = refl
+keys-entries (p ∷ ps) = ap (λ l. p.0 ∷ l) (keys-entries ps)
+
+pub apart-entries : (next : ℕ) (ps : List Pair) → IsNumbered next ps → IsDistinct query_eq (keys_of ps) → IsDistinct query_eq (map (λ e. e.query) (entries_of ps next))
+apart-entries next ps h apart = subst (IsDistinct query_eq) (sym (keys-entries (in_order ps next))) (keys-in_order next ps h apart)
+
+-- ---- a whole store
+pub entries-insert_entry : (capacity next : ℕ) (ps rs : List Pair) (p : Pair) (o : Option Turn) {order : Order} → IsKept capacity next ps order → p.1.number ≡ next → MakesRoom capacity next p.0 ps o → Gone o ps rs → 0 < capacity
+    → entries_of (rs ++ p ∷ []) (next + 1) ≡ insert_entry capacity (entries_of ps next) (stored_entry p)
+entries-insert_entry capacity next ps rs p o h is room gone pos =
+    entries-push next rs p (numbers-left next ps rs o h.numbers gone) is ∙ ap (λ l. l ++ stored_entry p ∷ []) (room.stays rs gone) ∙ insert_entry-room_for capacity (entries_of ps next) (stored_entry p) pos

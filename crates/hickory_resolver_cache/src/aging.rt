@@ -7,10 +7,10 @@ ghost use Rattle.hickory_resolver_model.specs.Cache.{age, aged_record, aged_reco
 use hickory_proto_core::{DnsError, ForwardNSData, Message, NetError, NoRecords, Record};
 
 // The seconds since a moment, as far as a TTL can count; none where the moment has not come yet.
-pub fn age(moment: u64, now: u64) -> u32
-    ensures { result ≡ age moment now }
+pub fn age(original_time: u64, now: u64) -> u32
+    ensures { result ≡ age original_time now }
 {
-    now.saturating_sub(moment).min(u32::MAX as u64) as u32
+    now.saturating_sub(original_time).min(u32::MAX as u64) as u32
 }
 
 // Lowers the TTL of each record of the message.

@@ -1,8 +1,7 @@
 //! What a cache holds.
-ghost use Rattle.std.specs.Prelude.{◌≡◌, ◌⊎◌};
-ghost use Rattle.hickory_resolver_model.specs.Cache.{Entry, aged_result, entry_of, positive_entry, negative_entry};
+ghost use Rattle.std.specs.Prelude.{◌≡◌};
+ghost use Rattle.hickory_resolver_model.specs.Cache.{Entry, entry_of, positive_entry, negative_entry};
 
-use crate::aging::{age, age_error, age_message};
 use hickory_proto_core::{DnsError, Message, NetError, NoRecords, Query};
 use hickory_resolver_lookup::TtlConfig;
 use std::marker::Model;
@@ -22,27 +21,6 @@ impl Model for CacheEntry {
     ghost Value = { Entry };
 
     ghost view = { λ e. record { query = e.query; result = e.result; original_time = e.original_time; valid_until = e.valid_until } };
-}
-
-impl CacheEntry {
-    // What the entry gives at a moment: a copy whose times to live have counted down.
-    pub fn aged_result(&self, now: u64) -> Result<Message, NetError>
-        ensures { (result ≡ aged_result now self.now) ⊎ (result ≡ Err NetError.OutOfMemory) }
-    {
-        let seconds = age(self.original_time, now);
-        match &self.result {
-            Ok(message) => {
-                let mut copy = message.clone()?;
-                age_message(&mut copy, seconds);
-                Ok(copy)
-            }
-            Err(error) => {
-                let mut copy = error.clone()?;
-                age_error(&mut copy, seconds);
-                Err(copy)
-            }
-        }
-    }
 }
 
 // The entry that an outcome becomes at a moment, where it is kept.

@@ -3,9 +3,11 @@
 
 mod aging;
 mod entry;
-mod places;
+mod kept;
+mod renumber;
 pub mod response_cache;
 #[cfg(test)]
 mod tests;
+mod turns;
 
 pub use response_cache::ResponseCache;

@@ -1,41 +1,68 @@
 //! A bounded cache of outcomes by question.
 ghost use Rattle.std.specs.Prelude.{◌≡◌, ◌≤◌, ◌<◌, [], length, option_copied, IsTrue, IsOk, IfSome, IsNone, OnOk, OnErr, IsOkUnless, if◌then◌else◌};
-ghost use Rattle.hickory_resolver_model.specs.Cache.{CacheValue, IsCache, IsGot, IsNewest, NeverLater, current, without_query, entry_of, not_after_current, insert_entry, store, store_clamped};
+ghost use Rattle.std.specs.Option.{option_map};
+ghost use Rattle.hickory_resolver_model.specs.Cache.{CacheValue, IsCache, IsGot, IsNewest, NeverLater, OutlivesNoAnswer, current, without_query, entry_of, not_after_current, insert_entry, store, store_clamped};
+ghost use Rattle.hickory_resolver_cache.specs.Turns.{shown, shown_entry};
 
 use crate::entry::{CacheEntry, entry_of};
-use crate::places::{leaving, place_of, take_out};
+use crate::kept::Kept;
+use crate::renumber::next_number;
+use crate::turns::{Index, Order, store, take_out, turn_of};
 use hickory_proto_core::{Message, NetError, Query};
 use hickory_resolver_lookup::TtlConfig;
+use indexmap::IndexMap;
 use std::alloc::Global;
+use std::collections::BTreeMap;
+use std::hash::{BuildHasher, BuildHasherDefault, FoldHasher};
 use std::marker::Model;
 
 /// Outcomes by question, the oldest first: at most as many as its capacity, and one for each question. An
 /// outcome is given back while it is current, with its times to live counted down (RFC 2181, sections 5.4.1
 /// and 8; RFC 2308, section 5). A capacity of 0 keeps nothing. Moments are whole seconds.
 #[derive(Drop)]
-pub struct ResponseCache {
-    entries: Vec<CacheEntry>,
+pub struct ResponseCache<S: BuildHasher = BuildHasherDefault<FoldHasher>> {
+    index: Index<S>,
+    order: Order,
+    next_number: u64,
     capacity: u64,
     ttl_config: TtlConfig,
 }
 
-impl Model for ResponseCache {
-    ghost use Rattle.hickory_resolver_model.specs.Cache.{CacheValue, IsCache};
+impl<S: BuildHasher> Model for ResponseCache<S> {
+    ghost use Rattle.hickory_resolver_model.specs.Cache.{CacheValue};
 
     ghost Value = { CacheValue };
 
-    ghost view = { λ c. record { capacity = c.capacity; config = c.ttl_config; entries = c.entries.items } };
+    ghost use Rattle.hickory_resolver_cache.specs.Turns.{entries_of, IsSound};
 
-    ghost invariant = { λ c. IsCache c.capacity c.entries.items };
+    ghost view = { λ c. record { capacity = c.capacity; config = c.ttl_config; entries = entries_of c.index.entries c.next_number } };
+
+    ghost invariant = { λ c. IsSound c.ttl_config c.capacity c.next_number c.index.entries c.order };
 }
 
 impl ResponseCache {
-    /// An empty cache of so many entries at the most, with these bounds. Takes no memory.
+    /// An empty cache of so many entries at the most, with these bounds, and the default hasher. Takes no memory.
     pub fn new(alloc: Global, capacity: u64, ttl_config: TtlConfig) -> ResponseCache
         ensures { result ≡ record { capacity = capacity; config = ttl_config; entries = [] } }
     {
+        ResponseCache::with_hasher(alloc, capacity, ttl_config, BuildHasherDefault::new())
+    }
+}
+
+impl<S: BuildHasher> ResponseCache<S> {
+    /// As `new`, with this hasher: one of random state where the questions come from strangers. Takes no memory.
+    pub fn with_hasher(
+        alloc: Global,
+        capacity: u64,
+        ttl_config: TtlConfig,
+        hasher: S,
+    ) -> ResponseCache<S>
+        ensures { result ≡ record { capacity = capacity; config = ttl_config; entries = [] } }
+    {
         ResponseCache {
-            entries: Vec::new(alloc),
+            index: IndexMap::with_hasher(alloc, hasher),
+            order: BTreeMap::new(alloc),
+            next_number: 0,
             capacity,
             ttl_config,
         }
@@ -55,6 +82,7 @@ impl ResponseCache {
         ensures unchanged { OnErr result (self.new ≡ self.old) }
         ensures err { IsOkUnless result NetError.OutOfMemory }
         ensures not_kept { IsNone (entry_of self.old.config query outcome now) → IsOk result × (self.new ≡ self.old) }
+        ensures no_capacity { self.old.capacity ≡ 0 → IsOk result }
         ensures newest { OnOk result (0 < self.old.capacity → IfSome (entry_of self.old.config query outcome now) (λ e. IsNewest e self.new.entries)) }
     {
         match entry_of(&self.ttl_config, query, outcome, now) {
@@ -77,8 +105,11 @@ impl ResponseCache {
         ensures unchanged { OnErr result (self.new ≡ self.old) }
         ensures err { IsOkUnless result NetError.OutOfMemory }
         ensures not_kept { IsNone (entry_of self.old.config query outcome now) → IsOk result × (self.new ≡ self.old) }
+        ensures no_capacity { self.old.capacity ≡ 0 → IsOk result }
         ensures no_later { OnOk result (IsTrue clamp_valid_until → NeverLater query now self.old.entries self.new.entries) }
     {
+        // `len` is called for its clause that the entries are for different questions.
+        let _len = self.len();
         let Some(entry) = entry_of(&self.ttl_config, query, outcome, now) else {
             return Ok(());
         };
@@ -90,7 +121,7 @@ impl ResponseCache {
     }
 
     /// The outcome of the question's current entry, a copy whose times to live are lower by the seconds since it
-    /// was stored, or want of memory for that copy. None without a current entry, which takes no memory. An entry is
+    /// was stored, or out of memory for that copy. None without a current entry, which takes no memory. An entry is
     /// current up to its deadline, the deadline included.
     pub fn get(&self, query: &Query, now: u64) -> Option<Result<Message, NetError>>
         ensures { IsGot (current query.now now self.now.entries) now result }
@@ -103,24 +134,26 @@ impl ResponseCache {
     pub fn clear(&mut self)
         ensures { self.new ≡ record self.old { entries = [] } }
     {
-        self.entries.clear();
+        self.index.clear();
+        self.order.clear();
+        self.next_number = 0;
     }
 
     /// Drops the question's entry. Takes no memory.
     pub fn clear_query(&mut self, query: &Query)
         ensures { self.new ≡ without_query self.old query.now }
     {
-        let place = place_of(&self.entries, query);
-        take_out(&mut self.entries, place);
+        let turn = turn_of(&self.index, query);
+        take_out(&mut self.index, &mut self.order, turn);
     }
 
     /// How many entries there are, current or not.
     pub fn len(&self) -> usize
         ensures len { result ≡ length self.now.entries }
         ensures within { result ≤ self.now.capacity }
-        ensures cache { IsCache self.now.capacity self.now.entries }
+        ensures cache { IsCache self.now.config self.now.capacity self.now.entries }
     {
-        self.entries.len()
+        self.index.len()
     }
 
     /// The bounds that it keeps to.
@@ -130,18 +163,21 @@ impl ResponseCache {
         &self.ttl_config
     }
 
-    // Puts an entry in as the newest. The push comes first: a refused one changes nothing.
+    // Puts an entry in as the newest. A refused call changes nothing.
     fn insert_entry(&mut self, entry: CacheEntry) -> Result<(), NetError>
+        requires { OutlivesNoAnswer self.old.config entry }
         ensures ok { OnOk result (self.new ≡ record self.old { entries = insert_entry self.old.capacity self.old.entries entry }) }
         ensures unchanged { OnErr result (self.new ≡ self.old) }
         ensures err { IsOkUnless result NetError.OutOfMemory }
+        ensures no_capacity { self.old.capacity ≡ 0 → IsOk result }
     {
         if self.capacity == 0 {
             return Ok(());
         }
-        let place = leaving(&self.entries, self.capacity, &entry.query);
-        self.entries.push(entry)?;
-        take_out(&mut self.entries, place);
+        let number = next_number(&mut self.index, &mut self.order, self.next_number)?;
+        self.next_number = number;
+        store(&mut self.index, &mut self.order, self.capacity, number, entry)?;
+        self.next_number = number + 1;
         Ok(())
     }
 
@@ -149,19 +185,25 @@ impl ResponseCache {
     fn not_after_current(&self, mut entry: CacheEntry, now: u64) -> CacheEntry
         ensures { result ≡ not_after_current self.now.entries now entry }
     {
-        let deadline = match self.current(&entry.query, now) {
+        let valid_until = match self.current(&entry.query, now) {
             Some(current) => entry.valid_until.min(current.valid_until),
             None => entry.valid_until,
         };
-        entry.valid_until = deadline;
+        entry.valid_until = valid_until;
         entry
     }
 
-    fn current(&self, query: &Query, now: u64) -> Option<&CacheEntry>
-        ensures { option_copied result ≡ current query.now now self.now.entries }
+    // What is kept for the question, where it is current.
+    fn current(&self, query: &Query, now: u64) -> Option<&Kept>
+        ensures { option_map shown (option_copied result) ≡ option_map shown_entry (current query.now now self.now.entries) }
     {
-        self.entries
-            .iter()
-            .find(|e| *query == e.query && now <= e.valid_until)
+        // `len` is called for its clause that the questions are unique.
+        let _len = self.index.len();
+        let kept = self.index.get(query)?;
+        if now <= kept.valid_until {
+            Some(kept)
+        } else {
+            None
+        }
     }
 }

@@ -2,7 +2,9 @@
 -- section 5).
 use Rattle.std.specs.Prelude.{◌≡◌, ◌⊎◌, ℕ, ◌+◌, ◌-◌, ◌≤◌, ◌^◌, Bool, not, ◌&&◌, ◌==◌, List, [], ◌∷◌, ◌++◌, length, map, filter, find, fold, min, remove, nat_lt, nat_le, Option, None, Some, Ok, Err, if◌then◌else◌}
 use Rattle.std.specs.Option.{option_map, option_map_or}
-use Rattle.std.specs.List.{list_any, position_or_len, IsDistinct}
+use Rattle.std.specs.List.{list_any, position_or_len, AllByRecursion, IsDistinct}
+use Rattle.hickory_proto_core.specs.Codes.{type_code}
+use Rattle.hickory_proto_core.specs.ResponseKind.{record_type_code}
 use Rattle.hickory_proto_core.specs.Records.{RecordValue}
 use Rattle.hickory_proto_core.specs.Messages.{MessageValue}
 use Rattle.hickory_proto_core.specs.Errors.{NoRecordsValue, ForwardValue}
@@ -12,7 +14,7 @@ use Rattle.hickory_proto_core.specs.records.query.Query.{Query}
 use Rattle.hickory_proto_core.specs.records.net_error.NetError.{NetError}
 use Rattle.hickory_proto_core.specs.records.net_error.NetError.TheVariants.{Message, Timeout, Proto, Dns, NoOutcome, Bounds, OutOfMemory}
 use Rattle.hickory_proto_core.specs.records.net_error.DnsError.TheVariants.{ResponseCode, NoRecordsFound}
-use Rattle.hickory_resolver_model.specs.Bounds.{ConfigValue, clamped_message, positive_lifetime, negative_lifetime}
+use Rattle.hickory_resolver_model.specs.Bounds.{ConfigValue, bounds_for, positive_bounds, clamped_message, positive_lifetime, negative_lifetime}
 
 -- an outcome that is kept for a question, when it was stored, and until when it is current (seconds)
 pub record Entry : Type 0 where
@@ -90,8 +92,8 @@ aged_outcome seconds (Err e) = Err (aged_error seconds e)
 abbrev pub aged_result : ℕ → Entry → OutcomeValue
 aged_result now e = aged_outcome (age e.original_time now) e.result
 
--- what a look-up in the cache gives: nothing without a current entry, else what the entry gives, or want of
--- memory for a copy of it
+-- what a look-up in the cache gives: nothing without a current entry, else what the entry gives, or out
+-- of memory for a copy of it
 abbrev pub IsGot : Option Entry → ℕ → Option OutcomeValue → Type 0
 IsGot None now got = got ≡ None
 IsGot (Some entry) now got = (got ≡ Some (aged_result now entry)) ⊎ (got ≡ Some (Err OutOfMemory))
@@ -181,10 +183,21 @@ store_clamped c q outcome now =
 abbrev pub without_query : CacheValue → Query → CacheValue
 without_query c q = record c { entries = without q c.entries }
 
--- what holds of every cache: it is no longer than its capacity, and no two entries are for equal questions
-pub record IsCache (capacity : ℕ) (es : List Entry) : Type 0 where
+-- Where the least TTL of the asked type is 0, a positive entry is current no longer than each of its answers
+-- of that type lives, from the time of its store and by the TTL that was stored.
+abbrev pub OutlivesNoAnswer : ConfigValue → Entry → Type 0
+OutlivesNoAnswer config e =
+    (positive_bounds (bounds_for config (type_code e.query.query_type))).0 ≡ 0 → (m : MessageValue)
+        → e.result ≡ Ok m
+    → AllByRecursion (λ r. record_type_code r ≡ type_code e.query.query_type
+        → e.valid_until ≤ e.original_time + r.ttl) m.answers
+
+-- what holds of every cache: it is no longer than its capacity, no two entries are for equal questions, and
+-- none outlives its answers
+pub record IsCache (config : ConfigValue) (capacity : ℕ) (es : List Entry) : Type 0 where
   pub short : length es ≤ capacity
   pub apart : IsDistinct query_eq (map (λ e. e.query) es)
+  pub timely : AllByRecursion (OutlivesNoAnswer config) es
 
 -- an entry stands last: it is not the one that left
 abbrev pub IsNewest : Entry → List Entry → Type 0

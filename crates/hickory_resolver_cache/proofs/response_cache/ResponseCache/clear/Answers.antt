@@ -1,5 +1,8 @@
-use Rattle.hickory_resolver_cache.proofs.Store.{IsCache-none}
+use Rattle.hickory_resolver_cache.proofs.Store.{kept-empty}
 use Rattle.hickory_resolver_cache.proofs.response_cache.ResponseCache.clear.Goals as goal
 
 pub invariant_of-self : goal.invariant_of-self
-invariant_of-self c = rw c.clear.ensures.items (IsCache-none c.self.inside.capacity)
+invariant_of-self g c = record {
+  kept = kept-empty c.self.inside.capacity c.clear.new.self.entries c.clear-2.new.self c.clear.ensures.empty c.clear-2.ensures.empty;
+  timely = tt;
+}

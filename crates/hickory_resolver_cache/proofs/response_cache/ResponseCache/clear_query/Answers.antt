@@ -1,19 +1,29 @@
-use Rattle.std.proofs.Common.{◌∙◌, ap, position}
-use Rattle.hickory_resolver_model.specs.Cache.{is_for, without_query}
-use Rattle.hickory_resolver_cache.proofs.Store.{IsCache-without, cleared}
+use Rattle.std.proofs.Common.{◌∙◌, ap, sym, subst}
+use Rattle.std.specs.List.{AllByRecursion}
+use Rattle.hickory_resolver_model.specs.Cache.{OutlivesNoAnswer, without_query}
+use Rattle.hickory_resolver_cache.specs.Turns.{entries_of}
+use Rattle.hickory_resolver_cache.proofs.Store.{kept-left, drops}
+use Rattle.hickory_resolver_cache.proofs.Timely.{timely-without}
 use Rattle.hickory_resolver_cache.proofs.response_cache.ResponseCache.clear_query.Goals as goal
 
 pub invariant_of-self : goal.invariant_of-self
-invariant_of-self c =
-    let q = c.args.query.now in
-    let es = c.self.inside.entries.items in
-    let gone = cleared q es c.place_of-place.result c.self.invariant.apart (c.place_of-place.ensures ∙ ap (λ l. position (is_for q) l) c.deref.ensures.value) in
-    rw (c.take_out.ensures ∙ gone) (IsCache-without c.self.inside.capacity q es c.self.invariant)
+invariant_of-self g c =
+    let next = c.self.inside.next_number in
+    let ps = c.self.inside.index.entries in
+    let rs = c.take_out.new.index.entries in
+    let query = c.args.query.now in
+    let config = c.self.inside.ttl_config in
+    let left = drops next ps c.self.invariant.kept.numbers c.take_out.ensures.was_unique query c.turn_of-turn.result c.turn_of-turn.ensures.found rs c.take_out.ensures.gone in
+    record {
+      kept = kept-left c.self.inside.capacity next ps rs c.self.inside.order c.take_out.new.order c.turn_of-turn.result c.self.invariant.kept c.take_out.ensures.gone c.take_out.ensures.turn_gone;
+      timely = subst (AllByRecursion (OutlivesNoAnswer config)) (sym left) (timely-without config query (entries_of ps next) c.self.invariant.timely);
+    }
 
 pub returns : goal.returns
-returns c =
-    let q = c.args.query.now in
-    let es = c.self.inside.entries.items in
-    let gone = cleared q es c.place_of-place.result c.self.invariant.apart (c.place_of-place.ensures ∙ ap (λ l. position (is_for q) l) c.deref.ensures.value) in
-    ap (λ l. record { capacity = c.self.inside.capacity; config = c.self.inside.ttl_config; entries = l }) (c.take_out.ensures ∙ gone)
-    ∙ ap (λ v. without_query v q) c.self.view_is
+returns g c =
+    let next = c.self.inside.next_number in
+    let ps = c.self.inside.index.entries in
+    let query = c.args.query.now in
+    let left = drops next ps c.self.invariant.kept.numbers c.take_out.ensures.was_unique query c.turn_of-turn.result c.turn_of-turn.ensures.found c.take_out.new.index.entries c.take_out.ensures.gone in
+    ap (λ l. record { capacity = c.self.inside.capacity; config = c.self.inside.ttl_config; entries = l }) left
+    ∙ ap (λ v. without_query v query) c.self.view_is

@@ -1,0 +1,149 @@
+-- What a cache keeps: entries by question in any order, each with the number of its store, and the questions by
+-- deadline and number. The list of its entries is in the order of the numbers.
+use Rattle.std.specs.Prelude.{◌≡◌, ℕ, true, ◌≤◌, ◌<◌, zero, suc, ◌==◌, nat_eq, List, [], ◌∷◌, ◌++◌, map, length, Option, None, Some, if◌then◌else◌, cond}
+use Rattle.std.specs.declared.cmp.Ordering.{Ordering}
+use Rattle.std.specs.Ordering.{nat_cmp, ordering_then}
+use Rattle.std.specs.Option.{option_to_list}
+use Rattle.std.specs.List.{AllByRecursion, IsDistinct}
+use Rattle.std.specs.List.Sorted.{IsPermutation}
+use Rattle.std.specs.Map.{lookup, keys_of}
+use Rattle.std.specs.BTreeMap.{BTreeMap, get, is_at, IsLowerBound}
+use Rattle.hickory_proto_core.specs.records.query.Query.{Query}
+use Rattle.hickory_resolver_cache.specs.declared.kept.Kept.{Kept}
+use Rattle.hickory_proto_core.specs.Handles.{OutcomeValue}
+use Rattle.hickory_proto_core.specs.Query.{query_eq}
+use Rattle.hickory_resolver_model.specs.Bounds.{ConfigValue}
+use Rattle.hickory_resolver_model.specs.Cache.{Entry, OutlivesNoAnswer, room_for, without}
+
+abbrev pub Pair : Type 0
+Pair = Query × Kept
+
+-- a deadline and a number
+abbrev pub Turn : Type 0
+Turn = ℕ × ℕ
+
+abbrev pub turn_cmp : Turn → Turn → Ordering
+turn_cmp t u = ordering_then (nat_cmp t.0 u.0) (nat_cmp t.1 u.1)
+
+abbrev pub stored_entry : Pair → Entry
+stored_entry p = record { query = p.0; result = p.1.result; original_time = p.1.original_time; valid_until = p.1.valid_until }
+
+abbrev pub by_number : List Pair → List (ℕ × Pair)
+by_number ps = map (λ p. (p.1.number, p)) ps
+
+-- the pair that has the number n
+abbrev pub numbered : List Pair → ℕ → Option Pair
+numbered ps n = lookup (nat_eq n) (by_number ps)
+
+-- the pairs that f gives below n, in order
+abbrev pub listed : (ℕ → Option Pair) → ℕ → List Pair
+listed f zero = []
+listed f (suc n) = listed f n ++ option_to_list (f n)
+
+-- the pairs in the order of their stores
+abbrev pub in_order : List Pair → ℕ → List Pair
+in_order ps next = listed (numbered ps) next
+
+abbrev pub entries_of : List Pair → ℕ → List Entry
+entries_of ps next = map stored_entry (in_order ps next)
+
+-- the question of the pair, if it has the deadline d
+abbrev pub query_at : ℕ → Option Pair → Option Query
+query_at d None = None
+query_at d (Some p) = if p.1.valid_until == d then Some p.0 else None
+
+abbrev pub Order : Type 0
+Order = BTreeMap Turn Query
+
+-- each turn has the question of the pair with its number and deadline
+abbrev pub IsPlaced : List Pair → Order → Type 0
+IsPlaced ps order = (t : Turn) → get turn_cmp order t ≡ query_at t.0 (numbered ps t.1)
+
+-- the numbers differ, and are below the next one
+pub record IsNumbered (next : ℕ) (ps : List Pair) : Type 0 where
+  pub apart : IsDistinct nat_eq (keys_of (by_number ps))
+  pub below : (n : ℕ) → next ≤ n → numbered ps n ≡ None
+
+-- the pairs are as many as there may be at the most, each has its turn, and there is no other turn
+pub record IsKept (capacity next : ℕ) (ps : List Pair) (order : Order) : Type 0 where
+  pub short : length ps ≤ capacity
+  pub numbers : IsNumbered next ps
+  pub placed : IsPlaced ps order
+
+-- what holds of every cache
+pub record IsSound (config : ConfigValue) (capacity next : ℕ) (ps : List Pair) (order : Order) : Type 0 where
+  pub kept : IsKept capacity next ps order
+  pub timely : AllByRecursion (OutlivesNoAnswer config) (entries_of ps next)
+
+-- The pairs may stand in another order and have other numbers: the list of entries is the same, and so is how many
+-- there are.
+pub record IsSameList (ps : List Pair) (next : ℕ) (rs : List Pair) (after : ℕ) (order : Order) : Type 0 where
+  pub length_is : length rs ≡ length ps
+  pub numbers : IsNumbered after rs
+  pub placed : IsPlaced rs order
+  pub entries_are : entries_of rs after ≡ entries_of ps next
+
+-- the pair with the number n
+abbrev pub with_number : ℕ → Pair → Pair
+with_number n p = (p.0, record { result = p.1.result; original_time = p.1.original_time; valid_until = p.1.valid_until; number = n })
+
+-- the pairs with the numbers from n on
+abbrev pub renumbered : ℕ → List Pair → List Pair
+renumbered n [] = []
+renumbered n (p ∷ ps) = with_number n p ∷ renumbered (suc n) ps
+
+-- the turns of the pairs, if each had its place as its number
+pub record IsOrderOf (ps : List Pair) (order : Order) : Type 0 where
+  pub numbers : IsNumbered (length ps) (renumbered 0 ps)
+  pub placed : IsPlaced (renumbered 0 ps) order
+
+-- p stands at the turn t
+pub record StandsAt (ps : List Pair) (t : Turn) (p : Pair) : Type 0 where
+  pub number : numbered ps t.1 ≡ Some p
+  pub valid_until : p.1.valid_until ≡ t.0
+
+-- the pair at the turn, if there is one, is gone
+abbrev pub Gone : Option Turn → List Pair → List Pair → Type 0
+Gone None ps rs = rs ≡ ps
+Gone (Some t) ps rs = (p : Pair) × StandsAt ps t p × IsPermutation ps (p ∷ rs)
+
+-- the turn, if there is one, is gone
+abbrev pub TurnGone : Option Turn → Order → Order → Type 0
+TurnGone None old new = (u : Turn) → get turn_cmp new u ≡ get turn_cmp old u
+TurnGone (Some t) old new = (u : Turn) → get turn_cmp new u ≡ cond (is_at (turn_cmp t) u) None (get turn_cmp old u)
+
+-- some pair stands at the turn, if there is one, and the order has its question there
+abbrev pub IsTaken : List Pair → Order → Option Turn → Type 0
+IsTaken ps order None = Unit {0}
+IsTaken ps order (Some t) = (p : Pair) × StandsAt ps t p × (get turn_cmp order t ≡ Some p.0)
+
+-- the turn, if there is one, is that of the question's pair
+abbrev pub IsTurnOf : Query → List Pair → Option Turn → Type 0
+IsTurnOf q ps None = lookup (query_eq q) ps ≡ None
+IsTurnOf q ps (Some t) = (p : Pair) × StandsAt ps t p × (query_eq q p.0 ≡ true)
+
+-- the turn, if there is one, is some pair's
+abbrev pub IsSomeTurn : List Pair → Option Turn → Type 0
+IsSomeTurn ps None = Unit {0}
+IsSomeTurn ps (Some t) = (p : Pair) × StandsAt ps t p
+
+-- what the pairs become when the turn goes is what stays when an entry for the question comes in
+pub record MakesRoom (capacity next : ℕ) (q : Query) (ps : List Pair) (turn : Option Turn) : Type 0 where
+  pub stays : (rs : List Pair) → Gone turn ps rs → entries_of rs next ≡ room_for capacity q (entries_of ps next)
+  pub room : turn ≡ None → length ps < capacity
+
+-- the same of a removal
+abbrev pub Drops : ℕ → Query → List Pair → Option Turn → Type 0
+Drops next q ps turn = (rs : List Pair) → Gone turn ps rs → entries_of rs next ≡ without q (entries_of ps next)
+
+-- the turn is the first, or there is none
+abbrev pub IsFirstTurn : Order → Option Turn → Type 0
+IsFirstTurn order None = (t : Turn) → get turn_cmp order t ≡ None
+IsFirstTurn order (Some t) = ((q : Query) × (get turn_cmp order t ≡ Some q)) × IsLowerBound turn_cmp order t
+
+-- what a look-up gives of an entry
+abbrev pub shown : Kept → OutcomeValue × ℕ × ℕ
+shown k = (k.result, k.original_time, k.valid_until)
+
+abbrev pub shown_entry : Entry → OutcomeValue × ℕ × ℕ
+shown_entry e = (e.result, e.original_time, e.valid_until)

@@ -1,0 +1,135 @@
+//! The two maps of a cache: entries by question, and questions by deadline and number.
+ghost use Rattle.std.specs.Prelude.{◌≡◌, ◌<◌, ◌≤◌, ◌+◌, ◌∷◌, ◌++◌, [], nat_eq, None, OnOk, OnErr, IsOkUnless};
+ghost use Rattle.std.specs.List.{IsDistinct};
+ghost use Rattle.std.specs.Map.{keys_of};
+ghost use Rattle.indexmap.specs.IndexMap.{spare, get, IsUnique};
+ghost use Rattle.hickory_proto_core.specs.Query.{query_eq};
+ghost use Rattle.hickory_resolver_model.specs.Cache.{insert_entry};
+ghost use Rattle.hickory_resolver_cache.specs.Turns.{by_number, entries_of, IsKept, IsNumbered, IsPlaced, IsSameList, Gone, TurnGone, IsTaken, IsTurnOf, IsSomeTurn, IsFirstTurn, MakesRoom};
+
+use crate::entry::CacheEntry;
+use crate::kept::Kept;
+use hickory_proto_core::{NetError, Query};
+use indexmap::IndexMap;
+use std::collections::BTreeMap;
+use std::hash::BuildHasher;
+
+/// Entries by question, in any order.
+pub type Index<S> = IndexMap<Query, Kept, S>;
+
+/// Questions by deadline, and under one deadline by number.
+pub type Order = BTreeMap<(u64, u64), Query>;
+
+// Puts an entry in as the newest, by this number. Room and the copy of its question come first: a refused call leaves
+// the entries and their turns as they were.
+pub fn store<S: BuildHasher>(
+    index: &mut Index<S>,
+    order: &mut Order,
+    capacity: u64,
+    number: u64,
+    entry: CacheEntry,
+) -> Result<(), NetError>
+    requires some { 0 < capacity }
+    requires kept { IsKept capacity number index.old.entries order.old }
+    ensures kept { OnOk result (IsKept capacity (number + 1) index.new.entries order.new) }
+    ensures entries { OnOk result
+        (entries_of index.new.entries (number + 1) ≡ insert_entry capacity (entries_of index.old.entries number) entry) }
+    ensures refused { OnErr result (IsSameList index.old.entries number index.new.entries number order.new) }
+    ensures err { IsOkUnless result NetError.OutOfMemory }
+{
+    let CacheEntry {
+        query,
+        result,
+        original_time,
+        valid_until,
+    } = entry;
+    let turn = leaving(index, order, capacity, number, &query);
+    index.reserve(1)?;
+    let copy = query.clone()?;
+    order.insert((valid_until, number), copy)?;
+    take_out(index, order, turn);
+    let kept = Kept {
+        result,
+        original_time,
+        valid_until,
+        number,
+    };
+    insert_entry(index, query, kept);
+    Ok(())
+}
+
+// Puts a pair last, where there is room and none for its question.
+fn insert_entry<S: BuildHasher>(index: &mut Index<S>, query: Query, kept: Kept)
+    requires room { 0 < spare index.old }
+    requires new { get query_eq index.old query ≡ None }
+    ensures { index.new.entries ≡ index.old.entries ++ (query, kept) ∷ [] }
+{
+    let _ = index.insert(query, kept);
+}
+
+// Takes out the pair at a turn, if there is one. Its question is found by the spelling that the order has.
+pub fn take_out<S: BuildHasher>(
+    index: &mut Index<S>,
+    order: &mut Order,
+    turn: Option<(u64, u64)>,
+)
+    requires numbers { IsDistinct nat_eq (keys_of (by_number index.old.entries)) }
+    requires taken { IsTaken index.old.entries order.old turn }
+    ensures gone { Gone turn index.old.entries index.new.entries }
+    ensures turn_gone { TurnGone turn order.old order.new }
+    ensures room { spare index.old ≤ spare index.new }
+    ensures unique { IsUnique query_eq index.new }
+    ensures was_unique { IsUnique query_eq index.old }
+{
+    // `len` is called for its clause that the questions are unique.
+    let _len = index.len();
+    let Some(turn) = turn else {
+        return;
+    };
+    let query = order.remove(&turn).unwrap();
+    let i = index.get_index_of(&query).unwrap();
+    drop(index.swap_remove_index(i));
+}
+
+// The turn of the question's entry.
+pub fn turn_of<S: BuildHasher>(index: &Index<S>, query: &Query) -> Option<(u64, u64)>
+    requires numbers { IsDistinct nat_eq (keys_of (by_number index.now.entries)) }
+    ensures found { IsTurnOf query.now index.now.entries result }
+{
+    match index.get(query) {
+        Some(kept) => Some((kept.valid_until, kept.number)),
+        None => None,
+    }
+}
+
+// The turn of the entry that leaves when one for this question comes in.
+fn leaving<S: BuildHasher>(
+    index: &Index<S>,
+    order: &Order,
+    capacity: u64,
+    next_number: u64,
+    query: &Query,
+) -> Option<(u64, u64)>
+    requires some { 0 < capacity }
+    requires numbers { IsNumbered next_number index.now.entries }
+    requires placed { IsPlaced index.now.entries order.now }
+    ensures room { MakesRoom capacity next_number query.now index.now.entries result }
+    ensures turn { IsSomeTurn index.now.entries result }
+{
+    let len = index.len();
+    match turn_of(index, query) {
+        Some(turn) => Some(turn),
+        None if (len as u64) < capacity => None,
+        None => first(order),
+    }
+}
+
+// The first turn.
+fn first(order: &Order) -> Option<(u64, u64)>
+    ensures { IsFirstTurn order.now result }
+{
+    match order.first_key_value() {
+        Some((turn, _)) => Some(*turn),
+        None => None,
+    }
+}
