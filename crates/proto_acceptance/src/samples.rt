@@ -1,7 +1,7 @@
 //! Names, questions, messages and records that the tests share.
 use hickory_proto_core::{
-    ForwardNSData, Message, Name, NetError, NoRecords, OpCode, Query, RData, Record, RecordType,
-    ResponseCode,
+    BoundsError, DnsError, ForwardNSData, Message, Name, NameError, NetError, NoRecords, OpCode,
+    Query, RData, Record, RecordType, ResponseCode,
 };
 use std::alloc::Global;
 use std::net::{Ipv4Addr, Ipv6Addr};
@@ -104,4 +104,19 @@ pub fn full_no_records(alloc: Global) -> Result<NoRecords, NetError> {
     none.negative_ttl = Some(60);
     none.authorities = Some(authorities);
     Ok(none)
+}
+
+// An error of each kind.
+pub fn errors_of_each_kind(alloc: Global) -> Result<Vec<NetError>, NetError> {
+    let none = DnsError::NoRecordsFound(full_no_records(alloc)?);
+    let mut all = Vec::new(alloc);
+    all.push(NetError::Dns(none))?;
+    all.push(NetError::Dns(DnsError::ResponseCode(ResponseCode::ServFail)))?;
+    all.push(NetError::from("no luck"))?;
+    all.push(NetError::Timeout)?;
+    all.push(NetError::Proto(NameError::NotArpa))?;
+    all.push(NetError::NoOutcome)?;
+    all.push(NetError::Bounds(BoundsError::NegativeReversed))?;
+    all.push(NetError::OutOfMemory)?;
+    Ok(all)
 }
