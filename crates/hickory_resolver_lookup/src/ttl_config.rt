@@ -1,5 +1,6 @@
 //! Bounds on times to live by the type of records.
 ghost use Rattle.std.specs.Prelude.{◌≡◌, ◌≤◌, ◌==◌, ◌||◌, [], ◌++◌, filter, IfOk, OnOk, OnErr, IsOkUnless};
+ghost use Rattle.std.specs.Result.{result_map_both};
 ghost use Rattle.hickory_proto_core.specs.Codes.{type_code};
 ghost use Rattle.hickory_proto_core.specs.Classes.{record_type_code};
 ghost use Rattle.hickory_resolver_model.specs.Bounds.{ConfigValue, SetsBounds, bounds_for, positive_bounds, negative_bounds, clamped, clamped_record, clamped_records, positive_lifetime, negative_lifetime, no_bounds, least_ttl, living_records};
@@ -27,6 +28,9 @@ impl Model for TtlConfig {
 }
 
 impl TtlConfig {
+    ghost use Rattle.std.specs.Borrow.{sem};
+    ghost use Rattle.hickory_resolver_lookup.specs.ConfigLends.{LendsConfig, RestsConfig};
+
     /// No bounds but those that stand where all are left out. Takes no memory.
     pub fn default(alloc: Global) -> TtlConfig
         ensures { result ≡ record { default = no_bounds; by_type = [] } }
@@ -44,18 +48,27 @@ impl TtlConfig {
         }
     }
 
-    /// Puts these bounds in place of all others for one type. A refused call changes nothing.
+    /// Puts these bounds in place of all others for one type, and hands itself back, so that calls chain. A refused
+    /// call changes nothing; the only error is to be out of memory.
     pub fn with_query_type_ttl_bounds(
         &mut self,
         query_type: RecordType,
         bounds: TtlBounds,
-    ) -> Result<(), NetError>
-        ensures ok { OnOk result (SetsBounds self.old self.new (type_code query_type) bounds) }
-        ensures unchanged { OnErr result (self.new ≡ self.old) }
+    ) -> Result<&mut TtlConfig, NetError>
+        ensures* lends { sem 𝓛 (LendsConfig self.entry result) }
+        ensures ok { IfOk result (λ config. SetsBounds self.old config.now (type_code query_type) bounds) }
+        ensures err { IsOkUnless result NetError.OutOfMemory }
+    {
+        handed_back(self.change(query_type, bounds))
+    }
+
+    fn change(&mut self, query_type: RecordType, bounds: TtlBounds) -> Result<Changed<'_>, NetError>
+        ensures* rests { sem 𝓛 (RestsConfig self.entry result) }
+        ensures ok { IfOk result (λ changed. SetsBounds self.old changed.config.now (type_code query_type) bounds) }
         ensures err { IsOkUnless result NetError.OutOfMemory }
     {
         self.by_type.insert(query_type.code(), bounds)?;
-        Ok(())
+        Ok(Changed { config: self })
     }
 
     /// The least and the greatest time that a positive answer to a question for this type is kept for, in seconds.
@@ -136,6 +149,19 @@ impl TtlConfig {
         let own = self.by_type.get(&query_type.code());
         own.copied().unwrap_or(self.default)
     }
+}
+
+// A configuration that has just been changed.
+#[derive(Drop)]
+struct Changed<'a> {
+    config: &'a mut TtlConfig,
+}
+
+fn handed_back<'a>(changed: Result<Changed<'a>, NetError>) -> Result<&'a mut TtlConfig, NetError>
+    ensures { result ≡ result_map_both (λ c. c.config) (λ e. e) changed.entry }
+{
+    let Changed { config } = changed?;
+    Ok(config)
 }
 
 // The least TTL of the records that an answer to the question lives by.
