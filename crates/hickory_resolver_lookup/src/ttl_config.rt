@@ -56,6 +56,7 @@ impl TtlConfig {
         bounds: TtlBounds,
     ) -> Result<&mut TtlConfig, NetError>
         ensures* lends { sem 𝓛 (LendsConfig self.entry result) }
+        ensures same_reference { IfOk result (λ config. config.ghost_name ≡ self.entry.ghost_name) }
         ensures ok { IfOk result (λ config. SetsBounds self.old config.now (type_code query_type) bounds) }
         ensures err { IsOkUnless result NetError.OutOfMemory }
     {
@@ -64,6 +65,7 @@ impl TtlConfig {
 
     fn change(&mut self, query_type: RecordType, bounds: TtlBounds) -> Result<Changed<'_>, NetError>
         ensures* rests { sem 𝓛 (RestsConfig self.entry result) }
+        ensures same_reference { IfOk result (λ changed. changed.config.ghost_name ≡ self.entry.ghost_name) }
         ensures ok { IfOk result (λ changed. SetsBounds self.old changed.config.now (type_code query_type) bounds) }
         ensures err { IsOkUnless result NetError.OutOfMemory }
     {

@@ -5,7 +5,7 @@ use base.Fml.{ftrue, flft, fres}
 use base.Logic.{id⊢, ent}
 use types.Logic.{Logic, sem}
 use denote.Follow.{follows, follows_by, such_by}
-use Rattle.std.proofs.mem.Facts.{says_two}
+use Rattle.std.proofs.mem.Facts.{says_three}
 use mir.Syntax.{named}
 use mir.Val.{Val, vptr}
 use contract.Monad.{fact}
@@ -120,8 +120,8 @@ with_query_type_ttl_bounds_spec 𝓤 𝓛 𝓜 𝓡 wired =
     calls_at ! (framed 𝓤 𝓛.H 𝓜 (tables 𝓤 𝓛.H 𝓜 𝓡 𝓡.env)) G (change-met 𝓤 𝓛 𝓜 𝓡 (code.calls-hickory_resolver_lookup::ttl_config::TtlConfig::change 𝓡.env wired)) z
     (and_then ! (get ! refl) (and_then ! (get ! refl) (and_then ! (get ! refl) (no_more !)))) (λ v.
     use1 𝓛 (later (some (λ (r : Result Changed NetError). ((‵ (flft κs.0 qs.0) ⊛ ‵ ftrue) ⊛ ‵ ((Refusable (Kept κs)).own_val r (v ∷ []))) ⊛ some (λ (ws : Lasts g.ended κs a). ‵ (lasts g.ended κs a ws)
-    ⊛ ‵ (RestsConfig a.0 r) ⊛ raw (fact 𝓤 (IfOk r (λ kept. SetsBounds a.0.now kept.config.now (type_code a.1.0) a.1.1.0))) ⊛ raw (fact 𝓤 (IsOkUnless r NetError.OutOfMemory)))))) (id⊢ 𝓤 _) $
-    await ! tt $ pick ! (λ r. split ! $ split ! $ move ! (2 ∷ []) $ pick ! (λ ws. split ! $ drop ! $ split ! $ move ! (1 ∷ []) $ split ! $ heard ! _ (λ ok. heard ! _ (λ err.
+    ⊛ ‵ (RestsConfig a.0 r) ⊛ raw (fact 𝓤 (IfOk r (λ kept. kept.config.ghost_name ≡ a.0.ghost_name))) ⊛ raw (fact 𝓤 (IfOk r (λ kept. SetsBounds a.0.now kept.config.now (type_code a.1.0) a.1.1.0))) ⊛ raw (fact 𝓤 (IsOkUnless r NetError.OutOfMemory)))))) (id⊢ 𝓤 _) $
+    await ! tt $ pick ! (λ r. split ! $ split ! $ move ! (2 ∷ []) $ pick ! (λ ws. split ! $ drop ! $ split ! $ move ! (1 ∷ []) $ split ! $ heard ! _ (λ name. split ! $ heard ! _ (λ ok. heard ! _ (λ err.
     -- [what the configuration ends as; the token; the configuration, kept]
     move ! (2 ∷ []) $ peeks ! (Refusable (Kept κs)) _ (shows 𝓛 (Refusable (Kept κs))) r (v ∷ []) (λ is.
     lands_as ! refl refl (((kept-laws κs).lawful 𝓛).typed r (v ∷ []) is).0 $
@@ -141,7 +141,8 @@ with_query_type_ttl_bounds_spec 𝓤 𝓛 𝓜 𝓡 wired =
     -- [what the configuration ends as; the configuration; the token]
     move ! (1 ∷ 2 ∷ []) $ suffices ! _ (ends_at 𝓛 f.ended stayed c y u x (tt, (tt, (tt, tt))) (tt, (tt, (tt, tt)))) $
     nothing ! $ nothing ! $ fjoin ! $ nothing ! $ fjoin ! $ nothing ! $ fjoin ! $ join ! $ move ! (1 ∷ 0 ∷ []) $ join ! $ frame ! $
-    says_two ! (
+    says_three ! (
+      subst (λ (o : Result (MutBor ConfigValue) NetError). IfOk o (λ config. config.ghost_name ≡ a.0.ghost_name)) (sym same) (still_ok (λ config. config.ghost_name ≡ a.0.ghost_name) r name),
       subst (λ (o : Result (MutBor ConfigValue) NetError). IfOk o (λ config. SetsBounds a.0.now config.now (type_code a.1.0) a.1.1.0)) (sym same) (still_ok (λ config. SetsBounds a.0.now config.now (type_code a.1.0) a.1.1.0) r ok),
       subst (λ (o : Result (MutBor ConfigValue) NetError). IsOkUnless o NetError.OutOfMemory) (sym same) (still_err NetError.OutOfMemory r err),
-    ) $ done !)))))))))))))
+    ) $ done !))))))))))))))
