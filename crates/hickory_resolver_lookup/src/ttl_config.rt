@@ -3,7 +3,7 @@ ghost use Rattle.std.specs.Prelude.{◌≡◌, ◌≤◌, ◌==◌, ◌||◌, []
 ghost use Rattle.std.specs.Result.{result_map_both};
 ghost use Rattle.hickory_proto_core.specs.Codes.{type_code};
 ghost use Rattle.hickory_proto_core.specs.Classes.{record_type_code};
-ghost use Rattle.hickory_resolver_model.specs.Bounds.{ConfigValue, SetsBounds, bounds_for, positive_bounds, negative_bounds, clamped, clamped_record, clamped_records, positive_lifetime, negative_lifetime, no_bounds, least_ttl, living_records};
+ghost use Rattle.hickory_resolver_model.specs.Bounds.{ConfigValue, SetsBounds, all_agree, bounds_for, positive_bounds, negative_bounds, clamped, clamped_record, clamped_records, positive_lifetime, negative_lifetime, no_bounds, least_ttl, living_records};
 
 use crate::ttl_bounds::{TtlBounds, clamp, clamp_ttl};
 use hickory_proto_core::{Message, NetError, NoRecords, Query, Record, RecordType};
@@ -202,6 +202,13 @@ fn is_of(asked: RecordType, found: &Record) -> bool
     found.record_type() == asked || found.record_type() == RecordType::CNAME
 }
 
+// Whether two maps have the same bounds for each code.
+fn have_same_bounds(a: &BTreeMap<u16, TtlBounds>, b: &BTreeMap<u16, TtlBounds>) -> bool
+    ensures { result ≡ all_agree a.now.entries b.now.entries }
+{
+    a.len() == b.len() && a == b
+}
+
 impl PartialEq for TtlConfig {
     ghost use Rattle.std.specs.Cmp.{partial_equiv_from_equiv};
     ghost use Rattle.hickory_resolver_model.specs.Bounds.{config_eq, config_equiv};
@@ -211,7 +218,7 @@ impl PartialEq for TtlConfig {
     ghost laws = { partial_equiv_from_equiv config_equiv };
 
     fn eq(&self, other: &TtlConfig) -> bool {
-        self.default == other.default && self.by_type == other.by_type
+        self.default == other.default && have_same_bounds(&self.by_type, &other.by_type)
     }
 }
 
