@@ -1,6 +1,10 @@
 -- Bounds by the code of a type, as a map of them finds them.
 use Rattle.std.proofs.Common.{◌≡◌, ℕ, Bool, nat_eq, ◌&&◌, subst, None, true, false, ◌==◌, ◌||◌, if◌then◌else◌, List, [], ◌∷◌, ◌++◌, filter, min, Option, Some, cond, refl, sym, ap₂, ◌∙◌, ap}
 use Rattle.std.proofs.lemmas.Bool.{ne_eqb}
+use Rattle.std.proofs.lemmas.Bool.Decides.{eqb_tells}
+use Rattle.std.proofs.Math.Dec.{eqb}
+use mathlib.Core.Logic.{inl, inr}
+use Rattle.std.specs.Prelude.{◌≢◌, ◌⊎◌}
 use Rattle.std.specs.BTreeMap.{is_at}
 use Rattle.std.specs.List.{reduce}
 use Rattle.hickory_proto_core.specs.Codes.{type_code}
@@ -10,13 +14,13 @@ use Rattle.hickory_proto_core.specs.records.query.Query.{Query}
 use Rattle.std.specs.Map.{lookup}
 use Rattle.std.specs.Ordering.{nat_cmp}
 use Rattle.std.specs.Cmp.{IsEquivalence, unsigned_ties, unsigned_Decides, and_equiv, on_equiv, nat_eq_equiv, nat_cmp_total, both_ways, first_so, second_so}
-use Rattle.std.specs.Cmp.Lexicographic.{pointwise, lists_equiv}
+use Rattle.std.specs.Cmp.Lexicographic.{pointwise, lists_equiv, options_equiv}
 use Rattle.std.specs.Option.{option_eq}
 use Rattle.std.specs.BTreeMap.{BTreeMap, IsOrdered}
 use Rattle.std.specs.FinMap.{nat_cmp-IsAntisymmetric}
 use Rattle.std.proofs.lemmas.Map.Lookups.{btree_map_from_get}
 use mathlib.Core.Bool.{true≢false}
-use Rattle.hickory_resolver_model.specs.Bounds.{BoundsValue, SetsBounds, all_agree, all_agree_equiv, every_agree, bounds_eq, bounds_equiv, bounds_by_code, least, living_records}
+use Rattle.hickory_resolver_model.specs.Bounds.{BoundsValue, ConfigValue, SetsBounds, config_eq, agree_at, agree_from_every, all_agree, all_agree_equiv, every_agree, bounds_eq, bounds_equiv, bounds_by_code, least, living_records}
 
 abbrev found : ℕ → List (ℕ × BoundsValue) → Option BoundsValue
 found code bs = lookup (is_at (nat_cmp code)) bs
@@ -95,3 +99,21 @@ same_maps m n o p =
     both_ways (pointwise same_entry m.entries n.entries) (all_agree m.entries n.entries)
     (λ h. subst (λ es. all_agree m.entries es ≡ true) (entries_same m.entries n.entries h) (all_agree_equiv.refl m.entries))
     (λ h. subst (λ es. pointwise same_entry m.entries es ≡ true) (btree_map_from_get nat_cmp_total m n o p (λ code. sym (bounds_by_code-lookup code m.entries) ∙ bounds_option_same (bounds_by_code code m.entries) (bounds_by_code code n.entries) (every_agree m.entries n.entries h code) ∙ bounds_by_code-lookup code n.entries) nat_cmp-IsAntisymmetric) ((lists_equiv entry_equiv).refl m.entries))
+
+-- two types that are set in either order: the configurations are equal
+pub sets_in_any_order : (old m n m' n' : ConfigValue) (a b : ℕ) (x y : BoundsValue) → a ≢ b
+    → SetsBounds old m a x → SetsBounds m n b y → SetsBounds old m' b y → SetsBounds m' n' a x → config_eq n n' ≡ true
+sets_in_any_order old m n m' n' a b x y apart one two three four =
+    λ i. default i && agree_from_every n.by_type n'.by_type agree i
+  where
+    default : bounds_eq n.default n'.default ≡ true
+    default = subst (λ d. bounds_eq n.default d ≡ true) (two.default ∙ one.default ∙ sym three.default ∙ sym four.default) (bounds_equiv.refl n.default)
+
+    at : (code : ℕ) → ((eqb code a ≡ true) × (code ≡ a)) ⊎ ((eqb code a ≡ false) × (code ≢ a)) → ((eqb code b ≡ true) × (code ≡ b)) ⊎ ((eqb code b ≡ false) × (code ≢ b))
+        → bounds_by_code code n.by_type ≡ bounds_by_code code n'.by_type
+    at code (inl is) is_b = subst (λ c. bounds_by_code c n.by_type ≡ bounds_by_code c n'.by_type) (sym is.1) (two.others a apart ∙ one.here ∙ sym four.here)
+    at code (inr is) (inl is_b) = subst (λ c. bounds_by_code c n.by_type ≡ bounds_by_code c n'.by_type) (sym is_b.1) (two.here ∙ sym three.here ∙ sym (four.others b (λ e. apart (sym e))))
+    at code (inr is) (inr is_b) = two.others code is_b.1 ∙ one.others code is.1 ∙ sym (three.others code is_b.1) ∙ sym (four.others code is.1)
+
+    agree : (code : ℕ) → agree_at n.by_type n'.by_type code ≡ true
+    agree code = subst (λ o. option_eq bounds_eq (bounds_by_code code n.by_type) o ≡ true) (at code (eqb_tells code a) (eqb_tells code b)) ((options_equiv bounds_equiv).refl (bounds_by_code code n.by_type))
