@@ -11,4 +11,5 @@ LendsConfig config result = LendsIfOk the_row the_row config result (λ last. la
 
 -- the same where a struct has it
 abbrev pub RestsConfig : {E : Type 0} → MutBor ConfigValue → Result Changed E → Fml
-RestsConfig config result = RestsIfErr the_row config (λ changed. changed.config.ghost_name) result (λ last. last ≡ config.now)
+RestsConfig config result =
+    RestsIfErr the_row config (λ changed. changed.config.ghost_name) result (λ last. last ≡ config.now)

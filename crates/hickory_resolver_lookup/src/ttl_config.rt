@@ -48,8 +48,8 @@ impl TtlConfig {
         }
     }
 
-    /// Puts these bounds in place of all others for one type, and hands itself back, so that calls chain. A refused
-    /// call changes nothing; the only error is to be out of memory.
+    /// Puts these bounds in place of all others for one type, and hands itself back, so that calls chain.
+    /// A refused call changes nothing; the only error is to be out of memory.
     pub fn with_query_type_ttl_bounds(
         &mut self,
         query_type: RecordType,
@@ -63,10 +63,11 @@ impl TtlConfig {
         handed_back(self.change(query_type, bounds))
     }
 
+    // The same, with the configuration in a struct.
     fn change(&mut self, query_type: RecordType, bounds: TtlBounds) -> Result<Changed<'_>, NetError>
         ensures* rests { sem 𝓛 (RestsConfig self.entry result) }
-        ensures same_reference { IfOk result (λ changed. changed.config.ghost_name ≡ self.entry.ghost_name) }
-        ensures ok { IfOk result (λ changed. SetsBounds self.old changed.config.now (type_code query_type) bounds) }
+        ensures same_reference { IfOk result (λ c. c.config.ghost_name ≡ self.entry.ghost_name) }
+        ensures ok { IfOk result (λ c. SetsBounds self.old c.config.now (type_code query_type) bounds) }
         ensures err { IsOkUnless result NetError.OutOfMemory }
     {
         self.by_type.insert(query_type.code(), bounds)?;
@@ -153,12 +154,14 @@ impl TtlConfig {
     }
 }
 
-// A configuration that has just been changed.
+// A configuration that has just been changed, on its way back to the caller: what a refused call leaves
+// can be said of a struct that holds the reference.
 #[derive(Drop)]
 struct Changed<'a> {
     config: &'a mut TtlConfig,
 }
 
+// The configuration out of its struct.
 fn handed_back<'a>(changed: Result<Changed<'a>, NetError>) -> Result<&'a mut TtlConfig, NetError>
     ensures { result ≡ result_map_both (λ c. c.config) (λ e. e) changed.entry }
 {

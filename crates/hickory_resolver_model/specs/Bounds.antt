@@ -99,7 +99,8 @@ listed P (b ∷ bs) h code = at (code == b.0) refl (listed P bs (second_so (P b.
     at false e rest = rest
 
 -- lists that agree do so at every code
-pub every_agree : (bs cs : List (ℕ × BoundsValue)) → all_agree bs cs ≡ true → (code : ℕ) → agree_at bs cs code ≡ true
+pub every_agree : (bs cs : List (ℕ × BoundsValue)) → all_agree bs cs ≡ true → (code : ℕ)
+    → agree_at bs cs code ≡ true
 every_agree bs cs h code =
     either (listed at bs (first_so (list_all (λ b. at b.0) bs) (list_all (λ c. at c.0) cs) h) code)
     (listed at cs (second_so (list_all (λ b. at b.0) bs) (list_all (λ c. at c.0) cs) h) code)
@@ -107,32 +108,41 @@ every_agree bs cs h code =
     at : ℕ → Bool
     at = agree_at bs cs
 
-    either : (bounds_by_code code bs ≡ None) ⊎ (at code ≡ true) → (bounds_by_code code cs ≡ None) ⊎ (at code ≡ true)
-        → at code ≡ true
+    either : (bounds_by_code code bs ≡ None) ⊎ (at code ≡ true)
+        → (bounds_by_code code cs ≡ None) ⊎ (at code ≡ true) → at code ≡ true
     either (inr e) f = e
     either (inl e) (inr f) = f
     either (inl e) (inl f) = λ i. option_eq bounds_eq (e i) (f i)
 
-each_listed : (P : ℕ → Bool) → ((code : ℕ) → P code ≡ true) → (bs : List (ℕ × BoundsValue)) → list_all (λ b. P b.0) bs ≡ true
+each_listed : (P : ℕ → Bool) → ((code : ℕ) → P code ≡ true) → (bs : List (ℕ × BoundsValue))
+    → list_all (λ b. P b.0) bs ≡ true
 each_listed P h [] = refl
 each_listed P h (b ∷ bs) = λ i. h b.0 i && each_listed P h bs i
 
 -- lists that agree at every code do so
-pub agree_from_every : (bs cs : List (ℕ × BoundsValue)) → ((code : ℕ) → agree_at bs cs code ≡ true) → all_agree bs cs ≡ true
+pub agree_from_every : (bs cs : List (ℕ × BoundsValue)) → ((code : ℕ) → agree_at bs cs code ≡ true)
+    → all_agree bs cs ≡ true
 agree_from_every bs cs h = λ i. each_listed (agree_at bs cs) h bs i && each_listed (agree_at bs cs) h cs i
 
 pub all_agree_equiv : IsEquivalence all_agree
-all_agree_equiv = equiv (record {
-    symm = λ bs cs. both_ways (all_agree bs cs) (all_agree cs bs) (turned bs cs) (turned cs bs);
-    trans = λ bs cs ds p q. agree_from_every bs ds (λ code. (partial_equiv_from_equiv same).trans (bounds_by_code code bs)
-        (bounds_by_code code cs) (bounds_by_code code ds) (every_agree bs cs p code) (every_agree cs ds q code));
-  }) (λ bs. agree_from_every bs bs (λ code. same.refl (bounds_by_code code bs)))
+all_agree_equiv = equiv (record { symm = symm; trans = trans }) (λ bs. agree_from_every bs bs (λ code. same.refl (own code bs)))
   where
+    own : ℕ → List (ℕ × BoundsValue) → Option BoundsValue
+    own = bounds_by_code
+
     same : IsEquivalence (option_eq bounds_eq)
     same = options_equiv bounds_equiv
 
     turned : (bs cs : List (ℕ × BoundsValue)) → all_agree bs cs ≡ true → all_agree cs bs ≡ true
-    turned bs cs h = agree_from_every cs bs (λ code. same.symm (bounds_by_code code cs) (bounds_by_code code bs) ∙ every_agree bs cs h code)
+    turned bs cs h = agree_from_every cs bs (λ code. same.symm (own code cs) (own code bs) ∙ every_agree bs cs h code)
+
+    symm : (bs cs : List (ℕ × BoundsValue)) → all_agree bs cs ≡ all_agree cs bs
+    symm bs cs = both_ways (all_agree bs cs) (all_agree cs bs) (turned bs cs) (turned cs bs)
+
+    trans : (bs cs ds : List (ℕ × BoundsValue)) → all_agree bs cs ≡ true → all_agree cs ds ≡ true
+        → all_agree bs ds ≡ true
+    trans bs cs ds p q = agree_from_every bs ds (λ code. (partial_equiv_from_equiv same).trans (own code bs)
+        (own code cs) (own code ds) (every_agree bs cs p code) (every_agree cs ds q code))
 
 pub config_equiv : IsEquivalence config_eq
 config_equiv = and_equiv (on_equiv (λ c. c.default) bounds_equiv) (on_equiv (λ c. c.by_type) all_agree_equiv)
