@@ -1,4 +1,4 @@
-use Rattle.std.proofs.Common.{◌≡◌, refl}
+use Rattle.std.proofs.Common.{refl}
 use Rattle.hickory_resolver_lookup.proofs.Bounds.{sets_bounds}
 use Rattle.hickory_resolver_lookup.proofs.ttl_config.TtlConfig.change.Goals as goal
 

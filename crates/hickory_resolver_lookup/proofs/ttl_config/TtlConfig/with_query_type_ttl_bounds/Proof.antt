@@ -1,4 +1,6 @@
-use Rattle.std.proofs.Common.{◌≡◌, List, [], ◌∷◌, Ok, Err, refl, sym, subst}
+-- The walk: `change` is called with the whole reference, and `handed_back` with what it gives. What rests with the struct after
+-- the first call is then lent to the caller.
+use Rattle.std.proofs.Common.{◌≡◌, [], ◌∷◌, Ok, Err, refl, sym, subst}
 use Rattle.std.proofs.raw_atomic.Walks.{proved}
 use seplogic.Ra.Ura.{Ura}
 use base.Fml.{ftrue, flft, fres}
@@ -7,10 +9,9 @@ use types.Logic.{Logic, sem}
 use denote.Follow.{follows, follows_by, such_by}
 use Rattle.std.proofs.mem.Facts.{says_three}
 use mir.Syntax.{named}
-use mir.Val.{Val, vptr}
 use contract.Monad.{fact}
 use contract.Running.{tables}
-use types.Kit.{‵, raw, ◌⊛◌, some, later, ◌$◌, ◌∵◌, !, qed, done, move, keep, drop, split, join, use1, use2, pick, await, fjoin, fpick, rewrite, suffices, frame}
+use types.Kit.{‵, raw, ◌⊛◌, some, later, ◌$◌, ◌∵◌, !, qed, done, move, drop, split, join, use1, use2, pick, await, fjoin, fpick, rewrite, suffices, frame}
 use types.Run.{enter, addr, stop, and_then, no_more, returns}
 use types.ByLocal.{alloc_all, pass_all, free_all, look_at, get, through, sets, lands_as}
 use denote.Exit.{yes, no}
@@ -28,10 +29,9 @@ use denote.Enum.Laws as enum
 use denote.Enum.Loose.{loose_lawful}
 use denote.Triple.Call.{calls_at}
 use denote.Triple.Clauses.{Lasts, lasts}
-use denote.Triple.Entry.{on_entry}
 use denote.Triple.Spec.{triple_of}
 use denote.Triple.Table.{framed}
-use denote.Triple.Walked.{Stays, walk_of, says, stay_dropped, Goes-dropped, Goes-spent_ref, ends_at}
+use denote.Triple.Walked.{Stays, walk_of, stay_dropped, Goes-dropped, Goes-spent_ref, ends_at}
 use Rattle.hickory_proto_core.specs.contracts.RecordType.{the_type as type_of_records, the_row as RecordTypes}
 use Rattle.hickory_proto_core.proofs.RecordType.TheLaws as type-laws
 use Rattle.hickory_resolver_lookup.specs.contracts.ttl_bounds.TtlBounds.{the_row as Bounds}
