@@ -75,8 +75,8 @@ fn age_section(section: &mut Option<Vec<Record>>, seconds: u32)
 fn age_forwards(forwards: &mut Vec<ForwardNSData>, seconds: u32)
     ensures { forwards.new.items ≡ map (aged_forward seconds) forwards.old.items }
 {
-    for aged_result in forwards.iter_mut() {
-        age_forward(aged_result, seconds);
+    for older in forwards.iter_mut() {
+        age_forward(older, seconds);
     }
 }
 
@@ -90,7 +90,7 @@ fn age_forward(forward: &mut ForwardNSData, seconds: u32)
 fn age_records(records: &mut Vec<Record>, seconds: u32)
     ensures { records.new.items ≡ aged_records seconds records.old.items }
 {
-    for aged_result in records.iter_mut() {
-        aged_result.decrement_ttl(seconds);
+    for older in records.iter_mut() {
+        older.decrement_ttl(seconds);
     }
 }

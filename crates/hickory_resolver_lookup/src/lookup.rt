@@ -35,7 +35,10 @@ impl Lookup {
         message: Message,
         valid_until: u64,
     ) -> Result<Lookup, NetError>
-        ensures ok { IfOk result (λ l. l ≡ record { message = with_question query message; valid_until = valid_until }) }
+        ensures ok { IfOk result (λ l. l ≡ record {
+          message = with_question query message;
+          valid_until = valid_until;
+        }) }
         ensures err { IsOkUnless result NetError.OutOfMemory }
     {
         let mut message = message;

@@ -32,9 +32,9 @@ impl Model for TtlBounds {
 }
 
 impl TtlBounds {
-    /// The bounds of positive and negative answers, in seconds. Bounds whose least is above their greatest are
-    /// refused, those of positive answers first. Theirs are refused also where the least is above the greatest
-    /// once each that is too large for a TTL has become a day.
+    /// The bounds of positive and negative answers, in seconds. Bounds whose least is above their greatest
+    /// are refused, those of positive answers first. Theirs are refused also where the least is above the
+    /// greatest once each that is too large for a TTL has become a day.
     pub fn new(
         positive_min: Option<u64>,
         negative_min: Option<u64>,

@@ -1,8 +1,9 @@
 //! Bounds on times to live by the type of records.
 ghost use Rattle.std.specs.Prelude.{◌≡◌, ◌≤◌, ◌==◌, ◌||◌, [], ◌++◌, filter, IfOk, OnOk, OnErr, IsOkUnless};
+ghost use Rattle.std.specs.Result.{result_map_both};
 ghost use Rattle.hickory_proto_core.specs.Codes.{type_code};
 ghost use Rattle.hickory_proto_core.specs.ResponseKind.{record_type_code};
-ghost use Rattle.hickory_resolver_model.specs.Bounds.{ConfigValue, SetsBounds, bounds_for, positive_bounds, negative_bounds, clamped_message, clamped_record, clamped_records, positive_lifetime, negative_lifetime, no_bounds, least_ttl, living_records};
+ghost use Rattle.hickory_resolver_model.specs.Bounds.{ConfigValue, SetsBounds, all_agree, bounds_for, positive_bounds, negative_bounds, clamped_message, clamped_record, clamped_records, positive_lifetime, negative_lifetime, no_bounds, least_ttl, living_records};
 
 use crate::ttl_bounds::{TtlBounds, clamp, clamp_ttl};
 use hickory_proto_core::{Message, NetError, NoRecords, Query, Record, RecordType};
@@ -10,8 +11,8 @@ use std::alloc::Global;
 use std::collections::BTreeMap;
 use std::marker::Model;
 
-/// The bounds on times to live that a cache keeps to: those of most types of records, and those of some types,
-/// which stand in place of them whole.
+/// The bounds on times to live that a cache keeps to: those of most types of records, and those of some
+/// types, which stand in place of them whole.
 #[derive(Debug, Drop)]
 pub struct TtlConfig {
     default: TtlBounds,
@@ -27,6 +28,9 @@ impl Model for TtlConfig {
 }
 
 impl TtlConfig {
+    ghost use Rattle.std.specs.Borrow.{sem};
+    ghost use Rattle.hickory_resolver_lookup.specs.ConfigLends.{LendsConfig, RestsConfig};
+
     /// No bounds but those that stand where all are left out. Takes no memory.
     pub fn default(alloc: Global) -> TtlConfig
         ensures { result ≡ record { default = no_bounds; by_type = [] } }
@@ -44,21 +48,34 @@ impl TtlConfig {
         }
     }
 
-    /// Puts these bounds in place of all others for one type. A refused call changes nothing.
+    /// Puts these bounds in place of all others for one type, and hands itself back, so that calls chain.
+    /// A refused call changes nothing; the only error is to be out of memory.
     pub fn with_query_type_ttl_bounds(
         &mut self,
         query_type: RecordType,
         bounds: TtlBounds,
-    ) -> Result<(), NetError>
-        ensures ok { OnOk result (SetsBounds self.old self.new (type_code query_type) bounds) }
-        ensures unchanged { OnErr result (self.new ≡ self.old) }
+    ) -> Result<&mut TtlConfig, NetError>
+        ensures* lends { sem 𝓛 (LendsConfig self.entry result) }
+        ensures same_reference { IfOk result (λ config. config.ghost_name ≡ self.entry.ghost_name) }
+        ensures ok { IfOk result (λ config. SetsBounds self.old config.now (type_code query_type) bounds) }
+        ensures err { IsOkUnless result NetError.OutOfMemory }
+    {
+        handed_back(self.change(query_type, bounds))
+    }
+
+    // The same, with the configuration in a struct.
+    fn change(&mut self, query_type: RecordType, bounds: TtlBounds) -> Result<Changed<'_>, NetError>
+        ensures* rests { sem 𝓛 (RestsConfig self.entry result) }
+        ensures same_reference { IfOk result (λ c. c.config.ghost_name ≡ self.entry.ghost_name) }
+        ensures ok { IfOk result (λ c. SetsBounds self.old c.config.now (type_code query_type) bounds) }
         ensures err { IsOkUnless result NetError.OutOfMemory }
     {
         self.by_type.insert(query_type.code(), bounds)?;
-        Ok(())
+        Ok(Changed { config: self })
     }
 
-    /// The least and the greatest time that a positive answer to a question for this type is kept for, in seconds.
+    /// The least and the greatest time that a positive answer to a question for this type is kept for, in
+    /// seconds.
     pub fn positive_response_ttl_bounds(&self, query_type: RecordType) -> (u64, u64)
         ensures bounds { result ≡ positive_bounds (bounds_for self.now (type_code query_type)) }
         ensures ordered { result.0 ≤ result.1 }
@@ -66,7 +83,8 @@ impl TtlConfig {
         self.bounds(query_type).positive()
     }
 
-    /// The least and the greatest time that a negative answer to a question for this type is kept for, in seconds.
+    /// The least and the greatest time that a negative answer to a question for this type is kept for, in
+    /// seconds.
     pub fn negative_response_ttl_bounds(&self, query_type: RecordType) -> (u64, u64)
         ensures bounds { result ≡ negative_bounds (bounds_for self.now (type_code query_type)) }
         ensures ordered { result.0 ≤ result.1 }
@@ -118,16 +136,16 @@ impl TtlConfig {
     fn clamp_records(&self, records: &mut Vec<Record>)
         ensures { records.new.items ≡ clamped_records self.now records.old.items }
     {
-        for clamped_message in records.iter_mut() {
-            self.clamp_record(clamped_message);
+        for limited in records.iter_mut() {
+            self.clamp_record(limited);
         }
     }
 
-    fn clamp_record(&self, clamped_message: &mut Record)
-        ensures { clamped_message.new ≡ clamped_record self.now clamped_message.old }
+    fn clamp_record(&self, limited: &mut Record)
+        ensures { limited.new ≡ clamped_record self.now limited.old }
     {
-        let bounds = self.positive_response_ttl_bounds(clamped_message.record_type());
-        clamped_message.ttl = clamp_ttl(bounds, clamped_message.ttl);
+        let bounds = self.positive_response_ttl_bounds(limited.record_type());
+        limited.ttl = clamp_ttl(bounds, limited.ttl);
     }
 
     fn bounds(&self, query_type: RecordType) -> TtlBounds
@@ -136,6 +154,21 @@ impl TtlConfig {
         let own = self.by_type.get(&query_type.code());
         own.copied().unwrap_or(self.default)
     }
+}
+
+// A configuration that has just been changed, on its way back to the caller: what a refused call leaves
+// can be said of a struct that holds the reference.
+#[derive(Drop)]
+struct Changed<'a> {
+    config: &'a mut TtlConfig,
+}
+
+// The configuration out of its struct.
+fn handed_back<'a>(changed: Result<Changed<'a>, NetError>) -> Result<&'a mut TtlConfig, NetError>
+    ensures { result ≡ result_map_both (λ c. c.config) (λ e. e) changed.entry }
+{
+    let Changed { config } = changed?;
+    Ok(config)
 }
 
 // The least TTL of the records that an answer to the question lives by.
@@ -169,9 +202,17 @@ fn is_ns(found: &Record) -> bool
 
 // Whether the record is of the type that was asked for, or a CNAME.
 fn is_of(asked: RecordType, found: &Record) -> bool
-    ensures { result ≡ ((record_type_code found.now == type_code asked) || (record_type_code found.now == 5)) }
+    ensures { result ≡ ((record_type_code found.now == type_code asked)
+        || (record_type_code found.now == 5)) }
 {
     found.record_type() == asked || found.record_type() == RecordType::CNAME
+}
+
+// Whether two maps have the same bounds for each code.
+fn have_same_bounds(a: &BTreeMap<u16, TtlBounds>, b: &BTreeMap<u16, TtlBounds>) -> bool
+    ensures { result ≡ all_agree a.now.entries b.now.entries }
+{
+    a.len() == b.len() && a == b
 }
 
 impl PartialEq for TtlConfig {
@@ -183,7 +224,7 @@ impl PartialEq for TtlConfig {
     ghost laws = { partial_equiv_from_equiv config_equiv };
 
     fn eq(&self, other: &TtlConfig) -> bool {
-        self.default == other.default && self.by_type == other.by_type
+        self.default == other.default && have_same_bounds(&self.by_type, &other.by_type)
     }
 }
 

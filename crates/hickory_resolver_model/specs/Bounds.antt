@@ -1,9 +1,12 @@
 -- Bounds on times to live, in seconds, and how they are used: to clamp the TTL of each record, and to say for
 -- how long an outcome may be kept (RFC 2181, section 8; RFC 2308, section 5; the bounds are the caller's).
-use Rattle.std.specs.Prelude.{◌≡◌, ◌≢◌, ℕ, Bool, ◌||◌, ◌&&◌, ◌==◌, List, [], ◌∷◌, ◌++◌, map, filter, fold, min, max, nat_lt, nat_eq, Option, None, Some, unwrap_or, Result, Ok, Err, if◌then◌else◌}
+use Rattle.std.specs.Prelude.{◌≡◌, ◌≢◌, ℕ, Bool, true, false, ◌⊎◌, ◌||◌, ◌&&◌, ◌==◌, List, [], ◌∷◌, ◌++◌, map, filter, fold, min, max, nat_lt, nat_eq, Option, None, Some, unwrap_or, Result, Ok, Err, if◌then◌else◌}
 use Rattle.std.specs.Option.{option_map_or, option_eq}
-use Rattle.std.specs.Cmp.{IsEquivalence, and_equiv, on_equiv, nat_eq_equiv}
-use Rattle.std.specs.Cmp.Lexicographic.{pointwise, options_equiv, lists_equiv}
+use Rattle.std.specs.List.{list_all}
+use Rattle.std.specs.Cmp.{IsEquivalence, equiv, partial_equiv_from_equiv, and_equiv, on_equiv, nat_eq_equiv, unsigned_Decides, both_ways, first_so, second_so}
+use Rattle.std.specs.Cmp.Lexicographic.{options_equiv}
+use mathlib.Core.Path.{refl, ap, ◌∙◌}
+use mathlib.Core.Logic.{inl, inr}
 use Rattle.hickory_proto_core.specs.Codes.{type_code}
 use Rattle.hickory_proto_core.specs.Records.{RecordValue}
 use Rattle.hickory_proto_core.specs.Messages.{MessageValue}
@@ -72,21 +75,89 @@ pub record ConfigValue : Type 0 where
   pub default : BoundsValue
   pub by_type : List (ℕ × BoundsValue)
 
--- configurations are equal where both fields are
-abbrev pub config_eq : ConfigValue → ConfigValue → Bool
-config_eq c d =
-    bounds_eq c.default d.default && pointwise (λ p q. (p.0 == q.0) && bounds_eq p.1 q.1) c.by_type d.by_type
-
-pub config_equiv : IsEquivalence config_eq
-config_equiv =
-    and_equiv (on_equiv (λ c. c.default) bounds_equiv)
-    (on_equiv (λ c. c.by_type)
-        (lists_equiv (and_equiv (on_equiv (λ p. p.0) nat_eq_equiv) (on_equiv (λ p. p.1) bounds_equiv))))
-
 -- the bounds of one code in a list
 abbrev pub bounds_by_code : ℕ → List (ℕ × BoundsValue) → Option BoundsValue
 bounds_by_code code [] = None
 bounds_by_code code (b ∷ bs) = if code == b.0 then Some b.1 else bounds_by_code code bs
+
+-- whether two lists have the same bounds for a code
+abbrev pub agree_at : List (ℕ × BoundsValue) → List (ℕ × BoundsValue) → ℕ → Bool
+agree_at bs cs code = option_eq bounds_eq (bounds_by_code code bs) (bounds_by_code code cs)
+
+-- whether they have the same for each code that either lists, in whatever order
+abbrev pub all_agree : List (ℕ × BoundsValue) → List (ℕ × BoundsValue) → Bool
+all_agree bs cs = list_all (λ b. agree_at bs cs b.0) bs && list_all (λ c. agree_at bs cs c.0) cs
+
+-- configurations are equal where the bounds of most types are, and each type has the same bounds of its own
+abbrev pub config_eq : ConfigValue → ConfigValue → Bool
+config_eq c d = bounds_eq c.default d.default && all_agree c.by_type d.by_type
+
+-- a code is not listed, or what holds of each listed code holds of it
+listed : (P : ℕ → Bool) (bs : List (ℕ × BoundsValue)) → list_all (λ b. P b.0) bs ≡ true → (code : ℕ)
+    → (bounds_by_code code bs ≡ None) ⊎ (P code ≡ true)
+listed P [] h code = inl refl
+listed P (b ∷ bs) h code =
+    at (code == b.0) refl (listed P bs (second_so (P b.0) (list_all (λ c. P c.0) bs) h) code)
+  where
+    at : (here : Bool) → (code == b.0) ≡ here → (bounds_by_code code bs ≡ None) ⊎ (P code ≡ true)
+        → ((if here then Some b.1 else bounds_by_code code bs) ≡ None) ⊎ (P code ≡ true)
+    at true e rest =
+        inr (ap P ((unsigned_Decides code b.0).0 e) ∙ first_so (P b.0) (list_all (λ c. P c.0) bs) h)
+    at false e rest = rest
+
+-- lists that agree do so at every code
+pub every_agree : (bs cs : List (ℕ × BoundsValue)) → all_agree bs cs ≡ true → (code : ℕ)
+    → agree_at bs cs code ≡ true
+every_agree bs cs h code =
+    either (listed at bs (first_so (list_all (λ b. at b.0) bs) (list_all (λ c. at c.0) cs) h) code)
+    (listed at cs (second_so (list_all (λ b. at b.0) bs) (list_all (λ c. at c.0) cs) h) code)
+  where
+    at : ℕ → Bool
+    at = agree_at bs cs
+
+    either : (bounds_by_code code bs ≡ None) ⊎ (at code ≡ true)
+        → (bounds_by_code code cs ≡ None) ⊎ (at code ≡ true) → at code ≡ true
+    either (inr e) f = e
+    either (inl e) (inr f) = f
+    either (inl e) (inl f) = λ i. option_eq bounds_eq (e i) (f i)
+
+each_listed : (P : ℕ → Bool) → ((code : ℕ) → P code ≡ true) → (bs : List (ℕ × BoundsValue))
+    → list_all (λ b. P b.0) bs ≡ true
+each_listed P h [] = refl
+each_listed P h (b ∷ bs) = λ i. h b.0 i && each_listed P h bs i
+
+-- lists that agree at every code do so
+pub agree_from_every : (bs cs : List (ℕ × BoundsValue)) → ((code : ℕ) → agree_at bs cs code ≡ true)
+    → all_agree bs cs ≡ true
+agree_from_every bs cs h = λ i. each_listed (agree_at bs cs) h bs i && each_listed (agree_at bs cs) h cs i
+
+pub all_agree_equiv : IsEquivalence all_agree
+all_agree_equiv =
+    equiv (record {
+      symm = symm;
+      trans = trans;
+    }) (λ bs. agree_from_every bs bs (λ code. same.refl (own code bs)))
+  where
+    own : ℕ → List (ℕ × BoundsValue) → Option BoundsValue
+    own = bounds_by_code
+
+    same : IsEquivalence (option_eq bounds_eq)
+    same = options_equiv bounds_equiv
+
+    turned : (bs cs : List (ℕ × BoundsValue)) → all_agree bs cs ≡ true → all_agree cs bs ≡ true
+    turned bs cs h =
+        agree_from_every cs bs (λ code. same.symm (own code cs) (own code bs) ∙ every_agree bs cs h code)
+
+    symm : (bs cs : List (ℕ × BoundsValue)) → all_agree bs cs ≡ all_agree cs bs
+    symm bs cs = both_ways (all_agree bs cs) (all_agree cs bs) (turned bs cs) (turned cs bs)
+
+    trans : (bs cs ds : List (ℕ × BoundsValue)) → all_agree bs cs ≡ true → all_agree cs ds ≡ true
+        → all_agree bs ds ≡ true
+    trans bs cs ds p q = agree_from_every bs ds (λ code. (partial_equiv_from_equiv same).trans (own code bs)
+        (own code cs) (own code ds) (every_agree bs cs p code) (every_agree cs ds q code))
+
+pub config_equiv : IsEquivalence config_eq
+config_equiv = and_equiv (on_equiv (λ c. c.default) bounds_equiv) (on_equiv (λ c. c.by_type) all_agree_equiv)
 
 abbrev pub bounds_for : ConfigValue → ℕ → BoundsValue
 bounds_for config code = unwrap_or (bounds_by_code code config.by_type) config.default
