@@ -119,9 +119,11 @@ ascends-in_order next ps h n =
 ascends-sorted : (n : ℕ) (ps : List Pair) → ((p : Pair) → slice_get ps 0 ≡ Some p → n ≤ p.1.number) → IsNonDecreasingBy (λ p. p.1.number) ps → IsDistinct nat_eq (keys_of (by_number ps)) → Ascends n ps
 ascends-sorted n [] least up apart = tt
 ascends-sorted n (p ∷ []) least up apart = (least p refl, tt)
-ascends-sorted n (p ∷ (q ∷ ps)) least up apart =
-    (least p refl, ascends-sorted (suc p.1.number) (q ∷ ps) (λ x e. subst (λ (y : Pair). suc p.1.number ≤ y.1.number) (same_Some q x e) next)
-    (IsNonDecreasingBy-drop (λ (x : Pair). x.1.number) 1 (p ∷ (q ∷ ps)) up) (IsDistinct-tail nat_eq p.1.number (keys_of (by_number (q ∷ ps))) apart))
+ascends-sorted n (p ∷ (q ∷ ps)) least up apart = (
+  least p refl,
+  ascends-sorted (suc p.1.number) (q ∷ ps) (λ x e. subst (λ (y : Pair). suc p.1.number ≤ y.1.number) (same_Some q x e) next)
+      (IsNonDecreasingBy-drop (λ (x : Pair). x.1.number) 1 (p ∷ (q ∷ ps)) up) (IsDistinct-tail nat_eq p.1.number (keys_of (by_number (q ∷ ps))) apart),
+)
   where
     other : nat_eq p.1.number q.1.number ≡ false
     other = (IsDistinct-head nat_eq p.1.number (keys_of (by_number (q ∷ ps))) apart).0
@@ -195,7 +197,7 @@ order-more ps i p q old new at own h updates =
     long = let e = length-append (take i ps) (p ∷ []) in omega (arith, e, length_is)
 
 pub order-none : (order : Order) → order.entries ≡ [] → IsOrderOf [] order
-order-none order e = let kept = kept-empty 0 [] order refl e in record { numbers = kept.numbers; placed = kept.placed }
+order-none order e = let kept = kept-empty 0 0 [] order refl e in record { numbers = kept.numbers; placed = kept.placed }
 
 -- one number more
 anew-more : (n i m : ℕ) (ps : List Pair) (k : Kept) → i < length ps → m ≡ n + i → slice_get (values_of (renumbered n (take i ps) ++ drop i ps)) i ≡ Some k

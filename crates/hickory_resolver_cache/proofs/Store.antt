@@ -344,11 +344,19 @@ pub ok_fact : {T E P : Type 0} (r : Result T E) → IsOk r → OnOk r P → P
 ok_fact (Ok v) h p = p
 ok_fact (Err e) h p = absurd (false≢true h)
 
-pub kept-empty : (capacity : ℕ) (ps : List Pair) (order : Order) → ps ≡ [] → order.entries ≡ [] → IsKept capacity 0 ps order
-unfolding IsDistinct
-kept-empty capacity ps order e o = subst (λ l. IsKept capacity 0 l order) (sym e) none
+-- no entries, whatever the next number is
+pub entries-none : (next : ℕ) (ps : List Pair) → ps ≡ [] → entries_of ps next ≡ []
+entries-none next ps e = ap (λ l. entries_of l next) e ∙ ap (map stored_entry) (none next)
   where
-    none : IsKept capacity 0 [] order
+    none : (n : ℕ) → listed (numbered []) n ≡ []
+    none zero = refl
+    none (suc n) = ap (λ l. l ++ []) (none n)
+
+pub kept-empty : (capacity next : ℕ) (ps : List Pair) (order : Order) → ps ≡ [] → order.entries ≡ [] → IsKept capacity next ps order
+unfolding IsDistinct
+kept-empty capacity next ps order e o = subst (λ l. IsKept capacity next l order) (sym e) none
+  where
+    none : IsKept capacity next [] order
     none = record {
       short = omega arith;
       numbers = record { apart = tt; below = λ n l. refl };

@@ -59,13 +59,7 @@ impl<S: BuildHasher> ResponseCache<S> {
     ) -> ResponseCache<S>
         ensures { result ≡ record { capacity = capacity; config = ttl_config; entries = [] } }
     {
-        ResponseCache {
-            index: IndexMap::with_hasher(alloc, hasher),
-            order: BTreeMap::new(alloc),
-            next_number: 0,
-            capacity,
-            ttl_config,
-        }
+        ResponseCache::numbered_from(alloc, capacity, ttl_config, hasher, 0)
     }
 
     /// Keeps an outcome for a question from a moment on: an answer, its TTLs clamped, or a negative answer
@@ -163,6 +157,25 @@ impl<S: BuildHasher> ResponseCache<S> {
         &self.ttl_config
     }
 
+    // An empty cache whose first store gets this number.
+    fn numbered_from(
+        alloc: Global,
+        capacity: u64,
+        ttl_config: TtlConfig,
+        hasher: S,
+        next_number: u64,
+    ) -> ResponseCache<S>
+        ensures { result ≡ record { capacity = capacity; config = ttl_config; entries = [] } }
+    {
+        ResponseCache {
+            index: IndexMap::with_hasher(alloc, hasher),
+            order: BTreeMap::new(alloc),
+            next_number,
+            capacity,
+            ttl_config,
+        }
+    }
+
     // Puts an entry in as the newest. A refused call changes nothing.
     fn insert_entry(&mut self, entry: CacheEntry) -> Result<(), NetError>
         requires { OutlivesNoAnswer self.old.config entry }
@@ -176,7 +189,13 @@ impl<S: BuildHasher> ResponseCache<S> {
         }
         let number = next_number(&mut self.index, &mut self.order, self.next_number)?;
         self.next_number = number;
-        store(&mut self.index, &mut self.order, self.capacity, number, entry)?;
+        store(
+            &mut self.index,
+            &mut self.order,
+            self.capacity,
+            number,
+            entry,
+        )?;
         self.next_number = number + 1;
         Ok(())
     }
@@ -207,3 +226,8 @@ impl<S: BuildHasher> ResponseCache<S> {
         }
     }
 }
+
+#[cfg(test)]
+mod comparison;
+#[cfg(test)]
+mod scanned_cache;

@@ -15,7 +15,7 @@ fn name(alloc: Global, label: &str) -> Result<Name, Fail> {
     Ok(Name::from_labels(labels)?)
 }
 
-fn question(alloc: Global, label: &str, asked: RecordType) -> Result<Query, Fail> {
+pub fn question(alloc: Global, label: &str, asked: RecordType) -> Result<Query, Fail> {
     Ok(Query::query(name(alloc, label)?, asked))
 }
 
@@ -49,7 +49,7 @@ fn answer(alloc: Global, sections: &[Section<'_>; 3]) -> Result<Message, Fail> {
 }
 
 // An answer of one A record.
-fn address(alloc: Global, ttl: u32) -> Result<Message, Fail> {
+pub fn address(alloc: Global, ttl: u32) -> Result<Message, Fail> {
     answer(alloc, &[&[(RecordType::A, ttl)], &[], &[]])
 }
 
@@ -304,7 +304,7 @@ fn reversed_bounds_are_refused(rt: HostRuntime) -> Result<(), Fail> {
     Ok(())
 }
 
-fn no_records(query: &Query, negative_ttl: Option<u32>) -> Result<NoRecords, Fail> {
+pub fn no_records(query: &Query, negative_ttl: Option<u32>) -> Result<NoRecords, Fail> {
     let mut none = NoRecords::new(query.clone()?, ResponseCode::NXDomain);
     none.negative_ttl = negative_ttl;
     Ok(none)

@@ -68,11 +68,7 @@ fn insert_entry<S: BuildHasher>(index: &mut Index<S>, query: Query, kept: Kept)
 }
 
 // Takes out the pair at a turn, if there is one. Its question is found by the spelling that the order has.
-pub fn take_out<S: BuildHasher>(
-    index: &mut Index<S>,
-    order: &mut Order,
-    turn: Option<(u64, u64)>,
-)
+pub fn take_out<S: BuildHasher>(index: &mut Index<S>, order: &mut Order, turn: Option<(u64, u64)>)
     requires numbers { IsDistinct nat_eq (keys_of (by_number index.old.entries)) }
     requires taken { IsTaken index.old.entries order.old turn }
     ensures gone { Gone turn index.old.entries index.new.entries }

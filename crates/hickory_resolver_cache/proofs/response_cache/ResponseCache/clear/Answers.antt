@@ -3,6 +3,6 @@ use Rattle.hickory_resolver_cache.proofs.response_cache.ResponseCache.clear.Goal
 
 pub invariant_of-self : goal.invariant_of-self
 invariant_of-self g c = record {
-  kept = kept-empty c.self.inside.capacity c.clear.new.self.entries c.clear-2.new.self c.clear.ensures.empty c.clear-2.ensures.empty;
+  kept = kept-empty c.self.inside.capacity 0 c.clear.new.self.entries c.clear-2.new.self c.clear.ensures.empty c.clear-2.ensures.empty;
   timely = tt;
 }
