@@ -4,8 +4,8 @@ use crate::samples::{
     soa,
 };
 use hickory_proto_core::{
-    DnsError, DnsHandle, DnsRequest, DnsRequestOptions, DnsResponse, Message, Name, NameError,
-    NetError, OpCode, RecordType, Recorded, ResponseCode, TableHandle, clone_outcome,
+    DnsError, DnsHandle, DnsRequest, DnsRequestOptions, DnsResponse, ForwardNSData, Message, Name,
+    NameError, NetError, NoRecords, OpCode, RecordType, Recorded, TableHandle, clone_outcome,
 };
 use std::alloc::{AllocError, Global};
 use std::fmt::Debug;
@@ -19,6 +19,11 @@ fn copy<T: Clone>(value: &T) -> Result<T, AllocError> {
 // Whether both print alike by `Debug`.
 fn same<T: Debug>(alloc: Global, a: &T, b: &T) -> Result<bool, Fail> {
     Ok(format!(in alloc; "{a:?}")? == format!(in alloc; "{b:?}")?)
+}
+
+fn is_copied<T: Clone + Debug>(alloc: Global, value: &T) -> Result<bool, Fail> {
+    let copied = copy(value)?;
+    same(alloc, &copied, value)
 }
 
 #[test]
@@ -67,28 +72,45 @@ fn copies_of_records_and_messages(rt: HostRuntime) -> Result<(), Fail> {
     Ok(())
 }
 
+// Whether the copy of each type's own call, and that by generic code, print as their source does.
+fn no_records_is_copied(alloc: Global, none: &NoRecords) -> Result<bool, Fail> {
+    let own = none.clone()?;
+    Ok(same(alloc, &own, none)? && is_copied(alloc, none)?)
+}
+
+fn server_is_copied(alloc: Global, server: &ForwardNSData) -> Result<bool, Fail> {
+    let own = server.clone()?;
+    Ok(same(alloc, &own, server)? && is_copied(alloc, server)?)
+}
+
+fn dns_error_is_copied(alloc: Global, error: &DnsError) -> Result<bool, Fail> {
+    let own = error.clone()?;
+    Ok(same(alloc, &own, error)? && is_copied(alloc, error)?)
+}
+
+fn net_error_is_copied(alloc: Global, error: &NetError) -> Result<bool, Fail> {
+    let own = error.clone()?;
+    Ok(same(alloc, &own, error)? && is_copied(alloc, error)?)
+}
+
 #[test]
 fn copies_of_negative_answers(rt: HostRuntime) -> Result<(), Fail> {
-    let alloc = rt.alloc();
-    let none = full_no_records(alloc)?;
-    let copied = none.clone()?;
-    assert!(rt; same(alloc, &copied, &none)?);
-    assert!(rt; same(alloc, &copy(&none)?, &none)?);
+    let none = full_no_records(rt.alloc())?;
+    assert!(rt; no_records_is_copied(rt.alloc(), &none)?);
     let servers = none.ns.ok_or("no servers")?;
-    assert!(rt; same(alloc, &servers[0].clone()?, &servers[0])?);
-    assert!(rt; same(alloc, &copy(&servers)?, &servers)?);
+    for server in &servers {
+        assert!(rt; server_is_copied(rt.alloc(), server)?);
+    }
     Ok(())
 }
 
 #[test]
 fn copies_of_errors(rt: HostRuntime) -> Result<(), Fail> {
-    let alloc = rt.alloc();
-    let code = DnsError::ResponseCode(ResponseCode::ServFail);
-    let copied = code.clone()?;
-    assert!(rt; same(alloc, &copied, &code)?);
-    for error in &errors_of_each_kind(alloc)? {
-        assert!(rt; same(alloc, &error.clone()?, error)?);
-        assert!(rt; same(alloc, &copy(error)?, error)?);
+    for error in &errors_of_each_kind(rt.alloc())? {
+        assert!(rt; net_error_is_copied(rt.alloc(), error)?);
+        if let NetError::Dns(error) = error {
+            assert!(rt; dns_error_is_copied(rt.alloc(), error)?);
+        }
     }
     Ok(())
 }
