@@ -1,1 +1,2 @@
 pub mod OneHop
+pub mod Zones

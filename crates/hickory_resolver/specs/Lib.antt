@@ -1,4 +1,5 @@
 pub mod Settled
+pub mod Special
 pub use Rattle.hickory_resolver_model.specs.AliasWalk
 pub use Rattle.hickory_resolver_model.specs.Attempts
 pub use Rattle.hickory_resolver_model.specs.Bounds
