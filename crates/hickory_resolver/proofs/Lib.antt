@@ -1,2 +1,3 @@
 pub mod OneHop
 pub mod Zones
+pub mod Walking

@@ -1,6 +1,7 @@
 //! A stub resolver's core: a cache of what an upstream answered, and a client that asks through it.
 #![tactic(auto)]
 
+mod alias_walk;
 pub mod cache;
 pub mod caching_client;
 pub mod lookup;
