@@ -1,3 +1,4 @@
 pub mod OneHop
 pub mod Zones
 pub mod Walking
+pub mod Selecting

@@ -1,5 +1,6 @@
 pub mod Settled
 pub mod Special
+pub mod Verdicts
 pub mod Walks
 pub use Rattle.hickory_resolver_model.specs.AliasWalk
 pub use Rattle.hickory_resolver_model.specs.Attempts

@@ -7,7 +7,7 @@ use hickory_proto_core::{Name, Query, RData, Record, RecordType};
 use hickory_resolver_lookup::MAX_TTL;
 
 /// Where the aliases among some answers lead.
-#[derive(Clone, Copy)]
+#[derive(Drop)]
 pub struct AliasWalk<'a> {
     /// The last name reached: the asked one, where no alias was followed.
     pub last: &'a Name,

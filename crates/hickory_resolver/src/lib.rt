@@ -6,6 +6,7 @@ pub mod cache;
 pub mod caching_client;
 pub mod lookup;
 mod special_use;
+mod verdict;
 
 pub use cache::{MAX_TTL, ResponseCache, TtlBounds, TtlConfig};
 pub use caching_client::CachingClient;

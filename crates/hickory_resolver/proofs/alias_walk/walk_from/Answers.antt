@@ -1,5 +1,5 @@
 use Rattle.std.proofs.Common.{arith}
-use Rattle.hickory_resolver.proofs.Walking.{walk_starts, goes_along, goes_past, walked}
+use Rattle.hickory_resolver.proofs.Walking.{walk_starts}
 use Rattle.hickory_resolver.proofs.alias_walk.walk_from.Goals as goal
 
 pub loop-answer-init : goal.loop-answer-init
