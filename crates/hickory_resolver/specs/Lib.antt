@@ -1,4 +1,4 @@
-pub mod Settled
+pub mod Steps
 pub mod Special
 pub mod Verdicts
 pub mod Walks
