@@ -1,1 +1,6 @@
-pub mod OneHop
+pub mod Zones
+pub mod Walking
+pub mod Selecting
+pub mod Stepping
+pub mod Stored
+pub mod Walks

@@ -1,4 +1,7 @@
-pub mod Settled
+pub mod Steps
+pub mod Special
+pub mod Verdicts
+pub mod Walks
 pub use Rattle.hickory_resolver_model.specs.AliasWalk
 pub use Rattle.hickory_resolver_model.specs.Attempts
 pub use Rattle.hickory_resolver_model.specs.Bounds

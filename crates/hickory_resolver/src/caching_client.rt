@@ -1,31 +1,48 @@
 //! A client that asks an upstream through a cache.
-ghost use Rattle.std.specs.Prelude.{◌≡◌, ◌⊎◌, [], Err, IfOk, IsOkUnless};
-ghost use Rattle.std.specs.List.{list_any};
-ghost use Rattle.hickory_proto_core.specs.Messages.{some_record};
-ghost use Rattle.hickory_proto_core.specs.ResponseKind.{ResponseKind, Answer, Negative, IsClassified, kind_of};
+ghost use Rattle.std.specs.Prelude.{◌≡◌, ◌⊎◌, ◌≤◌, ◌∷◌, [], Ok, Err, OnOk, OnErr, IfOk, IsOkUnless};
+ghost use Rattle.hickory_proto_core.specs.ResponseKind.{ResponseKind, Answer, IsClassified, kind_of};
+ghost use Rattle.hickory_proto_core.specs.records.net_error.NetError.TheVariants.{Dns};
+ghost use Rattle.hickory_proto_core.specs.records.net_error.DnsError.TheVariants.{NoRecordsFound};
 ghost use Rattle.hickory_resolver_model.specs.Cache.{without_query};
-ghost use Rattle.hickory_resolver_model.specs.Hops.{no_match, hit_result};
+ghost use Rattle.hickory_resolver_model.specs.Lookup.{found_lookup};
+ghost use Rattle.hickory_resolver_model.specs.Hops.{no_match, hit_result, as_outcome, after_stores};
 ghost use Rattle.hickory_resolver_model.specs.Client.{ClientValue, IsLookup, start_of, KeepsHandle, empty_cache};
-ghost use Rattle.hickory_resolver.specs.Settled.{IsSettled, NeverFailsNegative, is_direct_match};
+ghost use Rattle.hickory_resolver_theorems.specs.Statements.{IsWholeLookup};
+ghost use Rattle.hickory_resolver.specs.Special.{IsUnlessOut};
+ghost use Rattle.hickory_resolver.specs.Verdicts.{hop_of};
+ghost use Rattle.hickory_resolver.specs.Steps.{NeverFailsNegative, SettledAs, IsSettled, IsHopStep, stores_back, IsBeginning};
 
+use crate::special_use::special_use_result;
+use crate::verdict::{Hop, Verdict, verdict_of};
 use hickory_proto_core::{
     DnsError, DnsHandle, DnsRequest, DnsRequestOptions, DnsResponse, Message, NetError, NoRecords,
-    Query, Record, RecordType,
+    OpCode, Query, Record,
 };
 use hickory_resolver_cache::ResponseCache;
 use hickory_resolver_lookup::{Lookup, TtlConfig};
+use hickory_resolver_theorems::laws::{a_cache_changes_no_answer, eight_questions, nothing_outlives};
 use std::alloc::Global;
+use std::hash::{BuildHasher, BuildHasherDefault, FoldHasher};
 use std::marker::Model;
 
 /// A client over a handle. What the handle answers is kept in a cache, and is not asked again while it is current.
 #[derive(Drop)]
-pub struct CachingClient<H: DnsHandle> {
-    cache: ResponseCache,
+pub struct CachingClient<H: DnsHandle, S: BuildHasher = BuildHasherDefault<FoldHasher>> {
+    cache: ResponseCache<S>,
     handle: H,
     preserve_intermediates: bool,
 }
 
-impl<H: DnsHandle> Model for CachingClient<H> {
+// What one hop of a look-up comes to.
+#[derive(Drop)]
+enum HopStep {
+    // The question was asked, and its alias leads to another hop.
+    Next { asked: Query, next: Hop },
+    // The look-up ends here.
+    Done(Result<Lookup, NetError>),
+}
+
+impl<H: DnsHandle, S: BuildHasher> Model for CachingClient<H, S> {
     ghost use Rattle.hickory_resolver_model.specs.Client.{ClientValue};
 
     ghost Value = { ClientValue H };
@@ -47,13 +64,15 @@ impl<H: DnsHandle> CachingClient<H> {
         let cache = ResponseCache::new(alloc, max_size, TtlConfig::default(alloc));
         CachingClient::with_cache(cache, handle, preserve_intermediates)
     }
+}
 
+impl<H: DnsHandle, S: BuildHasher> CachingClient<H, S> {
     /// The client over this handle and this cache.
     pub fn with_cache(
-        cache: ResponseCache,
+        cache: ResponseCache<S>,
         handle: H,
         preserve_intermediates: bool,
-    ) -> CachingClient<H>
+    ) -> CachingClient<H, S>
         ensures { result ≡ record { cache = cache; handle = handle; preserve_intermediates = preserve_intermediates } }
     {
         CachingClient {
@@ -71,30 +90,29 @@ impl<H: DnsHandle> CachingClient<H> {
     }
 
     /// The cache.
-    pub fn cache(&self) -> &ResponseCache
+    pub fn cache(&self) -> &ResponseCache<S>
         ensures { result.now ≡ self.now.cache }
     {
         &self.cache
     }
 
-    /// Answers a question at a moment (seconds): out of the cache, or else by asking the handle with these
-    /// options. An answer and a negative answer are kept. Want of memory leaves the cache as it was. No alias is
-    /// followed and no special name is known yet: what is promised of the reply is promised where the question is not
-    /// special and the response leads to no other name.
+    /// Answers a question at a moment (seconds), hop by hop: each hop is a special name, a current entry of the cache as it
+    /// was before the call, or a question that is sent to the handle with these options. The alias of a question leads to the
+    /// next hop, and eight questions are sent at most; an alias too many comes to no records. What the last question got is
+    /// kept where it is an answer or a negative answer, and then the result under each question before it, from the last to
+    /// the first (RFC 1034, section 3.6.2; RFC 2308, section 5). Where memory runs out, a beginning of this was done.
     pub fn lookup(
         &mut self,
         query: Query,
         options: DnsRequestOptions,
         now: u64,
     ) -> Result<Lookup, NetError>
-        ensures { IsLookup H.step options now self.old query result self.new }
+        ensures { IsWholeLookup H.step options now self.old query result self.new }
     {
-        if let Some(hit) = self.cache.get(&query, now) {
-            return lookup_of_hit(query, hit, now);
-        }
-        let request = DnsRequest { query, options };
-        let outcome = self.handle.send(&request);
-        self.finish(request.query, classify(outcome), now)
+        eight_questions();
+        nothing_outlives();
+        a_cache_changes_no_answer();
+        self.walk(query, options, now)
     }
 
     /// Empties the cache. Takes no memory.
@@ -111,34 +129,117 @@ impl<H: DnsHandle> CachingClient<H> {
         self.cache.clear_query(query);
     }
 
-    // The result of a question that was asked, kept where it may be.
-    fn finish(
+    // Walks from hop to hop, at most eight, and then keeps the result under each question that was passed.
+    fn walk(
         &mut self,
         query: Query,
-        response_to: Result<DnsResponse, NetError>,
+        options: DnsRequestOptions,
         now: u64,
     ) -> Result<Lookup, NetError>
-        ensures settled { (class : ResponseKind) → NeverFailsNegative class → IsClassified class response_to → IsSettled (start_of self.old now) query class result self.new.cache }
+        ensures { IsLookup H.step options now self.old query result self.new }
+    {
+        let alloc = self.cache.allocator();
+        let mut passed = Vec::new(alloc);
+        let mut hop = Hop {
+            query,
+            preserved: Vec::new(alloc),
+        };
+        for depth in 0..8u8 {
+            match self.take_hop(hop, options, now, depth)? {
+                HopStep::Next { asked, next } => {
+                    passed.push(asked)?;
+                    hop = next;
+                }
+                HopStep::Done(result) => {
+                    store_back(&mut self.cache, passed, &result, now)?;
+                    return result;
+                }
+            }
+        }
+        unreachable!()
+    }
+
+    // One hop: the reply of a special name, or a hit, or else what the handle answers.
+    fn take_hop(
+        &mut self,
+        hop: Hop,
+        options: DnsRequestOptions,
+        now: u64,
+        depth: u8,
+    ) -> Result<HopStep, NetError>
+        requires { depth ≤ 7 }
+        ensures { IsHopStep H.step options now depth self.old hop result self.new }
+    {
+        let Hop { query, preserved } = hop;
+        if let Some(result) = special_use_result(self.cache.allocator(), &query, now) {
+            return Ok(HopStep::Done(result));
+        }
+        if let Some(hit) = self.cache.get(&query, now) {
+            return Ok(HopStep::Done(lookup_of_hit(query, hit, now)));
+        }
+        let request = DnsRequest { query, options };
+        let outcome = self.handle.send(&request);
+        let hop = Hop {
+            query: request.query,
+            preserved,
+        };
+        self.settle(hop, classify(outcome), now, depth)
+    }
+
+    // What a hop that was asked comes to. Its own result is kept where it may be.
+    fn settle(
+        &mut self,
+        hop: Hop,
+        response: Result<DnsResponse, NetError>,
+        now: u64,
+        depth: u8,
+    ) -> Result<HopStep, NetError>
+        requires { depth ≤ 7 }
+        ensures settled { (kind : ResponseKind) → NeverFailsNegative kind → IsClassified kind response → IsSettled (start_of self.old now) hop depth kind result self.new.cache }
         ensures stays { KeepsHandle self.old self.new }
     {
-        match response_to {
-            Ok(response) => self.cache_answer(query, response, now),
+        match response {
+            Ok(response) => self.settle_answer(hop, response, now, depth),
             Err(error) => match error.into_no_records() {
-                Ok(none) => self.cache_negative(query, none, now),
-                Err(error) => Err(error),
+                Ok(none) => Ok(HopStep::Done(self.cache_negative(hop.query, none, now))),
+                Err(error) => Ok(HopStep::Done(Err(error))),
             },
         }
     }
 
-    // An answer, kept where it has what was asked for.
-    fn cache_answer(&mut self, query: Query, response: DnsResponse, now: u64) -> Result<Lookup, NetError>
-        ensures settled { IsSettled (start_of self.old now) query (Answer response) result self.new.cache }
+    // An answer: it is accepted, or leads on, or has nothing that was asked for. An alias at the eighth question comes to
+    // no records.
+    fn settle_answer(
+        &mut self,
+        hop: Hop,
+        response: DnsResponse,
+        now: u64,
+        depth: u8,
+    ) -> Result<HopStep, NetError>
+        requires { depth ≤ 7 }
+        ensures settled { IsSettled (start_of self.old now) hop depth (Answer response) result self.new.cache }
         ensures stays { KeepsHandle self.old self.new }
     {
-        if !has_match(&query, response.message()) {
-            return Err(no_match(query, &response)?);
+        let Hop { query, preserved } = hop;
+        match verdict_of(self.preserve_intermediates, &query, preserved, response)? {
+            Verdict::Exists(message) => {
+                Ok(HopStep::Done(self.cache_answer(query, message, now)))
+            }
+            Verdict::CnameChain { next, response } => {
+                if depth < 7 {
+                    return Ok(HopStep::Next { asked: query, next });
+                }
+                Ok(HopStep::Done(no_match(query, &response)))
+            }
+            Verdict::NoMatch(response) => Ok(HopStep::Done(no_match(query, &response))),
         }
-        let message = response.into_message();
+    }
+
+    // An accepted response, kept.
+    fn cache_answer(&mut self, query: Query, message: Message, now: u64) -> Result<Lookup, NetError>
+        ensures settled { SettledAs (start_of self.old now) (Ok (found_lookup self.old.cache.config query message now)) (record { query = query; outcome = Ok message } ∷ []) result self.new.cache }
+        ensures stays { KeepsHandle self.old self.new }
+    {
         let copy = message.clone()?;
         let key = query.clone()?;
         let lookup = Lookup::of_response(self.cache.ttl_config(), query, message, now)?;
@@ -148,13 +249,67 @@ impl<H: DnsHandle> CachingClient<H> {
 
     // A negative answer, kept.
     fn cache_negative(&mut self, query: Query, none: NoRecords, now: u64) -> Result<Lookup, NetError>
-        ensures settled { IsSettled (start_of self.old now) query (Negative none) result self.new.cache }
+        ensures settled { SettledAs (start_of self.old now) (Err (Dns (NoRecordsFound none))) (record { query = query; outcome = Err (Dns (NoRecordsFound none)) } ∷ []) result self.new.cache }
         ensures stays { KeepsHandle self.old self.new }
     {
         let copy = none.clone()?;
         self.cache.insert(query, Err(NetError::from(copy)), now)?;
         Err(NetError::from(none))
     }
+}
+
+// Keeps a result under each of these questions, from the last to the first.
+fn store_back<S: BuildHasher>(
+    cache: &mut ResponseCache<S>,
+    mut questions: Vec<Query>,
+    reply: &Result<Lookup, NetError>,
+    now: u64,
+) -> Result<(), NetError>
+    ensures ok { OnOk result (cache.new ≡ after_stores now (stores_back reply.now questions.items) cache.old) }
+    ensures err { OnErr result (IsBeginning now (stores_back reply.now questions.items) cache.old cache.new) }
+    ensures memory { IsOkUnless result NetError.OutOfMemory }
+{
+    while let Some(query) = questions.pop() {
+        let outcome = as_outcome(&query, reply)?;
+        cache.insert(query, outcome, now)?;
+    }
+    Ok(())
+}
+
+// What is kept of a result under another question: a fresh response with its sections, or its error.
+fn as_outcome(query: &Query, reply: &Result<Lookup, NetError>) -> Result<Result<Message, NetError>, NetError>
+    ensures ok { IfOk result (λ outcome. outcome ≡ as_outcome query.now reply.now) }
+    ensures err { IsOkUnless result NetError.OutOfMemory }
+{
+    match reply {
+        Ok(lookup) => Ok(Ok(fresh_response(query, lookup.message())?)),
+        Err(error) => Ok(Err(error.clone()?)),
+    }
+}
+
+// A fresh response to a question with the sections of a message.
+fn fresh_response(query: &Query, message: &Message) -> Result<Message, NetError>
+    ensures ok { IfOk result (λ m. Ok m ≡ as_outcome query.now (Ok (record { message = message.now; valid_until = 0 }))) }
+    ensures err { IsOkUnless result NetError.OutOfMemory }
+{
+    let mut fresh = Message::response(*message.queries.allocator(), 0, OpCode::Query);
+    fresh.add_query(query.clone()?)?;
+    fresh.answers = clone_records(&message.answers)?;
+    fresh.authorities = clone_records(&message.authorities)?;
+    fresh.additionals = clone_records(&message.additionals)?;
+    Ok(fresh)
+}
+
+// A copy of each record.
+fn clone_records(records: &Vec<Record>) -> Result<Vec<Record>, NetError>
+    ensures ok { IfOk result (λ copies. copies.items ≡ records.now.items) }
+    ensures err { IsOkUnless result NetError.OutOfMemory }
+{
+    let mut copies = Vec::with_capacity(*records.allocator(), records.len())?;
+    for entry in records {
+        copies.push(entry.clone()?)?;
+    }
+    Ok(copies)
 }
 
 // The response where it is an answer, else the error that it comes to.
@@ -169,7 +324,7 @@ fn classify(outcome: Result<DnsResponse, NetError>) -> Result<DnsResponse, NetEr
 
 // What a hit comes to.
 fn lookup_of_hit(query: Query, hit: Result<Message, NetError>, now: u64) -> Result<Lookup, NetError>
-    ensures { (result ≡ hit_result query now hit) ⊎ (result ≡ Err NetError.OutOfMemory) }
+    ensures { IsUnlessOut (hit_result query now hit) result }
 {
     match hit {
         Ok(message) => Lookup::of_hit(query, message, now),
@@ -177,34 +332,9 @@ fn lookup_of_hit(query: Query, hit: Result<Message, NetError>, now: u64) -> Resu
     }
 }
 
-// Whether some record of some section is one that was asked for.
-fn has_match(query: &Query, message: &Message) -> bool
-    ensures { result ≡ some_record (is_direct_match query.now) message.now }
-{
-    any_match(query, &message.answers)
-        || any_match(query, &message.authorities)
-        || any_match(query, &message.additionals)
-}
-
-fn any_match(query: &Query, records: &[Record]) -> bool
-    ensures { result ≡ list_any (is_direct_match query.now) records.now }
-{
-    records.iter().any(|found| is_match(query, found))
-}
-
-// Whether the record has the asked class, type and name.
-fn is_match(query: &Query, found: &Record) -> bool
-    ensures { result ≡ is_direct_match query.now found.now }
-{
-    query.query_class == found.dns_class
-        && (query.query_type == RecordType::ANY || query.query_type == found.record_type())
-        && query.name == found.name
-}
-
-// The error for a response without what was asked for.
-fn no_match(query: Query, response: &DnsResponse) -> Result<NetError, NetError>
-    ensures ok { IfOk result (λ e. e ≡ no_match query response.now) }
-    ensures err { IsOkUnless result NetError.OutOfMemory }
+// That a response has nothing that was asked for.
+fn no_match(query: Query, response: &DnsResponse) -> Result<Lookup, NetError>
+    ensures { IsUnlessOut (Err (no_match query response.now)) result }
 {
     let soa = match response.soa() {
         Some(soa) => Some(soa.clone()?),
@@ -213,5 +343,5 @@ fn no_match(query: Query, response: &DnsResponse) -> Result<NetError, NetError>
     let mut none = NoRecords::new(query, response.message().metadata.response_code);
     none.soa = soa;
     none.negative_ttl = response.negative_ttl();
-    Ok(NetError::from(none))
+    Err(NetError::from(none))
 }

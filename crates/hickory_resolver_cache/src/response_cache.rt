@@ -157,6 +157,11 @@ impl<S: BuildHasher> ResponseCache<S> {
         &self.ttl_config
     }
 
+    /// The allocator that its collections take their memory from.
+    pub fn allocator(&self) -> Global {
+        *self.index.allocator()
+    }
+
     // An empty cache whose first store gets this number.
     fn numbered_from(
         alloc: Global,

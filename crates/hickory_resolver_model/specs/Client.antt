@@ -1,6 +1,5 @@
 -- A client: a cache over a handle, and what a look-up by it does.
-use Rattle.std.specs.Prelude.{◌≡◌, ◌≤◌, ℕ, Bool, List, [], length, None}
-use Rattle.std.specs.List.{AllByRecursion}
+use Rattle.std.specs.Prelude.{◌≡◌, ℕ, Bool, List, []}
 use Rattle.hickory_proto_core.specs.Handles.{Step, Leads}
 use Rattle.hickory_proto_core.specs.records.query.Query.{Query}
 use Rattle.hickory_proto_core.specs.declared.dns_request.DnsRequestOptions.{DnsRequestOptions}
@@ -8,10 +7,6 @@ use Rattle.hickory_proto_core.specs.declared.recorded.Exchange.{Exchange}
 use Rattle.hickory_resolver_model.specs.Bounds.{no_bounds}
 use Rattle.hickory_resolver_model.specs.Cache.{CacheValue}
 use Rattle.hickory_resolver_model.specs.Lookup.{LookupResult}
-use Rattle.hickory_proto_core.specs.Messages.{MessageValue}
-use Rattle.hickory_proto_core.specs.ResponseKind.{Answer, kind_of}
-use Rattle.hickory_resolver_model.specs.SpecialUse.{special_use_result}
-use Rattle.hickory_resolver_model.specs.AliasWalk.{walk_of}
 use Rattle.hickory_resolver_model.specs.Hops.{LookupContext, IsReply}
 
 -- what a caller sees of a client
@@ -24,22 +19,12 @@ abbrev pub start_of : {H : Type 0} → ClientValue H → ℕ → LookupContext
 start_of client now =
     record { cache = client.cache; now = now; preserve_intermediates = client.preserve_intermediates }
 
--- A question is direct where it is not special, and no answer that came back for it leads to another name.
-pub record IsDirect (question : Query) (now : ℕ) (asks : List Exchange) : Type 0 where
-  pub plain : special_use_result question now ≡ None
-  pub leads_nowhere : AllByRecursion
-      (λ x. (m : MessageValue) → kind_of x.outcome ≡ Answer m → (walk_of question m.answers).places ≡ []) asks
-
--- A look-up: the exchanges that it made led the handle, each with these options; it asked once at most. Of a
--- direct question the reply and the cache after it are those of the hops. (The client follows no alias yet.)
-pub record IsLookup
-    {H : Type 0} (step : Step H) (options : DnsRequestOptions) (now : ℕ) (before : ClientValue H)
-    (question : Query) (result : LookupResult) (after : ClientValue H)
-    : Type 0 where
+-- A look-up: the exchanges that it made led the handle, each with these options; the reply and the cache after it are those of
+-- the hops of the question.
+pub record IsLookup {H : Type 0} (step : Step H) (options : DnsRequestOptions) (now : ℕ) (before : ClientValue H) (question : Query) (result : LookupResult) (after : ClientValue H) : Type 0 where
   pub asks : List Exchange
   pub led : Leads step options before.handle asks after.handle
-  pub once : length asks ≤ 1
-  pub reply : IsDirect question now asks → IsReply (start_of before now) question asks result after.cache
+  pub reply : IsReply (start_of before now) question asks result after.cache
   pub option_stays : after.preserve_intermediates ≡ before.preserve_intermediates
 
 -- the cache alone may have changed
