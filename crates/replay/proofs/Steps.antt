@@ -10,7 +10,7 @@ use Rattle.hickory_proto_core.specs.codes.dns_class.DNSClass.TheVariants as clas
 use Rattle.hickory_proto_core.specs.names.name_error.NameError.{NameError}
 use Rattle.hickory_proto_core.specs.names.name_error.NameError.TheVariants as name_error
 use Rattle.hickory_proto_core.specs.declared.recorded.Exchange.{Exchange}
-use Rattle.hickory_resolver_model.specs.Client.{IsLookup}
+use Rattle.hickory_resolver.specs.Statements.{IsWholeLookup}
 use Rattle.hickory_resolver_model.specs.Lookup.{LookupResult}
 use Rattle.replay.specs.Request.{RequestValue}
 use Rattle.replay.specs.Run.{ScriptClient, request_options, IsAsked, Answers, AddsStep, RunTo, IsScriptRun, first_client}
@@ -27,13 +27,13 @@ named name read (inr e) = absurd (let h = e in cc)
 pub looked_up : (before after : ScriptClient) (request : RequestValue) (now : ℕ) (text : List ℕ) (name : NameValue) (question : Query) (reply : LookupResult)
     → now ≡ request.now → text ≡ request.name → (Ok name ≡ text_name text) ⊎ (Ok name ≡ Err name_error.OutOfMemory)
     → question.name ≡ record name { fqdn = true } → question.query_type ≡ request.record_type → question.query_class ≡ class.IN
-    → IsLookup (RecordedStep ScriptStep) request_options now before question reply after → Answers before request reply after
+    → IsWholeLookup (RecordedStep ScriptStep) request_options now before question reply after → Answers before request reply after
 looked_up before after request now text name question reply now_is text_is read name_is type_is class_is look =
     let kept = recorded_leads ScriptStep request_options before.handle after.handle look.asks look.led in
     let is_name : Ok name ≡ text_name request.name = named name (text_name text) read ∙ ap text_name text_is in
     let question_is : question ≡ question_of (as_fqdn name) request.record_type = λ i. record { name = name_is i; query_type = type_is i; query_class = class_is i } in
-    let N : ℕ → Type 0 = λ n. IsLookup (RecordedStep ScriptStep) request_options n before question reply after in
-    let P : Query → Type 0 = λ q. IsLookup (RecordedStep ScriptStep) request_options request.now before q reply after in
+    let N : ℕ → Type 0 = λ n. IsWholeLookup (RecordedStep ScriptStep) request_options n before question reply after in
+    let P : Query → Type 0 = λ q. IsWholeLookup (RecordedStep ScriptStep) request_options request.now before q reply after in
     let Q : Result NameValue NameError → Type 0 = λ n. IsAsked before request n reply after in
     inl (record { kept = kept.kept; asked = subst Q is_name (subst P question_is (subst N now_is look)); exchanges_are = kept.exchanges_are })
 

@@ -11,7 +11,8 @@ use Rattle.hickory_proto_core.specs.declared.dns_request.DnsRequestOptions.{DnsR
 use Rattle.hickory_proto_core.specs.names.name_error.NameError.{NameError}
 use Rattle.hickory_proto_core.specs.records.net_error.NetError.TheVariants.{OutOfMemory}
 use Rattle.hickory_proto_core.specs.declared.recorded.Exchange.{Exchange}
-use Rattle.hickory_resolver_model.specs.Client.{ClientValue, IsLookup, empty_cache}
+use Rattle.hickory_resolver_model.specs.Client.{ClientValue, empty_cache}
+use Rattle.hickory_resolver.specs.Statements.{IsWholeLookup}
 use Rattle.hickory_resolver_model.specs.Lookup.{LookupResult}
 use Rattle.hickory_resolver_model.specs.Hosts.{as_fqdn}
 use Rattle.hickory_resolver_model.specs.Calls.{question_of, is_out_of_memory}
@@ -43,7 +44,7 @@ request_options = record { recursion_desired = true; use_edns = true; edns_paylo
 
 -- a request is looked up at its moment. What is no name is not, and changes nothing
 abbrev pub IsAsked : ScriptClient → RequestValue → Result NameValue NameError → LookupResult → ScriptClient → Type 0
-IsAsked before request (Ok name) reply after = IsLookup (RecordedStep ScriptStep) request_options request.now before (question_of (as_fqdn name) request.record_type) reply after
+IsAsked before request (Ok name) reply after = IsWholeLookup (RecordedStep ScriptStep) request_options request.now before (question_of (as_fqdn name) request.record_type) reply after
 IsAsked before request (Err error) reply after = (reply ≡ Err (net_error_of error)) × (after ≡ before)
 
 -- a request, the questions that were sent for it, and the reply, for which there was memory
