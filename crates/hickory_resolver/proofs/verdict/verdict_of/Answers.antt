@@ -5,7 +5,7 @@ use Rattle.hickory_resolver_model.specs.AliasWalk.{walk_of}
 use Rattle.hickory_resolver_model.specs.Verdict.{is_accepted, is_filtered, filtered_answers}
 use Rattle.hickory_resolver.specs.Walks.{IsWalkOf, shown_walk}
 use Rattle.hickory_resolver.specs.Verdicts.{hop_of}
-use Rattle.hickory_resolver.proofs.Selecting.{verdict_filtered, verdict_whole, verdict_none, verdict_chain}
+use Rattle.hickory_resolver.proofs.Selecting.{verdict_filtered}
 use Rattle.hickory_resolver.proofs.verdict.verdict_of.Goals as goal
 
 pub returns-then-is_accepted-clause-ok : goal.returns-then-is_accepted-clause-ok
