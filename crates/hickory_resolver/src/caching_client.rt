@@ -20,7 +20,9 @@ use hickory_proto_core::{
 };
 use hickory_resolver_cache::ResponseCache;
 use hickory_resolver_lookup::{Lookup, TtlConfig};
-use hickory_resolver_theorems::laws::{a_cache_changes_no_answer, eight_questions, nothing_outlives};
+use hickory_resolver_theorems::laws::{
+    a_cache_changes_no_answer, eight_questions, nothing_outlives,
+};
 use std::alloc::Global;
 use std::hash::{BuildHasher, BuildHasherDefault, FoldHasher};
 use std::marker::Model;
@@ -229,7 +231,8 @@ impl<H: DnsHandle, S: BuildHasher> CachingClient<H, S> {
                 if depth < 7 {
                     return Ok(HopStep::Next { asked: query, next });
                 }
-                Ok(HopStep::Done(no_match(query, &response)))
+                let exhausted = no_match(query, &response);
+                Ok(HopStep::Done(exhausted))
             }
             Verdict::NoMatch(response) => Ok(HopStep::Done(no_match(query, &response))),
         }
@@ -248,7 +251,12 @@ impl<H: DnsHandle, S: BuildHasher> CachingClient<H, S> {
     }
 
     // A negative answer, kept.
-    fn cache_negative(&mut self, query: Query, none: NoRecords, now: u64) -> Result<Lookup, NetError>
+    fn cache_negative(
+        &mut self,
+        query: Query,
+        none: NoRecords,
+        now: u64,
+    ) -> Result<Lookup, NetError>
         ensures settled { SettledAs (start_of self.old now) (Err (Dns (NoRecordsFound none))) (record { query = query; outcome = Err (Dns (NoRecordsFound none)) } ∷ []) result self.new.cache }
         ensures stays { KeepsHandle self.old self.new }
     {
@@ -277,7 +285,10 @@ fn store_back<S: BuildHasher>(
 }
 
 // What is kept of a result under another question: a fresh response with its sections, or its error.
-fn as_outcome(query: &Query, reply: &Result<Lookup, NetError>) -> Result<Result<Message, NetError>, NetError>
+fn as_outcome(
+    query: &Query,
+    reply: &Result<Lookup, NetError>,
+) -> Result<Result<Message, NetError>, NetError>
     ensures ok { IfOk result (λ outcome. outcome ≡ as_outcome query.now reply.now) }
     ensures err { IsOkUnless result NetError.OutOfMemory }
 {

@@ -19,12 +19,15 @@ use std::net::{Ipv4Addr, Ipv6Addr};
 
 // The names of the loopback addresses 127.0.0.0/8 and ::1 (RFC 1035, section 3.5; RFC 3596, section 2.5).
 static LOOPBACK_V4: [&[u8]; 3] = [b"127", b"in-addr", b"arpa"];
+
 static LOOPBACK_V6: [&[u8]; 34] = [
     b"1", b"0", b"0", b"0", b"0", b"0", b"0", b"0", b"0", b"0", b"0", b"0", b"0", b"0", b"0", b"0",
     b"0", b"0", b"0", b"0", b"0", b"0", b"0", b"0", b"0", b"0", b"0", b"0", b"0", b"0", b"0", b"0",
     b"ip6", b"arpa",
 ];
+
 static INVALID: [&[u8]; 1] = [b"invalid"];
+
 static ONION: [&[u8]; 1] = [b"onion"];
 
 fn is_loopback_name(name: &Name) -> bool

@@ -3,6 +3,7 @@ pub mod Covers
 pub mod Few
 pub mod Folding
 pub mod Fresh
+pub mod Kept
 pub mod Headlines
 pub mod Lists
 pub mod Meanings

@@ -2,6 +2,7 @@
 ghost use Rattle.std.specs.Prelude.{List, length, ◌≤◌};
 ghost use Rattle.hickory_proto_core.specs.Name.{NameValue};
 ghost use Rattle.hickory_proto_core.specs.Records.{RecordValue};
+ghost use Rattle.hickory_proto_core.specs.Recorded.{RecordedAs};
 ghost use Rattle.hickory_proto_core.specs.records.query.Query.{Query};
 ghost use Rattle.hickory_proto_core.specs.declared.recorded.Exchange.{Exchange};
 ghost use Rattle.hickory_resolver_model.specs.Attempts.{Search};
@@ -43,6 +44,12 @@ pub fn a_cache_changes_no_answer()
     ensures { (s : LookupContext) (question : Query) (asks : List Exchange) (result : LookupResult)
         (after : CacheValue) → IsReply s question asks result after
         → IsTransparent s question asks result after }
+{}
+
+/// A look-up that is what the hops say over the exchanges that were answered is so over those that a recording handle kept:
+/// an exchange that was answered want of memory, where another outcome or none was kept, can only be the last.
+pub fn a_record_keeps_the_reply()
+    ensures { (s : LookupContext) (question : Query) (asks kept : List Exchange) (result : LookupResult) (after : CacheValue) → IsReply s question asks result after → RecordedAs asks kept → IsReply s question kept result after }
 {}
 
 /// The headline holds of every run, whatever the requests and whatever came back.

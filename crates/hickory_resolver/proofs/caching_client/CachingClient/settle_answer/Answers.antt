@@ -16,9 +16,9 @@ returns-in-Exists-clause-settled g c =
 pub returns-else-depth-lt7-clause-settled : goal.returns-else-depth-lt7-clause-settled
 returns-else-depth-lt7-clause-settled g c =
     settle_last (start_of c.args.self.now c.args.now) c.args.hop c.args.depth c.args.response _ _ _ (ap (λ v. v.preserve_intermediates) c.self.view_is) c.hop.view_is c.in_ok-message.ensures.ok
-    c.in-CnameChain.next c.in-CnameChain.response c.in-CnameChain.is c.if-depth-lt7.false (omega arith) _ c.no_match.ensures
+    c.in-CnameChain.next c.in-CnameChain.response c.in-CnameChain.is c.if-depth-lt7.false (omega arith) _ c.no_match-exhausted.ensures
 
 pub returns-in-NoMatch-clause-settled : goal.returns-in-NoMatch-clause-settled
 returns-in-NoMatch-clause-settled g c =
     settle_none (start_of c.args.self.now c.args.now) c.args.hop c.args.depth c.args.response _ _ _ (ap (λ v. v.preserve_intermediates) c.self.view_is) c.hop.view_is c.in_ok-message.ensures.ok
-    c.in-NoMatch.response c.in-NoMatch.is _ c.no_match-in-NoMatch.ensures
+    c.in-NoMatch.response c.in-NoMatch.is _ c.no_match.ensures

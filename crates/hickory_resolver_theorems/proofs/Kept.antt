@@ -1,0 +1,154 @@
+-- A reply over the exchanges that were answered is one over those that a recording handle kept.
+use Rattle.std.proofs.Common.{◌≡◌, ◌⊎◌, ◌≤◌, ℕ, Bool, true, false, List, [], ◌∷◌, ◌++◌, length, map, reverse, Some, None, Ok, Err, if◌then◌else◌, refl, sym, ap, ◌∙◌, subst, inl, inr}
+use Rattle.std.proofs.lemmas.List.{append-nil}
+use Rattle.std.specs.List.{AllByRecursion}
+use Rattle.hickory_proto_core.specs.Handles.{OutcomeValue}
+use Rattle.hickory_proto_core.specs.Messages.{MessageValue}
+use Rattle.hickory_proto_core.specs.Recorded.{RecordedAs}
+use Rattle.hickory_proto_core.specs.ResponseKind.{ResponseKind, Answer, Negative, Failed, kind_of}
+use Rattle.hickory_proto_core.specs.records.query.Query.{Query}
+use Rattle.hickory_proto_core.specs.declared.recorded.Exchange.{Exchange}
+use Rattle.hickory_proto_core.specs.records.net_error.NetError.TheVariants.{OutOfMemory}
+use Rattle.hickory_resolver_model.specs.Cache.{CacheValue, store}
+use Rattle.hickory_resolver_model.specs.Lookup.{LookupResult}
+use Rattle.hickory_resolver_model.specs.Verdict.{Hop, first_hop, Verdict, Exists, CnameChain, NoMatch, verdict}
+use Rattle.hickory_resolver_model.specs.Hops.{LookupContext, GoesUpstream, FollowsAliases, ChainEnd, Special, Hit, Asked, IsChainEnd, kind_verdict, kind_result, kind_stores, verdict_result, verdict_stores, result_of, asks_of, as_outcome, last_stores, stores_of, Store, after_stores, HopList, IsCutInAsks, IsReply}
+use Rattle.hickory_resolver_theorems.proofs.Lists.{all-append, all-map, has-all}
+
+-- ---- where memory ran out, no store changes the cache
+
+abbrev AllOut : List Store → Type 0
+AllOut ss = AllByRecursion (λ s. s.outcome ≡ Err OutOfMemory) ss
+
+none_stored : (now : ℕ) (front back : List Store) (cache : CacheValue) → AllOut (front ++ back) → after_stores now front cache ≡ cache
+none_stored now [] back cache a = refl
+none_stored now (s ∷ ss) back cache a = ap (λ (o : OutcomeValue). after_stores now ss (store cache s.query o now)) a.0 ∙ none_stored now ss back cache a.1
+
+verdict_out : (s : LookupContext) (hop : Hop) (m : MessageValue) (v : Verdict) → verdict_result s.cache.config hop.query s.now m v ≡ Err OutOfMemory → AllOut (verdict_stores hop.query v)
+verdict_out s hop m (Exists n) e = cc
+verdict_out s hop m (CnameChain next) e = tt
+verdict_out s hop m NoMatch e = tt
+
+kind_out : (s : LookupContext) (hop : Hop) (kind : ResponseKind) → kind_result s hop kind ≡ Err OutOfMemory → AllOut (kind_stores s hop kind)
+kind_out s hop (Answer m) e = verdict_out s hop m (verdict s.preserve_intermediates hop m) e
+kind_out s hop (Negative none) e = cc
+kind_out s hop (Failed error) e = tt
+
+last_out : (s : LookupContext) (hop : Hop) (last : ChainEnd) → result_of s hop last ≡ Err OutOfMemory → AllOut (last_stores s hop last)
+last_out s hop (Special reply) e = tt
+last_out s hop (Hit entry) e = tt
+last_out s hop (Asked outcome) e = kind_out s hop (kind_of outcome) e
+
+all_out : (s : LookupContext) (passed : List Exchange) (hop : Hop) (last : ChainEnd) → result_of s hop last ≡ Err OutOfMemory → AllOut (stores_of s passed hop last)
+all_out s passed hop last e =
+    let P : Store → Type 0 = λ t. t.outcome ≡ Err OutOfMemory in
+    let again : Exchange → Store = λ x. record { query = x.query; outcome = as_outcome x.query (result_of s hop last) } in
+    all-append P (last_stores s hop last) (map again (reverse passed)) (last_out s hop last e)
+    (all-map P again (reverse passed) (has-all (λ x. P (again x)) (reverse passed) (λ x there. ap (as_outcome x.query) e)))
+
+-- ---- what was kept
+
+same_exchange : (x y : Exchange) → y.query ≡ x.query → x.outcome ≡ y.outcome → y ≡ x
+same_exchange x y q o =
+    let by_query : Query → Exchange = λ p. record { query = p; outcome = y.outcome } in
+    let by_outcome : OutcomeValue → Exchange = λ r. record { query = x.query; outcome = r } in
+    ap by_query q ∙ ap by_outcome (sym o)
+
+-- an alias was answered, so it was kept
+record FrontKept (front tail kept : List Exchange) : Type 0 where
+  rest : List Exchange
+  parts : kept ≡ front ++ rest
+  recorded : RecordedAs tail rest
+
+no_alias : (s : LookupContext) (hop next : Hop) (outcome : OutcomeValue) → outcome ≡ Err OutOfMemory → kind_verdict s hop (kind_of outcome) ≡ Some (CnameChain next) → ⊥
+no_alias s hop next outcome out alias = let clash : None ≡ Some (CnameChain next) = sym (ap (λ (o : OutcomeValue). kind_verdict s hop (kind_of o)) out) ∙ alias in cc
+
+front_kept : (s : LookupContext) (hop last : Hop) (front tail kept : List Exchange) → FollowsAliases s hop front last → RecordedAs (front ++ tail) kept → FrontKept front tail kept
+front_kept s hop last [] tail kept leads r = record { rest = kept; parts = refl; recorded = r }
+front_kept s hop last (x ∷ xs) tail kept (next, p, leads) (inl (out, r)) = absurd (no_alias s hop next x.outcome out p.alias)
+front_kept s hop last (x ∷ xs) tail kept (next, p, leads) (inr (y, ys, e, q, inr out, r)) = absurd (no_alias s hop next x.outcome out p.alias)
+front_kept s hop last (x ∷ xs) tail kept (next, p, leads) (inr (y, ys, e, q, inl same, r)) =
+    let f = front_kept s next last xs tail ys leads r in
+    let here = same_exchange x y q same in
+    record { rest = f.rest; parts = e ∙ ap (λ z. z ∷ ys) here ∙ ap (λ zs. x ∷ zs) f.parts; recorded = f.recorded }
+
+-- one exchange at the end: kept as it is, or memory had run out
+abbrev EndKept : Exchange → List Exchange → Type 0
+EndKept x rest = (rest ≡ x ∷ []) ⊎ ((x.outcome ≡ Err OutOfMemory) × ((rest ≡ []) ⊎ ((y : Exchange) × (y.query ≡ x.query) × (rest ≡ y ∷ []))))
+
+end_kept : (x : Exchange) (rest : List Exchange) → RecordedAs (x ∷ []) rest → EndKept x rest
+end_kept x rest (inl (out, r)) = inr (out, inl r)
+end_kept x rest (inr (y, ys, e, q, inl same, r)) =
+    let here = same_exchange x y q same in
+    inl (e ∙ ap (λ zs. y ∷ zs) r ∙ ap (λ z. z ∷ []) here)
+end_kept x rest (inr (y, ys, e, q, inr out, r)) = inr (out, inr (y, q, e ∙ ap (λ zs. y ∷ zs) r))
+
+module _ (s : LookupContext) (question : Query) where
+  cut_by : (passed : List Exchange) (hop : Hop) → FollowsAliases s (first_hop question) passed hop → length passed ≤ 7 → GoesUpstream s hop.query → (x : Exchange) → x.query ≡ hop.query → (rest kept : List Exchange) → kept ≡ passed ++ rest
+      → ((rest ≡ []) ⊎ ((y : Exchange) × (y.query ≡ x.query) × (rest ≡ y ∷ []))) → IsCutInAsks s question kept s.cache
+  cut_by passed hop leads short upstream x asked rest kept parts (inl none) =
+      record { passed = passed; last_hop = hop; leads = leads; short = short; asks_are = inl (parts ∙ ap (λ zs. passed ++ zs) none ∙ append-nil passed); after_is = refl }
+  cut_by passed hop leads short upstream x asked rest kept parts (inr (y, q, one)) =
+      record { passed = passed; last_hop = hop; leads = leads; short = short; asks_are = inr (y, upstream, q ∙ asked, parts ∙ ap (λ zs. passed ++ zs) one); after_is = refl }
+
+  module _ (asks kept passed : List Exchange) (hop : Hop) (leads : FollowsAliases s (first_hop question) passed hop) (short : length passed ≤ 7) where
+    kept_by_last : (last : ChainEnd) → IsChainEnd s (length passed) hop last → asks ≡ passed ++ asks_of hop last → (rest : List Exchange) → kept ≡ passed ++ rest → RecordedAs (asks_of hop last) rest → (kept ≡ asks) ⊎ ((result_of s hop last ≡ Err OutOfMemory) × IsCutInAsks s question kept s.cache)
+    kept_by_last (Special reply) ends asks_are rest parts recorded = inl (parts ∙ ap (λ zs. passed ++ zs) recorded ∙ sym asks_are)
+    kept_by_last (Hit entry) ends asks_are rest parts recorded = inl (parts ∙ ap (λ zs. passed ++ zs) recorded ∙ sym asks_are)
+    kept_by_last (Asked outcome) ends asks_are rest parts recorded =
+        let x : Exchange = record { query = hop.query; outcome = outcome } in
+        elim (end_kept x rest recorded) [
+          | inl e ↦ inl (parts ∙ ap (λ zs. passed ++ zs) e ∙ sym asks_are)
+          | inr d ↦ inr (ap (λ (o : OutcomeValue). kind_result s hop (kind_of o)) d.0, cut_by passed hop leads short ends.0 x refl rest kept parts d.1)
+        ]
+
+  -- the exchanges of the hops are those that were kept, or the last answered that memory had run out
+  kept_hops : (asks kept : List Exchange) (h : HopList s question asks) → RecordedAs asks kept → (kept ≡ asks) ⊎ ((result_of s h.last_hop h.last ≡ Err OutOfMemory) × IsCutInAsks s question kept s.cache)
+  kept_hops asks kept h r =
+      let P : List Exchange → Type 0 = λ xs. RecordedAs xs kept in
+      let f = front_kept s (first_hop question) h.last_hop h.passed (asks_of h.last_hop h.last) kept h.leads (subst P h.asks_are r) in
+      kept_by_last asks kept h.passed h.last_hop h.leads h.short h.last h.ends h.asks_are f.rest f.parts f.recorded
+
+  -- a reply over the exchanges that were answered is one over those that were kept
+  pub kept_reply : (asks kept : List Exchange) (result : LookupResult) (after : CacheValue) → IsReply s question asks result after → RecordedAs asks kept → IsReply s question kept result after
+  kept_reply asks kept result after (inl w) r =
+      let P : List Exchange → Type 0 = λ xs. IsReply s question xs result after in
+      let Q : CacheValue → Type 0 = λ a. IsCutInAsks s question kept a in
+      elim (kept_hops asks kept w.hops r) [
+        | inl e ↦ subst P (sym e) (inl w)
+        | inr d ↦ inr (w.result_is ∙ d.0, inr (subst Q (sym (w.after_is ∙ whole_out w.hops d.0)) d.1))
+      ]
+    where
+      whole_out : (h : HopList s question asks) → result_of s h.last_hop h.last ≡ Err OutOfMemory → after_stores s.now (stores_of s h.passed h.last_hop h.last) s.cache ≡ s.cache
+      whole_out h e = none_stored s.now (stores_of s h.passed h.last_hop h.last) [] s.cache (subst AllOut (sym (append-nil _)) (all_out s h.passed h.last_hop h.last e))
+  kept_reply asks kept result after (inr (o, inl c)) r =
+      let P : List Exchange → Type 0 = λ xs. IsReply s question xs result after in
+      let Q : CacheValue → Type 0 = λ a. IsCutInAsks s question kept a in
+      elim (kept_hops asks kept c.hops r) [
+        | inl e ↦ subst P (sym e) (inr (o, inl c))
+        | inr d ↦ inr (o, inr (subst Q (sym (c.after_is ∙ none_stored s.now c.front c.back s.cache (subst AllOut (sym c.parts) (all_out s c.hops.passed c.hops.last_hop c.hops.last d.0)))) d.1))
+      ]
+  kept_reply asks kept result after (inr (o, inr c)) r =
+      let Q : CacheValue → Type 0 = λ a. IsCutInAsks s question kept a in
+      inr (
+        o,
+        inr (subst Q (sym c.after_is) (elim c.asks_are [
+          | inl e ↦ whole e
+          | inr d ↦ more d.0 d.1 d.2 d.3
+        ])),
+      )
+    where
+      whole : asks ≡ c.passed → IsCutInAsks s question kept s.cache
+      whole e =
+          let P : List Exchange → Type 0 = λ xs. RecordedAs xs kept in
+          let f = front_kept s (first_hop question) c.last_hop c.passed [] kept c.leads (subst P (e ∙ sym (append-nil c.passed)) r) in
+          record { passed = c.passed; last_hop = c.last_hop; leads = c.leads; short = c.short; asks_are = inl (f.parts ∙ ap (λ zs. c.passed ++ zs) f.recorded ∙ append-nil c.passed); after_is = refl }
+
+      more : (x : Exchange) → GoesUpstream s c.last_hop.query → x.query ≡ c.last_hop.query → asks ≡ c.passed ++ x ∷ [] → IsCutInAsks s question kept s.cache
+      more x upstream asked e =
+          let P : List Exchange → Type 0 = λ xs. RecordedAs xs kept in
+          let f = front_kept s (first_hop question) c.last_hop c.passed (x ∷ []) kept c.leads (subst P e r) in
+          elim (end_kept x f.rest f.recorded) [
+            | inl same ↦ cut_by c.passed c.last_hop c.leads c.short upstream x asked f.rest kept f.parts (inr (x, refl, same))
+            | inr d ↦ cut_by c.passed c.last_hop c.leads c.short upstream x asked f.rest kept f.parts d.1
+          ]
