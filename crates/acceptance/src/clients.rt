@@ -53,7 +53,7 @@ fn no_name(alloc: Global, text: &str) -> Result<Outcome, Fail> {
 
 fn client(alloc: Global, cache: ResponseCache, outcomes: Vec<Outcome>) -> ScriptClient {
     let handle = Recorded::new(alloc, ScriptHandle::new(outcomes));
-    CachingClient::with_cache(alloc, cache, handle, false)
+    CachingClient::with_cache(cache, handle, false)
 }
 
 fn wide_cache(alloc: Global) -> ResponseCache {
