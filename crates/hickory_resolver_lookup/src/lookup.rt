@@ -1,13 +1,16 @@
 //! What a look-up gives.
-ghost use Rattle.std.specs.Prelude.{◌≡◌, IfOk, IsOkUnless};
+ghost use Rattle.std.specs.Prelude.{◌≡◌, ◌++◌, IfOk, OnOk, OnErr, IsOkUnless, length, vec_len, vec_capacity, IsOk, ◌+◌, ◌≤◌};
 ghost use Rattle.hickory_resolver_model.specs.Bounds.{least_ttl};
-ghost use Rattle.hickory_proto_core.specs.Query.{root_query};
-ghost use Rattle.hickory_resolver_model.specs.Lookup.{LookupValue, with_question, hit_lookup, found_lookup, hit_seconds};
+ghost use Rattle.hickory_resolver_model.specs.Hosts.{append, append_messages};
+ghost use Rattle.hickory_resolver_model.specs.Lookup.{LookupValue, with_question, hit_lookup, found_lookup, hit_seconds, answers_until, answers_for_day, more_authorities, more_additionals};
+ghost use Rattle.hickory_resolver_model.specs.SpecialUse.{one_record};
 ghost use Rattle.hickory_proto_core.specs.ResponseKind.{first_query};
+ghost use Rattle.hickory_proto_core.specs.Records.{data_of};
 
 use crate::ttl_bounds::MAX_TTL;
 use crate::ttl_config::TtlConfig;
-use hickory_proto_core::{Message, NetError, Query, Record};
+use hickory_proto_core::{Message, NetError, OpCode, Query, RData, Record};
+use std::alloc::Global;
 use std::marker::Model;
 
 /// The message that a look-up came to, which always has a question, and until when it may be used (seconds).
@@ -30,15 +33,8 @@ impl Model for Lookup {
 
 impl Lookup {
     /// The message with its own question, or with this one where it has none.
-    pub fn of_message(
-        query: Query,
-        message: Message,
-        valid_until: u64,
-    ) -> Result<Lookup, NetError>
-        ensures ok { IfOk result (λ l. l ≡ record {
-          message = with_question query message;
-          valid_until = valid_until;
-        }) }
+    pub fn of_message(query: Query, message: Message, valid_until: u64) -> Result<Lookup, NetError>
+        ensures ok { IfOk result (λ l. l ≡ record { message = with_question query message; valid_until = valid_until }) }
         ensures err { IsOkUnless result NetError.OutOfMemory }
     {
         let mut message = message;
@@ -74,6 +70,48 @@ impl Lookup {
         config.clamp(&mut message);
         let seconds = config.positive_lifetime(&query, &message);
         Lookup::of_message(query, message, now.saturating_add(seconds))
+    }
+
+    /// One record of the question's name with these data, which may be used for a day from this moment (seconds).
+    pub fn from_rdata(
+        alloc: Global,
+        query: Query,
+        rdata: RData,
+        now: u64,
+    ) -> Result<Lookup, NetError>
+        ensures ok { IfOk result (λ l. l ≡ one_record query (data_of rdata) now) }
+        ensures err { IsOkUnless result NetError.OutOfMemory }
+    {
+        let record = Record::from_rdata(query.name.clone()?, MAX_TTL, rdata);
+        let mut records = Vec::new(alloc);
+        records.push(record)?;
+        Lookup::new_with_max_ttl(query, records, now)
+    }
+
+    /// A fresh response to a question with these answers, which may be used for a day from this moment (seconds).
+    pub fn new_with_max_ttl(
+        query: Query,
+        records: Vec<Record>,
+        now: u64,
+    ) -> Result<Lookup, NetError>
+        ensures ok { IfOk result (λ l. l ≡ answers_for_day query records.items now) }
+        ensures err { IsOkUnless result NetError.OutOfMemory }
+    {
+        Lookup::new_with_deadline(query, records, now.saturating_add(u64::from(MAX_TTL)))
+    }
+
+    /// A fresh response to a question with these answers, which may be used up to this moment (seconds).
+    pub fn new_with_deadline(
+        query: Query,
+        records: Vec<Record>,
+        valid_until: u64,
+    ) -> Result<Lookup, NetError>
+        ensures ok { IfOk result (λ l. l ≡ answers_until query records.items valid_until) }
+        ensures err { IsOkUnless result NetError.OutOfMemory }
+    {
+        let mut message = Message::response(*records.allocator(), 0, OpCode::Query);
+        message.answers = records;
+        Lookup::of_message(query, message, valid_until)
     }
 
     /// The first question.
@@ -118,6 +156,53 @@ impl Lookup {
         self.valid_until
     }
 
+    /// The message, by value.
+    pub fn into_message(self) -> Message
+        ensures { result ≡ self.message }
+    {
+        self.message
+    }
+
+    /// Both look-ups as one: each section of this one and then of the other, the rest of this one's message, and the
+    /// sooner of the two deadlines.
+    pub fn append(&self, other: Lookup) -> Result<Lookup, NetError>
+        ensures ok { IfOk result (λ l. l ≡ append self.now other) }
+        ensures err { IsOkUnless result NetError.OutOfMemory }
+    {
+        let mut joined = self.clone()?;
+        joined.append_in_place(other)?;
+        Ok(joined)
+    }
+
+    /// As `append`, in the place of this look-up. Where there is no memory, nothing changes.
+    pub fn append_in_place(&mut self, other: Lookup) -> Result<(), NetError>
+        ensures ok { OnOk result (self.new ≡ append self.old other) }
+        ensures unchanged { OnErr result (self.new ≡ self.old) }
+        ensures err { IsOkUnless result NetError.OutOfMemory }
+    {
+        append_sections(&mut self.message, other.message)?;
+        self.valid_until = self.valid_until.min(other.valid_until);
+        Ok(())
+    }
+
+    /// Adds records to the authority section, in order. Where there is no memory for them all, nothing changes.
+    pub fn extend_authorities(&mut self, records: Vec<Record>) -> Result<(), NetError>
+        ensures ok { OnOk result (self.new ≡ more_authorities self.old records.items) }
+        ensures unchanged { OnErr result (self.new ≡ self.old) }
+        ensures err { IsOkUnless result NetError.OutOfMemory }
+    {
+        self.message.add_authorities(records)
+    }
+
+    /// Adds records to the additional section, in order. Where there is no memory for them all, nothing changes.
+    pub fn extend_additionals(&mut self, records: Vec<Record>) -> Result<(), NetError>
+        ensures ok { OnOk result (self.new ≡ more_additionals self.old records.items) }
+        ensures unchanged { OnErr result (self.new ≡ self.old) }
+        ensures err { IsOkUnless result NetError.OutOfMemory }
+    {
+        self.message.add_additionals(records)
+    }
+
     /// A copy of every field.
     pub fn clone(&self) -> Result<Lookup, NetError>
         ensures ok { IfOk result (λ l. l ≡ self.now) }
@@ -147,6 +232,41 @@ impl Eq for Lookup {
     ghost use Rattle.hickory_resolver_model.specs.Lookup.{lookup_equiv};
 
     ghost laws = { lookup_equiv };
+}
+
+impl From<Lookup> for Message {
+    ghost use Rattle.std.specs.Prelude.{◌≡◌};
+
+    ghost from_gives = { λ lookup message. message ≡ lookup.message };
+
+    fn from(lookup: Lookup) -> Message {
+        lookup.into_message()
+    }
+}
+
+// Adds each section of the one message to that of the other. There is room for all three before any record is moved.
+fn append_sections(message: &mut Message, added: Message) -> Result<(), NetError>
+    ensures ok { OnOk result (message.new ≡ append_messages message.old added) }
+    ensures unchanged { OnErr result (message.new ≡ message.old) }
+    ensures err { IsOkUnless result NetError.OutOfMemory }
+{
+    let mut added = added;
+    message.answers.reserve(added.answers.len())?;
+    message.authorities.reserve(added.authorities.len())?;
+    message.additionals.reserve(added.additionals.len())?;
+    move_records(&mut message.answers, &mut added.answers);
+    move_records(&mut message.authorities, &mut added.authorities);
+    move_records(&mut message.additionals, &mut added.additionals);
+    Ok(())
+}
+
+// Moves the records to the end of a vector that has room for them.
+fn move_records(records: &mut Vec<Record>, added: &mut Vec<Record>)
+    requires { vec_len records.old + vec_len added.old ≤ vec_capacity records.old }
+    ensures { records.new.items ≡ records.old.items ++ added.old.items }
+{
+    let moved = records.append(added);
+    prove!(moved.is_ok());
 }
 
 fn hit_seconds(message: &Message) -> u64

@@ -1,0 +1,9 @@
+pub mod Index
+pub mod Addresses
+pub mod Places
+pub mod InOrder
+pub mod Texts
+pub mod LinesRead
+pub mod FileRead
+pub mod Whole
+pub mod Fields

@@ -1,0 +1,29 @@
+-- The index from an address to the places of the names that have it.
+use Rattle.std.specs.Prelude.{ℕ, Bool, false, ◌&&◌, ◌||◌, ◌==◌, not, List, Option}
+use Rattle.std.specs.Option.{option_map_or}
+use Rattle.std.specs.List.{list_any}
+use Rattle.std.specs.Ordering.{nat_cmp}
+use Rattle.std.specs.declared.cmp.Ordering.{Ordering}
+use Rattle.std.specs.declared.net.IpAddr.{IpAddr}
+use Rattle.std.specs.contracts.net.ip_addr.IpAddrOrd.TheImpl as ip_ord
+use Rattle.std.specs.BTreeMap.{BTreeMap}
+use Rattle.std.specs.BTreeMap as tree
+use Rattle.std.specs.BTreeSet.{BTreeSet}
+use Rattle.std.specs.BTreeSet as set
+
+abbrev pub address_cmp : IpAddr → IpAddr → Ordering
+address_cmp = (ip_ord.ghosts).cmp
+
+abbrev pub same_address : IpAddr → IpAddr → Bool
+same_address a b = tree.is_at (address_cmp a) b
+
+-- whether an address is one of these
+abbrev pub is_among : IpAddr → List IpAddr → Bool
+is_among address addresses = list_any (λ a. same_address a address) addresses
+
+abbrev pub OwnerPlaces : Type 0
+OwnerPlaces = BTreeMap IpAddr (BTreeSet ℕ)
+
+-- whether the name at a place has an address, by the index
+abbrev pub is_owner : OwnerPlaces → IpAddr → ℕ → Bool
+is_owner index address place = option_map_or (λ places. set.contains nat_cmp places place) (tree.get address_cmp index address) false

@@ -1,0 +1,4 @@
+pub mod Index
+pub mod Table
+pub mod Reading
+pub mod Text

@@ -1,0 +1,86 @@
+//! The look-ups of one name.
+ghost use Rattle.std.specs.Prelude.{◌≡◌, None, IfOk, OnOk, OnErr, IsOkUnless, option_copied};
+ghost use Rattle.hickory_proto_core.specs.Name.{NameValue};
+ghost use Rattle.hickory_resolver_model.specs.Hosts.{append, family, no_addresses, with_lookup};
+ghost use Rattle.std.specs.Option.{option_map_or};
+ghost use Rattle.hickory_resolver_hosts.specs.Table.{host_at};
+
+use hickory_proto_core::{Name, NetError, Query, RecordType};
+use hickory_resolver_lookup::Lookup;
+use std::alloc::Global;
+
+/// What is known of a name: the look-up of its IPv4 addresses, and that of its IPv6 addresses.
+#[derive(Drop)]
+pub struct HostLookups {
+    pub a: Option<Lookup>,
+    pub aaaa: Option<Lookup>,
+}
+
+impl HostLookups {
+    /// Nothing.
+    pub fn empty() -> HostLookups
+        ensures a { result.a ≡ None }
+        ensures aaaa { result.aaaa ≡ None }
+    {
+        HostLookups {
+            a: None,
+            aaaa: None,
+        }
+    }
+
+    /// The look-up of a type: A is the first, every other type the second.
+    pub fn family(&self, record_type: RecordType) -> Option<&Lookup>
+        ensures { (n : NameValue) → option_copied result ≡ family record_type (host_at n self.now) }
+    {
+        if record_type.code() == 1 {
+            self.a.as_ref()
+        } else {
+            self.aaaa.as_ref()
+        }
+    }
+
+    /// Joins one more look-up of a type to the one that is there. The first one of a type has the question of this
+    /// name. A refused call changes nothing.
+    pub fn add(
+        &mut self,
+        alloc: Global,
+        name: Name,
+        record_type: RecordType,
+        lookup: Lookup,
+        now: u64,
+    ) -> Result<(), NetError>
+        ensures ok { OnOk result ((n : NameValue) →
+            host_at n self.new ≡ with_lookup name record_type lookup now (host_at n self.old)) }
+        ensures unchanged { OnErr result (self.new ≡ self.old) }
+        ensures err { IsOkUnless result NetError.OutOfMemory }
+    {
+        if record_type.code() == 1 {
+            add_lookup(alloc, &mut self.a, name, record_type, lookup, now)
+        } else {
+            add_lookup(alloc, &mut self.aaaa, name, record_type, lookup, now)
+        }
+    }
+}
+
+fn add_lookup(
+    alloc: Global,
+    kept: &mut Option<Lookup>,
+    name: Name,
+    record_type: RecordType,
+    lookup: Lookup,
+    now: u64,
+) -> Result<(), NetError>
+    ensures ok { OnOk result
+        (kept.new ≡ Some (append (option_map_or (λ k. k) kept.old (no_addresses name record_type now)) lookup)) }
+    ensures unchanged { OnErr result (kept.new ≡ kept.old) }
+    ensures err { IsOkUnless result NetError.OutOfMemory }
+{
+    if let Some(joined) = kept {
+        return joined.append_in_place(lookup);
+    }
+    let query = Query::query(name, record_type);
+    let mut joined = Lookup::new_with_max_ttl(query, Vec::new(alloc), now)?;
+    joined.append_in_place(lookup)?;
+    *kept = Some(joined);
+    Ok(())
+}

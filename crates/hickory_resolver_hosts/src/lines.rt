@@ -1,0 +1,170 @@
+//! What the lines of a file of hosts say.
+ghost use Rattle.std.specs.Prelude.{◌≡◌, ◌≢◌, ◌==◌, map, IfOk, MatchOption, MatchResult};
+ghost use Rattle.std.specs.List.{before_first};
+ghost use Rattle.std.specs.Str.{chars};
+ghost use Rattle.hickory_proto_core.specs.Records.{DataValue, data_of_address};
+ghost use Rattle.hickory_resolver_model.specs.Hosts.{IsAddressField, insert_host, line_fields, as_fqdn, one_address, address_type, file_lines, without_mark};
+ghost use Rattle.hickory_resolver_hosts.specs.Reading.{AreNamesRead, IsBytesRead, IsLineRead, IsNameField};
+ghost use Rattle.hickory_resolver_hosts.specs.Text.{texts};
+
+use crate::hosts::Hosts;
+use crate::hosts_error::HostsError;
+use hickory_proto_core::{Name, NameError, Query, RData, RecordType, read_ip};
+use hickory_resolver_lookup::Lookup;
+use std::alloc::{AllocError, Global};
+use std::hash::BuildHasher;
+use std::net::IpAddr;
+use std::str;
+
+/// Puts in what the lines of a file say, at this moment (seconds).
+pub fn insert_lines<S: BuildHasher>(
+    alloc: Global,
+    hosts: &mut Hosts<S>,
+    bytes: &[u8],
+    now: u64,
+) -> Result<(), HostsError>
+    ensures { IsBytesRead now bytes.now hosts.old result hosts.new }
+{
+    let lines = lines(alloc, bytes)?;
+    for line in &lines {
+        insert_line(alloc, hosts, line, now)?;
+    }
+    Ok(())
+}
+
+// The lines of a file, each ended by LF.
+fn lines(alloc: Global, bytes: &[u8]) -> Result<Vec<&[u8]>, AllocError>
+    ensures { IfOk result (λ found. map (λ line. line.now) found.items ≡ file_lines bytes.now) }
+{
+    without_mark(bytes).split(|b| *b == b'\n').collect(alloc)
+}
+
+// The bytes without the byte order mark U+FEFF that they may begin with.
+fn without_mark(bytes: &[u8]) -> &[u8]
+    ensures { result.now ≡ without_mark bytes.now }
+{
+    match bytes {
+        [0xef, 0xbb, 0xbf, rest @ ..] => rest,
+        _ => bytes,
+    }
+}
+
+fn insert_line<S: BuildHasher>(
+    alloc: Global,
+    hosts: &mut Hosts<S>,
+    line: &[u8],
+    now: u64,
+) -> Result<(), HostsError>
+    ensures { IsLineRead now line.now hosts.old result hosts.new }
+{
+    let Ok(text) = str::from_utf8(line) else {
+        return Err(HostsError::InvalidData);
+    };
+    let fields = fields(alloc, text)?;
+    let Some((first, names)) = fields.as_slice().split_first() else {
+        return Ok(());
+    };
+    match address_of(first) {
+        Some(address) => insert_names(alloc, hosts, address, names, now),
+        None => Ok(()),
+    }
+}
+
+// The address that a field is.
+fn address_of(field: &str) -> Option<IpAddr>
+    ensures { MatchOption result ((d : DataValue) → IsAddressField (chars field.now) d → ⊥)
+        (λ address. IsAddressField (chars field.now) (data_of_address address)) }
+{
+    read_ip(field)
+}
+
+// What stands between white space before the comment, if there is one.
+fn fields(alloc: Global, text: &str) -> Result<Vec<&str>, AllocError>
+    ensures { IfOk result (λ found. texts found.items ≡ line_fields text.now) }
+{
+    without_comment(text).split_whitespace().collect(alloc)
+}
+
+// What stands before the first `#`.
+fn without_comment(text: &str) -> &str
+    ensures { chars result.now ≡ before_first (λ c. c == 35) (chars text.now) }
+{
+    match text.split_once('#') {
+        Some((text, _)) => text,
+        None => text,
+    }
+}
+
+fn insert_names<S: BuildHasher>(
+    alloc: Global,
+    hosts: &mut Hosts<S>,
+    address: IpAddr,
+    names: &[&str],
+    now: u64,
+) -> Result<(), HostsError>
+    ensures { AreNamesRead now (data_of_address address) (texts names.now) hosts.old result hosts.new }
+{
+    for field in names {
+        if let Some(name) = host_name(alloc, field)? {
+            insert_pair(alloc, hosts, name, address, now)?;
+        }
+    }
+    Ok(())
+}
+
+// The name that a field is, in lower case. One past ASCII is none.
+fn host_name(alloc: Global, field: &str) -> Result<Option<Name>, HostsError>
+    ensures { MatchResult result (IsNameField (chars field.now)) (λ error. error ≡ HostsError.OutOfMemory) }
+{
+    if !field.is_ascii() {
+        return Ok(None);
+    }
+    let mut text = String::from_str(alloc, field)?;
+    text.make_ascii_lowercase();
+    match Name::from_ascii(alloc, &text) {
+        Ok(name) => Ok(Some(name)),
+        Err(error) => {
+            check_memory(error)?;
+            Ok(None)
+        }
+    }
+}
+
+// Whether an error is other than out of memory.
+fn check_memory(error: NameError) -> Result<(), HostsError>
+    ensures { MatchResult result (λ _. error ≢ NameError.OutOfMemory) (λ fault. fault ≡ HostsError.OutOfMemory) }
+{
+    match error {
+        NameError::OutOfMemory => Err(HostsError::OutOfMemory),
+        _ => Ok(()),
+    }
+}
+
+// Puts in one address of a name.
+fn insert_pair<S: BuildHasher>(
+    alloc: Global,
+    hosts: &mut Hosts<S>,
+    name: Name,
+    address: IpAddr,
+    now: u64,
+) -> Result<(), HostsError>
+    ensures { MatchResult result
+        (λ _. hosts.new ≡ insert_host name (address_type (data_of_address address)) (one_address (as_fqdn name) (data_of_address address) now) now hosts.old)
+        (λ error. (error ≡ HostsError.OutOfMemory) × (hosts.new ≡ hosts.old)) }
+{
+    let record_type = address_type(address);
+    let mut owner = name.clone()?;
+    owner.set_fqdn(true);
+    let query = Query::query(owner, record_type);
+    let lookup = Lookup::from_rdata(alloc, query, RData::from(address), now)?;
+    hosts.insert(name, record_type, lookup, now)
+}
+
+fn address_type(address: IpAddr) -> RecordType
+    ensures { result ≡ address_type (data_of_address address) }
+{
+    match address {
+        IpAddr::V4(_) => RecordType::A,
+        IpAddr::V6(_) => RecordType::AAAA,
+    }
+}
