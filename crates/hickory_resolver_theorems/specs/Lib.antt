@@ -3,6 +3,7 @@ pub mod Cacheless
 pub mod WithoutTimes
 pub mod Covered
 pub mod Statements
+pub mod Provenance
 pub mod WalkLaws
 pub mod Worked
 pub mod WorkedLoop

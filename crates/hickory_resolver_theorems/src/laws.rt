@@ -12,6 +12,7 @@ ghost use Rattle.hickory_resolver_model.specs.Hops.{LookupContext, IsReply};
 ghost use Rattle.hickory_resolver_model.specs.Lookup.{LookupResult};
 ghost use Rattle.hickory_resolver_model.specs.Run.{Settings, RequestValue, StepValue, Run};
 ghost use Rattle.hickory_resolver_theorems.specs.Statements.{IsFresh, IsTransparent, Headline};
+ghost use Rattle.hickory_resolver_theorems.specs.Provenance.{HasProvenance};
 ghost use Rattle.hickory_resolver_theorems.specs.WalkLaws.{IsOneWalk};
 
 /// There is exactly one walk along the aliases among answers.
@@ -33,6 +34,12 @@ pub fn eight_questions()
 /// received.
 pub fn nothing_outlives()
     ensures { (s : LookupContext) (question : Query) (asks : List Exchange) (result : LookupResult) (after : CacheValue) → IsReply s question asks result after → IsFresh s question asks result after }
+{}
+
+/// A look-up that is what the hops say has provenance: where the least TTL of the asked type is zero, no record of that type
+/// that it gives or stores outlives what its own exchanges brought or what the current entries of that type held.
+pub fn every_record_has_a_source()
+    ensures { (s : LookupContext) (question : Query) (asks : List Exchange) (result : LookupResult) (after : CacheValue) → IsReply s question asks result after → HasProvenance s question asks result after }
 {}
 
 /// A look-up that is what the hops say is transparent: under every table that tells its exchanges it comes to what its
