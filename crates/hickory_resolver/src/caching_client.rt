@@ -7,7 +7,7 @@ ghost use Rattle.hickory_resolver_model.specs.Cache.{without_query};
 ghost use Rattle.hickory_resolver_model.specs.Lookup.{found_lookup};
 ghost use Rattle.hickory_resolver_model.specs.Hops.{no_match, hit_result, as_outcome, after_stores};
 ghost use Rattle.hickory_resolver_model.specs.Client.{ClientValue, IsLookup, start_of, KeepsHandle, empty_cache};
-ghost use Rattle.hickory_resolver_theorems.specs.Statements.{IsWholeLookup};
+ghost use Rattle.hickory_resolver_theorems.specs.WholeLookup.{IsWholeLookup};
 ghost use Rattle.hickory_resolver.specs.Special.{IsUnlessOut};
 ghost use Rattle.hickory_resolver.specs.Verdicts.{hop_of};
 ghost use Rattle.hickory_resolver.specs.Steps.{NeverFailsNegative, SettledAs, IsSettled, IsHopStep, stores_back, IsBeginning};
@@ -21,7 +21,7 @@ use hickory_proto_core::{
 use hickory_resolver_cache::ResponseCache;
 use hickory_resolver_lookup::{Lookup, TtlConfig};
 use hickory_resolver_theorems::laws::{
-    a_cache_changes_no_answer, eight_questions, nothing_outlives,
+    a_cache_changes_no_answer, eight_questions, every_record_has_a_source, nothing_outlives,
 };
 use std::alloc::Global;
 use std::marker::Model;
@@ -112,6 +112,7 @@ impl<H: DnsHandle> CachingClient<H> {
         ensures { IsWholeLookup H.step options now self.old query result self.new }
     {
         eight_questions();
+        every_record_has_a_source();
         nothing_outlives();
         a_cache_changes_no_answer();
         self.walk(query, options, now)

@@ -1,23 +1,22 @@
 -- Every record that a look-up gives or stores comes from its sources.
-use Rattle.std.proofs.Common.{◌≡◌, ◌⊎◌, ◌≤◌, ◌==◌, ◌&&◌, ℕ, ◌+◌, Bool, true, false, List, [], ◌∷◌, ◌++◌, map, filter, min, Contains, Some, Ok, Err, refl, sym, ap, ap₂, subst, inl, inr, arith, ◌∙◌}
-use Rattle.std.proofs.lemmas.Bool.{and_parts, eqb-true, eq-eqb, leb-true}
+use Rattle.std.proofs.Common.{◌≡◌, ◌⊎◌, ◌≤◌, ◌==◌, ◌&&◌, ℕ, ◌+◌, Bool, true, false, List, [], ◌∷◌, ◌++◌, map, filter, Contains, Ok, Err, refl, sym, subst, inl, inr, arith, ◌∙◌}
+use Rattle.std.proofs.lemmas.Bool.{and_parts, eq-eqb}
 use Rattle.std.specs.List.{AllByRecursion}
 use Rattle.hickory_proto_core.specs.Codes.{type_code}
 use Rattle.hickory_proto_core.specs.Handles.{OutcomeValue}
 use Rattle.hickory_proto_core.specs.Records.{RecordValue}
-use Rattle.hickory_proto_core.specs.Messages.{MessageValue}
 use Rattle.hickory_proto_core.specs.ResponseKind.{record_type_code}
 use Rattle.hickory_proto_core.specs.records.query.Query.{Query}
 use Rattle.hickory_proto_core.specs.declared.recorded.Exchange.{Exchange}
 use Rattle.hickory_proto_core.specs.records.net_error.NetError.TheVariants.{Message, Timeout, Proto, Dns, NoOutcome, Bounds, OutOfMemory}
 use Rattle.hickory_proto_core.specs.records.net_error.DnsError.TheVariants.{ResponseCode, NoRecordsFound}
 use Rattle.hickory_resolver_model.specs.Bounds.{ConfigValue}
-use Rattle.hickory_resolver_model.specs.Cache.{CacheValue, Entry, current, is_for, is_current, store, positive_entry, negative_entry}
+use Rattle.hickory_resolver_model.specs.Cache.{CacheValue, Entry, is_for, is_current, store, positive_entry, negative_entry}
 use Rattle.hickory_resolver_model.specs.Lookup.{LookupResult}
 use Rattle.hickory_resolver_model.specs.Verdict.{all_records}
 use Rattle.hickory_resolver_model.specs.Hops.{LookupContext, Store, IsReply, after_stores}
-use Rattle.hickory_resolver_theorems.specs.Covered.{Dated, dated_exchanges, IsCovered, IsLoopback, greatest_ttl}
-use Rattle.hickory_resolver_theorems.specs.Statements.{HasNoLeast, IsFreshRecord, IsFreshReply, IsFreshOutcome, IsFreshEntry}
+use Rattle.hickory_resolver_theorems.specs.Covered.{Dated, dated_exchanges, IsCovered, greatest_ttl}
+use Rattle.hickory_resolver_theorems.specs.Statements.{IsFreshRecord, IsFreshReply, IsFreshOutcome, IsFreshEntry}
 use Rattle.hickory_resolver_theorems.specs.Provenance.{IsTimelyAnswer, IsTimelyOutcome, IsTimelyEntry, is_positive, is_source, dated_entry, sources_of, IsFromSources, HasProvenance}
 use Rattle.hickory_resolver_theorems.proofs.Lists.{all-has, has-all, all-front, has-left, has-map, has-filter, find-has, ContainsByRecursion, contains-from_recursion}
 use Rattle.hickory_resolver_theorems.proofs.Covers.{arrived-fresh, covered-has}

@@ -1,5 +1,5 @@
 -- What a question means without a cache: by a table of outcomes alone, with no time, no store and no limit on hops.
-use Rattle.std.specs.Prelude.{◌≡◌, ℕ, suc, false, List, [], Some, None, Err}
+use Rattle.std.specs.Prelude.{◌≡◌, ℕ, suc, false, List, Some, None, Err}
 use Rattle.std.specs.List.{IsDistinct, AllByRecursion}
 use Rattle.std.specs.Map.{keys_of}
 use Rattle.hickory_proto_core.specs.Query.{query_eq}
