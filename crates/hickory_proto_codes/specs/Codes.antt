@@ -20,11 +20,13 @@ use Rattle.hickory_proto_codes.specs.declared.op_code.OpCode.TheVariants as op_v
 -- the number that decimal digits write, below a limit: one digit or more, and leading zeros are taken
 abbrev pub decimal_below : ℕ → List ℕ → Option ℕ
 decimal_below limit ds =
-    if all_ascii_digits ds && nat_lt 0 (length ds) && nat_lt (digits_value 10 ds) limit then Some (digits_value 10 ds) else None
+    if all_ascii_digits ds && nat_lt 0 (length ds) && nat_lt (digits_value 10 ds) limit
+    then Some (digits_value 10 ds) else None
 
 -- the code of 16 bits that is written behind a word
 abbrev pub code_after : List ℕ → List ℕ → Option ℕ
-code_after word text = if starts_with nat_eq text word then decimal_below (2 ^ 16) (drop (length word) text) else None
+code_after word text =
+    if starts_with nat_eq text word then decimal_below (2 ^ 16) (drop (length word) text) else None
 
 -- the text is that word
 abbrev pub is_text : List ℕ → List ℕ → Bool

@@ -14,7 +14,9 @@ pub decimals : IsNumeralModel (λ ds. all_ascii_digits ds ≡ true) (digits_valu
 decimals = numerals_by_value _ tells_all_ascii_digits
 
 -- a number that is read just where there are digits only, at least one, and it is below the limit
-pub decimal_below-read : {E : Type 0} (limit : ℕ) (ds : List ℕ) (r : Result ℕ E) → OkIff r ((all_ascii_digits ds ≡ true) × (0 < length ds) × (digits_value 10 ds < limit)) (digits_value 10 ds) → result_ok r ≡ decimal_below limit ds
+pub decimal_below-read : {E : Type 0} (limit : ℕ) (ds : List ℕ) (r : Result ℕ E)
+    → OkIff r ((all_ascii_digits ds ≡ true) × (0 < length ds) × (digits_value 10 ds < limit))
+    (digits_value 10 ds) → result_ok r ≡ decimal_below limit ds
 decimal_below-read limit ds (Ok x) h = grind (arith, nat_tests, common_steps)
 decimal_below-read limit ds (Err e) h = grind (arith, nat_tests, common_steps)
 
@@ -24,7 +26,8 @@ decimal_below-plus limit [] h = refl
 decimal_below-plus limit (d ∷ ds) h = let same : d ≡ 43 = h in rw same refl
 
 -- the digits behind a word that the text begins with
-pub code_after-stripped : (word text rest : List ℕ) → StripsPrefix (FindsTextPrefix word) text rest → decimal_below (2 ^ 16) rest ≡ code_after word text
+pub code_after-stripped : (word text rest : List ℕ) → StripsPrefix (FindsTextPrefix word) text rest
+    → decimal_below (2 ^ 16) rest ≡ code_after word text
 code_after-stripped word text rest (n, (at, whole, edge), rest_is, size) =
     let whole_at = subst (λ (k : ℕ). text ≡ word ++ drop k text) at whole in
     let begins = starts_text true word text (length word, (refl, whole_at, edge), edge) in

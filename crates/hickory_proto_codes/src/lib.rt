@@ -1,4 +1,5 @@
-//! The codes of DNS (RFC 1035, sections 3.2.2 to 3.2.5 and 4.1.1), and the words that stand for them in texts.
+//! The codes of DNS (RFC 1035, sections 3.2.2 to 3.2.5 and 4.1.1), and the words that stand for them in
+//! texts.
 #![tactic(auto)]
 
 mod code_word;

@@ -1,6 +1,7 @@
 //! Protocols by which an upstream is asked.
 
-/// A transport protocol. It is a value without effect here: the handle that the caller hands in decides how it asks.
+/// A transport protocol. It is a value without effect here: the handle that the caller hands in decides how
+/// it asks.
 #[derive(Clone, Copy, Debug, PartialEq, Eq)]
 pub enum Protocol {
     /// Plain DNS over UDP (RFC 1035, section 4.2.1).

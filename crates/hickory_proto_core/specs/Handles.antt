@@ -26,12 +26,16 @@ ScriptStep (o ∷ os) request outcome after = (outcome ≡ o) × (after ≡ os)
 abbrev pub Leads : {H : Type 0} → Step H → DnsRequestOptions → H → List Exchange → H → Type 0
 Leads step options before [] after = after ≡ before
 Leads {H} step options before (x ∷ xs) after =
-    (mid : H) × (step before (record { query = x.query; options = options }) x.outcome mid) × Leads step options mid xs after
+    (mid : H) × (step before (record { query = x.query; options = options }) x.outcome mid)
+    × Leads step options mid xs after
 
 -- exchanges after exchanges
-pub Leads-append : {H : Type 0} (step : Step H) (options : DnsRequestOptions) (before mid after : H) (xs ys : List Exchange) → Leads step options before xs mid → Leads step options mid ys after → Leads step options before (xs ++ ys) after
+pub Leads-append : {H : Type 0} (step : Step H) (options : DnsRequestOptions) (before mid after : H)
+    (xs ys : List Exchange) → Leads step options before xs mid → Leads step options mid ys after
+    → Leads step options before (xs ++ ys) after
 Leads-append step options before mid after [] ys e l = subst (λ h. Leads step options h ys after) e l
-Leads-append step options before mid after (x ∷ xs) ys (next, sent, rest) l = (next, sent, Leads-append step options next mid after xs ys rest l)
+Leads-append step options before mid after (x ∷ xs) ys (next, sent, rest) l =
+    (next, sent, Leads-append step options next mid after xs ys rest l)
 
 -- what a handle that keeps its exchanges shows
 pub record RecordedValue (H : Type 0) : Type 0 where

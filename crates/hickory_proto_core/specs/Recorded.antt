@@ -9,44 +9,66 @@ use Rattle.hickory_proto_core.specs.declared.recorded.Exchange.{Exchange}
 use Rattle.hickory_proto_records.specs.declared.net_error.NetError.TheVariants.{OutOfMemory}
 
 -- nothing was sent, and nothing changed
-pub record IsRefused {H : Type 0} (before : RecordedValue H) (answer : OutcomeValue) (after : RecordedValue H) : Type 0 where
+pub record IsRefused
+    {H : Type 0} (before : RecordedValue H) (answer : OutcomeValue) (after : RecordedValue H)
+    : Type 0 where
   pub answer_is : answer ≡ Err OutOfMemory
   pub unchanged : after ≡ before
 
 -- the handle below was asked. What it gave is kept, and is answered unless there was no memory for the copy
-pub record IsKept {H : Type 0} (step : Step H) (before : RecordedValue H) (request : DnsRequest) (answer : OutcomeValue) (after : RecordedValue H) : Type 0 where
+pub record IsKept
+    {H : Type 0} (step : Step H) (before : RecordedValue H) (request : DnsRequest) (answer : OutcomeValue)
+    (after : RecordedValue H)
+    : Type 0 where
   pub outcome : OutcomeValue
   pub asked : step before.handle request outcome after.handle
-  pub exchanges_are : after.exchanges ≡ before.exchanges ++ record { query = request.query; outcome = outcome } ∷ []
+  pub exchanges_are : after.exchanges ≡ before.exchanges ++ record {
+    query = request.query;
+    outcome = outcome;
+  } ∷ []
   pub answer_is : (answer ≡ outcome) ⊎ (answer ≡ Err OutOfMemory)
 
-abbrev pub RecordedStep : {H : Type 0} → Step H → RecordedValue H → DnsRequest → OutcomeValue → RecordedValue H → Type 0
-RecordedStep step before request answer after = IsRefused before answer after ⊎ IsKept step before request answer after
+abbrev pub RecordedStep : {H : Type 0} → Step H → RecordedValue H → DnsRequest → OutcomeValue
+    → RecordedValue H → Type 0
+RecordedStep step before request answer after =
+    IsRefused before answer after ⊎ IsKept step before request answer after
 
--- what was answered, and what was kept: the same, or another outcome in place of want of memory. Where nothing
--- was sent there is no exchange
+-- what was answered, and what was kept: the same, or another outcome in place of want of memory. Where
+-- nothing was sent there is no exchange
 abbrev pub RecordedAs : List Exchange → List Exchange → Type 0
 RecordedAs [] kept = kept ≡ []
 RecordedAs (x ∷ xs) kept =
     ((x.outcome ≡ Err OutOfMemory) × RecordedAs xs kept)
-    ⊎ ((y : Exchange) × (ys : List Exchange) × (kept ≡ y ∷ ys) × (y.query ≡ x.query) × ((x.outcome ≡ y.outcome) ⊎ (x.outcome ≡ Err OutOfMemory)) × RecordedAs xs ys)
+    ⊎ ((y : Exchange) × (ys : List Exchange) × (kept ≡ y ∷ ys) × (y.query ≡ x.query)
+    × ((x.outcome ≡ y.outcome) ⊎ (x.outcome ≡ Err OutOfMemory)) × RecordedAs xs ys)
 
 -- a handle that was led by what it answered has led the handle below it by what it kept
-pub record IsRecorded {H : Type 0} (step : Step H) (options : DnsRequestOptions) (before : RecordedValue H) (asks : List Exchange) (after : RecordedValue H) : Type 0 where
+pub record IsRecorded
+    {H : Type 0} (step : Step H) (options : DnsRequestOptions) (before : RecordedValue H)
+    (asks : List Exchange) (after : RecordedValue H)
+    : Type 0 where
   pub kept : List Exchange
   pub recorded : RecordedAs asks kept
   pub led : Leads step options before.handle kept after.handle
   pub exchanges_are : after.exchanges ≡ before.exchanges ++ kept
 
-pub recorded_leads : {H : Type 0} (step : Step H) (options : DnsRequestOptions) (before after : RecordedValue H) (asks : List Exchange) → Leads (RecordedStep step) options before asks after → IsRecorded step options before asks after
+pub recorded_leads : {H : Type 0} (step : Step H) (options : DnsRequestOptions)
+    (before after : RecordedValue H) (asks : List Exchange)
+    → Leads (RecordedStep step) options before asks after → IsRecorded step options before asks after
 recorded_leads step options before after [] e =
-    record { kept = []; recorded = refl; led = ap (λ r. r.handle) e; exchanges_are = ap (λ r. r.exchanges) e ∙ sym (append-nil _) }
+    record {
+      kept = [];
+      recorded = refl;
+      led = ap (λ r. r.handle) e;
+      exchanges_are = ap (λ r. r.exchanges) e ∙ sym (append-nil _);
+    }
 recorded_leads {H} step options before after (x ∷ xs) (mid, inl refused, rest) =
     let r = recorded_leads step options mid after xs rest in
     record {
       kept = r.kept;
       recorded = inl (refused.answer_is, r.recorded);
-      led = subst (λ h. Leads step options h r.kept after.handle) (ap (λ v. v.handle) refused.unchanged) r.led;
+      led =
+          subst (λ h. Leads step options h r.kept after.handle) (ap (λ v. v.handle) refused.unchanged) r.led;
       exchanges_are = r.exchanges_are ∙ ap (λ v. v.exchanges ++ r.kept) refused.unchanged;
     }
 recorded_leads {H} step options before after (x ∷ xs) (mid, inr k, rest) =
@@ -56,5 +78,7 @@ recorded_leads {H} step options before after (x ∷ xs) (mid, inr k, rest) =
       kept = y ∷ r.kept;
       recorded = inr (y, r.kept, refl, refl, k.answer_is, r.recorded);
       led = (mid.handle, k.asked, r.led);
-      exchanges_are = r.exchanges_are ∙ ap (λ es. es ++ r.kept) k.exchanges_are ∙ append_assoc before.exchanges (y ∷ []) r.kept;
+      exchanges_are =
+          r.exchanges_are ∙ ap (λ es. es ++ r.kept) k.exchanges_are
+          ∙ append_assoc before.exchanges (y ∷ []) r.kept;
     }

@@ -18,11 +18,13 @@ outcome_in q table = lookup (query_eq q) table
 abbrev pub last_given : Query → TableValue → Option OutcomeValue
 last_given q pairs = outcome_in q (reverse pairs)
 
--- what a table answers for the outcome that it found: that outcome, or that it has none; a copy may find no memory
+-- what a table answers for the outcome that it found: that outcome, or that it has none; a copy may find no
+-- memory
 abbrev pub IsTableAnswer : Option OutcomeValue → OutcomeValue → Type 0
 IsTableAnswer None answer = answer ≡ Err NoOutcome
 IsTableAnswer (Some outcome) answer = (answer ≡ outcome) ⊎ (answer ≡ Err OutOfMemory)
 
 -- the table stays, and answers what it has for the question
 abbrev pub TableStep : TableValue → DnsRequest → OutcomeValue → TableValue → Type 0
-TableStep before request answer after = IsTableAnswer (outcome_in request.query before) answer × (after ≡ before)
+TableStep before request answer after =
+    IsTableAnswer (outcome_in request.query before) answer × (after ≡ before)

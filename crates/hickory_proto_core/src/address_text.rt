@@ -7,9 +7,9 @@ use hickory_proto_records::NetError;
 use std::alloc::Global;
 use std::net::IpAddr;
 
-/// The text of the address as RFC 5952 wants it: lower case, no leading zeros, `::` for the longest run of at least two
-/// zero groups, of equal runs the first, and `::ffff:a.b.c.d` for an IPv4-mapped address. The only error is to be out of
-/// memory.
+/// The text of the address as RFC 5952 wants it: lower case, no leading zeros, `::` for the longest run of at
+/// least two zero groups, of equal runs the first, and `::ffff:a.b.c.d` for an IPv4-mapped address. The only
+/// error is to be out of memory.
 pub fn ip_text(alloc: Global, address: IpAddr) -> Result<String, NetError>
     ensures text { IfOk result (λ s. string_bytes s ≡ address_text address) }
     ensures rule { IfOk result (λ s. IsPrintedAddress (string_bytes s) address) }

@@ -13,8 +13,8 @@ use std::alloc::AllocError;
 use std::collections::HashMap;
 use std::marker::Model;
 
-/// A handle that answers each question with its outcome in a table, and a question that has none there with an
-/// error.
+/// A handle that answers each question with its outcome in a table, and a question that has none there with
+/// an error.
 #[derive(Drop)]
 pub struct TableHandle {
     outcomes: HashMap<Query, Outcome>,

@@ -6,9 +6,9 @@ use Rattle.std.specs.Net.Addr.{ipv4_octets, ipv6_segments, low_octets, IsIpv4Map
 use Rattle.std.specs.Net.Grammar.{IsIpText}
 use Rattle.std.specs.Net.Text.{ip_text, ipv4_text, groups_text}
 
--- The text spells the address: four decimal numbers below 256 without leading zeros and dots between them; or eight groups
--- of one to four hex digits and colons between them, of which the last two may be an IPv4 text, and one `::` may stand for
--- one zero group or more.
+-- The text spells the address: four decimal numbers below 256 without leading zeros and dots between them; or
+-- eight groups of one to four hex digits and colons between them, of which the last two may be an IPv4 text,
+-- and one `::` may stand for one zero group or more.
 abbrev pub IsAddressText : List ℕ → IpAddr → Type 0
 IsAddressText text address = IsIpText text address
 
@@ -20,14 +20,16 @@ address_text address = ip_text address
 abbrev pub IsZeroRun : List ℕ → ℕ → ℕ → Type 0
 IsZeroRun groups start len = (start + len ≤ length groups) × (take len (drop start groups) ≡ replicate len 0)
 
--- the run that `::` stands for: two groups or more, none is longer, and none as long begins before it (sections 4.2.2 and 4.2.3)
+-- the run that `::` stands for: two groups or more, none is longer, and none as long begins before it
+-- (sections 4.2.2 and 4.2.3)
 pub record IsLongestRun (groups : List ℕ) (start len : ℕ) : Type 0 where
   pub zeros : IsZeroRun groups start len
   pub two : 2 ≤ len
   pub longest : (s n : ℕ) → IsZeroRun groups s n → n ≤ len
   pub first : (s : ℕ) → IsZeroRun groups s len → start ≤ s
 
--- groups in lower-case hex without leading zeros, with colons between them, and `::` for the longest run of zeros, if two groups are one
+-- groups in lower-case hex without leading zeros, with colons between them, and `::` for the longest run of
+-- zeros, if two groups are one
 abbrev pub IsPrintedGroups : List ℕ → List ℕ → Type 0
 IsPrintedGroups text groups =
     ((start len : ℕ) × IsLongestRun groups start len

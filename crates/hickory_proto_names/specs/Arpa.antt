@@ -1,4 +1,5 @@
--- The names of addresses and networks under `in-addr.arpa.` (RFC 1035, section 3.5) and `ip6.arpa.` (RFC 3596, section 2.5).
+-- The names of addresses and networks under `in-addr.arpa.` (RFC 1035, section 3.5) and `ip6.arpa.` (RFC
+-- 3596, section 2.5).
 use Rattle.std.specs.Prelude.{◌≡◌, ◌≢◌, ℕ, ◌*◌, ◌-◌, ◌/◌, ◌%◌, ◌<◌, ◌≤◌, Bool, true, IsTrue, List, [], ◌∷◌, ◌++◌, length, map, reverse, take, drop, replicate, slice_index, codes, decimal, Option, MatchOption}
 use Rattle.std.specs.Char.{digit_char}
 use Rattle.std.specs.Net.Addr.{ipv4_octets, ipv6_octets, MatchIp, IsIpv4Addr, IsIpv6Addr, is_ipv6}
@@ -67,7 +68,9 @@ IsArpaNameOf name net = IsArpaNet net × IsTrue (name_eq name (arpa_name net))
 -- What the functions that read labels say.
 
 -- the labels, whatever their case, write the first of these numbers, the last first, and the others are zero
-pub record IsWritten (label : ℕ → List ℕ) (below : ℕ) (labels : List (List ℕ)) (numbers : List ℕ) : Type 0 where
+pub record IsWritten
+    (label : ℕ → List ℕ) (below : ℕ) (labels : List (List ℕ)) (numbers : List ℕ)
+    : Type 0 where
   pub within : length labels ≤ length numbers
   pub written : lower_labels labels ≡ reverse (map label (take (length labels) numbers))
   pub zeros : drop (length labels) numbers ≡ replicate (length numbers - length labels) 0

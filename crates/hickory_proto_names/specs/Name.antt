@@ -63,7 +63,9 @@ abbrev pub labels_cmp : List (List ℕ) → List (List ℕ) → Ordering
 labels_cmp = on (λ ls. reverse (lower_labels ls)) (slice_cmp (slice_cmp nat_cmp))
 
 abbrev pub name_cmp : NameValue → NameValue → Ordering
-name_cmp = then_cmp (on (λ n. n.fqdn) bool_cmp) (on (λ n. reverse (lower_labels n.labels)) (slice_cmp (slice_cmp nat_cmp)))
+name_cmp =
+    then_cmp (on (λ n. n.fqdn) bool_cmp)
+    (on (λ n. reverse (lower_labels n.labels)) (slice_cmp (slice_cmp nat_cmp)))
 
 -- what a label in lower case feeds a hasher: its length, and then its bytes in one piece
 abbrev pub fed_label : List ℕ → List (List ℕ)
@@ -88,11 +90,14 @@ appended_name name domain = record { labels = name.labels ++ domain.labels; fqdn
 
 -- why it cannot be made: it is too long, or else memory is out
 abbrev pub append_fault : NameValue → NameValue → NameError
-append_fault name domain = if nat_lt 255 (wire_len (name.labels ++ domain.labels)) then NameTooLong else OutOfMemory
+append_fault name domain =
+    if nat_lt 255 (wire_len (name.labels ++ domain.labels)) then NameTooLong else OutOfMemory
 
 -- the last n labels, fully qualified, or the name itself where it has fewer
 abbrev pub trimmed_name : ℕ → NameValue → NameValue
-trimmed_name n name = if nat_lt (length name.labels) n then name else record { labels = drop (length name.labels - n) name.labels; fqdn = true }
+trimmed_name n name =
+    if nat_lt (length name.labels) n then name
+    else record { labels = drop (length name.labels - n) name.labels; fqdn = true }
 
 -- all labels but the first, fully qualified, or the name itself where it has none
 abbrev pub base_of : NameValue → NameValue

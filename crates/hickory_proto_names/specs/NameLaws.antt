@@ -16,10 +16,12 @@ pub label_lists_Decides : (xs ys : List (List ℕ)) → Decides (pointwise (poin
 label_lists_Decides = pointwise_decides bytes_decides
 
 -- and from the last label to the first too
-reversed : (xs ys : List (List ℕ)) → pointwise (pointwise nat_eq) xs ys ≡ pointwise (pointwise nat_eq) (reverse xs) (reverse ys)
+reversed : (xs ys : List (List ℕ))
+    → pointwise (pointwise nat_eq) xs ys ≡ pointwise (pointwise nat_eq) (reverse xs) (reverse ys)
 reversed xs ys =
     same_from_decides {P = reverse xs ≡ reverse ys} _ _
-    (Decides-like _ (λ e. ap reverse e) (λ e. sym (reverse-reverse xs) ∙ ap reverse e ∙ reverse-reverse ys) (label_lists_Decides xs ys))
+    (Decides-like _ (λ e. ap reverse e) (λ e. sym (reverse-reverse xs) ∙ ap reverse e ∙ reverse-reverse ys)
+    (label_lists_Decides xs ys))
     (label_lists_Decides (reverse xs) (reverse ys))
 
 bool_ties : (x y : Bool) → beq x y ≡ is_eq (bool_cmp x y)
@@ -33,20 +35,28 @@ pub name_ties : (x y : NameValue) → name_eq x y ≡ eq_by_cmp name_cmp x y
 name_ties x y =
     let ls = lower_labels x.labels in
     let ms = lower_labels y.labels in
-    both_tied _ _ (bool_cmp x.fqdn y.fqdn) (slice_cmp (slice_cmp nat_cmp) (reverse ls) (reverse ms)) (bool_ties x.fqdn y.fqdn)
-    (reversed ls ms ∙ lists_ties (slice_cmp nat_cmp) (lists_ties nat_cmp unsigned_ties) (reverse ls) (reverse ms))
+    both_tied _ _ (bool_cmp x.fqdn y.fqdn) (slice_cmp (slice_cmp nat_cmp) (reverse ls) (reverse ms))
+    (bool_ties x.fqdn y.fqdn)
+    (reversed ls ms ∙ lists_ties (slice_cmp nat_cmp) (lists_ties nat_cmp unsigned_ties) (reverse ls)
+    (reverse ms))
 
 pub name_partial_order : IsPartialOrder name_eq (as_partial_cmp name_cmp)
 name_partial_order =
     partial_order_from_agreeing_total name_cmp
-    (then_total (on_total (λ n. n.fqdn) bool_cmp_total) (on_total (λ n. reverse (lower_labels n.labels)) (lists_total (lists_total nat_cmp_total))))
+    (then_total (on_total (λ n. n.fqdn) bool_cmp_total)
+    (on_total (λ n. reverse (lower_labels n.labels)) (lists_total (lists_total nat_cmp_total))))
     (λ x y. refl) name_ties
 
 -- what equal names have in common: the mark, and the labels in lower case
-pub same_from_name_eq : (x y : NameValue) → name_eq x y ≡ true → (x.fqdn ≡ y.fqdn) × (lower_labels x.labels ≡ lower_labels y.labels)
+pub same_from_name_eq : (x y : NameValue) → name_eq x y ≡ true
+    → (x.fqdn ≡ y.fqdn) × (lower_labels x.labels ≡ lower_labels y.labels)
 same_from_name_eq x y h =
-    let parts = and_parts (beq x.fqdn y.fqdn) (pointwise (pointwise nat_eq) (lower_labels x.labels) (lower_labels y.labels)) h in
-    ((booleans_Decides x.fqdn y.fqdn).0 parts.0, (label_lists_Decides (lower_labels x.labels) (lower_labels y.labels)).0 parts.1)
+    let parts =
+    and_parts (beq x.fqdn y.fqdn)
+    (pointwise (pointwise nat_eq) (lower_labels x.labels) (lower_labels y.labels)) h in (
+      (booleans_Decides x.fqdn y.fqdn).0 parts.0,
+      (label_lists_Decides (lower_labels x.labels) (lower_labels y.labels)).0 parts.1,
+    )
 
 pub name_respects_eq : (x y : NameValue) → name_eq x y ≡ true → name_hash_input x ≡ name_hash_input y
 name_respects_eq x y h =
@@ -54,4 +64,6 @@ name_respects_eq x y h =
     λ i. fed.bool (same.0 i) ++ fed.slice fed_label (same.1 i)
 
 pub name_equiv : IsEquivalence name_eq
-name_equiv = and_equiv (on_equiv (λ n. n.fqdn) bool_eq_equiv) (on_equiv (λ n. lower_labels n.labels) (lists_equiv (lists_equiv nat_eq_equiv)))
+name_equiv =
+    and_equiv (on_equiv (λ n. n.fqdn) bool_eq_equiv)
+    (on_equiv (λ n. lower_labels n.labels) (lists_equiv (lists_equiv nat_eq_equiv)))

@@ -11,16 +11,20 @@ use Rattle.hickory_proto_names.specs.NameText.{Written, written_text, written_by
 
 -- the whole text is pieces of these bytes
 abbrev pub ArePieces : List ℕ → List (List ℕ) → Type 0
-ArePieces text labels = (pieces : List (List Written)) × IsCutInto text pieces [] × (labels ≡ map piece_bytes pieces)
+ArePieces text labels =
+    (pieces : List (List Written)) × IsCutInto text pieces [] × (labels ≡ map piece_bytes pieces)
 
 -- the text begins with this character in its place, and then the rest
 abbrev pub Begins : Bool → List ℕ → Character → List ℕ → Type 0
 Begins first text Dot rest = text ≡ 46 ∷ rest
-Begins first text (Byte b) rest = (w : Written) × (text ≡ written_text w ++ rest) × IsTrue (may_stand first w) × (written_byte w ≡ b)
+Begins first text (Byte b) rest =
+    (w : Written) × (text ≡ written_text w ++ rest) × IsTrue (may_stand first w) × (written_byte w ≡ b)
 
 -- behind a `\` the text has what stands for this byte at any place, and then the rest
 abbrev pub IsEscape : List ℕ → ℕ → List ℕ → Type 0
-IsEscape text b rest = (w : Written) × (92 ∷ text ≡ written_text w ++ rest) × ((first : Bool) → IsTrue (may_stand first w)) × (written_byte w ≡ b)
+IsEscape text b rest =
+    (w : Written) × (92 ∷ text ≡ written_text w ++ rest) × ((first : Bool) → IsTrue (may_stand first w))
+    × (written_byte w ≡ b)
 
 -- the text spells a name
 abbrev pub IsNamed : List ℕ → Type 0
@@ -37,7 +41,12 @@ no_labels = record { wire_length = 1; has_empty = false; has_long = false }
 
 -- one more label, of this length
 abbrev pub with_label : Measure → ℕ → Measure
-with_label m n = record { wire_length = min 256 (m.wire_length + n + 1); has_empty = m.has_empty || (n == 0); has_long = m.has_long || nat_lt 63 n }
+with_label m n =
+    record {
+      wire_length = min 256 (m.wire_length + n + 1);
+      has_empty = m.has_empty || (n == 0);
+      has_long = m.has_long || nat_lt 63 n;
+    }
 
 -- the last piece, of this length: an empty one is the mark, and an only label before it that is empty is none
 abbrev pub with_last : Measure → ℕ → Measure
@@ -45,4 +54,7 @@ with_last m n = if nat_lt 0 n then with_label m n else (if nat_lt 2 m.wire_lengt
 
 -- the first fault of the labels
 abbrev pub measure_fault : Measure → Option NameError
-measure_fault m = if m.has_empty then Some EmptyLabel else (if m.has_long then Some LabelTooLong else (if nat_lt 255 m.wire_length then Some NameTooLong else None))
+measure_fault m =
+    if m.has_empty then Some EmptyLabel
+    else (if m.has_long then Some LabelTooLong
+    else (if nat_lt 255 m.wire_length then Some NameTooLong else None))

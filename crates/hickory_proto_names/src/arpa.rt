@@ -13,9 +13,9 @@ use std::net::{IpAddr, Ipv4Addr, Ipv6Addr};
 use std::str;
 
 impl Name {
-    /// The name of the address: its octets from the last to the first before `in-addr.arpa.` (RFC 1035, section 3.5),
-    /// or its 32 hex digits from the last to the first before `ip6.arpa.` (RFC 3596, section 2.5). Reading it gives the
-    /// address back, with all its bits. The only error is the want of memory.
+    /// The name of the address: its octets from the last to the first before `in-addr.arpa.` (RFC 1035,
+    /// section 3.5), or its 32 hex digits from the last to the first before `ip6.arpa.` (RFC 3596, section
+    /// 2.5). Reading it gives the address back, with all its bits. The only error is the want of memory.
     pub fn from_ip(alloc: Global, address: IpAddr) -> Result<Name, NameError>
         ensures ok { IfOk result (λ n. n ≡ arpa_name (whole_net address)) }
         ensures back { IfOk result (λ n. IsArpaNameOf n (whole_net address)) }
@@ -27,8 +27,8 @@ impl Name {
         }
     }
 
-    /// The network of which this is the name, without regard to case; `NotArpa` where there is none. Fewer labels than an
-    /// address has are its first parts, and the others are zero. Takes no memory.
+    /// The network of which this is the name, without regard to case; `NotArpa` where there is none. Fewer
+    /// labels than an address has are its first parts, and the others are zero. Takes no memory.
     pub fn parse_arpa_name(&self) -> Result<IpNet, NameError>
         ensures ok { IfOk result (IsArpaNameOf self.now) }
         ensures only { (net : IpNet) → IsArpaNameOf self.now net → result ≡ Ok net }
@@ -88,7 +88,8 @@ fn with_zone(
     mut labels: Vec<Vec<u8>>,
     family: &[u8],
 ) -> Result<Vec<Vec<u8>>, NameError>
-    ensures ok { IfOk result (λ ls. label_bytes ls.items ≡ label_bytes labels.items ++ family.now ∷ codes "arpa" ∷ []) }
+    ensures ok { IfOk result
+        (λ ls. label_bytes ls.items ≡ label_bytes labels.items ++ family.now ∷ codes "arpa" ∷ []) }
     ensures err { IsOkUnless result NameError.OutOfMemory }
 {
     labels.push(Vec::from_slice(alloc, family)?)?;

@@ -35,18 +35,18 @@ impl IpNet {
     }
 }
 
-/// The address that the text spells, if it spells one. An IPv4 address is four decimal numbers up to 255 without
-/// leading zeros (RFC 6943, section 3.1.1). An IPv6 address is eight groups of one to four hex digits of either case;
-/// one `::` may stand for one zero group or more, the last two groups may be an IPv4 address, and there is no zone
-/// (RFC 4291, section 2.2). Takes no memory.
+/// The address that the text spells, if it spells one. An IPv4 address is four decimal numbers up to 255
+/// without leading zeros (RFC 6943, section 3.1.1). An IPv6 address is eight groups of one to four hex digits
+/// of either case; one `::` may stand for one zero group or more, the last two groups may be an IPv4 address,
+/// and there is no zone (RFC 4291, section 2.2). Takes no memory.
 pub fn read_ip(text: &str) -> Option<IpAddr>
     ensures { (a : IpAddr) → (result ≡ Some a) ↔ IsAddressText text.now a }
 {
     IpAddr::parse_ascii(text.as_bytes()).ok()
 }
 
-/// The text of the address as RFC 5952 wants it: lower case, no leading zeros, `::` for the longest run of at least two
-/// zero groups, of equal runs the first, and `::ffff:a.b.c.d` for an IPv4-mapped address.
+/// The text of the address as RFC 5952 wants it: lower case, no leading zeros, `::` for the longest run of at
+/// least two zero groups, of equal runs the first, and `::ffff:a.b.c.d` for an IPv4-mapped address.
 pub fn printed_text(alloc: Global, address: IpAddr) -> Result<String, AllocError>
     ensures text { IfOk result (λ s. string_bytes s ≡ address_text address) }
     ensures rule { IfOk result (λ s. IsPrintedAddress (string_bytes s) address) }

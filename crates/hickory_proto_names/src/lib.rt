@@ -1,4 +1,5 @@
-//! Domain names: their labels, their texts, their order, the names of addresses, and what may be given for a name.
+//! Domain names: their labels, their texts, their order, the names of addresses, and what may be given for a
+//! name.
 #![tactic(auto)]
 
 pub mod arpa;

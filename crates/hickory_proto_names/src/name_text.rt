@@ -192,8 +192,8 @@ impl Measure {
         }
     }
 
-    // With the last piece of a text, which is the mark where it is empty, and the label before it nothing where it
-    // is the only one and empty.
+    // With the last piece of a text, which is the mark where it is empty, and the label before it nothing
+    // where it is the only one and empty.
     fn with_last(self, length: usize) -> Measure
         requires labels { self.wire_length ≤ 256 }
         requires label { length ≤ 256 }
@@ -281,7 +281,10 @@ fn ends_empty(pieces: &[Vec<u8>]) -> bool
 
 // Takes off a last empty piece, and says whether the text's name is fully qualified.
 fn take_mark(pieces: &mut Vec<Vec<u8>>) -> bool
-    ensures { pieces_name (label_bytes pieces.old.items) ≡ record { labels = label_bytes pieces.new.items; fqdn = result } }
+    ensures { pieces_name (label_bytes pieces.old.items) ≡ record {
+      labels = label_bytes pieces.new.items;
+      fqdn = result;
+    } }
 {
     if !ends_empty(pieces) {
         return false;

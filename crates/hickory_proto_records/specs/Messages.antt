@@ -37,24 +37,33 @@ some_record p m = list_any p m.answers || list_any p m.authorities || list_any p
 
 abbrev pub metadata_eq : Metadata → Metadata → Bool
 metadata_eq m n =
-    (m.id == n.id) && (op_code m.op_code == op_code n.op_code) && beq m.authoritative n.authoritative && beq m.truncation n.truncation
+    (m.id == n.id) && (op_code m.op_code == op_code n.op_code) && beq m.authoritative n.authoritative
+    && beq m.truncation n.truncation
     && beq m.recursion_desired n.recursion_desired && beq m.recursion_available n.recursion_available
     && (response_code m.response_code == response_code n.response_code)
 
 -- messages are equal where the headers and the four lists are
 abbrev pub message_eq : MessageValue → MessageValue → Bool
 message_eq m n =
-    metadata_eq m.metadata n.metadata && pointwise query_eq m.queries n.queries && pointwise record_eq m.answers n.answers
+    metadata_eq m.metadata n.metadata && pointwise query_eq m.queries n.queries
+    && pointwise record_eq m.answers n.answers
     && pointwise record_eq m.authorities n.authorities && pointwise record_eq m.additionals n.additionals
 
 pub metadata_equiv : IsEquivalence metadata_eq
 metadata_equiv =
-    and_equiv (and_equiv (and_equiv (and_equiv (and_equiv (and_equiv (on_equiv (λ m. m.id) nat_eq_equiv) (on_equiv (λ m. op_code m.op_code) nat_eq_equiv))
-    (on_equiv (λ m. m.authoritative) bool_eq_equiv)) (on_equiv (λ m. m.truncation) bool_eq_equiv)) (on_equiv (λ m. m.recursion_desired) bool_eq_equiv))
-    (on_equiv (λ m. m.recursion_available) bool_eq_equiv)) (on_equiv (λ m. response_code m.response_code) nat_eq_equiv)
+    and_equiv (and_equiv (and_equiv
+    (and_equiv (and_equiv
+    (and_equiv (on_equiv (λ m. m.id) nat_eq_equiv) (on_equiv (λ m. op_code m.op_code) nat_eq_equiv))
+    (on_equiv (λ m. m.authoritative) bool_eq_equiv)) (on_equiv (λ m. m.truncation) bool_eq_equiv))
+    (on_equiv (λ m. m.recursion_desired) bool_eq_equiv))
+    (on_equiv (λ m. m.recursion_available) bool_eq_equiv))
+    (on_equiv (λ m. response_code m.response_code) nat_eq_equiv)
 
 pub message_equiv : IsEquivalence message_eq
 message_equiv =
-    and_equiv (and_equiv (and_equiv (and_equiv (on_equiv (λ m. m.metadata) metadata_equiv) (on_equiv (λ m. m.queries) (lists_equiv query_equiv)))
-    (on_equiv (λ m. m.answers) (lists_equiv record_equiv))) (on_equiv (λ m. m.authorities) (lists_equiv record_equiv)))
+    and_equiv (and_equiv (and_equiv
+    (and_equiv (on_equiv (λ m. m.metadata) metadata_equiv)
+    (on_equiv (λ m. m.queries) (lists_equiv query_equiv)))
+    (on_equiv (λ m. m.answers) (lists_equiv record_equiv)))
+    (on_equiv (λ m. m.authorities) (lists_equiv record_equiv)))
     (on_equiv (λ m. m.additionals) (lists_equiv record_equiv))

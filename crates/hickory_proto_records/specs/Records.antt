@@ -14,7 +14,8 @@ use Rattle.hickory_proto_codes.specs.declared.record_type.RecordType.TheVariants
 use Rattle.hickory_proto_records.specs.declared.record_data.RData.{RData}
 use Rattle.hickory_proto_records.specs.declared.record_data.RData.TheVariants.{A, AAAA, CNAME, NS, PTR, SOA, SRV, MX, TXT, Unknown}
 
--- the data of a record, with lists for vectors. An IPv4 address is its four octets, and an IPv6 address its eight segments
+-- the data of a record, with lists for vectors. An IPv4 address is its four octets, and an IPv6 address its
+-- eight segments
 pub data DataValue : Type 0 where
   a_data : List ℕ → DataValue
   aaaa_data : List ℕ → DataValue
@@ -33,7 +34,8 @@ data_of (AAAA address) = aaaa_data (ipv6_segments address)
 data_of (CNAME target) = cname_data target
 data_of (NS target) = ns_data target
 data_of (PTR target) = ptr_data target
-data_of (SOA mname rname serial refresh retry expire minimum) = soa_data mname rname serial refresh retry expire minimum
+data_of (SOA mname rname serial refresh retry expire minimum) =
+    soa_data mname rname serial refresh retry expire minimum
 data_of (SRV priority weight port target) = srv_data priority weight port target
 data_of (MX preference exchange) = mx_data preference exchange
 data_of (TXT strings) = txt_data (label_bytes strings.items)
@@ -69,8 +71,8 @@ abbrev pub data_of_address : IpAddr → DataValue
 data_of_address (V4 address) = a_data (ipv4_octets address)
 data_of_address (V6 address) = aaaa_data (ipv6_segments address)
 
--- the time to live of negative answers that SOA data give (RFC 2308, section 4), and the server that NS data name. Data of
--- an unknown kind give neither
+-- the time to live of negative answers that SOA data give (RFC 2308, section 4), and the server that NS data
+-- name. Data of an unknown kind give neither
 abbrev pub soa_minimum : DataValue → Option ℕ
 soa_minimum (a_data octets) = None
 soa_minimum (aaaa_data segments) = None
@@ -101,8 +103,8 @@ pub record RecordValue : Type 0 where
   pub ttl : ℕ
   pub rdata : DataValue
 
--- data are of one kind where they are of one variant; then they are equal where their names (without case), their
--- numbers and their bytes are
+-- data are of one kind where they are of one variant; then they are equal where their names (without case),
+-- their numbers and their bytes are
 abbrev pub data_kind : DataValue → ℕ
 data_kind (a_data octets) = 1
 data_kind (aaaa_data segments) = 2
@@ -133,7 +135,8 @@ data_numbers (aaaa_data segments) = segments
 data_numbers (cname_data target) = []
 data_numbers (ns_data target) = []
 data_numbers (ptr_data target) = []
-data_numbers (soa_data mname rname serial refresh retry expire minimum) = serial ∷ refresh ∷ retry ∷ expire ∷ minimum ∷ []
+data_numbers (soa_data mname rname serial refresh retry expire minimum) =
+    serial ∷ refresh ∷ retry ∷ expire ∷ minimum ∷ []
 data_numbers (srv_data priority weight port target) = priority ∷ weight ∷ port ∷ []
 data_numbers (mx_data preference exchange) = preference ∷ []
 data_numbers (txt_data strings) = []
@@ -153,19 +156,25 @@ data_bytes (unknown_data code bytes) = bytes ∷ []
 
 abbrev pub data_eq : DataValue → DataValue → Bool
 data_eq d e =
-    (data_kind d == data_kind e) && pointwise name_eq (data_names d) (data_names e) && pointwise nat_eq (data_numbers d) (data_numbers e)
+    (data_kind d == data_kind e) && pointwise name_eq (data_names d) (data_names e)
+    && pointwise nat_eq (data_numbers d) (data_numbers e)
     && pointwise (pointwise nat_eq) (data_bytes d) (data_bytes e)
 
 pub data_equiv : IsEquivalence data_eq
 data_equiv =
-    and_equiv (and_equiv (and_equiv (on_equiv data_kind nat_eq_equiv) (on_equiv data_names (lists_equiv name_equiv)))
-    (on_equiv data_numbers (lists_equiv nat_eq_equiv))) (on_equiv data_bytes (lists_equiv (lists_equiv nat_eq_equiv)))
+    and_equiv (and_equiv (and_equiv (on_equiv data_kind nat_eq_equiv)
+    (on_equiv data_names (lists_equiv name_equiv)))
+    (on_equiv data_numbers (lists_equiv nat_eq_equiv)))
+    (on_equiv data_bytes (lists_equiv (lists_equiv nat_eq_equiv)))
 
 -- records are equal where all four fields are
 abbrev pub record_eq : RecordValue → RecordValue → Bool
-record_eq r s = name_eq r.name s.name && (class_code r.dns_class == class_code s.dns_class) && (r.ttl == s.ttl) && data_eq r.rdata s.rdata
+record_eq r s =
+    name_eq r.name s.name && (class_code r.dns_class == class_code s.dns_class) && (r.ttl == s.ttl)
+    && data_eq r.rdata s.rdata
 
 pub record_equiv : IsEquivalence record_eq
 record_equiv =
-    and_equiv (and_equiv (and_equiv (on_equiv (λ r. r.name) name_equiv) (on_equiv (λ r. class_code r.dns_class) nat_eq_equiv)) (on_equiv (λ r. r.ttl) nat_eq_equiv))
+    and_equiv (and_equiv (and_equiv (on_equiv (λ r. r.name) name_equiv)
+    (on_equiv (λ r. class_code r.dns_class) nat_eq_equiv)) (on_equiv (λ r. r.ttl) nat_eq_equiv))
     (on_equiv (λ r. r.rdata) data_equiv)

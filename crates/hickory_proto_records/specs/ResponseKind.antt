@@ -48,7 +48,8 @@ is_empty (x ∷ xs) = false
 
 -- some record of some section answers the question. For types other than ANY and SOA any answer does
 abbrev pub answers_question : Query → MessageValue → Bool
-answers_question q m = some_record (is_asked q) m || (not (is_any q) && not (is_soa q) && not (is_empty m.answers))
+answers_question q m =
+    some_record (is_asked q) m || (not (is_any q) && not (is_soa q) && not (is_empty m.answers))
 
 -- one of the response's own questions is answered
 abbrev pub contains_answer : MessageValue → Bool
@@ -82,7 +83,11 @@ is_address_of server r = (is_of_type type.A r || is_of_type type.AAAA r) && name
 
 -- the server that a record names, with its addresses
 abbrev pub forward_of : List RecordValue → RecordValue → Option ForwardValue
-forward_of additionals r = option_map (λ server. record { ns = r; glue = filter (is_address_of server) additionals }) (ns_target r.rdata)
+forward_of additionals r =
+    option_map (λ server. record {
+      ns = r;
+      glue = filter (is_address_of server) additionals;
+    }) (ns_target r.rdata)
 
 -- the name servers that a response refers to, in the order of its authorities
 abbrev pub forwards_of : MessageValue → List ForwardValue
@@ -108,8 +113,8 @@ pub data ResponseKind : Type 0 where
   Negative : NoRecordsValue → ResponseKind
   Failed : NetError → ResponseKind
 
--- with NOERROR or NXDOMAIN an answer, where there is one or the message was cut short, else a negative answer;
--- every other code is a failure
+-- with NOERROR or NXDOMAIN an answer, where there is one or the message was cut short, else a negative
+-- answer; every other code is a failure
 abbrev pub kind_of_response : MessageValue → ResponseKind
 kind_of_response m =
     let code = response_code m.metadata.response_code in

@@ -69,8 +69,8 @@ impl DnsResponse {
             .find(|found| found.rdata.soa_minimum().is_some())
     }
 
-    /// For how many seconds the response may be kept as a negative answer: the lesser of the time to live of its SOA
-    /// record and of that record's minimum (RFC 2308, section 5).
+    /// For how many seconds the response may be kept as a negative answer: the lesser of the time to live of
+    /// its SOA record and of that record's minimum (RFC 2308, section 5).
     pub fn negative_ttl(&self) -> Option<u32>
         ensures { result ≡ negative_ttl_of self.now }
     {
@@ -102,9 +102,9 @@ impl Clone for DnsResponse {
 }
 
 impl DnsError {
-    /// The response itself where it is an answer, else the error that it stands for (RFC 2308, sections 2 and 3): a
-    /// response code other than NOERROR and NXDOMAIN, or that there are no records. Only the latter may find no
-    /// memory.
+    /// The response itself where it is an answer, else the error that it stands for (RFC 2308, sections 2 and
+    /// 3): a response code other than NOERROR and NXDOMAIN, or that there are no records. Only the latter may
+    /// find no memory.
     pub fn from_response(response: DnsResponse) -> Result<DnsResponse, NetError>
         ensures { IsClassified (kind_of_response response) result }
     {

@@ -110,7 +110,9 @@ impl Message {
 
     /// Adds a record to the authority section. A refused one changes nothing.
     pub fn add_authority(&mut self, added: Record) -> Result<(), NetError>
-        ensures ok { OnOk result (self.new ≡ record self.old { authorities = self.old.authorities ++ added ∷ [] }) }
+        ensures ok { OnOk result (self.new ≡ record self.old {
+          authorities = self.old.authorities ++ added ∷ [];
+        }) }
         ensures unchanged { OnErr result (self.new ≡ self.old) }
         ensures err { IsOkUnless result NetError.OutOfMemory }
     {
@@ -118,9 +120,12 @@ impl Message {
         Ok(())
     }
 
-    /// Adds records to the authority section, in order. Where there is no memory for them all, nothing changes.
+    /// Adds records to the authority section, in order. Where there is no memory for them all, nothing
+    /// changes.
     pub fn add_authorities(&mut self, added: Vec<Record>) -> Result<(), NetError>
-        ensures ok { OnOk result (self.new ≡ record self.old { authorities = self.old.authorities ++ added.items }) }
+        ensures ok { OnOk result (self.new ≡ record self.old {
+          authorities = self.old.authorities ++ added.items;
+        }) }
         ensures unchanged { OnErr result (self.new ≡ self.old) }
         ensures err { IsOkUnless result NetError.OutOfMemory }
     {
@@ -131,7 +136,9 @@ impl Message {
 
     /// Adds a record to the additional section. A refused one changes nothing.
     pub fn add_additional(&mut self, added: Record) -> Result<(), NetError>
-        ensures ok { OnOk result (self.new ≡ record self.old { additionals = self.old.additionals ++ added ∷ [] }) }
+        ensures ok { OnOk result (self.new ≡ record self.old {
+          additionals = self.old.additionals ++ added ∷ [];
+        }) }
         ensures unchanged { OnErr result (self.new ≡ self.old) }
         ensures err { IsOkUnless result NetError.OutOfMemory }
     {
@@ -139,9 +146,12 @@ impl Message {
         Ok(())
     }
 
-    /// Adds records to the additional section, in order. Where there is no memory for them all, nothing changes.
+    /// Adds records to the additional section, in order. Where there is no memory for them all, nothing
+    /// changes.
     pub fn add_additionals(&mut self, added: Vec<Record>) -> Result<(), NetError>
-        ensures ok { OnOk result (self.new ≡ record self.old { additionals = self.old.additionals ++ added.items }) }
+        ensures ok { OnOk result (self.new ≡ record self.old {
+          additionals = self.old.additionals ++ added.items;
+        }) }
         ensures unchanged { OnErr result (self.new ≡ self.old) }
         ensures err { IsOkUnless result NetError.OutOfMemory }
     {

@@ -9,8 +9,8 @@ use hickory_proto_names::Name;
 use std::alloc::AllocError;
 use std::net::{IpAddr, Ipv4Addr, Ipv6Addr};
 
-/// What a record says of its owner (RFC 1035, section 3.2.1). Data are equal where all their fields are: names
-/// without case, and bytes as they are.
+/// What a record says of its owner (RFC 1035, section 3.2.1). Data are equal where all their fields are:
+/// names without case, and bytes as they are.
 #[derive(Debug, Drop, PartialEq, Eq)]
 pub enum RData {
     /// A host's IPv4 address (RFC 1035, section 3.4.1).
@@ -60,8 +60,8 @@ pub enum RData {
     },
     /// Text strings (RFC 1035, section 3.3.14).
     TXT(Vec<Vec<u8>>),
-    /// Data of any other type, as bytes (RFC 3597, section 3). Where the code is that of a type above, it counts
-    /// by that type, but has no address, name or number.
+    /// Data of any other type, as bytes (RFC 3597, section 3). Where the code is that of a type above, it
+    /// counts by that type, but has no address, name or number.
     Unknown {
         /// The code of the type.
         code: u16,

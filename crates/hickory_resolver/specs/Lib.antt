@@ -18,3 +18,5 @@ pub use Rattle.hickory_resolver_theorems.specs.Cacheless
 pub use Rattle.hickory_resolver_theorems.specs.WithoutTimes
 pub use Rattle.hickory_resolver_theorems.specs.Covered
 pub use Rattle.hickory_resolver_theorems.specs.Statements
+pub use Rattle.hickory_resolver_theorems.specs.Provenance
+pub use Rattle.hickory_resolver_theorems.specs.WholeLookup

@@ -20,8 +20,11 @@ IsSpecialReply (Some reply) got = (got ≡ Some reply) ⊎ (got ≡ Some (Err Ou
 
 -- the names that do not exist
 abbrev pub is_nonexistent_name : NameValue → Bool
-is_nonexistent_name n = is_zone_of (full_name (codes "invalid" ∷ [])) n || is_zone_of (full_name (codes "onion" ∷ [])) n
+is_nonexistent_name n =
+    is_zone_of (full_name (codes "invalid" ∷ [])) n || is_zone_of (full_name (codes "onion" ∷ [])) n
 
 -- what a question about a loopback name comes to
 abbrev pub loopback_result : Query → ℕ → LookupResult
-loopback_result q now = option_map_or (λ rdata. Ok (one_record q rdata now)) (loopback_data (type_code q.query_type)) (Err (no_records q NoError))
+loopback_result q now =
+    option_map_or (λ rdata. Ok (one_record q rdata now)) (loopback_data (type_code q.query_type))
+    (Err (no_records q NoError))

@@ -19,4 +19,5 @@ IsVerdict _ response _ = ⊥
 
 -- a record that is passed on
 abbrev pub is_wanted : Query → NameValue → Bool → Bool → RecordValue → Bool
-is_wanted q last matches intermediates r = (matches && is_match q last r) || (intermediates && is_intermediate q r)
+is_wanted q last matches intermediates r =
+    (matches && is_match q last r) || (intermediates && is_intermediate q r)

@@ -17,7 +17,8 @@ pub struct AliasWalk<'a> {
     pub followed: bool,
 }
 
-/// The walk of a question over the answers to it, in their order: along each CNAME of the name reached, and each SRV.
+/// The walk of a question over the answers to it, in their order: along each CNAME of the name reached, and
+/// each SRV.
 pub fn walk_of<'a>(query: &'a Query, answers: &'a [Record]) -> AliasWalk<'a>
     ensures { IsWalkOf (walk_of query.now answers.now) result.last.now result.ttl result.followed }
 {

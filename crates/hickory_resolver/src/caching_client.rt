@@ -7,7 +7,7 @@ ghost use Rattle.hickory_resolver_model.specs.Cache.{without_query};
 ghost use Rattle.hickory_resolver_model.specs.Lookup.{found_lookup};
 ghost use Rattle.hickory_resolver_model.specs.Hops.{no_match, hit_result, as_outcome, after_stores};
 ghost use Rattle.hickory_resolver_model.specs.Client.{ClientValue, IsLookup, start_of, KeepsHandle, empty_cache};
-ghost use Rattle.hickory_resolver_theorems.specs.Statements.{IsWholeLookup};
+ghost use Rattle.hickory_resolver_theorems.specs.WholeLookup.{IsWholeLookup};
 ghost use Rattle.hickory_resolver.specs.Special.{IsUnlessOut};
 ghost use Rattle.hickory_resolver.specs.Verdicts.{hop_of};
 ghost use Rattle.hickory_resolver.specs.Steps.{NeverFailsNegative, SettledAs, IsSettled, IsHopStep, stores_back, IsBeginning};
@@ -21,13 +21,14 @@ use hickory_proto_core::{
 use hickory_resolver_cache::ResponseCache;
 use hickory_resolver_lookup::{Lookup, TtlConfig};
 use hickory_resolver_theorems::laws::{
-    a_cache_changes_no_answer, eight_questions, nothing_outlives,
+    a_cache_changes_no_answer, eight_questions, every_record_has_a_source, nothing_outlives,
 };
 use std::alloc::Global;
 use std::hash::{BuildHasher, BuildHasherDefault, FoldHasher};
 use std::marker::Model;
 
-/// A client over a handle. What the handle answers is kept in a cache, and is not asked again while it is current.
+/// A client over a handle. What the handle answers is kept in a cache, and is not asked again while it is
+/// current.
 #[derive(Drop)]
 pub struct CachingClient<H: DnsHandle, S: BuildHasher = BuildHasherDefault<FoldHasher>> {
     cache: ResponseCache<S>,
@@ -75,7 +76,11 @@ impl<H: DnsHandle, S: BuildHasher> CachingClient<H, S> {
         handle: H,
         preserve_intermediates: bool,
     ) -> CachingClient<H, S>
-        ensures { result ≡ record { cache = cache; handle = handle; preserve_intermediates = preserve_intermediates } }
+        ensures { result ≡ record {
+          cache = cache;
+          handle = handle;
+          preserve_intermediates = preserve_intermediates;
+        } }
     {
         CachingClient {
             cache,
@@ -98,11 +103,12 @@ impl<H: DnsHandle, S: BuildHasher> CachingClient<H, S> {
         &self.cache
     }
 
-    /// Answers a question at a moment (seconds), hop by hop: each hop is a special name, a current entry of the cache as it
-    /// was before the call, or a question that is sent to the handle with these options. The alias of a question leads to the
-    /// next hop, and eight questions are sent at most; an alias too many comes to no records. What the last question got is
-    /// kept where it is an answer or a negative answer, and then the result under each question before it, from the last to
-    /// the first (RFC 1034, section 3.6.2; RFC 2308, section 5). Where memory runs out, a beginning of this was done.
+    /// Answers a question at a moment (seconds), hop by hop: each hop is a special name, a current entry of
+    /// the cache as it was before the call, or a question that is sent to the handle with these options. The
+    /// alias of a question leads to the next hop, and eight questions are sent at most; an alias too many
+    /// comes to no records. What the last question got is kept where it is an answer or a negative answer,
+    /// and then the result under each question before it, from the last to the first (RFC 1034, section
+    /// 3.6.2; RFC 2308, section 5). Where memory runs out, a beginning of this was done.
     pub fn lookup(
         &mut self,
         query: Query,
@@ -112,6 +118,7 @@ impl<H: DnsHandle, S: BuildHasher> CachingClient<H, S> {
         ensures { IsWholeLookup H.step options now self.old query result self.new }
     {
         eight_questions();
+        every_record_has_a_source();
         nothing_outlives();
         a_cache_changes_no_answer();
         self.walk(query, options, now)
@@ -197,7 +204,8 @@ impl<H: DnsHandle, S: BuildHasher> CachingClient<H, S> {
         depth: u8,
     ) -> Result<HopStep, NetError>
         requires { depth ≤ 7 }
-        ensures settled { (kind : ResponseKind) → NeverFailsNegative kind → IsClassified kind response → IsSettled (start_of self.old now) hop depth kind result self.new.cache }
+        ensures settled { (kind : ResponseKind) → NeverFailsNegative kind → IsClassified kind response
+            → IsSettled (start_of self.old now) hop depth kind result self.new.cache }
         ensures stays { KeepsHandle self.old self.new }
     {
         match response {
@@ -209,8 +217,8 @@ impl<H: DnsHandle, S: BuildHasher> CachingClient<H, S> {
         }
     }
 
-    // An answer: it is accepted, or leads on, or has nothing that was asked for. An alias at the eighth question comes to
-    // no records.
+    // An answer: it is accepted, or leads on, or has nothing that was asked for. An alias at the eighth
+    // question comes to no records.
     fn settle_answer(
         &mut self,
         hop: Hop,
@@ -219,7 +227,8 @@ impl<H: DnsHandle, S: BuildHasher> CachingClient<H, S> {
         depth: u8,
     ) -> Result<HopStep, NetError>
         requires { depth ≤ 7 }
-        ensures settled { IsSettled (start_of self.old now) hop depth (Answer response) result self.new.cache }
+        ensures settled { IsSettled (start_of self.old now) hop depth
+            (Answer response) result self.new.cache }
         ensures stays { KeepsHandle self.old self.new }
     {
         let Hop { query, preserved } = hop;
@@ -240,7 +249,9 @@ impl<H: DnsHandle, S: BuildHasher> CachingClient<H, S> {
 
     // An accepted response, kept.
     fn cache_answer(&mut self, query: Query, message: Message, now: u64) -> Result<Lookup, NetError>
-        ensures settled { SettledAs (start_of self.old now) (Ok (found_lookup self.old.cache.config query message now)) (record { query = query; outcome = Ok message } ∷ []) result self.new.cache }
+        ensures settled { SettledAs (start_of self.old now)
+            (Ok (found_lookup self.old.cache.config query message now))
+            (record { query = query; outcome = Ok message } ∷ []) result self.new.cache }
         ensures stays { KeepsHandle self.old self.new }
     {
         let copy = message.clone()?;
@@ -257,7 +268,10 @@ impl<H: DnsHandle, S: BuildHasher> CachingClient<H, S> {
         none: NoRecords,
         now: u64,
     ) -> Result<Lookup, NetError>
-        ensures settled { SettledAs (start_of self.old now) (Err (Dns (NoRecordsFound none))) (record { query = query; outcome = Err (Dns (NoRecordsFound none)) } ∷ []) result self.new.cache }
+        ensures settled { SettledAs (start_of self.old now) (Err (Dns (NoRecordsFound none))) (record {
+          query = query;
+          outcome = Err (Dns (NoRecordsFound none));
+        } ∷ []) result self.new.cache }
         ensures stays { KeepsHandle self.old self.new }
     {
         let copy = none.clone()?;
@@ -273,7 +287,8 @@ fn store_back<S: BuildHasher>(
     reply: &Result<Lookup, NetError>,
     now: u64,
 ) -> Result<(), NetError>
-    ensures ok { OnOk result (cache.new ≡ after_stores now (stores_back reply.now questions.items) cache.old) }
+    ensures ok { OnOk result
+        (cache.new ≡ after_stores now (stores_back reply.now questions.items) cache.old) }
     ensures err { OnErr result (IsBeginning now (stores_back reply.now questions.items) cache.old cache.new) }
     ensures memory { IsOkUnless result NetError.OutOfMemory }
 {
@@ -300,7 +315,10 @@ fn as_outcome(
 
 // A fresh response to a question with the sections of a message.
 fn fresh_response(query: &Query, message: &Message) -> Result<Message, NetError>
-    ensures ok { IfOk result (λ m. Ok m ≡ as_outcome query.now (Ok (record { message = message.now; valid_until = 0 }))) }
+    ensures ok { IfOk result (λ m. Ok m ≡ as_outcome query.now (Ok (record {
+      message = message.now;
+      valid_until = 0;
+    }))) }
     ensures err { IsOkUnless result NetError.OutOfMemory }
 {
     let mut fresh = Message::response(*message.queries.allocator(), 0, OpCode::Query);

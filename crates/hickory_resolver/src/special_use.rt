@@ -51,7 +51,8 @@ fn is_below(zone: &[&[u8]], name: &Name) -> bool
 
 // Whether the labels end with these, without ASCII case.
 fn ends_with(labels: &[Vec<u8>], zone: &[&[u8]]) -> bool
-    ensures { result ≡ ends_with (pointwise nat_eq) (lower_labels (label_bytes labels.now)) (lower_labels (map (λ l. l.now) zone.now)) }
+    ensures { result ≡ ends_with (pointwise nat_eq) (lower_labels (label_bytes labels.now))
+        (lower_labels (map (λ l. l.now) zone.now)) }
 {
     if labels.len() < zone.len() {
         return false;
@@ -72,9 +73,10 @@ fn label_eq(a: &[u8], b: &[u8]) -> bool
     a.eq_ignore_ascii_case(b)
 }
 
-/// The reply to a question about a special name, at a moment (seconds), and none for any other name. In the class of
-/// the Internet, the loopback names have their addresses and names, and nothing else; names under `invalid.` and `onion.`
-/// do not exist. Another name takes no memory; the reply to a special one may find none.
+/// The reply to a question about a special name, at a moment (seconds), and none for any other name. In the
+/// class of the Internet, the loopback names have their addresses and names, and nothing else; names under
+/// `invalid.` and `onion.` do not exist. Another name takes no memory; the reply to a special one may find
+/// none.
 pub fn special_use_result(
     alloc: Global,
     query: &Query,

@@ -50,8 +50,8 @@ struct Selection<'a> {
     intermediates: bool,
 }
 
-/// The verdict on a response to a question. The flag says whether intermediate records are wanted; those that were
-/// preserved before are passed on with the verdict. A response that is accepted as it stands is moved.
+/// The verdict on a response to a question. The flag says whether intermediate records are wanted; those that
+/// were preserved before are passed on with the verdict. A response that is accepted as it stands is moved.
 pub fn verdict_of(
     keep: bool,
     query: &Query,
@@ -81,7 +81,8 @@ pub fn verdict_of(
 
 // Whether some record matches, and either no alias was followed or no record was preserved.
 fn is_accepted(query: &Query, preserved: &[Record], walk: &AliasWalk<'_>, message: &Message) -> bool
-    ensures { result ≡ is_accepted (hop_of query.now preserved.now) (shown_walk walk.now.last.now walk.now.ttl walk.now.followed) message.now }
+    ensures { result ≡ is_accepted (hop_of query.now preserved.now)
+        (shown_walk walk.now.last.now walk.now.ttl walk.now.followed) message.now }
 {
     (!walk.followed || preserved.is_empty())
         && (any_match(query, walk, &message.answers)
@@ -97,7 +98,8 @@ fn is_filtered(
     walk: &AliasWalk<'_>,
     message: &Message,
 ) -> bool
-    ensures { result ≡ is_filtered keep (hop_of query.now preserved.now) (shown_walk walk.now.last.now walk.now.ttl walk.now.followed) message.now }
+    ensures { result ≡ is_filtered keep (hop_of query.now preserved.now)
+        (shown_walk walk.now.last.now walk.now.ttl walk.now.followed) message.now }
 {
     !preserved.is_empty()
         || (walk.followed
@@ -107,7 +109,8 @@ fn is_filtered(
                 || any_last_match(query, walk, &message.additionals)))
 }
 
-// The preserved records, then the matches and, where they are wanted, the intermediate records of this response.
+// The preserved records, then the matches and, where they are wanted, the intermediate records of this
+// response.
 fn filtered_answers(
     keep: bool,
     query: &Query,
@@ -157,7 +160,8 @@ fn next_hop(
 }
 
 impl<'a> Selection<'a> {
-    // These records, then copies of the selected ones of each section, whose TTLs are at most that of the walk.
+    // These records, then copies of the selected ones of each section, whose TTLs are at most that of the
+    // walk.
     fn copy_into(&self, records: Vec<Record>, message: &Message) -> Result<Vec<Record>, NetError>
         ensures ok { IfOk result
             (λ copies. copies.items ≡ records.items ++ map (with_ttl_at_most self.now.walk.now.ttl) (filter (is_wanted self.now.query.now self.now.walk.now.last.now self.now.matches self.now.intermediates) (all_records message.now))) }
@@ -215,7 +219,8 @@ fn any_last_match(query: &Query, walk: &AliasWalk<'_>, records: &[Record]) -> bo
         .any(|found| is_last_match(query, walk, found))
 }
 
-// Whether a record has the asked class and type, and is owned by the asked name or by the last name of the walk.
+// Whether a record has the asked class and type, and is owned by the asked name or by the last name of the
+// walk.
 fn is_match(query: &Query, walk: &AliasWalk<'_>, found: &Record) -> bool
     ensures { result ≡ is_match query.now walk.now.last.now found.now }
 {

@@ -1,5 +1,5 @@
--- What a cache keeps: entries by question in any order, each with the number of its store, and the questions by
--- deadline and number. The list of its entries is in the order of the numbers.
+-- What a cache keeps: entries by question in any order, each with the number of its store, and the questions
+-- by deadline and number. The list of its entries is in the order of the numbers.
 use Rattle.std.specs.Prelude.{◌≡◌, ℕ, true, ◌≤◌, ◌<◌, zero, suc, ◌==◌, nat_eq, List, [], ◌∷◌, ◌++◌, map, length, Option, None, Some, if◌then◌else◌, cond}
 use Rattle.std.specs.declared.cmp.Ordering.{Ordering}
 use Rattle.std.specs.Ordering.{nat_cmp, ordering_then}
@@ -26,7 +26,13 @@ abbrev pub turn_cmp : Turn → Turn → Ordering
 turn_cmp t u = ordering_then (nat_cmp t.0 u.0) (nat_cmp t.1 u.1)
 
 abbrev pub stored_entry : Pair → Entry
-stored_entry p = record { query = p.0; result = p.1.result; original_time = p.1.original_time; valid_until = p.1.valid_until }
+stored_entry p =
+    record {
+      query = p.0;
+      result = p.1.result;
+      original_time = p.1.original_time;
+      valid_until = p.1.valid_until;
+    }
 
 abbrev pub by_number : List Pair → List (ℕ × Pair)
 by_number ps = map (λ p. (p.1.number, p)) ps
@@ -75,8 +81,8 @@ pub record IsSound (config : ConfigValue) (capacity next : ℕ) (ps : List Pair)
   pub kept : IsKept capacity next ps order
   pub timely : AllByRecursion (OutlivesNoAnswer config) (entries_of ps next)
 
--- The pairs may stand in another order and have other numbers: the list of entries is the same, and so is how many
--- there are.
+-- The pairs may stand in another order and have other numbers: the list of entries is the same, and so is how
+-- many there are.
 pub record IsSameList (ps : List Pair) (next : ℕ) (rs : List Pair) (after : ℕ) (order : Order) : Type 0 where
   pub length_is : length rs ≡ length ps
   pub numbers : IsNumbered after rs
@@ -85,7 +91,15 @@ pub record IsSameList (ps : List Pair) (next : ℕ) (rs : List Pair) (after : �
 
 -- the pair with the number n
 abbrev pub with_number : ℕ → Pair → Pair
-with_number n p = (p.0, record { result = p.1.result; original_time = p.1.original_time; valid_until = p.1.valid_until; number = n })
+with_number n p = (
+  p.0,
+  record {
+    result = p.1.result;
+    original_time = p.1.original_time;
+    valid_until = p.1.valid_until;
+    number = n;
+  },
+)
 
 -- the pairs with the numbers from n on
 abbrev pub renumbered : ℕ → List Pair → List Pair
@@ -110,7 +124,8 @@ Gone (Some t) ps rs = (p : Pair) × StandsAt ps t p × IsPermutation ps (p ∷ r
 -- the turn, if there is one, is gone
 abbrev pub TurnGone : Option Turn → Order → Order → Type 0
 TurnGone None old new = (u : Turn) → get turn_cmp new u ≡ get turn_cmp old u
-TurnGone (Some t) old new = (u : Turn) → get turn_cmp new u ≡ cond (is_at (turn_cmp t) u) None (get turn_cmp old u)
+TurnGone (Some t) old new =
+    (u : Turn) → get turn_cmp new u ≡ cond (is_at (turn_cmp t) u) None (get turn_cmp old u)
 
 -- some pair stands at the turn, if there is one, and the order has its question there
 abbrev pub IsTaken : List Pair → Order → Option Turn → Type 0
@@ -129,12 +144,14 @@ IsSomeTurn ps (Some t) = (p : Pair) × StandsAt ps t p
 
 -- what the pairs become when the turn goes is what stays when an entry for the question comes in
 pub record MakesRoom (capacity next : ℕ) (q : Query) (ps : List Pair) (turn : Option Turn) : Type 0 where
-  pub stays : (rs : List Pair) → Gone turn ps rs → entries_of rs next ≡ room_for capacity q (entries_of ps next)
+  pub stays : (rs : List Pair) → Gone turn ps rs
+      → entries_of rs next ≡ room_for capacity q (entries_of ps next)
   pub room : turn ≡ None → length ps < capacity
 
 -- the same of a removal
 abbrev pub Drops : ℕ → Query → List Pair → Option Turn → Type 0
-Drops next q ps turn = (rs : List Pair) → Gone turn ps rs → entries_of rs next ≡ without q (entries_of ps next)
+Drops next q ps turn =
+    (rs : List Pair) → Gone turn ps rs → entries_of rs next ≡ without q (entries_of ps next)
 
 -- the turn is the first, or there is none
 abbrev pub IsFirstTurn : Order → Option Turn → Type 0

@@ -17,7 +17,8 @@ pub struct Kept {
 impl Kept {
     // What the entry gives at a moment: a copy whose times to live have counted down.
     pub fn aged_result(&self, now: u64) -> Result<Message, NetError>
-        ensures { (result ≡ aged_outcome (age self.now.original_time now) self.now.result) ⊎ (result ≡ Err NetError.OutOfMemory) }
+        ensures { (result ≡ aged_outcome (age self.now.original_time now) self.now.result)
+            ⊎ (result ≡ Err NetError.OutOfMemory) }
     {
         let seconds = age(self.original_time, now);
         match &self.result {

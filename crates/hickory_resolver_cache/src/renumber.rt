@@ -10,8 +10,8 @@ use hickory_proto_core::{NetError, Query};
 use std::collections::BTreeMap;
 use std::hash::BuildHasher;
 
-// The number of the next store. Where the numbers have run out, each entry gets another one first, from 0 on in the
-// order of the entries. Their list stays the same, also where memory runs out in between.
+// The number of the next store. Where the numbers have run out, each entry gets another one first, from 0 on
+// in the order of the entries. Their list stays the same, also where memory runs out in between.
 pub fn next_number<S: BuildHasher>(
     index: &mut Index<S>,
     order: &mut Order,
@@ -21,7 +21,8 @@ pub fn next_number<S: BuildHasher>(
     requires placed { IsPlaced index.old.entries order.old }
     ensures ok { IfOk result (λ n. IsSameList index.old.entries next_number index.new.entries n order.new) }
     ensures more { IfOk result (λ n. n + 1 < 2 ^ 64) }
-    ensures refused { OnErr result (IsSameList index.old.entries next_number index.new.entries next_number order.new) }
+    ensures refused { OnErr result
+        (IsSameList index.old.entries next_number index.new.entries next_number order.new) }
     ensures err { IsOkUnless result NetError.OutOfMemory }
 {
     if next_number < u64::MAX {

@@ -41,7 +41,8 @@ impl<S: BuildHasher> Model for ResponseCache<S> {
 }
 
 impl ResponseCache {
-    /// An empty cache of so many entries at the most, with these bounds, and the default hasher. Takes no memory.
+    /// An empty cache of so many entries at the most, with these bounds, and the default hasher. Takes no
+    /// memory.
     pub fn new(alloc: Global, capacity: u64, ttl_config: TtlConfig) -> ResponseCache
         ensures { result ≡ record { capacity = capacity; config = ttl_config; entries = [] } }
     {
@@ -50,7 +51,8 @@ impl ResponseCache {
 }
 
 impl<S: BuildHasher> ResponseCache<S> {
-    /// As `new`, with this hasher: one of random state where the questions come from strangers. Takes no memory.
+    /// As `new`, with this hasher: one of random state where the questions come from strangers. Takes no
+    /// memory.
     pub fn with_hasher(
         alloc: Global,
         capacity: u64,
@@ -63,9 +65,9 @@ impl<S: BuildHasher> ResponseCache<S> {
     }
 
     /// Keeps an outcome for a question from a moment on: an answer, its TTLs clamped, or a negative answer
-    /// (RFC 2308, section 5). Other errors are not kept, which takes no memory. The question's entry leaves, or
-    /// where it has none and the cache is full, the entry of the earliest deadline, the oldest of several. The new
-    /// entry is the newest. A refused call changes nothing.
+    /// (RFC 2308, section 5). Other errors are not kept, which takes no memory. The question's entry leaves,
+    /// or where it has none and the cache is full, the entry of the earliest deadline, the oldest of several.
+    /// The new entry is the newest. A refused call changes nothing.
     pub fn insert(
         &mut self,
         query: Query,
@@ -75,9 +77,12 @@ impl<S: BuildHasher> ResponseCache<S> {
         ensures ok { OnOk result (self.new ≡ store self.old query outcome now) }
         ensures unchanged { OnErr result (self.new ≡ self.old) }
         ensures err { IsOkUnless result NetError.OutOfMemory }
-        ensures not_kept { IsNone (entry_of self.old.config query outcome now) → IsOk result × (self.new ≡ self.old) }
+        ensures not_kept { IsNone (entry_of self.old.config query outcome now)
+            → IsOk result × (self.new ≡ self.old) }
         ensures no_capacity { self.old.capacity ≡ 0 → IsOk result }
-        ensures newest { OnOk result (0 < self.old.capacity → IfSome (entry_of self.old.config query outcome now) (λ e. IsNewest e self.new.entries)) }
+        ensures newest { OnOk result
+            (0 < self.old.capacity
+            → IfSome (entry_of self.old.config query outcome now) (λ e. IsNewest e self.new.entries)) }
     {
         match entry_of(&self.ttl_config, query, outcome, now) {
             Some(entry) => self.insert_entry(entry),
@@ -85,8 +90,8 @@ impl<S: BuildHasher> ResponseCache<S> {
         }
     }
 
-    /// As `insert`. Where `clamp_valid_until` is set, the new entry is current no longer than the question's entry
-    /// that is current at this moment, if it has one.
+    /// As `insert`. Where `clamp_valid_until` is set, the new entry is current no longer than the question's
+    /// entry that is current at this moment, if it has one.
     pub fn upsert_clamped_ttl(
         &mut self,
         query: Query,
@@ -98,9 +103,11 @@ impl<S: BuildHasher> ResponseCache<S> {
             (self.new ≡ (if clamp_valid_until then store_clamped self.old query outcome now else store self.old query outcome now)) }
         ensures unchanged { OnErr result (self.new ≡ self.old) }
         ensures err { IsOkUnless result NetError.OutOfMemory }
-        ensures not_kept { IsNone (entry_of self.old.config query outcome now) → IsOk result × (self.new ≡ self.old) }
+        ensures not_kept { IsNone (entry_of self.old.config query outcome now)
+            → IsOk result × (self.new ≡ self.old) }
         ensures no_capacity { self.old.capacity ≡ 0 → IsOk result }
-        ensures no_later { OnOk result (IsTrue clamp_valid_until → NeverLater query now self.old.entries self.new.entries) }
+        ensures no_later { OnOk result
+            (IsTrue clamp_valid_until → NeverLater query now self.old.entries self.new.entries) }
     {
         // `len` is called for its clause that the entries are for different questions.
         let _len = self.len();
@@ -114,9 +121,9 @@ impl<S: BuildHasher> ResponseCache<S> {
         self.insert_entry(entry)
     }
 
-    /// The outcome of the question's current entry, a copy whose times to live are lower by the seconds since it
-    /// was stored, or out of memory for that copy. None without a current entry, which takes no memory. An entry is
-    /// current up to its deadline, the deadline included.
+    /// The outcome of the question's current entry, a copy whose times to live are lower by the seconds since
+    /// it was stored, or out of memory for that copy. None without a current entry, which takes no memory. An
+    /// entry is current up to its deadline, the deadline included.
     pub fn get(&self, query: &Query, now: u64) -> Option<Result<Message, NetError>>
         ensures { IsGot (current query.now now self.now.entries) now result }
     {
@@ -184,7 +191,9 @@ impl<S: BuildHasher> ResponseCache<S> {
     // Puts an entry in as the newest. A refused call changes nothing.
     fn insert_entry(&mut self, entry: CacheEntry) -> Result<(), NetError>
         requires { OutlivesNoAnswer self.old.config entry }
-        ensures ok { OnOk result (self.new ≡ record self.old { entries = insert_entry self.old.capacity self.old.entries entry }) }
+        ensures ok { OnOk result (self.new ≡ record self.old {
+          entries = insert_entry self.old.capacity self.old.entries entry;
+        }) }
         ensures unchanged { OnErr result (self.new ≡ self.old) }
         ensures err { IsOkUnless result NetError.OutOfMemory }
         ensures no_capacity { self.old.capacity ≡ 0 → IsOk result }
@@ -219,7 +228,8 @@ impl<S: BuildHasher> ResponseCache<S> {
 
     // What is kept for the question, where it is current.
     fn current(&self, query: &Query, now: u64) -> Option<&Kept>
-        ensures { option_map shown (option_copied result) ≡ option_map shown_entry (current query.now now self.now.entries) }
+        ensures { option_map shown (option_copied result)
+            ≡ option_map shown_entry (current query.now now self.now.entries) }
     {
         // `len` is called for its clause that the questions are unique.
         let _len = self.index.len();

@@ -475,7 +475,12 @@ fn an_upsert_may_not_lengthen_a_life(rt: HostRuntime) -> Result<(), Fail> {
     ] {
         let mut cache = ResponseCache::new(alloc, 2, TtlConfig::default(alloc));
         cache.upsert_clamped_ttl(query.clone()?, Ok(address(alloc, 100)?), 0, true)?;
-        cache.upsert_clamped_ttl(query.clone()?, Ok(address(alloc, 500)?), now, clamped_message)?;
+        cache.upsert_clamped_ttl(
+            query.clone()?,
+            Ok(address(alloc, 500)?),
+            now,
+            clamped_message,
+        )?;
         assert!(rt; is_hit(&cache, &query, until), "{now} at {until}");
         assert!(rt; !is_hit(&cache, &query, until + 1), "{now} after {until}");
         assert_eq!(rt; cache.len(), 1);

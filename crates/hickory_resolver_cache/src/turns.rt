@@ -20,8 +20,8 @@ pub type Index<S> = IndexMap<Query, Kept, S>;
 /// Questions by deadline, and under one deadline by number.
 pub type Order = BTreeMap<(u64, u64), Query>;
 
-// Puts an entry in as the newest, by this number. Room and the copy of its question come first: a refused call leaves
-// the entries and their turns as they were.
+// Puts an entry in as the newest, by this number. Room and the copy of its question come first: a refused
+// call leaves the entries and their turns as they were.
 pub fn store<S: BuildHasher>(
     index: &mut Index<S>,
     order: &mut Order,

@@ -26,4 +26,5 @@ OwnerPlaces = BTreeMap IpAddr (BTreeSet ℕ)
 
 -- whether the name at a place has an address, by the index
 abbrev pub is_owner : OwnerPlaces → IpAddr → ℕ → Bool
-is_owner index address place = option_map_or (λ places. set.contains nat_cmp places place) (tree.get address_cmp index address) false
+is_owner index address place =
+    option_map_or (λ places. set.contains nat_cmp places place) (tree.get address_cmp index address) false

@@ -18,41 +18,55 @@ pairs_of address names = map (λ n. (n, address)) names
 
 -- the name that a field is, or none
 abbrev pub IsNameField : List ℕ → Option NameValue → Type 0
-IsNameField field None = (list_all is_ascii field ≡ false) ⊎ ((n : NameValue) → Spells (map to_ascii_lowercase field) n → ⊥)
+IsNameField field None =
+    (list_all is_ascii field ≡ false) ⊎ ((n : NameValue) → Spells (map to_ascii_lowercase field) n → ⊥)
 IsNameField field (Some n) = (list_all is_ascii field ≡ true) × Spells (map to_ascii_lowercase field) n
 
 -- the names of these fields are put in with an address, or where memory runs out, those of the first fields
-abbrev pub AreNamesRead : ℕ → DataValue → List (List ℕ) → List Host → Result (Unit {0}) HostsError → List Host → Type 0
+abbrev pub AreNamesRead : ℕ → DataValue → List (List ℕ) → List Host → Result (Unit {0}) HostsError → List Host
+    → Type 0
 AreNamesRead now address fields before (Ok done) after =
-    (names : List NameValue) × AreNames fields names × (after ≡ insert_pairs now (pairs_of address names) before)
+    (names : List NameValue) × AreNames fields names
+    × (after ≡ insert_pairs now (pairs_of address names) before)
 AreNamesRead now address fields before (Err error) after =
-    (error ≡ OutOfMemory) × ((count : ℕ) × (names : List NameValue) × AreNames (take count fields) names × (after ≡ insert_pairs now (pairs_of address names) before))
+    (error ≡ OutOfMemory)
+    × ((count : ℕ) × (names : List NameValue) × AreNames (take count fields) names
+    × (after ≡ insert_pairs now (pairs_of address names) before))
 
 -- the pairs of the first fields of a line
 abbrev pub AreFirstLinePairs : List ℕ → List Pair → Type 0
-AreFirstLinePairs line pairs = IsUtf8 line × ((count : ℕ) × AreLinePairs (take count (line_fields line)) pairs)
+AreFirstLinePairs line pairs =
+    IsUtf8 line × ((count : ℕ) × AreLinePairs (take count (line_fields line)) pairs)
 
--- a line is read: its pairs are put in; it is not UTF-8, and nothing is put in; or where memory runs out, the pairs of its first fields
+-- a line is read: its pairs are put in; it is not UTF-8, and nothing is put in; or where memory runs out, the
+-- pairs of its first fields
 abbrev pub IsLineRead : ℕ → List ℕ → List Host → Result (Unit {0}) HostsError → List Host → Type 0
-IsLineRead now line before (Ok done) after = IsUtf8 line × ((pairs : List Pair) × AreLinePairs (line_fields line) pairs × (after ≡ insert_pairs now pairs before))
+IsLineRead now line before (Ok done) after =
+    IsUtf8 line × ((pairs : List Pair) × AreLinePairs (line_fields line) pairs
+    × (after ≡ insert_pairs now pairs before))
 IsLineRead now line before (Err Read) after = ⊥
 IsLineRead now line before (Err InvalidData) after = (IsUtf8 line → ⊥) × (after ≡ before)
-IsLineRead now line before (Err OutOfMemory) after = (pairs : List Pair) × AreFirstLinePairs line pairs × (after ≡ insert_pairs now pairs before)
+IsLineRead now line before (Err OutOfMemory) after =
+    (pairs : List Pair) × AreFirstLinePairs line pairs × (after ≡ insert_pairs now pairs before)
 
 -- the first pairs of these lines: those of the first lines, and of the first fields of the line behind them
 abbrev pub AreFirstPairs : List (List ℕ) → List Pair → Type 0
 AreFirstPairs [] pairs = pairs ≡ []
 AreFirstPairs (line ∷ lines) pairs =
     (pairs ≡ []) ⊎ AreFirstLinePairs line pairs
-    ⊎ (IsUtf8 line × ((front : List Pair) × (back : List Pair) × AreLinePairs (line_fields line) front × AreFirstPairs lines back × (pairs ≡ front ++ back)))
+    ⊎ (IsUtf8 line × ((front : List Pair) × (back : List Pair) × AreLinePairs (line_fields line) front
+    × AreFirstPairs lines back × (pairs ≡ front ++ back)))
 
--- a file is read: all its pairs are put in; those of the lines before the first that is not UTF-8; or where memory runs out, a
--- beginning of them
+-- a file is read: all its pairs are put in; those of the lines before the first that is not UTF-8; or where
+-- memory runs out, a beginning of them
 abbrev pub AreLinesRead : ℕ → List (List ℕ) → List Host → Result (Unit {0}) HostsError → List Host → Type 0
-AreLinesRead now lines before (Ok done) after = (pairs : List Pair) × AreFilePairs lines pairs false × (after ≡ insert_pairs now pairs before)
+AreLinesRead now lines before (Ok done) after =
+    (pairs : List Pair) × AreFilePairs lines pairs false × (after ≡ insert_pairs now pairs before)
 AreLinesRead now lines before (Err Read) after = ⊥
-AreLinesRead now lines before (Err InvalidData) after = (pairs : List Pair) × AreFilePairs lines pairs true × (after ≡ insert_pairs now pairs before)
-AreLinesRead now lines before (Err OutOfMemory) after = (pairs : List Pair) × AreFirstPairs lines pairs × (after ≡ insert_pairs now pairs before)
+AreLinesRead now lines before (Err InvalidData) after =
+    (pairs : List Pair) × AreFilePairs lines pairs true × (after ≡ insert_pairs now pairs before)
+AreLinesRead now lines before (Err OutOfMemory) after =
+    (pairs : List Pair) × AreFirstPairs lines pairs × (after ≡ insert_pairs now pairs before)
 
 abbrev pub IsBytesRead : ℕ → List ℕ → List Host → Result (Unit {0}) HostsError → List Host → Type 0
 IsBytesRead now bytes before result after = AreLinesRead now (file_lines bytes) before result after
@@ -69,10 +83,15 @@ IsReadFault OutOfMemory failed = failed ≡ false
 
 -- a file is read from a reader: a read fails, and the table stays; or none does, and the bytes are read
 abbrev pub AreAllRead : ℕ → Option (List ℕ) → List Host → Result (Unit {0}) HostsError → List Host → Type 0
-AreAllRead now known before result after = (bytes : List ℕ) × IsAll known bytes × IsBytesRead now bytes before result after
+AreAllRead now known before result after =
+    (bytes : List ℕ) × IsAll known bytes × IsBytesRead now bytes before result after
 
-abbrev pub IsSourceRead : ℕ → Option (List ℕ) → List Host → Result (Unit {0}) HostsError → List Host → Bool → Type 0
-IsSourceRead now known before (Ok done) after failed = (failed ≡ false) × AreAllRead now known before (Ok done) after
+abbrev pub IsSourceRead : ℕ → Option (List ℕ) → List Host → Result (Unit {0}) HostsError → List Host → Bool
+    → Type 0
+IsSourceRead now known before (Ok done) after failed =
+    (failed ≡ false) × AreAllRead now known before (Ok done) after
 IsSourceRead now known before (Err Read) after failed = (failed ≡ true) × (after ≡ before)
-IsSourceRead now known before (Err InvalidData) after failed = (failed ≡ false) × AreAllRead now known before (Err InvalidData) after
-IsSourceRead now known before (Err OutOfMemory) after failed = (failed ≡ false) × AreAllRead now known before (Err OutOfMemory) after
+IsSourceRead now known before (Err InvalidData) after failed =
+    (failed ≡ false) × AreAllRead now known before (Err InvalidData) after
+IsSourceRead now known before (Err OutOfMemory) after failed =
+    (failed ≡ false) × AreAllRead now known before (Err OutOfMemory) after

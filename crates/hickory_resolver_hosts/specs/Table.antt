@@ -42,7 +42,9 @@ has_address_at hosts address place = option_map_or (has_address address) (slice_
 
 -- the index says of each address which hosts have it
 abbrev pub IsIndexed : List Host → OwnerPlaces → Type 0
-IsIndexed hosts index = (address : IpAddr) (place : ℕ) → is_owner index address place ≡ has_address_at hosts (data_of_address address) place
+IsIndexed hosts index =
+    (address : IpAddr) (place : ℕ)
+    → is_owner index address place ≡ has_address_at hosts (data_of_address address) place
 
 -- an address is of the family of a type: IPv4 for A, IPv6 for every other type
 abbrev pub is_of_family : RecordType → IpAddr → Bool
@@ -66,4 +68,5 @@ pointer_at owner hosts place = option_map (pointer_to owner) (slice_get hosts pl
 abbrev pub HasPointers : Query → ℕ → List Host → Option LookupValue → Type 0
 HasPointers q now hosts result =
     (address : Option DataValue) × StandsFor (as_fqdn q.name) address
-    × (result ≡ option_and_then (λ a. pointer_lookup q (pointers (as_fqdn q.name) (filter (has_address a) hosts)) now) address)
+    × (result ≡ option_and_then
+    (λ a. pointer_lookup q (pointers (as_fqdn q.name) (filter (has_address a) hosts)) now) address)

@@ -39,8 +39,8 @@ impl HostLookups {
         }
     }
 
-    /// Joins one more look-up of a type to the one that is there. The first one of a type has the question of this
-    /// name. A refused call changes nothing.
+    /// Joins one more look-up of a type to the one that is there. The first one of a type has the question of
+    /// this name. A refused call changes nothing.
     pub fn add(
         &mut self,
         alloc: Global,

@@ -17,8 +17,8 @@ use std::collections::BTreeMap;
 use std::hash::{BuildHasher, BuildHasherDefault, FoldHasher};
 use std::marker::Model;
 
-/// Names with their addresses, in the order in which they were first seen (RFC 952; RFC 1123, section 6.1.3.1).
-/// A name finds its addresses, and an address its names, without a walk over the table.
+/// Names with their addresses, in the order in which they were first seen (RFC 952; RFC 1123, section
+/// 6.1.3.1). A name finds its addresses, and an address its names, without a walk over the table.
 #[derive(Drop)]
 pub struct Hosts<S: BuildHasher = BuildHasherDefault<FoldHasher>> {
     names: IndexMap<Name, HostLookups, S>,
@@ -57,8 +57,8 @@ impl<S: BuildHasher> Hosts<S> {
         }
     }
 
-    /// Joins a look-up of A or AAAA records to what the name, made fully qualified, has of that type, at this moment
-    /// (seconds). A new name comes last. A refused call changes nothing.
+    /// Joins a look-up of A or AAAA records to what the name, made fully qualified, has of that type, at this
+    /// moment (seconds). A new name comes last. A refused call changes nothing.
     pub fn insert(
         &mut self,
         name: Name,
@@ -83,9 +83,9 @@ impl<S: BuildHasher> Hosts<S> {
         )
     }
 
-    /// What the table has for a question at this moment (seconds), if it has something: the addresses of the name for A
-    /// and AAAA, and for PTR the names of the address that the asked name stands for, in the order in which they were
-    /// first seen, for a day. The class is not looked at.
+    /// What the table has for a question at this moment (seconds), if it has something: the addresses of the
+    /// name for A and AAAA, and for PTR the names of the address that the asked name stands for, in the order
+    /// in which they were first seen, for a day. The class is not looked at.
     pub fn lookup_static_host(&self, query: &Query, now: u64) -> Result<Option<Lookup>, NetError>
         ensures ok { IfOk result (IsStatic query.now now self.now) }
         ensures err { IsOkUnless result NetError.OutOfMemory }

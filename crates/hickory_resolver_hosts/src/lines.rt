@@ -132,7 +132,8 @@ fn host_name(alloc: Global, field: &str) -> Result<Option<Name>, HostsError>
 
 // Whether an error is other than out of memory.
 fn check_memory(error: NameError) -> Result<(), HostsError>
-    ensures { MatchResult result (λ _. error ≢ NameError.OutOfMemory) (λ fault. fault ≡ HostsError.OutOfMemory) }
+    ensures { MatchResult result (λ _. error ≢ NameError.OutOfMemory)
+        (λ fault. fault ≡ HostsError.OutOfMemory) }
 {
     match error {
         NameError::OutOfMemory => Err(HostsError::OutOfMemory),

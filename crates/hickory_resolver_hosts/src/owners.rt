@@ -101,8 +101,8 @@ fn is_of_family(record_type: RecordType, address: IpAddr) -> bool
     address.is_ipv4() == (record_type.code() == 1)
 }
 
-/// The name at this place has these addresses from now on, none of which it had before. A refused call changes
-/// nothing.
+/// The name at this place has these addresses from now on, none of which it had before. A refused call
+/// changes nothing.
 pub fn add_owners(
     alloc: Global,
     owners: &mut Owners,

@@ -11,12 +11,12 @@ use std::hash::BuildHasher;
 use std::io::Read;
 
 impl<S: BuildHasher> Hosts<S> {
-    /// Puts in what a file of hosts says, at this moment (seconds): lines of an address and names, in which `#` begins
-    /// a comment (RFC 952). A line without a readable address is left out, and so is a name that is unreadable or past
-    /// ASCII. A byte order mark at the front is passed over.
+    /// Puts in what a file of hosts says, at this moment (seconds): lines of an address and names, in which
+    /// `#` begins a comment (RFC 952). A line without a readable address is left out, and so is a name that
+    /// is unreadable or past ASCII. A byte order mark at the front is passed over.
     ///
-    /// `InvalidData` where a line is not UTF-8: the lines before it are put in. `OutOfMemory` leaves a beginning of what
-    /// the lines say.
+    /// `InvalidData` where a line is not UTF-8: the lines before it are put in. `OutOfMemory` leaves a
+    /// beginning of what the lines say.
     pub fn read_hosts_bytes(&mut self, bytes: &[u8], now: u64) -> Result<(), HostsError>
         ensures { IsBytesRead now bytes.now self.old result self.new }
     {
@@ -24,8 +24,8 @@ impl<S: BuildHasher> Hosts<S> {
         insert_lines(alloc, self, bytes, now)
     }
 
-    /// As `read_hosts_bytes`, of all that a reader gives. It is read whole before a line is put in. `Read` where a read
-    /// failed, also one that was interrupted: the table stays.
+    /// As `read_hosts_bytes`, of all that a reader gives. It is read whole before a line is put in. `Read`
+    /// where a read failed, also one that was interrupted: the table stays.
     pub fn read_hosts_watched<R: Read>(
         &mut self,
         source: &mut Watched<R>,

@@ -34,7 +34,10 @@ impl Model for Lookup {
 impl Lookup {
     /// The message with its own question, or with this one where it has none.
     pub fn of_message(query: Query, message: Message, valid_until: u64) -> Result<Lookup, NetError>
-        ensures ok { IfOk result (λ l. l ≡ record { message = with_question query message; valid_until = valid_until }) }
+        ensures ok { IfOk result (λ l. l ≡ record {
+          message = with_question query message;
+          valid_until = valid_until;
+        }) }
         ensures err { IsOkUnless result NetError.OutOfMemory }
     {
         let mut message = message;
@@ -72,7 +75,8 @@ impl Lookup {
         Lookup::of_message(query, message, now.saturating_add(seconds))
     }
 
-    /// One record of the question's name with these data, which may be used for a day from this moment (seconds).
+    /// One record of the question's name with these data, which may be used for a day from this moment
+    /// (seconds).
     pub fn from_rdata(
         alloc: Global,
         query: Query,
@@ -88,7 +92,8 @@ impl Lookup {
         Lookup::new_with_max_ttl(query, records, now)
     }
 
-    /// A fresh response to a question with these answers, which may be used for a day from this moment (seconds).
+    /// A fresh response to a question with these answers, which may be used for a day from this moment
+    /// (seconds).
     pub fn new_with_max_ttl(
         query: Query,
         records: Vec<Record>,
@@ -163,8 +168,8 @@ impl Lookup {
         self.message
     }
 
-    /// Both look-ups as one: each section of this one and then of the other, the rest of this one's message, and the
-    /// sooner of the two deadlines.
+    /// Both look-ups as one: each section of this one and then of the other, the rest of this one's message,
+    /// and the sooner of the two deadlines.
     pub fn append(&self, other: Lookup) -> Result<Lookup, NetError>
         ensures ok { IfOk result (λ l. l ≡ append self.now other) }
         ensures err { IsOkUnless result NetError.OutOfMemory }
@@ -185,7 +190,8 @@ impl Lookup {
         Ok(())
     }
 
-    /// Adds records to the authority section, in order. Where there is no memory for them all, nothing changes.
+    /// Adds records to the authority section, in order. Where there is no memory for them all, nothing
+    /// changes.
     pub fn extend_authorities(&mut self, records: Vec<Record>) -> Result<(), NetError>
         ensures ok { OnOk result (self.new ≡ more_authorities self.old records.items) }
         ensures unchanged { OnErr result (self.new ≡ self.old) }
@@ -194,7 +200,8 @@ impl Lookup {
         self.message.add_authorities(records)
     }
 
-    /// Adds records to the additional section, in order. Where there is no memory for them all, nothing changes.
+    /// Adds records to the additional section, in order. Where there is no memory for them all, nothing
+    /// changes.
     pub fn extend_additionals(&mut self, records: Vec<Record>) -> Result<(), NetError>
         ensures ok { OnOk result (self.new ≡ more_additionals self.old records.items) }
         ensures unchanged { OnErr result (self.new ≡ self.old) }
@@ -244,7 +251,8 @@ impl From<Lookup> for Message {
     }
 }
 
-// Adds each section of the one message to that of the other. There is room for all three before any record is moved.
+// Adds each section of the one message to that of the other. There is room for all three before any record is
+// moved.
 fn append_sections(message: &mut Message, added: Message) -> Result<(), NetError>
     ensures ok { OnOk result (message.new ≡ append_messages message.old added) }
     ensures unchanged { OnErr result (message.new ≡ message.old) }

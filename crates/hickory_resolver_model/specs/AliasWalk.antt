@@ -37,7 +37,7 @@ IsWalk answers low reached [] last = (last ≡ reached) × LeadNowhere answers r
 IsWalk answers low reached (p ∷ ps) last =
     (low ≤ p) × LeadNowhere answers reached low p
     × ((r : RecordValue) × (next : NameValue) × (slice_get answers p ≡ Some r)
-        × (leads_to reached r ≡ Some next) × IsWalk answers (p + 1) next ps last)
+    × (leads_to reached r ≡ Some next) × IsWalk answers (p + 1) next ps last)
 
 -- a walk: its places, the last name reached, and the least of a day and the TTLs on the way
 pub record Walk : Type 0 where
@@ -53,7 +53,7 @@ abbrev pub walk_from : ℕ → NameValue → List RecordValue → Walk
 walk_from place reached [] = record { places = []; last = reached; ttl = day }
 walk_from place reached (r ∷ rs) =
     option_map_or (λ next. walk_step place r.ttl (walk_from (place + 1) next rs)) (leads_to reached r)
-        (walk_from (place + 1) reached rs)
+    (walk_from (place + 1) reached rs)
 
 -- questions for every type and for CNAMEs are not led on
 abbrev pub follows_aliases : Query → Bool

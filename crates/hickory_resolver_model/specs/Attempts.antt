@@ -43,4 +43,4 @@ abbrev pub attempts : Search → NameValue → List NameValue
 attempts s n =
     if n.fqdn || is_onion_address (reverse n.labels) then n ∷ []
     else (if raw_first s n then as_fqdn n ∷ keep_last (joined_names s n)
-        else keep_last (joined_names s n ++ as_fqdn n ∷ []))
+    else keep_last (joined_names s n ++ as_fqdn n ∷ []))

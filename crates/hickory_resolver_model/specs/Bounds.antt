@@ -28,15 +28,15 @@ pub record BoundsValue : Type 0 where
 abbrev pub bounds_eq : BoundsValue → BoundsValue → Bool
 bounds_eq a b =
     option_eq nat_eq a.positive_min b.positive_min && option_eq nat_eq a.negative_min b.negative_min
-        && option_eq nat_eq a.positive_max b.positive_max
+    && option_eq nat_eq a.positive_max b.positive_max
     && option_eq nat_eq a.negative_max b.negative_max
 
 pub bounds_equiv : IsEquivalence bounds_eq
 bounds_equiv =
     and_equiv (and_equiv (and_equiv (on_equiv (λ b. b.positive_min) (options_equiv nat_eq_equiv))
-        (on_equiv (λ b. b.negative_min) (options_equiv nat_eq_equiv)))
+    (on_equiv (λ b. b.negative_min) (options_equiv nat_eq_equiv)))
     (on_equiv (λ b. b.positive_max) (options_equiv nat_eq_equiv)))
-        (on_equiv (λ b. b.negative_max) (options_equiv nat_eq_equiv))
+    (on_equiv (λ b. b.negative_max) (options_equiv nat_eq_equiv))
 
 -- a day
 abbrev pub day : ℕ
@@ -63,7 +63,7 @@ is_reversed b = nat_lt b.1 b.0
 abbrev pub bounds_fault : BoundsValue → Option BoundsError
 bounds_fault b =
     if is_reversed (positive_bounds b) || is_reversed (reduced_bounds (positive_bounds b))
-        then Some PositiveReversed
+    then Some PositiveReversed
     else (if is_reversed (negative_bounds b) then Some NegativeReversed else None)
 
 -- the bounds, or their fault

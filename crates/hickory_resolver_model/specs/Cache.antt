@@ -188,9 +188,9 @@ without_query c q = record c { entries = without q c.entries }
 abbrev pub OutlivesNoAnswer : ConfigValue → Entry → Type 0
 OutlivesNoAnswer config e =
     (positive_bounds (bounds_for config (type_code e.query.query_type))).0 ≡ 0 → (m : MessageValue)
-        → e.result ≡ Ok m
+    → e.result ≡ Ok m
     → AllByRecursion (λ r. record_type_code r ≡ type_code e.query.query_type
-        → e.valid_until ≤ e.original_time + r.ttl) m.answers
+    → e.valid_until ≤ e.original_time + r.ttl) m.answers
 
 -- what holds of every cache: it is no longer than its capacity, no two entries are for equal questions, and
 -- none outlives its answers
@@ -207,4 +207,4 @@ IsNewest e es = (others : List Entry) × (es ≡ others ++ e ∷ [])
 abbrev pub NeverLater : Query → ℕ → List Entry → List Entry → Type 0
 NeverLater q now before after =
     (was is : Entry) → current q now before ≡ Some was → find (is_for q) after ≡ Some is
-        → is.valid_until ≤ was.valid_until
+    → is.valid_until ≤ was.valid_until

@@ -131,7 +131,7 @@ AreSubLookups Answers looked n plan before results [] after =
     (next_type plan results ≡ None) × (after ≡ before)
 AreSubLookups Answers looked n plan before results (p ∷ ps) after =
     (t : RecordType) × (mid : CacheValue) × (next_type plan results ≡ Some t)
-        × Answers looked before (question_of n t) p mid
+    × Answers looked before (question_of n t) p mid
     × AreSubLookups Answers looked n plan mid (results ++ p.result ∷ []) ps after
 
 abbrev pub results_of : List SubLookup → List LookupResult
@@ -144,8 +144,8 @@ pub record IsAttempt
     : Type 0 where
   pub are : AreSubLookups Answers looked n plan before [] parts after
   pub result_is :
-    (result ≡ attempt_result plan (results_of parts))
-    ⊎ ((joins_results plan (results_of parts) ≡ true) × (result ≡ Err OutOfMemory))
+      (result ≡ attempt_result plan (results_of parts))
+      ⊎ ((joins_results plan (results_of parts) ≡ true) × (result ≡ Err OutOfMemory))
 
 -- an attempt after which no other is made
 abbrev pub stops : LookupResult → Bool

@@ -19,9 +19,12 @@ abbrev pub start_of : {H : Type 0} → ClientValue H → ℕ → LookupContext
 start_of client now =
     record { cache = client.cache; now = now; preserve_intermediates = client.preserve_intermediates }
 
--- A look-up: the exchanges that it made led the handle, each with these options; the reply and the cache after it are those of
--- the hops of the question.
-pub record IsLookup {H : Type 0} (step : Step H) (options : DnsRequestOptions) (now : ℕ) (before : ClientValue H) (question : Query) (result : LookupResult) (after : ClientValue H) : Type 0 where
+-- A look-up: the exchanges that it made led the handle, each with these options; the reply and the cache
+-- after it are those of the hops of the question.
+pub record IsLookup
+    {H : Type 0} (step : Step H) (options : DnsRequestOptions) (now : ℕ) (before : ClientValue H)
+    (question : Query) (result : LookupResult) (after : ClientValue H)
+    : Type 0 where
   pub asks : List Exchange
   pub led : Leads step options before.handle asks after.handle
   pub reply : IsReply (start_of before now) question asks result after.cache

@@ -56,7 +56,7 @@ IsChainEnd s count hop (Hit entry) =
     (special_use_result hop.query s.now ≡ None) × (current hop.query s.now s.cache.entries ≡ Some entry)
 IsChainEnd s count hop (Asked outcome) =
     GoesUpstream s hop.query
-        × ((next : Hop) → kind_verdict s hop (kind_of outcome) ≡ Some (CnameChain next) → count ≡ 7)
+    × ((next : Hop) → kind_verdict s hop (kind_of outcome) ≡ Some (CnameChain next) → count ≡ 7)
 
 -- no such records, as a response without what was asked for says (RFC 2308, section 2.2)
 abbrev pub no_match : Query → MessageValue → NetError

@@ -120,16 +120,16 @@ abbrev pub AreNames : List (List ℕ) → List NameValue → Type 0
 AreNames [] names = names ≡ []
 AreNames (f ∷ fs) names =
     ((n : NameValue) × (ns : List NameValue) × (list_all is_ascii f ≡ true)
-        × Spells (map to_ascii_lowercase f) n × (names ≡ n ∷ ns) × AreNames fs ns)
+    × Spells (map to_ascii_lowercase f) n × (names ≡ n ∷ ns) × AreNames fs ns)
     ⊎ (((list_all is_ascii f ≡ false) ⊎ ((n : NameValue) → Spells (map to_ascii_lowercase f) n → ⊥))
-        × AreNames fs names)
+    × AreNames fs names)
 
 -- the pairs of a line: an address first, and then its names. A line without an address gives none
 abbrev pub AreLinePairs : List (List ℕ) → List (NameValue × DataValue) → Type 0
 AreLinePairs [] pairs = pairs ≡ []
 AreLinePairs (f ∷ fs) pairs =
     ((address : DataValue) × (names : List NameValue) × IsAddressField f address × AreNames fs names
-        × (pairs ≡ map (λ n. (n, address)) names))
+    × (pairs ≡ map (λ n. (n, address)) names))
     ⊎ (((address : DataValue) → IsAddressField f address → ⊥) × (pairs ≡ []))
 
 -- the pairs of these lines up to the first that is not UTF-8, and whether there is such a line
@@ -137,7 +137,7 @@ abbrev pub AreFilePairs : List (List ℕ) → List (NameValue × DataValue) → 
 AreFilePairs [] pairs broken = (pairs ≡ []) × (broken ≡ false)
 AreFilePairs (line ∷ lines) pairs broken =
     (IsUtf8 line × ((front : List (NameValue × DataValue)) × (back : List (NameValue × DataValue))
-        × AreLinePairs (line_fields line) front × AreFilePairs lines back broken × (pairs ≡ front ++ back)))
+    × AreLinePairs (line_fields line) front × AreFilePairs lines back broken × (pairs ≡ front ++ back)))
     ⊎ ((IsUtf8 line → ⊥) × (pairs ≡ []) × (broken ≡ true))
 
 -- the address among the answers of a look-up
@@ -167,10 +167,10 @@ abbrev pub static_answer : Option DataValue → Query → ℕ → List Host → 
 static_answer address q now hosts =
     let n = as_fqdn q.name in
     if asks_for type.A q || asks_for type.AAAA q
-        then option_and_then (family q.query_type) (find (is_host n) hosts)
+    then option_and_then (family q.query_type) (find (is_host n) hosts)
     else (if asks_for type.PTR q
     then option_and_then (λ a. pointer_lookup q (pointers n (filter (has_address a) hosts)) now) address
-        else None)
+    else None)
 
 -- only a question for PTR records asks which address its name stands for
 abbrev pub IsStatic : Query → ℕ → List Host → Option LookupValue → Type 0

@@ -130,7 +130,7 @@ abbrev pub IsServed : (ℕ → SubLookupRelation) → Settings → CacheValue �
     → StepReply → CacheValue → Type 0
 IsServed Answers s before (Lookup text t now) parts (LookedUp reply) after =
     ((name : Result NameValue NameError) × IsReading text name
-        × IsCall (Answers now) s before (name_call t name) parts reply after)
+    × IsCall (Answers now) s before (name_call t name) parts reply after)
     ⊎ IsUnserved before parts reply after
 IsServed Answers s before (LookupIp text now) parts (LookedUp reply) after =
     ((given : GivenName) × IsGivenBy text given
@@ -138,7 +138,7 @@ IsServed Answers s before (LookupIp text now) parts (LookedUp reply) after =
     ⊎ IsUnserved before parts reply after
 IsServed Answers s before (ClearLookup text t now) parts (Cleared (Ok u)) after =
     (parts ≡ []) × ((name : Result NameValue NameError) × IsReading text name
-        × (after ≡ after_clear s t name before))
+    × (after ≡ after_clear s t name before))
 IsServed Answers s before (ClearLookup text t now) parts (Cleared (Err e)) after =
     (parts ≡ []) × (e ≡ OutOfMemory) × (after ≡ before)
 IsServed Answers s before (Clear now) parts (Cleared (Ok u)) after =

@@ -70,8 +70,8 @@ abbrev pub filtered_answers : Bool → Hop → Walk → MessageValue → List Re
 filtered_answers keep hop walk m =
     hop.preserved
     ++ map (with_ttl_at_most walk.ttl)
-        (filter (λ r. is_match hop.query walk.last r || (keep && is_intermediate hop.query r))
-        (all_records m))
+    (filter (λ r. is_match hop.query walk.last r || (keep && is_intermediate hop.query r))
+    (all_records m))
 
 abbrev pub found_message : Bool → Hop → Walk → MessageValue → MessageValue
 found_message keep hop walk m =
@@ -90,7 +90,7 @@ next_hop keep hop walk m = record {
 abbrev pub walk_verdict : Bool → Hop → Walk → MessageValue → Verdict
 walk_verdict keep hop walk m =
     if is_accepted hop walk m then Exists (found_message keep hop walk m)
-        else (if is_empty walk.places then NoMatch else CnameChain (next_hop keep hop walk m))
+    else (if is_empty walk.places then NoMatch else CnameChain (next_hop keep hop walk m))
 
 -- the verdict on a response to a hop; `keep` says whether intermediate records are wanted
 abbrev pub verdict : Bool → Hop → MessageValue → Verdict

@@ -15,7 +15,7 @@ use Rattle.hickory_proto_core.specs.codes.response_code.ResponseCode.TheVariants
 use Rattle.hickory_proto_core.specs.records.net_error.NetError.TheVariants.{Message, Timeout, Proto, Dns, NoOutcome, Bounds, OutOfMemory}
 use Rattle.hickory_proto_core.specs.records.net_error.DnsError.TheVariants.{ResponseCode, NoRecordsFound}
 use Rattle.hickory_resolver_model.specs.Bounds.{ConfigValue, clamped_record}
-use Rattle.hickory_resolver_model.specs.Cache.{CacheValue, Entry, is_for, is_current, age, aged_record, aged_records, aged_outcome, aged_message}
+use Rattle.hickory_resolver_model.specs.Cache.{CacheValue, Entry, current, is_for, is_current, age, aged_record, aged_records, aged_outcome, aged_message}
 use Rattle.hickory_resolver_model.specs.Lookup.{LookupResult, hit_lookup, hit_seconds}
 use Rattle.hickory_resolver_model.specs.SpecialUse.{special_use_result, is_loopback_name, loopback_data, one_record, no_records, full_name}
 use Rattle.hickory_resolver_model.specs.AliasWalk.{Walk, walk_of}
@@ -62,7 +62,7 @@ special_use_result-fresh config sources q now reply h =
 -- ---- hits
 
 -- a question's entry is for a question of its type
-for-type : (q : Query) (e : Entry) → is_for q e ≡ true → type_code e.query.query_type ≡ type_code q.query_type
+pub for-type : (q : Query) (e : Entry) → is_for q e ≡ true → type_code e.query.query_type ≡ type_code q.query_type
 for-type q e h =
     let parts = and_parts (name_eq q.name e.query.name && (type_code q.query_type == type_code e.query.query_type)) (class_code q.query_class == class_code e.query.query_class) h in
     let front = and_parts (name_eq q.name e.query.name) (type_code q.query_type == type_code e.query.query_type) parts.0 in
@@ -154,14 +154,22 @@ found-arrives config sources now code keep hop x response keeps zero there came 
 
 -- ---- the result of a list of hops
 
-result-fresh : (s : LookupContext) (sources : List Dated) (hop : Hop) (count : ℕ) (last : ChainEnd) → KeepsType (type_code hop.query.query_type) hop → AreFreshEntries s.cache sources → HasNoLeast s.cache.config (type_code hop.query.query_type)
+-- each hit of a question of this type is fresh
+abbrev pub AreFreshHits : LookupContext → List Dated → ℕ → Type 0
+AreFreshHits s sources code = (q : Query) (e : Entry) → type_code q.query_type ≡ code → current q s.now s.cache.entries ≡ Some e → IsFreshEntry s.cache.config sources e
+
+pub hits-fresh : (s : LookupContext) (sources : List Dated) (code : ℕ) → AreFreshEntries s.cache sources → AreFreshHits s sources code
+hits-fresh s sources code fresh q e same is =
+    all-has (IsFreshEntry s.cache.config sources) s.cache.entries e fresh (find-has (λ x. is_for q x && is_current s.now x) s.cache.entries e is).0
+
+result-fresh : (s : LookupContext) (sources : List Dated) (hop : Hop) (count : ℕ) (last : ChainEnd) → KeepsType (type_code hop.query.query_type) hop → AreFreshHits s sources (type_code hop.query.query_type) → HasNoLeast s.cache.config (type_code hop.query.query_type)
     → AllByRecursion (λ x. ContainsByRecursion sources (record { moment = s.now; exchange = x })) (asks_of hop last) → IsChainEnd s count hop last
     → IsFreshReply s.cache.config sources (type_code hop.query.query_type) s.now (result_of s hop last)
 result-fresh s sources hop count (Special reply) keeps fresh zero there ends = special_use_result-fresh s.cache.config sources hop.query s.now reply ends
 result-fresh s sources hop count (Hit entry) keeps fresh zero there ends =
     let found = find-has (λ e. is_for hop.query e && is_current s.now e) s.cache.entries entry ends.1 in
     let both = and_parts (is_for hop.query entry) (is_current s.now entry) found.1 in
-    hit-fresh s.cache.config sources hop.query s.now entry entry.result both.0 (leb-true _ _ both.1) zero (all-has (IsFreshEntry s.cache.config sources) s.cache.entries entry fresh found.0)
+    hit-fresh s.cache.config sources hop.query s.now entry entry.result both.0 (leb-true _ _ both.1) zero (fresh hop.query entry refl ends.1)
 result-fresh s sources hop count (Asked outcome) keeps fresh zero there ends = by (kind_of outcome) refl
   where
     config : ConfigValue
@@ -225,7 +233,7 @@ pub record AreFreshHops (s : LookupContext) (question : Query) (asks : List Exch
   pub reply : HasNoLeast s.cache.config (type_code question.query_type) → IsFreshReply s.cache.config sources (type_code question.query_type) s.now (result_of s h.last_hop h.last)
   pub stores : AllByRecursion (StoresArrived s.cache.config sources s.now) (stores_of s h.passed h.last_hop h.last)
 
-hops-fresh : (s : LookupContext) (question : Query) (asks : List Exchange) (sources : List Dated) (h : HopList s question asks) → AreFreshEntries s.cache sources → AllByRecursion (λ x. ContainsByRecursion sources (record { moment = s.now; exchange = x })) asks
+pub hops-fresh : (s : LookupContext) (question : Query) (asks : List Exchange) (sources : List Dated) (h : HopList s question asks) → AreFreshHits s sources (type_code question.query_type) → AllByRecursion (λ x. ContainsByRecursion sources (record { moment = s.now; exchange = x })) asks
     → AreFreshHops s question asks sources h
 hops-fresh s question asks sources h fresh there = record {
   reply = reply;
@@ -255,10 +263,10 @@ hops-fresh s question asks sources h fresh there = record {
 
     reply : HasNoLeast s.cache.config code → IsFreshReply s.cache.config sources code s.now result
     reply zero = subst (λ c. IsFreshReply s.cache.config sources c s.now result) leads.0.type_is
-        (result-fresh s sources h.last_hop _ h.last own fresh (subst (HasNoLeast s.cache.config) (sym leads.0.type_is) zero) last_there h.ends)
+        (result-fresh s sources h.last_hop _ h.last own (subst (AreFreshHits s sources) (sym leads.0.type_is) fresh) (subst (HasNoLeast s.cache.config) (sym leads.0.type_is) zero) last_there h.ends)
 
 -- the exchanges of a look-up are among its sources
-own-sources : (sources : List Dated) (now : ℕ) (asks : List Exchange) → AllByRecursion (λ x. ContainsByRecursion (sources ++ dated_exchanges now asks) (record { moment = now; exchange = x })) asks
+pub own-sources : (sources : List Dated) (now : ℕ) (asks : List Exchange) → AllByRecursion (λ x. ContainsByRecursion (sources ++ dated_exchanges now asks) (record { moment = now; exchange = x })) asks
 own-sources sources now asks =
     has-all (λ x. ContainsByRecursion (sources ++ dated_exchanges now asks) (record { moment = now; exchange = x })) asks
     (λ x h. has-right sources (dated_exchanges now asks) (record { moment = now; exchange = x }) (has-map (λ y. record { moment = now; exchange = y }) asks x h))
@@ -280,9 +288,9 @@ fresh s question asks result after reply sources entries = by reply
 
     by : IsReply s question asks result after → (HasNoLeast s.cache.config (type_code question.query_type) → IsFreshReply s.cache.config all (type_code question.query_type) s.now result) × AreFreshEntries after all
     by (inl whole) =
-        let hops = hops-fresh s question asks all whole.hops known (own-sources sources s.now asks) in
+        let hops = hops-fresh s question asks all whole.hops (hits-fresh s all (type_code question.query_type) known) (own-sources sources s.now asks) in
         ((λ zero. subst (IsFreshReply s.cache.config all (type_code question.query_type) s.now) (sym whole.result_is) (hops.reply zero)), stored _ hops.stores whole.after_is)
     by (inr (e, inl cut)) =
-        let hops = hops-fresh s question asks all cut.hops known (own-sources sources s.now asks) in
+        let hops = hops-fresh s question asks all cut.hops (hits-fresh s all (type_code question.query_type) known) (own-sources sources s.now asks) in
         ((λ zero. out e), stored cut.front (all-front (StoresArrived s.cache.config all s.now) cut.front cut.back (subst (AllByRecursion (StoresArrived s.cache.config all s.now)) (sym cut.parts) hops.stores)) cut.after_is)
     by (inr (e, inr cut)) = ((λ zero. out e), subst (λ c. AreFreshEntries c all) (sym cut.after_is) known)

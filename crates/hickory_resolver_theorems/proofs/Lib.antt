@@ -7,6 +7,7 @@ pub mod Kept
 pub mod Headlines
 pub mod Lists
 pub mod Meanings
+pub mod Provenances
 pub mod Responses
 pub mod Runs
 pub mod Stores

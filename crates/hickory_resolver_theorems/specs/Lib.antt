@@ -3,6 +3,8 @@ pub mod Cacheless
 pub mod WithoutTimes
 pub mod Covered
 pub mod Statements
+pub mod Provenance
+pub mod WholeLookup
 pub mod WalkLaws
 pub mod Worked
 pub mod WorkedLoop

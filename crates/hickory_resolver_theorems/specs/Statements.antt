@@ -6,15 +6,13 @@ use Rattle.hickory_proto_core.specs.Records.{RecordValue}
 use Rattle.hickory_proto_core.specs.ResponseKind.{record_type_code}
 use Rattle.hickory_proto_core.specs.Table.{TableValue}
 use Rattle.hickory_proto_core.specs.records.query.Query.{Query}
-use Rattle.hickory_proto_core.specs.declared.dns_request.DnsRequestOptions.{DnsRequestOptions}
 use Rattle.hickory_proto_core.specs.declared.recorded.Exchange.{Exchange}
 use Rattle.hickory_proto_core.specs.records.net_error.NetError.TheVariants.{OutOfMemory}
 use Rattle.hickory_resolver_model.specs.Bounds.{ConfigValue, bounds_for, positive_bounds}
 use Rattle.hickory_resolver_model.specs.Cache.{CacheValue, Entry}
-use Rattle.hickory_proto_core.specs.Handles.{OutcomeValue, Step, Leads}
+use Rattle.hickory_proto_core.specs.Handles.{OutcomeValue}
 use Rattle.hickory_resolver_model.specs.Lookup.{LookupResult}
-use Rattle.hickory_resolver_model.specs.Hops.{LookupContext, IsReply}
-use Rattle.hickory_resolver_model.specs.Client.{ClientValue, start_of}
+use Rattle.hickory_resolver_model.specs.Hops.{LookupContext}
 use Rattle.hickory_resolver_model.specs.Hosts.{IsStatic}
 use Rattle.hickory_resolver_model.specs.Calls.{SubLookup, SubLookupRelation, Setting, Client, IsStaticSubLookup}
 use Rattle.hickory_resolver_model.specs.Run.{Settings, setting_at, RequestValue, StepValue, StepReply, LookedUp, Cleared, ends_run, IsServed, Stage, exchanges_of, Run}
@@ -88,22 +86,6 @@ IsTransparent s question asks result after =
     → AreWhatTheyResolveTo table s.cache
     → (reply : WithoutTimes) (n : ℕ) → ResolvesTo table question reply n → n ≤ 8
     → ((result ≡ Err OutOfMemory) ⊎ (without_times result ≡ reply)) × AreWhatTheyResolveTo table after
-
--- ---- a look-up of the client, whole
-
--- The exchanges that it made led the handle, each with these options, and there are eight at most; the reply
--- and the cache after it are those of the hops; and the two facts above hold of it.
-pub record IsWholeLookup
-    {H : Type 0} (step : Step H) (options : DnsRequestOptions) (now : ℕ) (before : ClientValue H)
-    (question : Query) (result : LookupResult) (after : ClientValue H)
-    : Type 0 where
-  pub asks : List Exchange
-  pub led : Leads step options before.handle asks after.handle
-  pub few : length asks ≤ 8
-  pub reply : IsReply (start_of before now) question asks result after.cache
-  pub fresh : IsFresh (start_of before now) question asks result after.cache
-  pub transparent : IsTransparent (start_of before now) question asks result after.cache
-  pub option_stays : after.preserve_intermediates ≡ before.preserve_intermediates
 
 -- ---- the headline, of a run
 

@@ -113,7 +113,8 @@ stored_for_an_hour =
       capacity = 8;
       config = hour;
       entries = [];
-    }) (asks_a (name (codes "a"))) (Ok (response (asks_a (name (codes "a"))) (rr (name (codes "a")) 60 address ∷ []))) 0).entries
+    }) (asks_a (name (codes "a")))
+    (Ok (response (asks_a (name (codes "a"))) (rr (name (codes "a")) 60 address ∷ []))) 0).entries
 
 abbrev pub ttl_at : ℕ → List Entry → Option (List ℕ)
 ttl_at now es = ttls (current (asks_a (name (codes "A"))) now es)

@@ -209,7 +209,21 @@ run_cases = record {
         now_is = refl;
         count_is = refl;
       },
-      inr (refl, (after_run, refl, refl, record { served = second_served; piece_is = refl; now_is = refl; count_is = refl }, inr (refl, refl))),
+      inr (
+        refl,
+        (
+          after_run,
+          refl,
+          refl,
+          record {
+            served = second_served;
+            piece_is = refl;
+            now_is = refl;
+            count_is = refl;
+          },
+          inr (refl, refl),
+        ),
+      ),
     );
   };
 }

@@ -12,6 +12,7 @@ ghost use Rattle.hickory_resolver_model.specs.Hops.{LookupContext, IsReply};
 ghost use Rattle.hickory_resolver_model.specs.Lookup.{LookupResult};
 ghost use Rattle.hickory_resolver_model.specs.Run.{Settings, RequestValue, StepValue, Run};
 ghost use Rattle.hickory_resolver_theorems.specs.Statements.{IsFresh, IsTransparent, Headline};
+ghost use Rattle.hickory_resolver_theorems.specs.Provenance.{HasProvenance};
 ghost use Rattle.hickory_resolver_theorems.specs.WalkLaws.{IsOneWalk};
 
 /// There is exactly one walk along the aliases among answers.
@@ -38,6 +39,15 @@ pub fn nothing_outlives()
         (after : CacheValue) → IsReply s question asks result after → IsFresh s question asks result after }
 {}
 
+/// A look-up that is what the hops say has provenance: where the least TTL of the asked type is zero, no
+/// record of that type that it gives or stores outlives what its own exchanges brought or what the current
+/// entries of that type held.
+pub fn every_record_has_a_source()
+    ensures { (s : LookupContext) (question : Query) (asks : List Exchange) (result : LookupResult)
+        (after : CacheValue) → IsReply s question asks result after
+        → HasProvenance s question asks result after }
+{}
+
 /// A look-up that is what the hops say is transparent: under every table that tells its exchanges it comes to
 /// what its question means without a cache, and so does every entry that it leaves.
 pub fn a_cache_changes_no_answer()
@@ -46,10 +56,13 @@ pub fn a_cache_changes_no_answer()
         → IsTransparent s question asks result after }
 {}
 
-/// A look-up that is what the hops say over the exchanges that were answered is so over those that a recording handle kept:
-/// an exchange that was answered want of memory, where another outcome or none was kept, can only be the last.
+/// A look-up that is what the hops say over the exchanges that were answered is so over those that a
+/// recording handle kept: an exchange that was answered want of memory, where another outcome or none was
+/// kept, can only be the last.
 pub fn a_record_keeps_the_reply()
-    ensures { (s : LookupContext) (question : Query) (asks kept : List Exchange) (result : LookupResult) (after : CacheValue) → IsReply s question asks result after → RecordedAs asks kept → IsReply s question kept result after }
+    ensures { (s : LookupContext) (question : Query) (asks kept : List Exchange) (result : LookupResult)
+        (after : CacheValue) → IsReply s question asks result after → RecordedAs asks kept
+        → IsReply s question kept result after }
 {}
 
 /// The headline holds of every run, whatever the requests and whatever came back.

@@ -7,8 +7,8 @@ ghost use Rattle.hickory_resolver_watched.specs.Watched.{write_fails};
 use std::io::{self, Read, Write};
 use std::marker::Model;
 
-/// A reader or a writer, and whether a call of it has failed since it is watched. Where it has, what was read or
-/// written may be a part only.
+/// A reader or a writer, and whether a call of it has failed since it is watched. Where it has, what was read
+/// or written may be a part only.
 #[derive(Debug, Drop)]
 pub struct Watched<T> {
     inner: T,
@@ -53,7 +53,8 @@ impl<R: Read> Watched<R> {
     /// One read of the reader. An error, also that of an interrupted read, is a failure for good.
     pub fn read(&mut self, buf: &mut [u8]) -> io::Result<usize>
         ensures bound { ReadsAtMost result buf.new }
-        ensures bytes { ReadConsumes (R.remaining self.old.inner) (R.remaining self.new.inner) result buf.new }
+        ensures bytes { ReadConsumes (R.remaining self.old.inner)
+            (R.remaining self.new.inner) result buf.new }
         ensures failed { self.new.failed ≡ self.old.failed || is_err result }
     {
         let result = self.inner.read(buf);
@@ -63,8 +64,8 @@ impl<R: Read> Watched<R> {
 }
 
 impl<W: Write> Watched<W> {
-    /// One write of the writer. An error, also that of an interrupted write, is a failure for good, and so is a write of
-    /// at least one byte that takes none.
+    /// One write of the writer. An error, also that of an interrupted write, is a failure for good, and so is
+    /// a write of at least one byte that takes none.
     pub fn write(&mut self, buf: &[u8]) -> io::Result<usize>
         ensures bound { WritesAtMost result buf.now }
         ensures bytes { WriteAppends (W.contents self.old.inner) (W.contents self.new.inner) result buf.now }

@@ -10,7 +10,7 @@ use Rattle.hickory_proto_core.specs.codes.dns_class.DNSClass.TheVariants as clas
 use Rattle.hickory_proto_core.specs.names.name_error.NameError.{NameError}
 use Rattle.hickory_proto_core.specs.names.name_error.NameError.TheVariants as name_error
 use Rattle.hickory_proto_core.specs.declared.recorded.Exchange.{Exchange}
-use Rattle.hickory_resolver.specs.Statements.{IsWholeLookup}
+use Rattle.hickory_resolver.specs.WholeLookup.{IsWholeLookup}
 use Rattle.hickory_resolver_model.specs.Lookup.{LookupResult}
 use Rattle.replay.specs.Request.{RequestValue}
 use Rattle.replay.specs.Run.{ScriptClient, request_options, IsAsked, Answers, AddsStep, RunTo, IsScriptRun, first_client}

@@ -63,7 +63,8 @@ reply_of [] = Err FieldCount
 reply_of (code ∷ []) = Err FieldCount
 reply_of (code ∷ name ∷ []) = Err FieldCount
 reply_of (code ∷ name ∷ type ∷ words) =
-    if nat_lt 3 (length words) then Err FieldCount else (plain_reply_of code name type >>= without_words words)
+    if nat_lt 3 (length words) then Err FieldCount
+    else (plain_reply_of code name type >>= without_words words)
 
 -- the class of the Internet, and no other
 abbrev pub internet : Option DNSClass → Result DNSClass ScriptFault
@@ -93,8 +94,10 @@ head_of name ttl class type = do
 
 -- the text writes this address of this family
 abbrev pub IsAddress : AddressFamily → List ℕ → DataValue → Type 0
-IsAddress V4 text rdata = (address : Ipv4Addr) × IsIpv4Text text address × (rdata ≡ a_data (ipv4_octets address))
-IsAddress V6 text rdata = (address : Ipv6Addr) × IsIpv6Text text address × (rdata ≡ aaaa_data (ipv6_segments address))
+IsAddress V4 text rdata =
+    (address : Ipv4Addr) × IsIpv4Text text address × (rdata ≡ a_data (ipv4_octets address))
+IsAddress V6 text rdata =
+    (address : Ipv6Addr) × IsIpv6Text text address × (rdata ≡ aaaa_data (ipv6_segments address))
 
 -- DATA is one address
 abbrev pub IsAddressed : RecordHead → List (List ℕ) → Result Line ScriptFault → Type 0
@@ -113,7 +116,8 @@ IsAnswer (name ∷ []) result = result ≡ Err FieldCount
 IsAnswer (name ∷ ttl ∷ []) result = result ≡ Err FieldCount
 IsAnswer (name ∷ ttl ∷ class ∷ []) result = result ≡ Err FieldCount
 IsAnswer (name ∷ ttl ∷ class ∷ type ∷ rest) result =
-    MatchResult (head_of name ttl class type) (λ head. IsAddressed head rest result) (λ fault. result ≡ Err fault)
+    MatchResult (head_of name ttl class type) (λ head. IsAddressed head rest result)
+    (λ fault. result ≡ Err fault)
 
 -- NAME TYPE
 abbrev pub lookup_of : ℕ → List (List ℕ) → Result Line ScriptFault
@@ -141,7 +145,8 @@ abbrev pub IsSaid : Bool → List (List ℕ) → Result Line ScriptFault → Typ
 IsSaid has_reply [] result = result ≡ Ok Blank
 IsSaid has_reply (directive ∷ rest) result =
     MatchBool (is_text (codes "reply") directive) (result ≡ reply_of rest)
-    (MatchBool (is_text (codes "answer") directive) (MatchBool has_reply (IsAnswer rest result) (result ≡ Err NoReply))
+    (MatchBool (is_text (codes "answer") directive)
+    (MatchBool has_reply (IsAnswer rest result) (result ≡ Err NoReply))
     (MatchBool (is_text (codes "at") directive) (result ≡ request_of rest) (result ≡ Err UnknownDirective)))
 
 -- what a line says, or its first fault

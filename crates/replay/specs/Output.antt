@@ -25,11 +25,14 @@ shown_name name = if (length name.labels == 0) && not name.fqdn then codes "@" e
 -- NAME CLASS TYPE
 abbrev pub question_text : Query → List ℕ
 question_text q =
-    shown_name q.name ++ codes " " ++ class_text (class_code q.query_class) ++ codes " " ++ type_text (type_code q.query_type)
+    shown_name q.name ++ codes " " ++ class_text (class_code q.query_class) ++ codes " "
+    ++ type_text (type_code q.query_type)
 
 -- two hex digits for each byte, or `-` for no bytes
 abbrev pub hex_text : List ℕ → List ℕ
-hex_text bytes = flat_map (λ byte. padded_integral (format_spec 32 0 4 2 (2 ^ 64 - 1)) false [] (digits 16 false byte)) bytes
+hex_text bytes =
+    flat_map (λ byte. padded_integral (format_spec 32 0 4 2 (2 ^ 64 - 1)) false []
+    (digits 16 false byte)) bytes
 
 abbrev pub bytes_text : List ℕ → List ℕ
 bytes_text bytes = if length bytes == 0 then codes "-" else hex_text bytes
@@ -52,15 +55,19 @@ data_text (cname_data target) = name_field target
 data_text (ns_data target) = name_field target
 data_text (ptr_data target) = name_field target
 data_text (soa_data mname rname serial refresh retry expire minimum) =
-    name_field mname ++ name_field rname ++ number_field serial ++ number_field refresh ++ number_field retry ++ number_field expire ++ number_field minimum
-data_text (srv_data priority weight port target) = number_field priority ++ number_field weight ++ number_field port ++ name_field target
+    name_field mname ++ name_field rname ++ number_field serial ++ number_field refresh ++ number_field retry
+    ++ number_field expire ++ number_field minimum
+data_text (srv_data priority weight port target) =
+    number_field priority ++ number_field weight ++ number_field port ++ name_field target
 data_text (mx_data preference exchange) = number_field preference ++ name_field exchange
 data_text (txt_data strings) = strings_text strings
 data_text (unknown_data code bytes) = codes " " ++ bytes_text bytes
 
 -- TTL CLASS TYPE
 abbrev pub kind_text : RecordValue → List ℕ
-kind_text r = decimal r.ttl ++ codes " " ++ class_text (class_code r.dns_class) ++ codes " " ++ type_text (type_code (data_type r.rdata))
+kind_text r =
+    decimal r.ttl ++ codes " " ++ class_text (class_code r.dns_class) ++ codes " "
+    ++ type_text (type_code (data_type r.rdata))
 
 -- NAME TTL CLASS TYPE, and the fields of the data
 abbrev pub record_text : RecordValue → List ℕ
@@ -84,7 +91,8 @@ ttl_text (Some seconds) = decimal seconds
 -- CODE TTL NAME CLASS TYPE
 abbrev pub no_records_text : NoRecordsValue → List ℕ
 no_records_text n =
-    codes "norecords " ++ response_text (response_code n.response_code) ++ codes " " ++ ttl_text n.negative_ttl ++ codes " " ++ question_text n.query
+    codes "norecords " ++ response_text (response_code n.response_code) ++ codes " "
+    ++ ttl_text n.negative_ttl ++ codes " " ++ question_text n.query
 
 -- what went wrong with a request. Bounds and want of memory end a run otherwise
 abbrev pub error_text : NetError → List ℕ
@@ -110,7 +118,8 @@ section_text section records = flat_map (λ r. line_text section (record_text r)
 -- the question and the deadline, then the records of the sections
 abbrev pub lookup_text : LookupValue → List ℕ
 lookup_text l =
-    line_text (codes "ok") (question_text (first_query l.message.queries) ++ codes " until " ++ decimal l.valid_until)
+    line_text (codes "ok")
+    (question_text (first_query l.message.queries) ++ codes " until " ++ decimal l.valid_until)
     ++ section_text (codes "answer") l.message.answers
     ++ section_text (codes "authority") l.message.authorities
     ++ section_text (codes "additional") l.message.additionals
@@ -121,7 +130,9 @@ reply_text (Err error) = line_text (codes "err") (error_text error)
 
 -- at MOMENT lookup NAME TYPE
 abbrev pub request_text : RequestValue → List ℕ
-request_text r = codes "at " ++ decimal r.now ++ codes " lookup " ++ r.name ++ codes " " ++ type_text (type_code r.record_type) ++ codes "\n"
+request_text r =
+    codes "at " ++ decimal r.now ++ codes " lookup " ++ r.name ++ codes " "
+    ++ type_text (type_code r.record_type) ++ codes "\n"
 
 -- the block of a request: the request, each question that was sent for it, and the reply
 abbrev pub step_text : RequestValue → List Query → LookupResult → List ℕ

@@ -26,12 +26,15 @@ opened (Some reply) = (reply.query, Ok reply.message) ∷ []
 
 -- a record is put to the open reply, where there is one
 abbrev pub answered : OpenReply → RecordValue → OpenReply
-answered reply found = record reply { message = record reply.message { answers = reply.message.answers ++ found ∷ [] } }
+answered reply found =
+    record reply { message = record reply.message { answers = reply.message.answers ++ found ∷ [] } }
 
 abbrev pub IsAnswered : ReaderValue → RecordValue → Result (Unit {0}) ScriptFault → ReaderValue → Type 0
 IsAnswered before found result after =
     MatchOption before.open_reply (result ≡ Err NoReply)
-    (λ reply. MatchResult result (λ _. after ≡ record before { open_reply = Some (answered reply found) }) (λ fault. fault ≡ OutOfMemory))
+    (λ reply. MatchResult result (λ _. after ≡ record before {
+      open_reply = Some (answered reply found);
+    }) (λ fault. fault ≡ OutOfMemory))
 
 -- the reader keeps what these lines say
 pub record Keeps (reader : ReaderValue) (said : List Line) : Type 0 where
@@ -44,5 +47,8 @@ pub record Keeps (reader : ReaderValue) (said : List Line) : Type 0 where
 abbrev pub IsTaken : List Line → List ℕ → Result (Unit {0}) ScriptFault → ReaderValue → Type 0
 IsTaken said line result after =
     MatchResult result
-    (λ _. (more : Line) × IsRead (has_reply said) line (Ok more) × (in_order (latest_from 0 said) (Ok more) ≡ Ok more) × Keeps after (said ++ more ∷ []))
-    (λ fault. (fault ≡ OutOfMemory) ⊎ ((read : Result Line ScriptFault) × IsRead (has_reply said) line read × (in_order (latest_from 0 said) read ≡ Err fault)))
+    (λ _. (more : Line) × IsRead (has_reply said) line (Ok more)
+    × (in_order (latest_from 0 said) (Ok more) ≡ Ok more) × Keeps after (said ++ more ∷ []))
+    (λ fault. (fault ≡ OutOfMemory)
+    ⊎ ((read : Result Line ScriptFault) × IsRead (has_reply said) line read
+    × (in_order (latest_from 0 said) read ≡ Err fault)))

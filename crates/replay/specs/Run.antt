@@ -12,7 +12,7 @@ use Rattle.hickory_proto_core.specs.names.name_error.NameError.{NameError}
 use Rattle.hickory_proto_core.specs.records.net_error.NetError.TheVariants.{OutOfMemory}
 use Rattle.hickory_proto_core.specs.declared.recorded.Exchange.{Exchange}
 use Rattle.hickory_resolver_model.specs.Client.{ClientValue, empty_cache}
-use Rattle.hickory_resolver.specs.Statements.{IsWholeLookup}
+use Rattle.hickory_resolver.specs.WholeLookup.{IsWholeLookup}
 use Rattle.hickory_resolver_model.specs.Lookup.{LookupResult}
 use Rattle.hickory_resolver_model.specs.Hosts.{as_fqdn}
 use Rattle.hickory_resolver_model.specs.Calls.{question_of, is_out_of_memory}
@@ -40,15 +40,22 @@ first_client outcomes = record {
 
 -- how each question is sent
 abbrev pub request_options : DnsRequestOptions
-request_options = record { recursion_desired = true; use_edns = true; edns_payload_len = 1232; case_randomization = false }
+request_options =
+    record { recursion_desired = true; use_edns = true; edns_payload_len = 1232; case_randomization = false }
 
 -- a request is looked up at its moment. What is no name is not, and changes nothing
-abbrev pub IsAsked : ScriptClient → RequestValue → Result NameValue NameError → LookupResult → ScriptClient → Type 0
-IsAsked before request (Ok name) reply after = IsWholeLookup (RecordedStep ScriptStep) request_options request.now before (question_of (as_fqdn name) request.record_type) reply after
+abbrev pub IsAsked : ScriptClient → RequestValue → Result NameValue NameError → LookupResult → ScriptClient
+    → Type 0
+IsAsked before request (Ok name) reply after =
+    IsWholeLookup (RecordedStep ScriptStep) request_options request.now before
+    (question_of (as_fqdn name) request.record_type) reply after
 IsAsked before request (Err error) reply after = (reply ≡ Err (net_error_of error)) × (after ≡ before)
 
 -- a request, the questions that were sent for it, and the reply, for which there was memory
-pub record IsStep (before : ScriptClient) (request : RequestValue) (sent : List Query) (reply : LookupResult) (after : ScriptClient) : Type 0 where
+pub record IsStep
+    (before : ScriptClient) (request : RequestValue) (sent : List Query) (reply : LookupResult)
+    (after : ScriptClient)
+    : Type 0 where
   pub kept : List Exchange
   pub asked : IsAsked before request (text_name request.name) reply after
   pub exchanges_are : after.handle.exchanges ≡ before.handle.exchanges ++ kept
@@ -56,7 +63,9 @@ pub record IsStep (before : ScriptClient) (request : RequestValue) (sent : List 
   pub remembered : is_out_of_memory reply ≡ false
 
 -- what the client answers. What it kept goes on what it had kept
-pub record IsAnswered (before : ScriptClient) (request : RequestValue) (reply : LookupResult) (after : ScriptClient) : Type 0 where
+pub record IsAnswered
+    (before : ScriptClient) (request : RequestValue) (reply : LookupResult) (after : ScriptClient)
+    : Type 0 where
   pub kept : List Exchange
   pub asked : IsAsked before request (text_name request.name) reply after
   pub exchanges_are : after.handle.exchanges ≡ before.handle.exchanges ++ kept
@@ -65,7 +74,9 @@ abbrev pub Answers : ScriptClient → RequestValue → LookupResult → ScriptCl
 Answers before request reply after = IsAnswered before request reply after ⊎ (reply ≡ Err OutOfMemory)
 
 -- the block of a request is added to a text
-pub record AddsStep (before : ScriptClient) (old : List ℕ) (request : RequestValue) (after : ScriptClient) (new : List ℕ) : Type 0 where
+pub record AddsStep
+    (before : ScriptClient) (old : List ℕ) (request : RequestValue) (after : ScriptClient) (new : List ℕ)
+    : Type 0 where
   pub sent : List Query
   pub reply : LookupResult
   pub is_step : IsStep before request sent reply after
@@ -82,7 +93,8 @@ RunTo before (request ∷ requests) text after =
 
 -- the text of a run of a script
 abbrev pub IsScriptRun : ScriptValue → List ℕ → Type 0
-IsScriptRun script text = (after : ScriptClient) × RunTo (first_client (map (λ o. o.1) script.outcomes)) script.requests text after
+IsScriptRun script text =
+    (after : ScriptClient) × RunTo (first_client (map (λ o. o.1) script.outcomes)) script.requests text after
 
 -- the text of a run of what the lines of the script say
 pub record IsReplayed (script text : List ℕ) : Type 0 where

@@ -41,7 +41,8 @@ answers_of (Request request ∷ said) = answers_of said
 abbrev pub outcomes_of : List Line → List (Query × OutcomeValue)
 outcomes_of [] = []
 outcomes_of (Blank ∷ said) = outcomes_of said
-outcomes_of (Reply query code ∷ said) = (query, Ok (response_value query code (answers_of said))) ∷ outcomes_of said
+outcomes_of (Reply query code ∷ said) =
+    (query, Ok (response_value query code (answers_of said))) ∷ outcomes_of said
 outcomes_of (Answer found ∷ said) = outcomes_of said
 outcomes_of (Request request ∷ said) = outcomes_of said
 
@@ -76,7 +77,8 @@ abbrev pub in_order : ℕ → Result Line ScriptFault → Result Line ScriptFaul
 in_order moment (Ok Blank) = Ok Blank
 in_order moment (Ok (Reply query code)) = Ok (Reply query code)
 in_order moment (Ok (Answer found)) = Ok (Answer found)
-in_order moment (Ok (Request request)) = if nat_lt request.now moment then Err MomentBack else Ok (Request request)
+in_order moment (Ok (Request request)) =
+    if nat_lt request.now moment then Err MomentBack else Ok (Request request)
 in_order moment (Err fault) = Err fault
 
 -- the lines behind those that said this: what all of them say, or the first fault and the number of its line

@@ -13,6 +13,6 @@ pub mod script;
 
 pub use fault::{ScriptError, ScriptFault};
 pub use line::Line;
-pub use run::{ReplayError, replay_text};
 pub use request::Request;
+pub use run::{ReplayError, replay_text};
 pub use script::{Script, read_script};

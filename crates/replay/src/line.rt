@@ -81,7 +81,8 @@ fn read_fields(alloc: Global, has_reply: bool, fields: &[&str]) -> Result<Line, 
 }
 
 fn read_record(alloc: Global, has_reply: bool, fields: &[&str]) -> Result<Line, ScriptFault>
-    ensures { MatchBool has_reply (IsAnswer (texts fields.now) result) (result ≡ Err ScriptFault.NoReply) ⊎ (result ≡ Err ScriptFault.OutOfMemory) }
+    ensures { MatchBool has_reply (IsAnswer (texts fields.now) result) (result ≡ Err ScriptFault.NoReply)
+        ⊎ (result ≡ Err ScriptFault.OutOfMemory) }
 {
     if !has_reply {
         return Err(ScriptFault::NoReply);
@@ -112,7 +113,8 @@ fn read_plain_reply(
     name: &str,
     record_type: &str,
 ) -> Result<Line, ScriptFault>
-    ensures { (result ≡ plain_reply_of code.now name.now record_type.now) ⊎ (result ≡ Err ScriptFault.OutOfMemory) }
+    ensures { (result ≡ plain_reply_of code.now name.now record_type.now)
+        ⊎ (result ≡ Err ScriptFault.OutOfMemory) }
 {
     let code = ResponseCode::from_word(code).ok_or(ScriptFault::UnknownWord)?;
     let name = read_name(alloc, name)?;
@@ -166,7 +168,8 @@ fn read_head(
     class: &str,
     record_type: &str,
 ) -> Result<RecordHead, ScriptFault>
-    ensures { (result ≡ head_of name.now ttl.now class.now record_type.now) ⊎ (result ≡ Err ScriptFault.OutOfMemory) }
+    ensures { (result ≡ head_of name.now ttl.now class.now record_type.now)
+        ⊎ (result ≡ Err ScriptFault.OutOfMemory) }
 {
     let name = read_name(alloc, name)?;
     let ttl = read_u32(ttl).ok_or(ScriptFault::BadNumber)?;

@@ -133,7 +133,8 @@ fn run_request(
     text: &mut String,
     request: &Request,
 ) -> Result<(), ReplayError>
-    ensures ok { OnOk result (AddsStep client.old (string_bytes text.old) request.entry.now client.new (string_bytes text.new)) }
+    ensures ok { OnOk result
+        (AddsStep client.old (string_bytes text.old) request.entry.now client.new (string_bytes text.new)) }
     ensures err { IsOkUnless result ReplayError.Memory }
 {
     let before = client.handle().exchanges().len();

@@ -9,9 +9,7 @@ use crate::fields::ScriptLines;
 use crate::line::{Line, read_line};
 use crate::request::Request;
 use hickory_proto_core::dns_handle::Outcome;
-use hickory_proto_core::{
-    DnsResponse, Message, NetError, OpCode, Query, Record, ResponseCode,
-};
+use hickory_proto_core::{DnsResponse, Message, NetError, OpCode, Query, Record, ResponseCode};
 use std::alloc::Global;
 use std::marker::Model;
 
@@ -145,7 +143,9 @@ impl Reader {
         ensures ok { OnOk result (self.new
             ≡ record self.old { requests = self.old.requests ++ request ∷ []; latest = request.now }) }
         ensures in_order { OnOk result (self.old.latest ≤ request.now) }
-        ensures err { IfErr result (λ fault. (fault ≡ ScriptFault.OutOfMemory) ⊎ ((fault ≡ ScriptFault.MomentBack) × (request.now < self.old.latest))) }
+        ensures err { IfErr result
+            (λ fault. (fault ≡ ScriptFault.OutOfMemory)
+            ⊎ ((fault ≡ ScriptFault.MomentBack) × (request.now < self.old.latest))) }
     {
         let now = request.now;
         if now < self.latest {
@@ -173,7 +173,10 @@ impl Reader {
     }
 
     fn finish(self) -> Result<Script, ScriptFault>
-        ensures { IfOk result (λ s. s ≡ record { outcomes = self.closed ++ opened self.open_reply; requests = self.requests }) }
+        ensures { IfOk result (λ s. s ≡ record {
+          outcomes = self.closed ++ opened self.open_reply;
+          requests = self.requests;
+        }) }
     {
         let mut reader = self;
         reader.close()?;

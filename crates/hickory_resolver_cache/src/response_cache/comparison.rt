@@ -34,7 +34,8 @@ impl BuildHasher for OneHash {
     }
 }
 
-// What an entry shows (its question as it is spelled, its moment, its deadline, a time to live), and its number.
+// What an entry shows (its question as it is spelled, its moment, its deadline, a time to live), and its
+// number.
 #[derive(Drop)]
 struct Row {
     number: u64,

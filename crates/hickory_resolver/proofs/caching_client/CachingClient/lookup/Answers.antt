@@ -8,6 +8,7 @@ returns g c =
       led = w.led;
       few = c.eight_questions.ensures _ _ _ _ _ w.reply;
       reply = w.reply;
+      provenance = c.every_record_has_a_source.ensures _ _ _ _ _ w.reply;
       fresh = c.nothing_outlives.ensures _ _ _ _ _ w.reply;
       transparent = c.a_cache_changes_no_answer.ensures _ _ _ _ _ w.reply;
       option_stays = w.option_stays;

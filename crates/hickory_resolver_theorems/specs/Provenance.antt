@@ -1,0 +1,66 @@
+-- Where the records that a look-up gives and stores come from: its own exchanges, and the current entries of
+-- the asked type in the cache before it, whatever is known of that cache (RFC 2181, section 8).
+use Rattle.std.specs.Prelude.{◌≡◌, ◌⊎◌, ◌≤◌, ◌+◌, ◌==◌, ◌&&◌, ℕ, Bool, true, false, List, ◌++◌, map, filter, Contains, Ok, Err}
+use Rattle.std.specs.List.{AllByRecursion}
+use Rattle.hickory_proto_core.specs.Codes.{type_code}
+use Rattle.hickory_proto_core.specs.Handles.{OutcomeValue}
+use Rattle.hickory_proto_core.specs.Records.{RecordValue}
+use Rattle.hickory_proto_core.specs.ResponseKind.{record_type_code}
+use Rattle.hickory_proto_core.specs.records.query.Query.{Query}
+use Rattle.hickory_proto_core.specs.declared.recorded.Exchange.{Exchange}
+use Rattle.hickory_resolver_model.specs.Bounds.{ConfigValue}
+use Rattle.hickory_resolver_model.specs.Cache.{CacheValue, Entry, is_current}
+use Rattle.hickory_resolver_model.specs.Lookup.{LookupResult}
+use Rattle.hickory_resolver_model.specs.Hops.{LookupContext}
+use Rattle.hickory_resolver_theorems.specs.Covered.{Dated, dated_exchanges, greatest_ttl}
+use Rattle.hickory_resolver_theorems.specs.Statements.{HasNoLeast, IsFreshReply, IsFreshEntry}
+
+-- an entry outlives none of its answers of the asked type, counted from its own time, and they are kept with
+-- at most the greatest TTL of the type
+abbrev pub IsTimelyAnswer : ConfigValue → Entry → ℕ → RecordValue → Type 0
+IsTimelyAnswer config e code r =
+    record_type_code r ≡ code → (e.valid_until ≤ e.original_time + r.ttl) × (r.ttl ≤ greatest_ttl config code)
+
+abbrev pub IsTimelyOutcome : ConfigValue → Entry → ℕ → OutcomeValue → Type 0
+IsTimelyOutcome config e code (Ok m) =
+    HasNoLeast config code → AllByRecursion (IsTimelyAnswer config e code) m.answers
+IsTimelyOutcome config e code (Err error) = Unit {0}
+
+-- what holds of the entries of every cache
+abbrev pub IsTimelyEntry : ConfigValue → Entry → Type 0
+IsTimelyEntry config e = IsTimelyOutcome config e (type_code e.query.query_type) e.result
+
+abbrev pub is_positive : OutcomeValue → Bool
+is_positive (Ok m) = true
+is_positive (Err error) = false
+
+-- the current positive entries for questions of a type
+abbrev pub is_source : ℕ → ℕ → Entry → Bool
+is_source now code e = is_current now e && is_positive e.result && (type_code e.query.query_type == code)
+
+-- an entry, at its own time, as what was received then
+abbrev pub dated_entry : Entry → Dated
+dated_entry e = record { moment = e.original_time; exchange = record { query = e.query; outcome = e.result } }
+
+abbrev pub sources_of : LookupContext → Query → List Exchange → List Dated
+sources_of s question asks =
+    map dated_entry (filter (is_source s.now (type_code question.query_type)) s.cache.entries)
+    ++ dated_exchanges s.now asks
+
+-- Each answer of the asked type in the result, loopback records aside, is covered by the sources, and the
+-- result may be used no longer than it lives; and so it is with each entry that was not in the cache before.
+pub record IsFromSources
+    (s : LookupContext) (question : Query) (asks : List Exchange) (result : LookupResult) (after : CacheValue)
+    : Type 0 where
+  pub reply : IsFreshReply s.cache.config (sources_of s question asks)
+      (type_code question.query_type) s.now result
+  pub stores : AllByRecursion
+      (λ e. Contains s.cache.entries e
+      ⊎ IsFreshEntry s.cache.config (sources_of s question asks) e) after.entries
+
+-- Of a look-up: where the least TTL of the asked type is zero, whatever the cache was before.
+abbrev pub HasProvenance : LookupContext → Query → List Exchange → LookupResult → CacheValue → Type 0
+HasProvenance s question asks result after =
+    AllByRecursion (IsTimelyEntry s.cache.config) s.cache.entries
+    → HasNoLeast s.cache.config (type_code question.query_type)
+    → IsFromSources s question asks result after
