@@ -32,12 +32,10 @@ fn loopback_names_have_their_addresses(rt: HostRuntime) -> Result<(), Fail> {
             3,
         )?;
         assert_eq!(rt; v4.answers().len(), 1);
-        assert_eq!(rt;
-            v4.answers()[0].rdata,
-            RData::A(Ipv4Addr::new(127, 0, 0, 1))
-        );
-        assert_eq!(rt; v4.answers()[0].name, name(alloc, text)?);
-        assert_eq!(rt; v4.answers()[0].ttl, 86400);
+        let answer = &v4.answers()[0];
+        assert!(rt; answer.rdata == RData::A(Ipv4Addr::new(127, 0, 0, 1)));
+        assert!(rt; answer.name == name(alloc, text)?);
+        assert_eq!(rt; answer.ttl, 86400);
         assert_eq!(rt; v4.valid_until(), 86403);
         let v6 = ask(
             &mut client,
@@ -45,20 +43,16 @@ fn loopback_names_have_their_addresses(rt: HostRuntime) -> Result<(), Fail> {
             3,
         )?;
         assert_eq!(rt; v6.answers().len(), 1);
-        assert_eq!(rt;
-            v6.answers()[0].rdata,
-            RData::AAAA(Ipv6Addr::new(0, 0, 0, 0, 0, 0, 0, 1))
-        );
+        let answer = &v6.answers()[0];
+        assert!(rt; answer.rdata == RData::AAAA(Ipv6Addr::new(0, 0, 0, 0, 0, 0, 0, 1)));
         let host = ask(
             &mut client,
             Query::query(name(alloc, text)?, RecordType::PTR),
             3,
         )?;
         assert_eq!(rt; host.answers().len(), 1);
-        assert_eq!(rt;
-            host.answers()[0].rdata,
-            RData::PTR(name(alloc, "localhost.")?)
-        );
+        let answer = &host.answers()[0];
+        assert!(rt; answer.rdata == RData::PTR(name(alloc, "localhost.")?));
         let none = no_records(
             &mut client,
             Query::query(name(alloc, text)?, RecordType::MX),
@@ -103,11 +97,9 @@ fn a_special_name_behind_an_alias(rt: HostRuntime) -> Result<(), Fail> {
     for _ in 0..2 {
         let lookup = ask(&mut client, question(alloc, "a.")?, 0)?;
         assert_eq!(rt; lookup.answers().len(), 1);
-        assert_eq!(rt; lookup.answers()[0].name, name(alloc, "my.localhost.")?);
-        assert_eq!(rt;
-            lookup.answers()[0].rdata,
-            RData::A(Ipv4Addr::new(127, 0, 0, 1))
-        );
+        let answer = &lookup.answers()[0];
+        assert!(rt; answer.name == name(alloc, "my.localhost.")?);
+        assert!(rt; answer.rdata == RData::A(Ipv4Addr::new(127, 0, 0, 1)));
         check_sent(&rt, alloc, &client, &["a."], 1)?;
     }
     Ok(())
