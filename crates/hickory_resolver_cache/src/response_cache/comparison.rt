@@ -70,7 +70,13 @@ fn rows<S: BuildHasher>(alloc: Global, cache: &ResponseCache<S>) -> Result<Vec<R
         let Some((query, kept)) = cache.index.get_index(i) else {
             return Ok(rows);
         };
-        let text = text(alloc, query, &kept.outcome, kept.moment, kept.deadline)?;
+        let text = text(
+            alloc,
+            query,
+            &kept.result,
+            kept.original_time,
+            kept.valid_until,
+        )?;
         rows.push(Row {
             number: kept.number,
             text,
@@ -90,7 +96,7 @@ fn check_same<S: BuildHasher>(
     assert_eq!(rt; rows.len(), scanned.entries().len());
     assert_eq!(rt; cache.order.len(), scanned.entries().len());
     for (row, e) in rows.iter().zip(scanned.entries()) {
-        let want = text(alloc, &e.query, &e.outcome, e.moment, e.deadline)?;
+        let want = text(alloc, &e.query, &e.result, e.original_time, e.valid_until)?;
         assert_eq!(rt; row.text.as_str(), want.as_str());
     }
     Ok(())

@@ -46,8 +46,8 @@ impl ScannedCache {
             return Ok(());
         };
         for other in &self.entries {
-            if other.query == entry.query && now <= other.deadline {
-                entry.deadline = entry.deadline.min(other.deadline);
+            if other.query == entry.query && now <= other.valid_until {
+                entry.valid_until = entry.valid_until.min(other.valid_until);
             }
         }
         self.insert_entry(entry)
@@ -83,9 +83,9 @@ impl ScannedCache {
     fn remove_earliest(&mut self) {
         let mut least = u64::MAX;
         for e in &self.entries {
-            least = least.min(e.deadline);
+            least = least.min(e.valid_until);
         }
-        if let Some(i) = self.entries.iter().position(|e| e.deadline == least) {
+        if let Some(i) = self.entries.iter().position(|e| e.valid_until == least) {
             self.remove(i);
         }
     }
