@@ -33,7 +33,7 @@ abbrev pub RecordedStep : {H : Type 0} → Step H → RecordedValue H → DnsReq
 RecordedStep step before request answer after =
     IsRefused before answer after ⊎ IsKept step before request answer after
 
--- what was answered, and what was kept: the same, or another outcome in place of want of memory. Where
+-- what was answered, and what was kept: the same, or another outcome in place of out of memory. Where
 -- nothing was sent there is no exchange
 abbrev pub RecordedAs : List Exchange → List Exchange → Type 0
 RecordedAs [] kept = kept ≡ []

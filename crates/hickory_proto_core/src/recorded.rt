@@ -16,7 +16,7 @@ pub struct Exchange {
 
 /// A handle over another, which keeps each question that was sent and what the other handle gave for it.
 /// Where there is no memory to keep more, nothing is sent. Where there is none for the copy to answer with,
-/// the outcome is kept, and want of memory is answered.
+/// the outcome is kept, and out of memory is answered.
 #[derive(Drop)]
 pub struct Recorded<H: DnsHandle> {
     handle: H,

@@ -177,7 +177,7 @@ text_name_is text = by (decided text)
     by (inl (name, spelled)) = spelled
     by (inr (fault, found)) = found
 
--- a reading that is a name or a fault of the text, or want of memory, is that one or want of memory
+-- a reading that is a name or a fault of the text, or out of memory, is that one or out of memory
 pub is_text_name : (text : List ℕ) (result : Result NameValue NameError) → IsUnambiguous text
     → IsReading text result → result ≡ text_name text
 is_text_name text result only is = at (text_name text) (text_name_is text) result is
@@ -189,7 +189,7 @@ is_text_name text result only is = at (text_name text) (text_name_is text) resul
     at (Err d) there (Ok m) spells = absurd (only.not_both m d spells there)
     at (Err d) there (Err e) found = ap (λ x. Err x) (only.one_fault e d found there)
 
--- what reading a text answers is what the text says, or want of memory
+-- what reading a text answers is what the text says, or out of memory
 pub named_or_out : (text : List ℕ) (result : Result NameValue NameError) → IsUnambiguous text
     → IfOk result (Spells text) → IfErr result (λ e. (e ≡ OutOfMemory) ⊎ HasFault text e)
     → (result ≡ text_name text) ⊎ (result ≡ Err OutOfMemory)

@@ -15,7 +15,7 @@ use std::str;
 impl Name {
     /// The name of the address: its octets from the last to the first before `in-addr.arpa.` (RFC 1035,
     /// section 3.5), or its 32 hex digits from the last to the first before `ip6.arpa.` (RFC 3596, section
-    /// 2.5). Reading it gives the address back, with all its bits. The only error is the want of memory.
+    /// 2.5). Reading it gives the address back, with all its bits. The only error is to be out of memory.
     pub fn from_ip(alloc: Global, address: IpAddr) -> Result<Name, NameError>
         ensures ok { IfOk result (λ n. n ≡ arpa_name (whole_net address)) }
         ensures back { IfOk result (λ n. IsArpaNameOf n (whole_net address)) }

@@ -37,7 +37,7 @@ stores_back-map reply (x ∷ xs) =
     ∙ ap (λ ss. ss ++ store_of reply x ∷ []) (stores_back-map reply xs)
     ∙ sym (ap (λ (ys : List Exchange). map (store_of reply) ys) (reverse_onto xs x []) ∙ map-append (store_of reply) (reverse xs) (x ∷ []))
 
--- stores of want of memory change nothing
+-- stores of out of memory change nothing
 nothing_stored : (now : ℕ) (front back : List Store) (qs : List Query) (cache : CacheValue) → front ++ back ≡ map (λ q. record { query = q; outcome = Err OutOfMemory }) qs → after_stores now front cache ≡ cache
 nothing_stored now [] back qs cache e = refl
 nothing_stored now (s ∷ ss) back [] cache e = cc

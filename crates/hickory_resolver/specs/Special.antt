@@ -9,11 +9,11 @@ use Rattle.hickory_proto_core.specs.records.net_error.NetError.TheVariants.{OutO
 use Rattle.hickory_resolver_model.specs.Lookup.{LookupResult}
 use Rattle.hickory_resolver_model.specs.SpecialUse.{full_name, loopback_data, one_record, no_records}
 
--- this result, or want of memory
+-- this result, or out of memory
 abbrev pub IsUnlessOut : LookupResult → LookupResult → Type 0
 IsUnlessOut wanted result = (result ≡ wanted) ⊎ (result ≡ Err OutOfMemory)
 
--- the reply, where the name is special, or want of memory for it
+-- the reply, where the name is special, or out of memory for it
 abbrev pub IsSpecialReply : Option LookupResult → Option LookupResult → Type 0
 IsSpecialReply None got = got ≡ None
 IsSpecialReply (Some reply) got = (got ≡ Some reply) ⊎ (got ≡ Some (Err OutOfMemory))

@@ -22,7 +22,7 @@ use Rattle.hickory_resolver.specs.declared.caching_client.HopStep.TheVariants.{N
 abbrev pub NeverFailsNegative : ResponseKind → Type 0
 NeverFailsNegative kind = (n : NoRecordsValue) → kind ≡ Failed (Dns (NoRecordsFound n)) → ⊥
 
--- this result, with these stores made; or want of memory, with nothing stored
+-- this result, with these stores made; or out of memory, with nothing stored
 abbrev pub SettledAs : LookupContext → LookupResult → List Store → LookupResult → CacheValue → Type 0
 SettledAs s reply stores result after =
     ((result ≡ reply) × (after ≡ after_stores s.now stores s.cache))

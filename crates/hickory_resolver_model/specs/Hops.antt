@@ -185,7 +185,7 @@ pub record IsCutInAsks
       × (asks ≡ passed ++ x ∷ []))
   pub after_is : after ≡ s.cache
 
--- what want of memory leaves of a look-up: a beginning of its events
+-- what is left of a look-up where memory ran out: a beginning of its events
 abbrev pub IsCutShort : LookupContext → Query → List Exchange → CacheValue → Type 0
 IsCutShort s question asks after = IsCutInStores s question asks after ⊎ IsCutInAsks s question asks after
 

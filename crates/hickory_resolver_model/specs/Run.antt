@@ -170,7 +170,7 @@ pub record IsStage (s : Settings) (stage : Stage) (after : CacheValue) : Type 0 
   pub count_is : stage.step.exchanges ≡ length stage.piece
 
 -- One stage a request: each is served over the cache that the one before it left. A request that is answered
--- want of memory is the last.
+-- out of memory is the last.
 abbrev pub AreStages : Settings → CacheValue → List RequestValue → List Stage → CacheValue → Type 0
 AreStages s before [] [] after = after ≡ before
 AreStages s before (request ∷ requests) (stage ∷ stages) after =

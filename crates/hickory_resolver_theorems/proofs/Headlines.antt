@@ -32,7 +32,7 @@ asks-append (p ∷ ps) qs = ap (λ xs. p.asks ++ xs) (asks-append ps qs) ∙ sym
 
 -- ---- a part
 
--- a part is want of memory, or the cacheless resolver's, at whatever cache; and the entries after it are meant
+-- a part is out of memory, or the cacheless resolver's, at whatever cache; and the entries after it are meant
 abbrev PartAlike : TableValue → Setting → Bool → CacheValue → Query → SubLookup → CacheValue → Type 0
 PartAlike table t looked c q p after = ((is_out_of_memory p.result ≡ true) ⊎ CachelessSubLookup table t looked c q p c) × AreWhatTheyResolveTo table after
 
@@ -66,7 +66,7 @@ part-alike table t looked c before q p after seen meant has tells (for, is) = by
               ),
             )
 
--- where it is not want of memory
+-- where it is not out of memory
 cacheless : (table : TableValue) (t : Setting) (looked : Bool) (c : CacheValue) (q : Query) (p : SubLookup) → is_out_of_memory p.result ≡ false → (is_out_of_memory p.result ≡ true) ⊎ CachelessSubLookup table t looked c q p c → CachelessSubLookup table t looked c q p c
 cacheless table t looked c q p live (inl out) = let clash : false ≡ true = sym live ∙ out in cc
 cacheless table t looked c q p live (inr is) = is
@@ -197,7 +197,7 @@ attempts-alike table t plan looked c before (n ∷ ns) last parts r after seen m
 
 -- ---- a request
 
--- a request that is answered: want of memory, or the cacheless resolver's reply; and the entries after it are meant
+-- a request that is answered: out of memory, or the cacheless resolver's reply; and the entries after it are meant
 abbrev ServedAlike : TableValue → Settings → CacheValue → RequestValue → StepReply → CacheValue → Type 0
 ServedAlike table s c request reply after = ((ends_run reply ≡ true) ⊎ IsCacheless table s c request reply) × AreWhatTheyResolveTo table after
 

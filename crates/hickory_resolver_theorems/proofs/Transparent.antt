@@ -134,7 +134,7 @@ pub record LedMeaning (table : TableValue) (xs : List Exchange) (last : Hop) (r 
   pub plain : last.preserved ≡ []
   pub each : AllByRecursion (λ x. (k : ℕ) × ResolvesTo table x.query r k) xs
 
--- a hop that passes on: it is plain, its outcome was no want of memory, and the next hop is plain
+-- a hop that passes on: it is plain, its outcome was not out of memory, and the next hop is plain
 pub record PassedOn (s : LookupContext) (hop : Hop) (x : Exchange) (next : Hop) : Type 0 where
   pub live : x.outcome ≡ Err OutOfMemory → ⊥
   pub on : next_outcome hop.query x.outcome ≡ GoesOn (folded_query next.query)
@@ -230,7 +230,7 @@ last-meaning s table hop count (Asked (Err (Bounds error))) r n off none meant t
 
 -- ---- stores
 
--- what is stored is what its question means, or want of memory, which is not stored
+-- what is stored is what its question means, or out of memory, which is not stored
 abbrev pub StoresMeant : TableValue → Store → Type 0
 StoresMeant table s = (s.outcome ≡ Err OutOfMemory) ⊎ ((k : ℕ) × ResolvesTo table s.query (stored_without_times s.outcome) k)
 

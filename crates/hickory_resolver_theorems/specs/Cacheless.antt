@@ -41,7 +41,7 @@ pub data ResolvesTo (table : TableValue) : Query → WithoutTimes → ℕ → Ty
       → kind_verdict cacheless_context (first_hop q) (kind_of outcome) ≡ Some (CnameChain next)
       → ResolvesTo table next.query reply n → ResolvesTo table q reply (suc n)
 
--- the table has each question that was asked, with an outcome that agrees, want of memory aside
+-- the table has each question that was asked, with an outcome that agrees, out of memory aside
 abbrev pub IsConsistentWith : TableValue → Exchange → Type 0
 IsConsistentWith table x =
     (x.outcome ≡ Err OutOfMemory → ⊥)

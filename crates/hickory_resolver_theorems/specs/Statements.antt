@@ -138,7 +138,7 @@ IsCacheless table s cache request (LookedUp reply) =
     × (without_times reply ≡ without_times cacheless)
 IsCacheless table s cache request (Cleared done) = Unit {0}
 
--- the reply of a step is the cacheless resolver's, want of memory aside
+-- the reply of a step is the cacheless resolver's, or out of memory
 abbrev pub IsAsWithoutCache : TableValue → Settings → Stage → Type 0
 IsAsWithoutCache table s stage =
     (ends_run stage.step.reply ≡ true) ⊎ IsCacheless table s stage.before stage.request stage.step.reply

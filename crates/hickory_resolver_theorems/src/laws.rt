@@ -57,7 +57,7 @@ pub fn a_cache_changes_no_answer()
 {}
 
 /// A look-up that is what the hops say over the exchanges that were answered is so over those that a
-/// recording handle kept: an exchange that was answered want of memory, where another outcome or none was
+/// recording handle kept: an exchange that was answered out of memory, where another outcome or none was
 /// kept, can only be the last.
 pub fn a_record_keeps_the_reply()
     ensures { (s : LookupContext) (question : Query) (asks kept : List Exchange) (result : LookupResult)

@@ -94,7 +94,7 @@ no_records_text n =
     codes "norecords " ++ response_text (response_code n.response_code) ++ codes " "
     ++ ttl_text n.negative_ttl ++ codes " " ++ question_text n.query
 
--- what went wrong with a request. Bounds and want of memory end a run otherwise
+-- what went wrong with a request. Bounds and out of memory end a run otherwise
 abbrev pub error_text : NetError → List ℕ
 error_text (Message text) = codes "message " ++ text.now
 error_text Timeout = codes "timeout"

@@ -102,7 +102,7 @@ pub record IsReplayed (script text : List ℕ) : Type 0 where
   pub read : AreRead [] (lines script) (Ok said)
   pub run : IsScriptRun (script_of said) text
 
--- a script that cannot be read, or want of memory
+-- a script that cannot be read, or out of memory
 abbrev pub replay_fault : ScriptFault → ScriptError → ReplayError
 replay_fault fault.OutOfMemory error = Memory
 replay_fault other error = Script error

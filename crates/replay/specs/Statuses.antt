@@ -3,7 +3,7 @@ use Rattle.std.specs.Prelude.{ℕ}
 use Rattle.replay.specs.declared.run.ReplayError.{ReplayError}
 use Rattle.replay.specs.declared.run.ReplayError.TheVariants.{Script, Memory}
 
--- the exit status: a script with a fault, or want of memory
+-- the exit status: a script with a fault, or out of memory
 abbrev pub status_of : ReplayError → ℕ
 status_of (Script error) = 1
 status_of Memory = 3

@@ -41,7 +41,7 @@ pub enum ScriptFault {
     OutOfMemory,
 }
 
-/// The first fault of a script, and the number of its line, counted from 1. Want of memory has no line:
+/// The first fault of a script, and the number of its line, counted from 1. Out of memory has no line:
 /// its number is 0.
 #[derive(Clone, Copy, Debug, PartialEq, Eq)]
 pub struct ScriptError {
@@ -50,7 +50,7 @@ pub struct ScriptError {
 }
 
 impl ScriptError {
-    /// Want of memory.
+    /// Out of memory.
     pub const fn out_of_memory() -> ScriptError
         ensures { result ≡ record { line = 0; fault = ScriptFault.OutOfMemory } }
     {

@@ -80,7 +80,7 @@ fn read<R: AllocGlobal + Files>(rt: &R, path: String) -> Result<Vec<u8>, RunErro
     }
 }
 
-// Want of memory, or the other error.
+// Out of memory, or the other error.
 fn memory_or(error: io::Error, other: RunError) -> RunError {
     if error.kind() == io::ErrorKind::OutOfMemory {
         RunError::Replay(ReplayError::Memory)
