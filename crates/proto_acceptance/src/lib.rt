@@ -1,4 +1,4 @@
-//! Tests of names, addresses, codes, records, responses and handles, by what `hickory_proto_core` passes on.
+//! Tests of names, addresses and their arpa names, by what `hickory_proto_core` passes on.
 #![tactic(auto)]
 
 #[cfg(test)]
@@ -6,14 +6,4 @@ mod addresses;
 #[cfg(test)]
 mod arpa_names;
 #[cfg(test)]
-mod debug;
-#[cfg(test)]
-mod errors;
-#[cfg(test)]
-mod memory;
-#[cfg(test)]
 mod names;
-#[cfg(test)]
-mod responses;
-#[cfg(test)]
-mod samples;
