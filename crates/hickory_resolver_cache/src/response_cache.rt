@@ -241,8 +241,3 @@ impl<S: BuildHasher> ResponseCache<S> {
         }
     }
 }
-
-#[cfg(test)]
-mod comparison;
-#[cfg(test)]
-mod scanned_cache;
