@@ -12,11 +12,12 @@ use Rattle.hickory_proto_core.specs.names.name_error.NameError.TheVariants as na
 use Rattle.hickory_proto_core.specs.declared.recorded.Exchange.{Exchange}
 use Rattle.hickory_resolver.specs.WholeLookup.{IsWholeLookup}
 use Rattle.hickory_resolver_model.specs.Lookup.{LookupResult}
-use Rattle.replay.specs.Request.{RequestValue}
-use Rattle.replay.specs.Run.{ScriptClient, request_options, IsAsked, Answers, AddsStep, RunTo, IsScriptRun, first_client}
+use Rattle.hickory_resolver_model.specs.Run.{RequestValue, Lookup}
+use Rattle.hickory_proto_core.specs.codes.record_type.RecordType.{RecordType}
+use Rattle.replay.specs.Run.{ScriptClient, request_options, IsAsked, IsLookedUp, Answers, AddsStep, RunTo, IsScriptRun, first_client}
 use Rattle.hickory_resolver_model.specs.Hosts.{as_fqdn}
 use Rattle.hickory_resolver_model.specs.Calls.{question_of, is_out_of_memory}
-use Rattle.replay.specs.Script.{ScriptValue}
+use Rattle.replay_script.specs.Script.{ScriptValue}
 use Rattle.replay.specs.Output.{step_text}
 
 named : (name : NameValue) (read : Result NameValue NameError) → (Ok name ≡ read) ⊎ (Ok name ≡ Err name_error.OutOfMemory) → Ok name ≡ read
@@ -24,18 +25,18 @@ named name read (inl e) = e
 named name read (inr e) = absurd (let h = e in cc)
 
 -- a request whose text is a name was looked up
-pub looked_up : (before after : ScriptClient) (request : RequestValue) (now : ℕ) (text : List ℕ) (name : NameValue) (question : Query) (reply : LookupResult)
-    → now ≡ request.now → text ≡ request.name → (Ok name ≡ text_name text) ⊎ (Ok name ≡ Err name_error.OutOfMemory)
-    → question.name ≡ record name { fqdn = true } → question.query_type ≡ request.record_type → question.query_class ≡ class.IN
+pub looked_up : (before after : ScriptClient) (request : RequestValue) (now : ℕ) (text : List ℕ) (t : RecordType) (name : NameValue) (question : Query) (reply : LookupResult)
+    → request ≡ Lookup text t now → (Ok name ≡ text_name text) ⊎ (Ok name ≡ Err name_error.OutOfMemory)
+    → question.name ≡ record name { fqdn = true } → question.query_type ≡ t → question.query_class ≡ class.IN
     → IsWholeLookup (RecordedStep ScriptStep) request_options now before question reply after → Answers before request reply after
-looked_up before after request now text name question reply now_is text_is read name_is type_is class_is look =
+looked_up before after request now text t name question reply request_is read name_is type_is class_is look =
     let kept = recorded_leads ScriptStep request_options before.handle after.handle look.asks look.led in
-    let is_name : Ok name ≡ text_name request.name = named name (text_name text) read ∙ ap text_name text_is in
-    let question_is : question ≡ question_of (as_fqdn name) request.record_type = λ i. record { name = name_is i; query_type = type_is i; query_class = class_is i } in
-    let N : ℕ → Type 0 = λ n. IsWholeLookup (RecordedStep ScriptStep) request_options n before question reply after in
-    let P : Query → Type 0 = λ q. IsWholeLookup (RecordedStep ScriptStep) request_options request.now before q reply after in
-    let Q : Result NameValue NameError → Type 0 = λ n. IsAsked before request n reply after in
-    inl (record { kept = kept.kept; asked = subst Q is_name (subst P question_is (subst N now_is look)); exchanges_are = kept.exchanges_are })
+    let is_name : Ok name ≡ text_name text = named name (text_name text) read in
+    let question_is : question ≡ question_of (as_fqdn name) t = λ i. record { name = name_is i; query_type = type_is i; query_class = class_is i } in
+    let P : Query → Type 0 = λ q. IsWholeLookup (RecordedStep ScriptStep) request_options now before q reply after in
+    let Q : Result NameValue NameError → Type 0 = λ n. IsLookedUp before t now n reply after in
+    let R : RequestValue → Type 0 = λ r. IsAsked before r reply after in
+    inl (record { kept = kept.kept; asked = subst R (sym request_is) (subst Q is_name (subst P question_is look)); exchanges_are = kept.exchanges_are })
 
 behind : (old kept : List Exchange) → drop (length old) (old ++ kept) ≡ kept
 behind [] kept = refl

@@ -1,9 +1,3 @@
-pub mod Faults
-pub mod Fields
-pub mod Line
 pub mod Output
-pub mod Reader
-pub mod Request
 pub mod Run
-pub mod Script
 pub mod Statuses

@@ -16,7 +16,8 @@ use Rattle.hickory_proto_core.specs.records.net_error.NetError.{NetError}
 use Rattle.hickory_proto_core.specs.records.net_error.NetError.TheVariants.{Message, Timeout, Proto, Dns, NoOutcome, Bounds, OutOfMemory}
 use Rattle.hickory_proto_core.specs.records.net_error.DnsError.TheVariants.{ResponseCode, NoRecordsFound}
 use Rattle.hickory_resolver_model.specs.Lookup.{LookupValue, LookupResult}
-use Rattle.replay.specs.Request.{RequestValue}
+use Rattle.hickory_proto_core.specs.codes.record_type.RecordType.{RecordType}
+use Rattle.hickory_resolver_model.specs.Run.{RequestValue, Lookup, LookupIp, ClearLookup, Clear}
 
 -- a name, where `@` stands for the relative name without labels
 abbrev pub shown_name : NameValue → List ℕ
@@ -128,11 +129,17 @@ abbrev pub reply_text : LookupResult → List ℕ
 reply_text (Ok lookup) = lookup_text lookup
 reply_text (Err error) = line_text (codes "err") (error_text error)
 
--- at MOMENT lookup NAME TYPE
+-- NAME TYPE
+abbrev pub asked_text : List ℕ → RecordType → List ℕ
+asked_text name t = name ++ codes " " ++ type_text (type_code t)
+
+-- at MOMENT, and what is asked
 abbrev pub request_text : RequestValue → List ℕ
-request_text r =
-    codes "at " ++ decimal r.now ++ codes " lookup " ++ r.name ++ codes " "
-    ++ type_text (type_code r.record_type) ++ codes "\n"
+request_text (Lookup name t now) = codes "at " ++ decimal now ++ codes " lookup " ++ asked_text name t ++ codes "\n"
+request_text (LookupIp host now) = codes "at " ++ decimal now ++ codes " lookup_ip " ++ host ++ codes "\n"
+request_text (ClearLookup name t now) =
+    codes "at " ++ decimal now ++ codes " clear_lookup " ++ asked_text name t ++ codes "\n"
+request_text (Clear now) = codes "at " ++ decimal now ++ codes " clear" ++ codes "\n"
 
 -- the block of a request: the request, each question that was sent for it, and the reply
 abbrev pub step_text : RequestValue → List Query → LookupResult → List ℕ

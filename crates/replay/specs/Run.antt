@@ -16,13 +16,14 @@ use Rattle.hickory_resolver.specs.WholeLookup.{IsWholeLookup}
 use Rattle.hickory_resolver_model.specs.Lookup.{LookupResult}
 use Rattle.hickory_resolver_model.specs.Hosts.{as_fqdn}
 use Rattle.hickory_resolver_model.specs.Calls.{question_of, is_out_of_memory}
-use Rattle.replay.specs.Request.{RequestValue}
-use Rattle.replay.specs.Script.{AreRead, ScriptValue, script_of}
+use Rattle.hickory_resolver_model.specs.Run.{RequestValue, Lookup, LookupIp, ClearLookup, Clear}
+use Rattle.hickory_proto_core.specs.codes.record_type.RecordType.{RecordType}
+use Rattle.replay_script.specs.Script.{AreRead, ScriptValue, script_of}
 use Rattle.replay.specs.Output.{step_text}
-use Rattle.replay.specs.declared.fault.ScriptFault.TheVariants as fault
-use Rattle.replay.specs.declared.fault.ScriptFault.{ScriptFault}
-use Rattle.replay.specs.declared.fault.ScriptError.{ScriptError}
-use Rattle.replay.specs.declared.line.Line.{Line}
+use Rattle.replay_script.specs.declared.fault.ScriptFault.TheVariants as fault
+use Rattle.replay_script.specs.declared.fault.ScriptFault.{ScriptFault}
+use Rattle.replay_script.specs.declared.fault.ScriptError.{ScriptError}
+use Rattle.replay_script.specs.declared.line.Line.{Line}
 use Rattle.replay.specs.declared.run.ReplayError.{ReplayError}
 use Rattle.replay.specs.declared.run.ReplayError.TheVariants.{Script, Memory}
 
@@ -43,13 +44,19 @@ abbrev pub request_options : DnsRequestOptions
 request_options =
     record { recursion_desired = true; use_edns = true; edns_payload_len = 1232; case_randomization = false }
 
--- a request is looked up at its moment. What is no name is not, and changes nothing
-abbrev pub IsAsked : ScriptClient → RequestValue → Result NameValue NameError → LookupResult → ScriptClient
+-- a name is looked up at a moment. What is no name is not, and changes nothing
+abbrev pub IsLookedUp : ScriptClient → RecordType → ℕ → Result NameValue NameError → LookupResult → ScriptClient
     → Type 0
-IsAsked before request (Ok name) reply after =
-    IsWholeLookup (RecordedStep ScriptStep) request_options request.now before
-    (question_of (as_fqdn name) request.record_type) reply after
-IsAsked before request (Err error) reply after = (reply ≡ Err (net_error_of error)) × (after ≡ before)
+IsLookedUp before t now (Ok name) reply after =
+    IsWholeLookup (RecordedStep ScriptStep) request_options now before (question_of (as_fqdn name) t) reply after
+IsLookedUp before t now (Err error) reply after = (reply ≡ Err (net_error_of error)) × (after ≡ before)
+
+-- a script asks look-ups of names
+abbrev pub IsAsked : ScriptClient → RequestValue → LookupResult → ScriptClient → Type 0
+IsAsked before (Lookup text t now) reply after = IsLookedUp before t now (text_name text) reply after
+IsAsked before (LookupIp host now) reply after = ⊥
+IsAsked before (ClearLookup text t now) reply after = ⊥
+IsAsked before (Clear now) reply after = ⊥
 
 -- a request, the questions that were sent for it, and the reply, for which there was memory
 pub record IsStep
@@ -57,7 +64,7 @@ pub record IsStep
     (after : ScriptClient)
     : Type 0 where
   pub kept : List Exchange
-  pub asked : IsAsked before request (text_name request.name) reply after
+  pub asked : IsAsked before request reply after
   pub exchanges_are : after.handle.exchanges ≡ before.handle.exchanges ++ kept
   pub sent_are : sent ≡ map (λ x. x.query) kept
   pub remembered : is_out_of_memory reply ≡ false
@@ -67,7 +74,7 @@ pub record IsAnswered
     (before : ScriptClient) (request : RequestValue) (reply : LookupResult) (after : ScriptClient)
     : Type 0 where
   pub kept : List Exchange
-  pub asked : IsAsked before request (text_name request.name) reply after
+  pub asked : IsAsked before request reply after
   pub exchanges_are : after.handle.exchanges ≡ before.handle.exchanges ++ kept
 
 abbrev pub Answers : ScriptClient → RequestValue → LookupResult → ScriptClient → Type 0

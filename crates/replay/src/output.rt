@@ -2,11 +2,11 @@
 ghost use Rattle.std.specs.Prelude.{◌≡◌, ◌++◌, OnOk, codes, map, string_bytes};
 ghost use Rattle.replay.specs.Output.{error_text, line_text, lookup_text, name_error_text, question_text, record_text, reply_text, request_text, section_text, sent_text, step_text};
 
-use crate::request::Request;
 use hickory_proto_core::{
     DnsError, Exchange, Name, NameError, NetError, NoRecords, Query, RData, Record,
 };
 use hickory_resolver::Lookup;
+use replay_script::Request;
 use std::alloc::AllocError;
 use std::fmt;
 

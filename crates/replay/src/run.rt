@@ -3,15 +3,13 @@ ghost use Rattle.std.specs.Prelude.{◌≡◌, IfErr, IfOk, IsOkUnless, OnOk, ma
 ghost use Rattle.replay.specs.Run.{AddsStep, Answers, IsRefused, IsReplayed, IsScriptRun, RunTo};
 ghost use Rattle.hickory_resolver_model.specs.Calls.{is_out_of_memory};
 
-use crate::fault::{ScriptError, ScriptFault};
 use crate::output::push_step;
-use crate::request::Request;
-use crate::script::{Script, read_script};
 use hickory_proto_core::dns_handle::Outcome;
 use hickory_proto_core::{
     DnsRequestOptions, Name, NameError, NetError, Query, Recorded, ScriptHandle,
 };
 use hickory_resolver::{CachingClient, Lookup};
+use replay_script::{Request, Script, ScriptError, ScriptFault, read_script};
 use std::alloc::{AllocError, Global};
 use thiserror::Error;
 

@@ -1,6 +1,6 @@
 use Rattle.std.proofs.Common.{◌≡◌, ◌+◌, List, [], ◌∷◌, subst, drop, string_bytes, arith}
 use Rattle.std.proofs.lemmas.Grind.{common_steps}
-use Rattle.replay.specs.Request.{RequestValue}
+use Rattle.hickory_resolver_model.specs.Run.{RequestValue}
 use Rattle.replay.proofs.Steps.{RunsOn, run_went_on, run_ended}
 use Rattle.replay.proofs.run.run_requests.Goals as goal
 

@@ -1,5 +1,0 @@
-use Rattle.replay.proofs.Allowed.{allowed_text}
-use Rattle.replay.proofs.line.read_text.Goals as goal
-
-pub returns-in-Err : goal.returns-in-Err
-returns-in-Err c = absurd (c.in-Err.ensures.cases.0 (allowed_text c.args.line.now (let h = c.is_all_allowed.ensures in cc)))

@@ -1,0 +1,68 @@
+-- Lines with a wrong number of fields.
+use Rattle.std.proofs.Common.{◌≡◌, ◌≢◌, ◌<◌, ℕ, List, [], ◌∷◌, length, Bor, Err, refl, arith}
+use Rattle.hickory_proto_core.specs.Records.{DataValue}
+use Rattle.replay_script.specs.RecordData.{IsAddressData, target_of, mx_of, srv_of, soa_of}
+use Rattle.replay_script.specs.RecordLine.{IsRecord}
+use Rattle.replay_script.specs.ReplyLine.{reply_of}
+use Rattle.replay_script.specs.Request.{request_of, lookup_of}
+use Rattle.replay_script.specs.Words.{texts}
+use Rattle.replay_script.specs.declared.fault.ScriptFault.TheVariants.{FieldCount}
+
+pub reply_short : (fs : List (Bor (List ℕ))) → length fs < 3 → Err FieldCount ≡ reply_of (texts fs)
+reply_short [] short = refl
+reply_short (a ∷ []) short = refl
+reply_short (a ∷ b ∷ []) short = refl
+reply_short (a ∷ b ∷ c ∷ fs) short = absurd (omega arith)
+
+pub record_short : (fs : List (Bor (List ℕ))) → length fs < 4 → IsRecord (texts fs) (Err FieldCount)
+record_short [] short = refl
+record_short (a ∷ []) short = refl
+record_short (a ∷ b ∷ []) short = refl
+record_short (a ∷ b ∷ c ∷ []) short = refl
+record_short (a ∷ b ∷ c ∷ d ∷ fs) short = absurd (omega arith)
+
+pub request_short : (fs : List (Bor (List ℕ))) → length fs < 2 → Err FieldCount ≡ request_of (texts fs)
+request_short [] short = refl
+request_short (a ∷ []) short = refl
+request_short (a ∷ b ∷ fs) short = absurd (omega arith)
+
+pub lookup_other : (now : ℕ) (fs : List (Bor (List ℕ))) → length fs ≢ 2 → Err FieldCount ≡ lookup_of now (texts fs)
+lookup_other now [] other = refl
+lookup_other now (a ∷ []) other = refl
+lookup_other now (a ∷ b ∷ []) other = absurd (other (omega arith))
+lookup_other now (a ∷ b ∷ c ∷ fs) other = refl
+
+pub address_other : (IsAddress : List ℕ → DataValue → Type 0) (fs : List (Bor (List ℕ))) → length fs ≢ 1 → IsAddressData IsAddress (texts fs) (Err FieldCount)
+address_other IsAddress [] other = refl
+address_other IsAddress (a ∷ []) other = absurd (other (omega arith))
+address_other IsAddress (a ∷ b ∷ fs) other = refl
+
+pub target_other : (fs : List (Bor (List ℕ))) → length fs ≢ 1 → Err FieldCount ≡ target_of (texts fs)
+target_other [] other = refl
+target_other (a ∷ []) other = absurd (other (omega arith))
+target_other (a ∷ b ∷ fs) other = refl
+
+pub mx_other : (fs : List (Bor (List ℕ))) → length fs ≢ 2 → Err FieldCount ≡ mx_of (texts fs)
+mx_other [] other = refl
+mx_other (a ∷ []) other = refl
+mx_other (a ∷ b ∷ []) other = absurd (other (omega arith))
+mx_other (a ∷ b ∷ c ∷ fs) other = refl
+
+pub srv_other : (fs : List (Bor (List ℕ))) → length fs ≢ 4 → Err FieldCount ≡ srv_of (texts fs)
+srv_other [] other = refl
+srv_other (a ∷ []) other = refl
+srv_other (a ∷ b ∷ []) other = refl
+srv_other (a ∷ b ∷ c ∷ []) other = refl
+srv_other (a ∷ b ∷ c ∷ d ∷ []) other = absurd (other (omega arith))
+srv_other (a ∷ b ∷ c ∷ d ∷ e ∷ fs) other = refl
+
+pub soa_other : (fs : List (Bor (List ℕ))) → length fs ≢ 7 → Err FieldCount ≡ soa_of (texts fs)
+soa_other [] other = refl
+soa_other (a ∷ []) other = refl
+soa_other (a ∷ b ∷ []) other = refl
+soa_other (a ∷ b ∷ c ∷ []) other = refl
+soa_other (a ∷ b ∷ c ∷ d ∷ []) other = refl
+soa_other (a ∷ b ∷ c ∷ d ∷ e ∷ []) other = refl
+soa_other (a ∷ b ∷ c ∷ d ∷ e ∷ f ∷ []) other = refl
+soa_other (a ∷ b ∷ c ∷ d ∷ e ∷ f ∷ g ∷ []) other = absurd (other (omega arith))
+soa_other (a ∷ b ∷ c ∷ d ∷ e ∷ f ∷ g ∷ h ∷ fs) other = refl

@@ -1,0 +1,7 @@
+pub mod FieldLists
+pub mod LineLists
+pub mod Counts
+pub mod Allowed
+pub mod Said
+pub mod Taken
+pub mod UnderWay

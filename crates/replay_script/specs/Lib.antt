@@ -1,0 +1,10 @@
+pub mod Faults
+pub mod Fields
+pub mod Line
+pub mod Reader
+pub mod RecordData
+pub mod RecordLine
+pub mod ReplyLine
+pub mod Request
+pub mod Script
+pub mod Words

@@ -1,0 +1,99 @@
+-- The data of a record in a line: the fields behind its type.
+use Rattle.std.specs.Prelude.{◌≡◌, ℕ, List, [], ◌∷◌, Result, Ok, Err, MatchResult}
+use Rattle.std.specs.Net.Addr.{ipv4_octets, ipv6_segments}
+use Rattle.std.specs.Net.Grammar.{IsIpv4Text, IsIpv6Text}
+use Rattle.std.specs.declared.net.Ipv4Addr.{Ipv4Addr}
+use Rattle.std.specs.declared.net.Ipv6Addr.{Ipv6Addr}
+use Rattle.hickory_proto_core.specs.Name.{NameValue}
+use Rattle.hickory_proto_core.specs.Records.{DataValue, a_data, aaaa_data, cname_data, data_of, mx_data, ns_data, ptr_data, soa_data, srv_data}
+use Rattle.hickory_proto_core.specs.records.record_data.RData.{RData}
+use Rattle.hickory_proto_core.specs.codes.record_type.RecordType.{RecordType}
+use Rattle.hickory_proto_core.specs.codes.record_type.RecordType.TheVariants as type
+use Rattle.replay_script.specs.Words.{◌>>=◌, name_field, number_field}
+use Rattle.replay_script.specs.declared.fault.ScriptFault.{ScriptFault}
+use Rattle.replay_script.specs.declared.record_data.ZoneTimes.{ZoneTimes}
+use Rattle.replay_script.specs.declared.fault.ScriptFault.TheVariants.{BadAddress, FieldCount, UnknownWord}
+
+-- what was read, as plain data
+abbrev pub read_as_value : Result RData ScriptFault → Result DataValue ScriptFault
+read_as_value (Ok rdata) = Ok (data_of rdata)
+read_as_value (Err fault) = Err fault
+
+-- the text writes this address
+abbrev pub IsIpv4Data : List ℕ → DataValue → Type 0
+IsIpv4Data text rdata = (address : Ipv4Addr) × IsIpv4Text text address × (rdata ≡ a_data (ipv4_octets address))
+
+abbrev pub IsIpv6Data : List ℕ → DataValue → Type 0
+IsIpv6Data text rdata =
+    (address : Ipv6Addr) × IsIpv6Text text address × (rdata ≡ aaaa_data (ipv6_segments address))
+
+-- one address of a family, or none
+abbrev pub IsAddressData : (List ℕ → DataValue → Type 0) → List (List ℕ) → Result DataValue ScriptFault → Type 0
+IsAddressData IsAddress [] result = result ≡ Err FieldCount
+IsAddressData IsAddress (text ∷ []) result =
+    MatchResult result (λ rdata. IsAddress text rdata)
+    (λ fault. (fault ≡ BadAddress) × ((rdata : DataValue) → ¬ IsAddress text rdata))
+IsAddressData IsAddress (text ∷ more ∷ others) result = result ≡ Err FieldCount
+
+-- NAME
+abbrev pub target_of : List (List ℕ) → Result NameValue ScriptFault
+target_of [] = Err FieldCount
+target_of (name ∷ []) = name_field name
+target_of (name ∷ more ∷ others) = Err FieldCount
+
+-- PREFERENCE NAME
+abbrev pub mx_of : List (List ℕ) → Result DataValue ScriptFault
+mx_of (preference ∷ exchange ∷ []) = do
+  p ← number_field 16 preference
+  n ← name_field exchange
+  Ok (mx_data p n)
+mx_of fields = Err FieldCount
+
+-- PRIORITY WEIGHT PORT NAME
+abbrev pub service_of : List ℕ → List ℕ → List ℕ → List ℕ → Result DataValue ScriptFault
+service_of priority weight port target = do
+  p ← number_field 16 priority
+  w ← number_field 16 weight
+  o ← number_field 16 port
+  n ← name_field target
+  Ok (srv_data p w o n)
+
+abbrev pub srv_of : List (List ℕ) → Result DataValue ScriptFault
+srv_of (priority ∷ weight ∷ port ∷ target ∷ []) = service_of priority weight port target
+srv_of fields = Err FieldCount
+
+-- SERIAL REFRESH RETRY EXPIRE MINIMUM
+abbrev pub times_of : List ℕ → List ℕ → List ℕ → List ℕ → List ℕ → Result ZoneTimes ScriptFault
+times_of serial refresh retry expire minimum = do
+  s ← number_field 32 serial
+  f ← number_field 32 refresh
+  t ← number_field 32 retry
+  e ← number_field 32 expire
+  m ← number_field 32 minimum
+  Ok (record { serial = s; refresh = f; retry = t; expire = e; minimum = m })
+
+-- the start of a zone: two names, and its times
+abbrev pub zone_of : List ℕ → List ℕ → Result ZoneTimes ScriptFault → Result DataValue ScriptFault
+zone_of mname rname times = do
+  m ← name_field mname
+  r ← name_field rname
+  z ← times
+  Ok (soa_data m r z.serial z.refresh z.retry z.expire z.minimum)
+
+-- NAME NAME SERIAL REFRESH RETRY EXPIRE MINIMUM
+abbrev pub soa_of : List (List ℕ) → Result DataValue ScriptFault
+soa_of (mname ∷ rname ∷ serial ∷ refresh ∷ retry ∷ expire ∷ minimum ∷ []) =
+    zone_of mname rname (times_of serial refresh retry expire minimum)
+soa_of fields = Err FieldCount
+
+-- The data that the fields write for a type. Other types are not taken.
+abbrev pub IsData : RecordType → List (List ℕ) → Result DataValue ScriptFault → Type 0
+IsData type.A fields result = IsAddressData IsIpv4Data fields result
+IsData type.AAAA fields result = IsAddressData IsIpv6Data fields result
+IsData type.CNAME fields result = result ≡ (target_of fields >>= (λ n. Ok (cname_data n)))
+IsData type.NS fields result = result ≡ (target_of fields >>= (λ n. Ok (ns_data n)))
+IsData type.PTR fields result = result ≡ (target_of fields >>= (λ n. Ok (ptr_data n)))
+IsData type.MX fields result = result ≡ mx_of fields
+IsData type.SRV fields result = result ≡ srv_of fields
+IsData type.SOA fields result = result ≡ soa_of fields
+IsData other fields result = result ≡ Err UnknownWord

@@ -1,0 +1,86 @@
+-- A script by its whole lines: what they say together, and the fault of the earliest line that has one.
+use Rattle.std.specs.Prelude.{◌≡◌, ◌⊎◌, ◌+◌, ℕ, Bool, true, false, nat_lt, List, [], ◌∷◌, ◌++◌, length, Result, Ok, Err, MatchResult, if◌then◌else◌}
+use Rattle.std.specs.Str.Lines.{lines}
+use Rattle.hickory_proto_core.specs.Handles.{OutcomeValue}
+use Rattle.hickory_proto_core.specs.Messages.{MessageValue}
+use Rattle.hickory_proto_core.specs.records.query.Query.{Query}
+use Rattle.hickory_resolver_model.specs.Run.{RequestValue, moment_of}
+use Rattle.replay_script.specs.Line.{IsRead}
+use Rattle.replay_script.specs.RecordLine.{with_record}
+use Rattle.replay_script.specs.ReplyLine.{opened_response}
+use Rattle.replay_script.specs.declared.fault.ScriptFault.{ScriptFault}
+use Rattle.replay_script.specs.declared.fault.ScriptFault.TheVariants.{MomentBack, OutOfMemory}
+use Rattle.replay_script.specs.declared.fault.ScriptError.{ScriptError}
+use Rattle.replay_script.specs.declared.line.Line.{Line}
+use Rattle.replay_script.specs.declared.line.Line.TheVariants.{Blank, Reply, Record, Request}
+
+-- a script: what the upstream answers, each beside the question of its line, and the requests
+pub record ScriptValue : Type 0 where
+  pub outcomes : List (Query × OutcomeValue)
+  pub requests : List RequestValue
+
+-- a response gets the records of the lines behind it, up to the next response
+abbrev pub with_records : MessageValue → List Line → MessageValue
+with_records response [] = response
+with_records response (Blank ∷ said) = with_records response said
+with_records response (Reply head ∷ said) = response
+with_records response (Record section found ∷ said) = with_records (with_record section found response) said
+with_records response (Request request ∷ said) = with_records response said
+
+abbrev pub outcomes_of : List Line → List (Query × OutcomeValue)
+outcomes_of [] = []
+outcomes_of (Blank ∷ said) = outcomes_of said
+outcomes_of (Reply head ∷ said) = (head.query, Ok (with_records (opened_response head) said)) ∷ outcomes_of said
+outcomes_of (Record section found ∷ said) = outcomes_of said
+outcomes_of (Request request ∷ said) = outcomes_of said
+
+abbrev pub requests_of : List Line → List RequestValue
+requests_of [] = []
+requests_of (Blank ∷ said) = requests_of said
+requests_of (Reply head ∷ said) = requests_of said
+requests_of (Record section found ∷ said) = requests_of said
+requests_of (Request request ∷ said) = request ∷ requests_of said
+
+abbrev pub script_of : List Line → ScriptValue
+script_of said = record { outcomes = outcomes_of said; requests = requests_of said }
+
+-- whether there is a reply that one more record could belong to
+abbrev pub has_reply : List Line → Bool
+has_reply [] = false
+has_reply (Blank ∷ said) = has_reply said
+has_reply (Reply head ∷ said) = true
+has_reply (Record section found ∷ said) = has_reply said
+has_reply (Request request ∷ said) = has_reply said
+
+-- the moment of the last request, where there is one, and else this one
+abbrev pub latest_from : ℕ → List Line → ℕ
+latest_from moment [] = moment
+latest_from moment (Blank ∷ said) = latest_from moment said
+latest_from moment (Reply head ∷ said) = latest_from moment said
+latest_from moment (Record section found ∷ said) = latest_from moment said
+latest_from moment (Request request ∷ said) = latest_from (moment_of request) said
+
+-- a request is refused that is earlier than the one before it
+abbrev pub in_order : ℕ → Result Line ScriptFault → Result Line ScriptFault
+in_order moment (Ok Blank) = Ok Blank
+in_order moment (Ok (Reply head)) = Ok (Reply head)
+in_order moment (Ok (Record section found)) = Ok (Record section found)
+in_order moment (Ok (Request request)) =
+    if nat_lt (moment_of request) moment then Err MomentBack else Ok (Request request)
+in_order moment (Err fault) = Err fault
+
+-- the lines behind those that said this: what all of them say, or the first fault and the number of its line
+abbrev pub AreRead : List Line → List (List ℕ) → Result (List Line) ScriptError → Type 0
+AreRead said [] result = result ≡ Ok said
+AreRead said (line ∷ others) result =
+    (read : Result Line ScriptFault) × IsRead (has_reply said) line read
+    × MatchResult (in_order (latest_from 0 said) read)
+    (λ more. AreRead (said ++ more ∷ []) others result)
+    (λ fault. result ≡ Err (record { line = length said + 1; fault = fault }))
+
+-- a script is read whole, or the first line with a fault is found, or no memory is left
+abbrev pub IsScript : List ℕ → Result ScriptValue ScriptError → Type 0
+IsScript script result =
+    MatchResult result
+    (λ read. (said : List Line) × AreRead [] (lines script) (Ok said) × (read ≡ script_of said))
+    (λ error. AreRead [] (lines script) (Err error) ⊎ (error ≡ record { line = 0; fault = OutOfMemory }))

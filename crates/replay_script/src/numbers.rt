@@ -1,0 +1,33 @@
+//! Numbers of a script: decimal digits, leading zeros allowed, within the range of their type.
+ghost use Rattle.std.specs.Prelude.{◌≡◌, ◌^◌};
+ghost use Rattle.hickory_proto_core.specs.Codes.{decimal_below};
+
+/// A number of 64 bits.
+pub fn read_u64(digits: &str) -> Option<u64>
+    ensures { result ≡ decimal_below (2 ^ 64) digits.now }
+{
+    if digits.starts_with('+') {
+        return None;
+    }
+    digits.parse::<u64>().ok()
+}
+
+/// A number of 16 bits.
+pub fn read_u16(digits: &str) -> Option<u16>
+    ensures { result ≡ decimal_below (2 ^ 16) digits.now }
+{
+    if digits.starts_with('+') {
+        return None;
+    }
+    digits.parse::<u16>().ok()
+}
+
+/// A number of 32 bits.
+pub fn read_u32(digits: &str) -> Option<u32>
+    ensures { result ≡ decimal_below (2 ^ 32) digits.now }
+{
+    if digits.starts_with('+') {
+        return None;
+    }
+    digits.parse::<u32>().ok()
+}

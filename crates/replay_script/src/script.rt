@@ -1,0 +1,225 @@
+//! Scripts: what an upstream answers, and what is asked of the resolver.
+ghost use Rattle.std.specs.Prelude.{◌≡◌, ◌⊎◌, ◌≤◌, ◌<◌, ◌++◌, ◌∷◌, List, [], None, Some, IfOk, IfErr, OnOk, IsOkUnless, Ok, IsErr};
+ghost use Rattle.replay_script.specs.Reader.{IsAnswered, IsTaken, Keeps, opened};
+ghost use Rattle.hickory_resolver_model.specs.Run.{moment_of};
+ghost use Rattle.replay_script.specs.ReplyLine.{opened_response};
+ghost use Rattle.replay_script.specs.Script.{IsScript};
+ghost use Rattle.replay_script.specs.declared.line.Line.{Line};
+
+use crate::fault::{ScriptError, ScriptFault};
+use crate::fields::ScriptLines;
+use crate::line::{Line, read_line};
+use crate::record_line::Section;
+use crate::reply_line::ReplyHead;
+use crate::request::Request;
+use hickory_proto_core::dns_handle::Outcome;
+use hickory_proto_core::{DnsResponse, Message, NetError, OpCode, Query, Record};
+use std::alloc::Global;
+use std::marker::Model;
+
+/// What a script says: what the upstream answers, in order, each beside the question of its line; and
+/// the requests, in order.
+#[derive(Drop)]
+pub struct Script {
+    pub outcomes: Vec<(Query, Outcome)>,
+    pub requests: Vec<Request>,
+}
+
+impl Model for Script {
+    ghost use Rattle.replay_script.specs.Script.{ScriptValue};
+
+    ghost Value = { ScriptValue };
+
+    ghost view = { λ s. record { outcomes = s.outcomes.items; requests = s.requests.items } };
+}
+
+/// Reads a script, or finds the first line with a fault.
+pub fn read_script(alloc: Global, script: &[u8]) -> Result<Script, ScriptError>
+    ensures { IsScript script.now result }
+{
+    let mut reader = Reader::new(alloc);
+    let mut number = 0;
+    for line in ScriptLines::new(script) {
+        number += 1;
+        match reader.read(line) {
+            Ok(()) => {}
+            Err(ScriptFault::OutOfMemory) => return Err(ScriptError::out_of_memory()),
+            Err(fault) => {
+                return Err(ScriptError {
+                    line: number,
+                    fault,
+                });
+            }
+        }
+    }
+    match reader.finish() {
+        Ok(script) => Ok(script),
+        Err(_) => Err(ScriptError::out_of_memory()),
+    }
+}
+
+// A reply that may still get records.
+#[derive(Drop)]
+struct OpenReply {
+    query: Query,
+    message: Message,
+}
+
+impl OpenReply {
+    ghost use Rattle.replay_script.specs.Reader.{answered};
+
+    fn add(&mut self, section: Section, found: Record) -> Result<(), ScriptFault>
+        ensures ok { OnOk result (self.new ≡ answered section found self.old) }
+        ensures err { IsOkUnless result ScriptFault.OutOfMemory }
+    {
+        memory_only(match section {
+            Section::Answer => self.message.add_answer(found),
+            Section::Authority => self.message.add_authority(found),
+            Section::Additional => self.message.add_additional(found),
+        })
+    }
+}
+
+// What the lines so far said.
+#[derive(Drop)]
+struct Reader {
+    alloc: Global,
+    closed: Vec<(Query, Outcome)>,
+    open_reply: Option<OpenReply>,
+    requests: Vec<Request>,
+    latest: u64,
+}
+
+impl Model for Reader {
+    ghost use Rattle.replay_script.specs.Reader.{ReaderValue};
+
+    ghost Value = { ReaderValue };
+
+    ghost view = { λ r. record { closed = r.closed.items; open_reply = r.open_reply; requests = r.requests.items; latest = r.latest } };
+}
+
+impl Reader {
+    fn new(alloc: Global) -> Reader
+        ensures { result ≡ record { closed = []; open_reply = None; requests = []; latest = 0 } }
+    {
+        Reader {
+            alloc,
+            closed: Vec::new(alloc),
+            open_reply: None,
+            requests: Vec::new(alloc),
+            latest: 0,
+        }
+    }
+
+    // Reads a line, and keeps what it says.
+    fn read(&mut self, line: &[u8]) -> Result<(), ScriptFault>
+        ensures { (said : List Line) → Keeps self.old said → IsTaken said line.now result self.new }
+    {
+        let line = read_line(self.alloc, self.open_reply.is_some(), line)?;
+        match line {
+            Line::Blank => Ok(()),
+            Line::Reply(head) => self.add_reply(head),
+            Line::Record(section, found) => self.add_record(section, found),
+            Line::Request(request) => self.add_request(request),
+        }
+    }
+
+    fn add_reply(&mut self, head: ReplyHead) -> Result<(), ScriptFault>
+        ensures ok { OnOk result (self.new
+            ≡ record self.old {
+              closed = self.old.closed ++ opened self.old.open_reply;
+              open_reply = Some (record { query = head.query; message = opened_response head });
+            }) }
+        ensures err { IsOkUnless result ScriptFault.OutOfMemory }
+    {
+        let message = response_of(self.alloc, &head)?;
+        self.close()?;
+        self.open_reply = Some(OpenReply {
+            query: head.query,
+            message,
+        });
+        Ok(())
+    }
+
+    fn add_record(&mut self, section: Section, found: Record) -> Result<(), ScriptFault>
+        ensures { IsAnswered self.old section found result self.new }
+    {
+        let Some(reply) = &mut self.open_reply else {
+            return Err(ScriptFault::NoReply);
+        };
+        reply.add(section, found)
+    }
+
+    fn add_request(&mut self, request: Request) -> Result<(), ScriptFault>
+        ensures ok { OnOk result (self.new
+            ≡ record self.old { requests = self.old.requests ++ request ∷ []; latest = moment_of request }) }
+        ensures in_order { OnOk result (self.old.latest ≤ moment_of request) }
+        ensures err { IfErr result
+            (λ fault. (fault ≡ ScriptFault.OutOfMemory)
+            ⊎ ((fault ≡ ScriptFault.MomentBack) × (moment_of request < self.old.latest))) }
+    {
+        let now = request.now;
+        if now < self.latest {
+            return Err(ScriptFault::MomentBack);
+        }
+        self.requests.push(request)?;
+        self.latest = now;
+        Ok(())
+    }
+
+    // The open reply is one more outcome.
+    fn close(&mut self) -> Result<(), ScriptFault>
+        ensures ok { OnOk result (self.new
+            ≡ record self.old { closed = self.old.closed ++ opened self.old.open_reply; open_reply = None }) }
+        ensures err { IsOkUnless result ScriptFault.OutOfMemory }
+    {
+        match self.open_reply.take() {
+            None => Ok(()),
+            Some(OpenReply { query, message }) => {
+                let outcome = Ok(DnsResponse::from_message(message));
+                self.closed.push((query, outcome))?;
+                Ok(())
+            }
+        }
+    }
+
+    fn finish(self) -> Result<Script, ScriptFault>
+        ensures { IfOk result (λ s. s ≡ record {
+          outcomes = self.closed ++ opened self.open_reply;
+          requests = self.requests;
+        }) }
+    {
+        let mut reader = self;
+        reader.close()?;
+        Ok(Script {
+            outcomes: reader.closed,
+            requests: reader.requests,
+        })
+    }
+}
+
+// The response as it is opened, with no records.
+fn response_of(alloc: Global, head: &ReplyHead) -> Result<Message, ScriptFault>
+    ensures ok { IfOk result (λ m. m ≡ opened_response head.now) }
+    ensures err { IsOkUnless result ScriptFault.OutOfMemory }
+{
+    let mut message = Message::response(alloc, 0, OpCode::Query);
+    message.metadata.response_code = head.code;
+    message.metadata.truncation = head.truncated;
+    if !head.without_question {
+        let question = memory_only(head.query.clone())?;
+        memory_only(message.add_query(question))?;
+    }
+    Ok(message)
+}
+
+// What fails only where memory runs out.
+fn memory_only<T: Drop>(made: Result<T, NetError>) -> Result<T, ScriptFault>
+    ensures ok { IfOk result (λ value. made ≡ Ok value) }
+    ensures err { IfErr result (λ fault. (fault ≡ ScriptFault.OutOfMemory) × IsErr made) }
+{
+    match made {
+        Ok(value) => Ok(value),
+        Err(_) => Err(ScriptFault::OutOfMemory),
+    }
+}
