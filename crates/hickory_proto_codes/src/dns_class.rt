@@ -3,8 +3,10 @@ ghost use Rattle.std.specs.Prelude.{◌≡◌};
 ghost use Rattle.hickory_proto_codes.specs.Codes.{class_code, class_named, class_of};
 
 use crate::code_word::code_after;
+use crate::unknown_word::UnknownWord;
 use std::fmt;
 use std::hash::{Hash, Hasher};
+use std::str::FromStr;
 
 /// The class of a record or of a question (RFC 1035, section 3.2.4).
 /// Two are equal where their codes are.
@@ -58,6 +60,21 @@ impl DNSClass {
             "ANY" => Some(DNSClass::ANY),
             _ => code_after("CLASS", text).map(DNSClass::from),
         }
+    }
+}
+
+/// The class that a text names, as `from_word` reads it.
+impl FromStr for DNSClass {
+    type Err = UnknownWord;
+
+    ghost use Rattle.std.specs.Prelude.{◌≡◌};
+    ghost use Rattle.std.specs.Result.{result_ok};
+    ghost use Rattle.hickory_proto_codes.specs.Codes.{class_named};
+
+    ghost from_str_gives = { λ text r. result_ok r ≡ class_named text };
+
+    fn from_str(text: &str) -> Result<DNSClass, UnknownWord> {
+        DNSClass::from_word(text).ok_or(UnknownWord)
     }
 }
 

@@ -3,8 +3,10 @@ ghost use Rattle.std.specs.Prelude.{◌≡◌, nat_eq};
 ghost use Rattle.hickory_proto_codes.specs.Codes.{type_code, type_named, type_of_word, type_of};
 
 use crate::code_word::code_after;
+use crate::unknown_word::UnknownWord;
 use std::fmt;
 use std::hash::{Hash, Hasher};
+use std::str::FromStr;
 
 /// The type of a record, or of the records that a question asks for (RFC 1035, section 3.2.2).
 /// Two are equal where their codes are.
@@ -114,6 +116,21 @@ fn type_of_word(text: &str) -> Option<RecordType>
         "SMIMEA" => Some(RecordType::SMIMEA),
         "ANY" => Some(RecordType::ANY),
         _ => None,
+    }
+}
+
+/// The type that a text names, as `from_word` reads it.
+impl FromStr for RecordType {
+    type Err = UnknownWord;
+
+    ghost use Rattle.std.specs.Prelude.{◌≡◌};
+    ghost use Rattle.std.specs.Result.{result_ok};
+    ghost use Rattle.hickory_proto_codes.specs.Codes.{type_named};
+
+    ghost from_str_gives = { λ text r. result_ok r ≡ type_named text };
+
+    fn from_str(text: &str) -> Result<RecordType, UnknownWord> {
+        RecordType::from_word(text).ok_or(UnknownWord)
     }
 }
 

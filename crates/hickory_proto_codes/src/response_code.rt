@@ -3,8 +3,10 @@ ghost use Rattle.std.specs.Prelude.{◌≡◌};
 ghost use Rattle.hickory_proto_codes.specs.Codes.{response_code, response_named, response_of};
 
 use crate::code_word::code_after;
+use crate::unknown_word::UnknownWord;
 use std::fmt;
 use std::hash::{Hash, Hasher};
+use std::str::FromStr;
 
 /// How a response went (RFC 1035, section 4.1.1).
 /// Two are equal where their codes are.
@@ -62,6 +64,21 @@ impl ResponseCode {
             "REFUSED" => Some(ResponseCode::Refused),
             _ => code_after("CODE", text).map(ResponseCode::from),
         }
+    }
+}
+
+/// The response code that a text names, as `from_word` reads it.
+impl FromStr for ResponseCode {
+    type Err = UnknownWord;
+
+    ghost use Rattle.std.specs.Prelude.{◌≡◌};
+    ghost use Rattle.std.specs.Result.{result_ok};
+    ghost use Rattle.hickory_proto_codes.specs.Codes.{response_named};
+
+    ghost from_str_gives = { λ text r. result_ok r ≡ response_named text };
+
+    fn from_str(text: &str) -> Result<ResponseCode, UnknownWord> {
+        ResponseCode::from_word(text).ok_or(UnknownWord)
     }
 }
 

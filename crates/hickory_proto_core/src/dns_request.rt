@@ -26,7 +26,12 @@ pub struct DnsRequestOptions {
 impl Default for DnsRequestOptions {
     ghost use Rattle.std.specs.Prelude.{◌≡◌, true, false};
 
-    ghost is_default = { λ o. o ≡ record { recursion_desired = true; use_edns = false; edns_payload_len = 1232; case_randomization = false } };
+    ghost is_default = { λ o. o ≡ record {
+      recursion_desired = true;
+      use_edns = false;
+      edns_payload_len = 1232;
+      case_randomization = false;
+    } };
 
     fn default() -> DnsRequestOptions {
         DnsRequestOptions {

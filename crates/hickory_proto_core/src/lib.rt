@@ -12,7 +12,9 @@ pub mod table_handle;
 pub use address_text::ip_text;
 pub use dns_handle::{DnsHandle, Outcome};
 pub use dns_request::{DnsRequest, DnsRequestOptions};
-pub use hickory_proto_codes::{DNSClass, OpCode, Protocol, RecordType, ResponseCode};
+pub use hickory_proto_codes::{
+    DNSClass, OpCode, Protocol, RecordType, ResponseCode, UnknownWord, read_decimal,
+};
 pub use hickory_proto_names::{IntoName, IpNet, Name, NameError, read_ip};
 pub use hickory_proto_records::{
     BoundsError, DnsError, DnsResponse, ForwardNSData, Message, Metadata, NetError, NoRecords,

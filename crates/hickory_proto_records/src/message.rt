@@ -43,22 +43,38 @@ impl Model for Message {
 
     ghost Value = { MessageValue };
 
-    ghost view = { λ m. record { metadata = m.metadata; queries = m.queries.items; answers = m.answers.items; authorities = m.authorities.items; additionals = m.additionals.items } };
+    ghost view = { λ m. record {
+      metadata = m.metadata;
+      queries = m.queries.items;
+      answers = m.answers.items;
+      authorities = m.authorities.items;
+      additionals = m.additionals.items;
+    } };
 }
 
 impl Message {
     /// A query without questions.
     pub fn query(alloc: Global) -> Message
-        ensures { result
-            ≡ record { metadata = response_metadata 0 OpCode.Query; queries = []; answers = []; authorities = []; additionals = [] } }
+        ensures { result ≡ record {
+          metadata = response_metadata 0 OpCode.Query;
+          queries = [];
+          answers = [];
+          authorities = [];
+          additionals = [];
+        } }
     {
         Message::response(alloc, 0, OpCode::Query)
     }
 
     /// A response of this id and kind with the code NOERROR, no flag, no question and no record.
     pub fn response(alloc: Global, id: u16, op_code: OpCode) -> Message
-        ensures { result
-            ≡ record { metadata = response_metadata id op_code; queries = []; answers = []; authorities = []; additionals = [] } }
+        ensures { result ≡ record {
+          metadata = response_metadata id op_code;
+          queries = [];
+          answers = [];
+          authorities = [];
+          additionals = [];
+        } }
     {
         Message {
             metadata: Metadata {

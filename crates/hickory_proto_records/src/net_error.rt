@@ -80,7 +80,14 @@ impl Model for NoRecords {
 
     ghost Value = { NoRecordsValue };
 
-    ghost view = { λ n. record { query = n.query; soa = n.soa; ns = items_or_none n.ns; negative_ttl = n.negative_ttl; response_code = n.response_code; authorities = items_or_none n.authorities } };
+    ghost view = { λ n. record {
+      query = n.query;
+      soa = n.soa;
+      ns = items_or_none n.ns;
+      negative_ttl = n.negative_ttl;
+      response_code = n.response_code;
+      authorities = items_or_none n.authorities;
+    } };
 }
 
 impl Model for ForwardNSData {
@@ -94,8 +101,14 @@ impl Model for ForwardNSData {
 impl NoRecords {
     /// The answer to this question with this code, and nothing else known.
     pub fn new(query: Query, response_code: ResponseCode) -> NoRecords
-        ensures { result
-            ≡ record { query = query; soa = None; ns = None; negative_ttl = None; response_code = response_code; authorities = None } }
+        ensures { result ≡ record {
+          query = query;
+          soa = None;
+          ns = None;
+          negative_ttl = None;
+          response_code = response_code;
+          authorities = None;
+        } }
     {
         NoRecords {
             query,
