@@ -117,6 +117,8 @@ impl<H: DnsHandle, S: BuildHasher> CachingClient<H, S> {
     ) -> Result<Lookup, NetError>
         ensures { IsWholeLookup H.step options now self.old query result self.new }
     {
+        // `len` is called for its clause on what holds of every cache.
+        let _len = self.cache.len();
         eight_questions();
         every_record_has_a_source();
         nothing_outlives();
