@@ -16,7 +16,7 @@ use crate::special_use::special_use_result;
 use crate::verdict::{Hop, Verdict, verdict_of};
 use hickory_proto_core::{
     DnsError, DnsHandle, DnsRequest, DnsRequestOptions, DnsResponse, Message, NetError, NoRecords,
-    OpCode, Query, Record,
+    OpCode, Query,
 };
 use hickory_resolver_cache::ResponseCache;
 use hickory_resolver_lookup::{Lookup, TtlConfig};
@@ -117,6 +117,8 @@ impl<H: DnsHandle, S: BuildHasher> CachingClient<H, S> {
     ) -> Result<Lookup, NetError>
         ensures { IsWholeLookup H.step options now self.old query result self.new }
     {
+        // `len` is called for its clause on what holds of every cache.
+        let _len = self.cache.len();
         eight_questions();
         every_record_has_a_source();
         nothing_outlives();
@@ -323,22 +325,10 @@ fn fresh_response(query: &Query, message: &Message) -> Result<Message, NetError>
 {
     let mut fresh = Message::response(*message.queries.allocator(), 0, OpCode::Query);
     fresh.add_query(query.clone()?)?;
-    fresh.answers = clone_records(&message.answers)?;
-    fresh.authorities = clone_records(&message.authorities)?;
-    fresh.additionals = clone_records(&message.additionals)?;
+    fresh.answers = message.answers.clone()?;
+    fresh.authorities = message.authorities.clone()?;
+    fresh.additionals = message.additionals.clone()?;
     Ok(fresh)
-}
-
-// A copy of each record.
-fn clone_records(records: &Vec<Record>) -> Result<Vec<Record>, NetError>
-    ensures ok { IfOk result (λ copies. copies.items ≡ records.now.items) }
-    ensures err { IsOkUnless result NetError.OutOfMemory }
-{
-    let mut copies = Vec::with_capacity(*records.allocator(), records.len())?;
-    for entry in records {
-        copies.push(entry.clone()?)?;
-    }
-    Ok(copies)
 }
 
 // The response where it is an answer, else the error that it comes to.

@@ -6,14 +6,13 @@ ghost use Rattle.std.specs.Cmp.Lexicographic.{pointwise};
 ghost use Rattle.hickory_proto_core.specs.Codes.{type_code};
 ghost use Rattle.hickory_proto_core.specs.Name.{label_bytes, lower_label, lower_labels, is_zone_of, localhost};
 ghost use Rattle.hickory_proto_core.specs.Records.{data_of};
-ghost use Rattle.hickory_resolver_model.specs.SpecialUse.{special_use_result, full_name, is_loopback_name, loopback_data, one_record, no_records};
+ghost use Rattle.hickory_resolver_model.specs.SpecialUse.{special_use_result, full_name, is_loopback_name, loopback_data, no_records};
 ghost use Rattle.hickory_resolver.specs.Special.{IsSpecialReply, IsUnlessOut, is_nonexistent_name, loopback_result};
 
 use hickory_proto_core::{
-    DNSClass, Message, Name, NetError, NoRecords, OpCode, Query, RData, Record, RecordType,
-    ResponseCode,
+    DNSClass, Name, NetError, NoRecords, Query, RData, RecordType, ResponseCode,
 };
-use hickory_resolver_lookup::{Lookup, MAX_TTL};
+use hickory_resolver_lookup::Lookup;
 use std::alloc::Global;
 use std::net::{Ipv4Addr, Ipv6Addr};
 
@@ -101,7 +100,7 @@ fn loopback_result(alloc: Global, query: &Query, now: u64) -> Result<Lookup, Net
     ensures { IsUnlessOut (loopback_result query.now now) result }
 {
     match loopback_data(alloc, query.query_type)? {
-        Some(rdata) => one_record(alloc, query.clone()?, rdata, now),
+        Some(rdata) => Lookup::from_rdata(alloc, query.clone()?, rdata, now),
         None => no_records(query, ResponseCode::NoError),
     }
 }
@@ -131,16 +130,6 @@ fn localhost(alloc: Global) -> Result<Name, NetError>
     let mut labels = Vec::new(alloc);
     labels.push(Vec::from_slice(alloc, b"localhost")?)?;
     Ok(Name::from_labels(labels)?)
-}
-
-// One record of the question's name with these data, which may be used for a day from this moment (seconds).
-fn one_record(alloc: Global, query: Query, rdata: RData, now: u64) -> Result<Lookup, NetError>
-    ensures ok { IfOk result (λ l. l ≡ one_record query (data_of rdata) now) }
-    ensures err { IsOkUnless result NetError.OutOfMemory }
-{
-    let mut message = Message::response(alloc, 0, OpCode::Query);
-    message.add_answer(Record::from_rdata(query.name.clone()?, MAX_TTL, rdata))?;
-    Lookup::of_message(query, message, now.saturating_add(u64::from(MAX_TTL)))
 }
 
 // That there are no records, with this code, and nothing else known.

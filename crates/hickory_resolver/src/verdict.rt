@@ -119,7 +119,8 @@ fn filtered_answers(
     message: &Message,
 ) -> Result<Vec<Record>, NetError>
     ensures ok { IfOk result
-        (λ answers. answers.items ≡ filtered_answers keep (hop_of query.now preserved.items) (shown_walk walk.now.last.now walk.now.ttl walk.now.followed) message.now) }
+        (λ answers. answers.items ≡ filtered_answers keep (hop_of query.now preserved.items)
+        (shown_walk walk.now.last.now walk.now.ttl walk.now.followed) message.now) }
     ensures err { IsOkUnless result NetError.OutOfMemory }
 {
     let selection = Selection {
@@ -140,7 +141,8 @@ fn next_hop(
     message: &Message,
 ) -> Result<Hop, NetError>
     ensures ok { IfOk result
-        (λ next. next ≡ next_hop keep (hop_of query.now preserved.items) (shown_walk walk.now.last.now walk.now.ttl walk.now.followed) message.now) }
+        (λ next. next ≡ next_hop keep (hop_of query.now preserved.items)
+        (shown_walk walk.now.last.now walk.now.ttl walk.now.followed) message.now) }
     ensures err { IsOkUnless result NetError.OutOfMemory }
 {
     let selection = Selection {
@@ -164,7 +166,9 @@ impl<'a> Selection<'a> {
     // walk.
     fn copy_into(&self, records: Vec<Record>, message: &Message) -> Result<Vec<Record>, NetError>
         ensures ok { IfOk result
-            (λ copies. copies.items ≡ records.items ++ map (with_ttl_at_most self.now.walk.now.ttl) (filter (is_wanted self.now.query.now self.now.walk.now.last.now self.now.matches self.now.intermediates) (all_records message.now))) }
+            (λ copies. copies.items ≡ records.items ++ map (with_ttl_at_most self.now.walk.now.ttl)
+            (filter (is_wanted self.now.query.now self.now.walk.now.last.now self.now.matches
+            self.now.intermediates) (all_records message.now))) }
         ensures err { IsOkUnless result NetError.OutOfMemory }
     {
         let mut copies = records;
@@ -176,7 +180,9 @@ impl<'a> Selection<'a> {
 
     fn copy_section(&self, records: &[Record], copies: &mut Vec<Record>) -> Result<(), NetError>
         ensures ok { OnOk result
-            (copies.new.items ≡ copies.old.items ++ map (with_ttl_at_most self.now.walk.now.ttl) (filter (is_wanted self.now.query.now self.now.walk.now.last.now self.now.matches self.now.intermediates) records.now)) }
+            (copies.new.items ≡ copies.old.items ++ map (with_ttl_at_most self.now.walk.now.ttl)
+            (filter (is_wanted self.now.query.now self.now.walk.now.last.now self.now.matches
+            self.now.intermediates) records.now)) }
         ensures err { IsOkUnless result NetError.OutOfMemory }
     {
         for found in records {
@@ -188,7 +194,8 @@ impl<'a> Selection<'a> {
     }
 
     fn wants(&self, found: &Record) -> bool
-        ensures { result ≡ is_wanted self.now.query.now self.now.walk.now.last.now self.now.matches self.now.intermediates found.now }
+        ensures { result ≡ is_wanted self.now.query.now self.now.walk.now.last.now self.now.matches
+            self.now.intermediates found.now }
     {
         (self.matches && is_match(self.query, self.walk, found))
             || (self.intermediates && is_intermediate(self.query, found))

@@ -1,5 +1,5 @@
 -- An entry outlives none of its answers of the asked type, where the least TTL of that type is 0.
-use Rattle.std.proofs.Common.{◌≡◌, ℕ, ◌+◌, ◌≤◌, Bool, true, false, cond, ◌||◌, ◌==◌, List, [], ◌∷◌, ◌++◌, map, length, filter, fold, min, Option, None, Some, Ok, Err, unwrap_or, refl, sym, ◌∙◌, subst, arith, not, nat_lt, if◌then◌else◌}
+use Rattle.std.proofs.Common.{◌≡◌, ℕ, ◌+◌, ◌≤◌, Bool, true, false, cond, ◌||◌, ◌==◌, List, [], ◌∷◌, ◌++◌, map, length, filter, fold, min, Option, None, Some, Ok, Err, unwrap_or, refl, sym, ap, ◌∙◌, subst, arith, not, nat_lt, if◌then◌else◌}
 use Rattle.std.proofs.lemmas.Bool.{eqb-true, eq-eqb, false≢true, or_left}
 use Rattle.std.specs.List.{AllByRecursion, list_any, position_or_len}
 use Rattle.std.specs.Option.{option_map_or}
@@ -12,8 +12,8 @@ use Rattle.hickory_proto_core.specs.Records.{RecordValue}
 use Rattle.hickory_proto_core.specs.records.query.Query.{Query}
 use Rattle.hickory_proto_core.specs.records.net_error.NetError.TheVariants.{Message, Timeout, Proto, Dns, NoOutcome, Bounds, OutOfMemory}
 use Rattle.hickory_proto_core.specs.records.net_error.DnsError.TheVariants.{ResponseCode, NoRecordsFound}
-use Rattle.hickory_resolver_model.specs.Bounds.{ConfigValue, bounds_for, clamped_message, least_ttl, living_records, positive_bounds}
-use Rattle.hickory_resolver_model.specs.Cache.{Entry, OutlivesNoAnswer, current, entry_of, is_for, negative_entry, not_after_current, positive_entry, insert_entry, room_for, without, without_earliest, least_deadline}
+use Rattle.hickory_resolver_model.specs.Bounds.{ConfigValue, bounds_for, clamped_message, clamped_record, clamped_records, greatest_ttl, least_ttl, living_records, positive_bounds, reduced_bound}
+use Rattle.hickory_resolver_model.specs.Cache.{Entry, IsTimelyAnswer, OutlivesNoAnswer, current, entry_of, is_for, negative_entry, not_after_current, positive_entry, insert_entry, room_for, without, without_earliest, least_deadline}
 use Rattle.hickory_resolver_cache.proofs.Lists.{all-append, all-filter, all-remove, all-weaker}
 
 -- ---- the least TTL of some records
@@ -65,12 +65,29 @@ living-answers P q m = by (type_code q.query_type == 2) refl
         all-weaker (λ r. own r ≡ true → P r) (λ r. record_type_code r ≡ code → P r) (λ r w s. w (or_left (record_type_code r == code) (record_type_code r == 5) (eq-eqb (record_type_code r) code s))) m.answers
         (unfiltered P own m.answers h)
 
+-- ---- the greatest TTL of a type
+
+-- an answer of a type without a least TTL is cut at the greatest
+is-cut : (config : ConfigValue) (code : ℕ) (r : RecordValue) → (positive_bounds (bounds_for config code)).0 ≡ 0 → record_type_code r ≡ code → (clamped_record config r).ttl ≤ greatest_ttl config code
+is-cut config code r zero_least own =
+    let same : positive_bounds (bounds_for config (record_type_code r)) ≡ positive_bounds (bounds_for config code) = ap (λ n. positive_bounds (bounds_for config n)) own in
+    let none : reduced_bound (positive_bounds (bounds_for config (record_type_code r))).0 ≡ 0 = ap (λ (b : ℕ × ℕ). reduced_bound b.0) same ∙ ap reduced_bound zero_least in
+    let most : greatest_ttl config (record_type_code r) ≡ greatest_ttl config code = ap (λ (b : ℕ × ℕ). reduced_bound b.1) same in
+    omega (arith, none, most)
+
+-- each answer of the type, once it is clamped, is timely where the entry does not outlive it
+timely-answers : (config : ConfigValue) (e : Entry) (code : ℕ) → (positive_bounds (bounds_for config code)).0 ≡ 0 → (rs : List RecordValue)
+    → AllByRecursion (λ r. record_type_code r ≡ code → e.valid_until ≤ e.original_time + r.ttl) (clamped_records config rs) → AllByRecursion (IsTimelyAnswer config e code) (clamped_records config rs)
+timely-answers config e code zero_least [] h = tt
+timely-answers config e code zero_least (r ∷ rs) h = (λ own. (h.0 own, is-cut config code r zero_least own), timely-answers config e code zero_least rs h.1)
+
 -- ---- the entries that outcomes become
 pub timely-positive : (config : ConfigValue) (q : Query) (m : MessageValue) (now : ℕ) → OutlivesNoAnswer config (positive_entry config q m now)
 timely-positive config q m now zero_least n is =
-    subst (λ (x : MessageValue). AllByRecursion (λ r. record_type_code r ≡ type_code q.query_type → e.valid_until ≤ now + r.ttl) x.answers) same
+    subst (λ (x : MessageValue). AllByRecursion (IsTimelyAnswer config e (type_code q.query_type)) x.answers) same
+    (timely-answers config e (type_code q.query_type) zero_least m.answers
     (living-answers (λ r. e.valid_until ≤ now + r.ttl) q kept
-    (all-weaker (λ r. lived ≤ r.ttl) (λ r. e.valid_until ≤ now + r.ttl) (λ r l. omega (arith, l, zero_least)) (living_records q kept) (least-all bounds.0 (living_records q kept))))
+    (all-weaker (λ r. lived ≤ r.ttl) (λ r. e.valid_until ≤ now + r.ttl) (λ r l. omega (arith, l, zero_least)) (living_records q kept) (least-all bounds.0 (living_records q kept)))))
   where
     e : Entry
     e = positive_entry config q m now
@@ -104,8 +121,8 @@ timely-entry config q (Err OutOfMemory) now e h = cc
 -- an entry that is current for less time
 pub timely-limited : (config : ConfigValue) (es : List Entry) (now : ℕ) (e : Entry) → OutlivesNoAnswer config e → OutlivesNoAnswer config (not_after_current es now e)
 timely-limited config es now e h zero_least m is =
-    all-weaker (λ r. record_type_code r ≡ type_code e.query.query_type → e.valid_until ≤ e.original_time + r.ttl) (λ r. record_type_code r ≡ type_code e.query.query_type → limited.valid_until ≤ e.original_time + r.ttl)
-    (λ r w s. let l = w s in omega (arith, l, below (current e.query now es))) m.answers (h zero_least m is)
+    all-weaker (IsTimelyAnswer config e (type_code e.query.query_type)) (IsTimelyAnswer config limited (type_code e.query.query_type))
+    (λ r w s. let t = w s in let l = t.0 in (omega (arith, l, below (current e.query now es)), t.1)) m.answers (h zero_least m is)
   where
     limited : Entry
     limited = not_after_current es now e

@@ -173,6 +173,10 @@ pub record SetsBounds (old new : ConfigValue) (code : ℕ) (bounds : BoundsValue
   pub others : (other : ℕ) → other ≢ code
       → bounds_by_code other new.by_type ≡ bounds_by_code other old.by_type
 
+-- the greatest TTL that records of a type are kept with
+abbrev pub greatest_ttl : ConfigValue → ℕ → ℕ
+greatest_ttl config code = reduced_bound (positive_bounds (bounds_for config code)).1
+
 -- a number brought between two
 abbrev pub clamp : ℕ × ℕ → ℕ → ℕ
 clamp bounds n = max bounds.0 (min n bounds.1)

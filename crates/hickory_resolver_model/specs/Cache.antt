@@ -14,7 +14,7 @@ use Rattle.hickory_proto_core.specs.records.query.Query.{Query}
 use Rattle.hickory_proto_core.specs.records.net_error.NetError.{NetError}
 use Rattle.hickory_proto_core.specs.records.net_error.NetError.TheVariants.{Message, Timeout, Proto, Dns, NoOutcome, Bounds, OutOfMemory}
 use Rattle.hickory_proto_core.specs.records.net_error.DnsError.TheVariants.{ResponseCode, NoRecordsFound}
-use Rattle.hickory_resolver_model.specs.Bounds.{ConfigValue, bounds_for, positive_bounds, clamped_message, positive_lifetime, negative_lifetime}
+use Rattle.hickory_resolver_model.specs.Bounds.{ConfigValue, bounds_for, positive_bounds, greatest_ttl, clamped_message, positive_lifetime, negative_lifetime}
 
 -- an outcome that is kept for a question, when it was stored, and until when it is current (seconds)
 pub record Entry : Type 0 where
@@ -183,14 +183,18 @@ store_clamped c q outcome now =
 abbrev pub without_query : CacheValue → Query → CacheValue
 without_query c q = record c { entries = without q c.entries }
 
--- Where the least TTL of the asked type is 0, a positive entry is current no longer than each of its answers
--- of that type lives, from the time of its store and by the TTL that was stored.
+-- an answer of the asked type is kept with at most the greatest TTL of the type, and the entry is current no
+-- longer than it lives, from the time of the store and by the TTL that was stored
+abbrev pub IsTimelyAnswer : ConfigValue → Entry → ℕ → RecordValue → Type 0
+IsTimelyAnswer config e code r =
+    record_type_code r ≡ code → (e.valid_until ≤ e.original_time + r.ttl) × (r.ttl ≤ greatest_ttl config code)
+
+-- Where the least TTL of the asked type is 0, a positive entry outlives none of its answers of that type.
 abbrev pub OutlivesNoAnswer : ConfigValue → Entry → Type 0
 OutlivesNoAnswer config e =
     (positive_bounds (bounds_for config (type_code e.query.query_type))).0 ≡ 0 → (m : MessageValue)
     → e.result ≡ Ok m
-    → AllByRecursion (λ r. record_type_code r ≡ type_code e.query.query_type
-    → e.valid_until ≤ e.original_time + r.ttl) m.answers
+    → AllByRecursion (IsTimelyAnswer config e (type_code e.query.query_type)) m.answers
 
 -- what holds of every cache: it is no longer than its capacity, no two entries are for equal questions, and
 -- none outlives its answers

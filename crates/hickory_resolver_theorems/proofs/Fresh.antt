@@ -14,14 +14,14 @@ use Rattle.hickory_proto_core.specs.declared.recorded.Exchange.{Exchange}
 use Rattle.hickory_proto_core.specs.codes.response_code.ResponseCode.TheVariants.{NoError, NXDomain}
 use Rattle.hickory_proto_core.specs.records.net_error.NetError.TheVariants.{Message, Timeout, Proto, Dns, NoOutcome, Bounds, OutOfMemory}
 use Rattle.hickory_proto_core.specs.records.net_error.DnsError.TheVariants.{ResponseCode, NoRecordsFound}
-use Rattle.hickory_resolver_model.specs.Bounds.{ConfigValue, clamped_record}
+use Rattle.hickory_resolver_model.specs.Bounds.{ConfigValue, clamped_record, greatest_ttl}
 use Rattle.hickory_resolver_model.specs.Cache.{CacheValue, Entry, current, is_for, is_current, age, aged_record, aged_records, aged_outcome, aged_message}
 use Rattle.hickory_resolver_model.specs.Lookup.{LookupResult, hit_lookup, hit_seconds}
 use Rattle.hickory_resolver_model.specs.SpecialUse.{special_use_result, is_loopback_name, loopback_data, one_record, no_records, full_name}
 use Rattle.hickory_resolver_model.specs.AliasWalk.{Walk, walk_of}
 use Rattle.hickory_resolver_model.specs.Verdict.{Hop, Exists, CnameChain, NoMatch, is_accepted, found_message, next_hop, all_records, with_ttl_at_most}
 use Rattle.hickory_resolver_model.specs.Hops.{LookupContext, ChainEnd, Special, Hit, Asked, IsChainEnd, HopList, Store, IsReply, asks_of, hit_result, verdict_result, kind_result, result_of, verdict_stores, kind_stores, last_stores, as_outcome, stores_of, after_stores}
-use Rattle.hickory_resolver_theorems.specs.Covered.{Dated, dated_exchanges, IsCovered, IsLoopback, greatest_ttl}
+use Rattle.hickory_resolver_theorems.specs.Covered.{Dated, dated_exchanges, IsCovered, IsLoopback}
 use Rattle.hickory_resolver_theorems.specs.Statements.{HasNoLeast, IsFreshRecord, AreFreshRecords, IsFreshReply, IsFreshOutcome, IsFreshEntry, AreFreshEntries, IsFresh}
 use Rattle.hickory_resolver_theorems.proofs.Lists.{all-weaker, all-append, all-front, all-back, all-map, all-has, has-all, has-right, has-map, all-reverse, find-has, ContainsByRecursion, contains-from_recursion}
 use Rattle.hickory_resolver_theorems.proofs.Covers.{Arrives, arrived-fresh, fresh-arrives, covered-has, covered-lower, clamped_message-le, clamped_message-greatest, greatest-short, least-has, saturating-le}

@@ -10,23 +10,23 @@ use Rattle.hickory_proto_core.specs.records.query.Query.{Query}
 use Rattle.hickory_proto_core.specs.declared.recorded.Exchange.{Exchange}
 use Rattle.hickory_proto_core.specs.records.net_error.NetError.TheVariants.{Message, Timeout, Proto, Dns, NoOutcome, Bounds, OutOfMemory}
 use Rattle.hickory_proto_core.specs.records.net_error.DnsError.TheVariants.{ResponseCode, NoRecordsFound}
-use Rattle.hickory_resolver_model.specs.Bounds.{ConfigValue}
-use Rattle.hickory_resolver_model.specs.Cache.{CacheValue, Entry, is_for, is_current, store, positive_entry, negative_entry}
+use Rattle.hickory_resolver_model.specs.Bounds.{ConfigValue, greatest_ttl}
+use Rattle.hickory_resolver_model.specs.Cache.{CacheValue, Entry, IsCache, IsTimelyAnswer, OutlivesNoAnswer, is_for, is_current, store, positive_entry, negative_entry}
 use Rattle.hickory_resolver_model.specs.Lookup.{LookupResult}
 use Rattle.hickory_resolver_model.specs.Verdict.{all_records}
 use Rattle.hickory_resolver_model.specs.Hops.{LookupContext, Store, IsReply, after_stores}
-use Rattle.hickory_resolver_theorems.specs.Covered.{Dated, dated_exchanges, IsCovered, greatest_ttl}
+use Rattle.hickory_resolver_theorems.specs.Covered.{Dated, dated_exchanges, IsCovered}
 use Rattle.hickory_resolver_theorems.specs.Statements.{IsFreshRecord, IsFreshReply, IsFreshOutcome, IsFreshEntry}
-use Rattle.hickory_resolver_theorems.specs.Provenance.{IsTimelyAnswer, IsTimelyOutcome, IsTimelyEntry, is_positive, is_source, dated_entry, sources_of, IsFromSources, HasProvenance}
+use Rattle.hickory_resolver_theorems.specs.Provenance.{is_positive, is_source, dated_entry, sources_of, IsFromSources, HasProvenance}
 use Rattle.hickory_resolver_theorems.proofs.Lists.{all-has, has-all, all-front, has-left, has-map, has-filter, find-has, ContainsByRecursion, contains-from_recursion}
 use Rattle.hickory_resolver_theorems.proofs.Covers.{arrived-fresh, covered-has}
 use Rattle.hickory_resolver_theorems.proofs.Stores.{StoresArrived, StoresOutcome, insert_entry-all}
 use Rattle.hickory_resolver_theorems.proofs.Fresh.{for-type, AreFreshHits, hops-fresh, own-sources}
 
 -- an entry that is a source is fresh by itself
-entry-own : (config : ConfigValue) (sources : List Dated) (e : Entry) (o : OutcomeValue) → e.result ≡ o → (is_positive o ≡ true → ContainsByRecursion sources (dated_entry e)) → IsTimelyOutcome config e (type_code e.query.query_type) o → IsFreshOutcome config sources e o
+entry-own : (config : ConfigValue) (sources : List Dated) (e : Entry) (o : OutcomeValue) → e.result ≡ o → (is_positive o ≡ true → ContainsByRecursion sources (dated_entry e)) → OutlivesNoAnswer config e → IsFreshOutcome config sources e o
 entry-own config sources e (Err error) is there timely = tt
-entry-own config sources e (Ok m) is there timely = λ zero. has-all (IsFreshRecord config sources code e.original_time e.valid_until) m.answers (λ r h same. inr (of r h same (all-has (IsTimelyAnswer config e code) m.answers r (timely zero) h same)))
+entry-own config sources e (Ok m) is there timely = λ zero. has-all (IsFreshRecord config sources code e.original_time e.valid_until) m.answers (λ r h same. inr (of r h same (all-has (IsTimelyAnswer config e code) m.answers r (timely zero m is) h same)))
   where
     code : ℕ
     code = type_code e.query.query_type
@@ -52,7 +52,7 @@ both-true true b e f = f
 both-true false b e f = cc
 
 -- each hit of the asked type is a source
-hits-own : (s : LookupContext) (question : Query) (asks : List Exchange) → AllByRecursion (IsTimelyEntry s.cache.config) s.cache.entries → AreFreshHits s (sources_of s question asks) (type_code question.query_type)
+hits-own : (s : LookupContext) (question : Query) (asks : List Exchange) → AllByRecursion (OutlivesNoAnswer s.cache.config) s.cache.entries → AreFreshHits s (sources_of s question asks) (type_code question.query_type)
 hits-own s question asks timely q e same is =
     let found = find-has (λ x. is_for q x && is_current s.now x) s.cache.entries e is in
     let both = and_parts (is_for q e) (is_current s.now e) found.1 in
@@ -62,7 +62,7 @@ hits-own s question asks timely q e same is =
     λ positive. has-left (map dated_entry (filter (is_source s.now code) s.cache.entries)) (dated_exchanges s.now asks) (dated_entry e)
     (has-map dated_entry (filter (is_source s.now code) s.cache.entries) e
     (has-filter (is_source s.now code) s.cache.entries e found.0 (both-true _ _ (both-true _ _ both.1 positive) of_type))) in
-    entry-own s.cache.config (sources_of s question asks) e e.result refl there (all-has (IsTimelyEntry s.cache.config) s.cache.entries e timely found.0)
+    entry-own s.cache.config (sources_of s question asks) e e.result refl there (all-has (OutlivesNoAnswer s.cache.config) s.cache.entries e timely found.0)
 
 -- what was in the cache before, or is fresh
 abbrev IsKnown : List Entry → ConfigValue → List Dated → Entry → Type 0
@@ -84,8 +84,8 @@ stores-known : (before : List Entry) (cache : CacheValue) (sources : List Dated)
 stores-known before cache sources now [] known all = known
 stores-known before cache sources now (s ∷ ss) known (arrive, all) = stores-known before (store cache s.query s.outcome now) sources now ss (store-known before cache sources now s.query s.outcome known arrive) all
 
-pub from_sources : (s : LookupContext) (question : Query) (asks : List Exchange) (result : LookupResult) (after : CacheValue) → IsReply s question asks result after → HasProvenance s question asks result after
-from_sources s question asks result after reply timely zero = by reply
+pub from_sources : (s : LookupContext) (question : Query) (asks : List Exchange) (result : LookupResult) (after : CacheValue) → IsCache s.cache.config s.cache.capacity s.cache.entries → IsReply s question asks result after → HasProvenance s question asks result after
+from_sources s question asks result after cache reply zero = by reply
   where
     code : ℕ
     code = type_code question.query_type
@@ -97,7 +97,7 @@ from_sources s question asks result after reply timely zero = by reply
     own = own-sources (map dated_entry (filter (is_source s.now code) s.cache.entries)) s.now asks
 
     hits : AreFreshHits s sources code
-    hits = hits-own s question asks timely
+    hits = hits-own s question asks cache.timely
 
     old : AllByRecursion (IsKnown s.cache.entries s.cache.config sources) s.cache.entries
     old = has-all (IsKnown s.cache.entries s.cache.config sources) s.cache.entries (λ e h. inl (contains-from_recursion s.cache.entries e h))

@@ -6,11 +6,11 @@ use Rattle.hickory_proto_core.specs.Handles.{OutcomeValue}
 use Rattle.hickory_proto_core.specs.records.query.Query.{Query}
 use Rattle.hickory_proto_core.specs.records.net_error.NetError.TheVariants.{Message, Timeout, Proto, Dns, NoOutcome, Bounds, OutOfMemory}
 use Rattle.hickory_proto_core.specs.records.net_error.DnsError.TheVariants.{ResponseCode, NoRecordsFound}
-use Rattle.hickory_resolver_model.specs.Bounds.{ConfigValue}
+use Rattle.hickory_resolver_model.specs.Bounds.{ConfigValue, greatest_ttl}
 use Rattle.hickory_resolver_model.specs.Cache.{CacheValue, Entry, is_for, without, without_earliest, least_deadline, room_for, insert_entry, store, positive_entry, negative_entry}
 use Rattle.hickory_resolver_model.specs.Hops.{Store, after_stores}
 use Rattle.hickory_proto_core.specs.Records.{RecordValue}
-use Rattle.hickory_resolver_theorems.specs.Covered.{Dated, IsCovered, IsLoopback, greatest_ttl}
+use Rattle.hickory_resolver_theorems.specs.Covered.{Dated, IsCovered, IsLoopback}
 use Rattle.hickory_resolver_theorems.specs.Statements.{HasNoLeast, IsFreshRecord, IsFreshOutcome, IsFreshEntry, AreFreshEntries}
 use Rattle.hickory_resolver_theorems.proofs.Lists.{all-weaker, all-append, all-filter, all-remove}
 use Rattle.hickory_resolver_theorems.proofs.Covers.{Arrives, arrived-fresh, covered-left}

@@ -7,7 +7,7 @@ use Rattle.hickory_proto_core.specs.Records.{RecordValue}
 use Rattle.hickory_proto_core.specs.Messages.{MessageValue}
 use Rattle.hickory_proto_core.specs.ResponseKind.{record_type_code}
 use Rattle.hickory_proto_core.specs.declared.recorded.Exchange.{Exchange}
-use Rattle.hickory_resolver_model.specs.Bounds.{ConfigValue, bounds_for, positive_bounds, reduced_bound}
+use Rattle.hickory_resolver_model.specs.Bounds.{ConfigValue, greatest_ttl}
 use Rattle.hickory_resolver_model.specs.SpecialUse.{is_loopback_name, loopback_data}
 use Rattle.hickory_resolver_model.specs.Verdict.{all_records}
 use Rattle.hickory_resolver_theorems.specs.WithoutTimes.{record_without_times}
@@ -19,10 +19,6 @@ pub record Dated : Type 0 where
 
 abbrev pub dated_exchanges : ℕ → List Exchange → List Dated
 dated_exchanges now xs = map (λ x. record { moment = now; exchange = x }) xs
-
--- the greatest TTL that records of a type are kept with
-abbrev pub greatest_ttl : ConfigValue → ℕ → ℕ
-greatest_ttl config code = reduced_bound (positive_bounds (bounds_for config code)).1
 
 -- The record, given at a moment, is covered: some exchange brought an equal one (TTLs aside) in some section,
 -- and the moment and the record's TTL together are not past the exchange's moment and the TTL that it

@@ -1,34 +1,16 @@
 -- Where the records that a look-up gives and stores come from: its own exchanges, and the current entries of
 -- the asked type in the cache before it, whatever is known of that cache (RFC 2181, section 8).
-use Rattle.std.specs.Prelude.{◌≡◌, ◌⊎◌, ◌≤◌, ◌+◌, ◌==◌, ◌&&◌, ℕ, Bool, true, false, List, ◌++◌, map, filter, Contains, Ok, Err}
+use Rattle.std.specs.Prelude.{◌⊎◌, ◌==◌, ◌&&◌, ℕ, Bool, true, false, List, ◌++◌, map, filter, Contains, Ok, Err}
 use Rattle.std.specs.List.{AllByRecursion}
 use Rattle.hickory_proto_core.specs.Codes.{type_code}
 use Rattle.hickory_proto_core.specs.Handles.{OutcomeValue}
-use Rattle.hickory_proto_core.specs.Records.{RecordValue}
-use Rattle.hickory_proto_core.specs.ResponseKind.{record_type_code}
 use Rattle.hickory_proto_core.specs.records.query.Query.{Query}
 use Rattle.hickory_proto_core.specs.declared.recorded.Exchange.{Exchange}
-use Rattle.hickory_resolver_model.specs.Bounds.{ConfigValue}
 use Rattle.hickory_resolver_model.specs.Cache.{CacheValue, Entry, is_current}
 use Rattle.hickory_resolver_model.specs.Lookup.{LookupResult}
 use Rattle.hickory_resolver_model.specs.Hops.{LookupContext}
-use Rattle.hickory_resolver_theorems.specs.Covered.{Dated, dated_exchanges, greatest_ttl}
+use Rattle.hickory_resolver_theorems.specs.Covered.{Dated, dated_exchanges}
 use Rattle.hickory_resolver_theorems.specs.Statements.{HasNoLeast, IsFreshReply, IsFreshEntry}
-
--- an entry outlives none of its answers of the asked type, counted from its own time, and they are kept with
--- at most the greatest TTL of the type
-abbrev pub IsTimelyAnswer : ConfigValue → Entry → ℕ → RecordValue → Type 0
-IsTimelyAnswer config e code r =
-    record_type_code r ≡ code → (e.valid_until ≤ e.original_time + r.ttl) × (r.ttl ≤ greatest_ttl config code)
-
-abbrev pub IsTimelyOutcome : ConfigValue → Entry → ℕ → OutcomeValue → Type 0
-IsTimelyOutcome config e code (Ok m) =
-    HasNoLeast config code → AllByRecursion (IsTimelyAnswer config e code) m.answers
-IsTimelyOutcome config e code (Err error) = Unit {0}
-
--- what holds of the entries of every cache
-abbrev pub IsTimelyEntry : ConfigValue → Entry → Type 0
-IsTimelyEntry config e = IsTimelyOutcome config e (type_code e.query.query_type) e.result
 
 abbrev pub is_positive : OutcomeValue → Bool
 is_positive (Ok m) = true
@@ -58,9 +40,7 @@ pub record IsFromSources
       (λ e. Contains s.cache.entries e
       ⊎ IsFreshEntry s.cache.config (sources_of s question asks) e) after.entries
 
--- Of a look-up: where the least TTL of the asked type is zero, whatever the cache was before.
+-- Of a look-up: where the least TTL of the asked type is zero.
 abbrev pub HasProvenance : LookupContext → Query → List Exchange → LookupResult → CacheValue → Type 0
 HasProvenance s question asks result after =
-    AllByRecursion (IsTimelyEntry s.cache.config) s.cache.entries
-    → HasNoLeast s.cache.config (type_code question.query_type)
-    → IsFromSources s question asks result after
+    HasNoLeast s.cache.config (type_code question.query_type) → IsFromSources s question asks result after

@@ -8,7 +8,7 @@ use Rattle.hickory_proto_core.specs.Table.{TableValue}
 use Rattle.hickory_proto_core.specs.records.query.Query.{Query}
 use Rattle.hickory_proto_core.specs.declared.recorded.Exchange.{Exchange}
 use Rattle.hickory_proto_core.specs.records.net_error.NetError.TheVariants.{OutOfMemory}
-use Rattle.hickory_resolver_model.specs.Bounds.{ConfigValue, bounds_for, positive_bounds}
+use Rattle.hickory_resolver_model.specs.Bounds.{ConfigValue, bounds_for, positive_bounds, greatest_ttl}
 use Rattle.hickory_resolver_model.specs.Cache.{CacheValue, Entry}
 use Rattle.hickory_proto_core.specs.Handles.{OutcomeValue}
 use Rattle.hickory_resolver_model.specs.Lookup.{LookupResult}
@@ -18,7 +18,7 @@ use Rattle.hickory_resolver_model.specs.Calls.{SubLookup, SubLookupRelation, Set
 use Rattle.hickory_resolver_model.specs.Run.{Settings, setting_at, RequestValue, StepValue, StepReply, LookedUp, Cleared, ends_run, IsServed, Stage, exchanges_of, Run}
 use Rattle.hickory_resolver_theorems.specs.Cacheless.{IsTable, ResolvesTo, AreConsistentWith}
 use Rattle.hickory_resolver_theorems.specs.WithoutTimes.{WithoutTimes, without_times, stored_without_times}
-use Rattle.hickory_resolver_theorems.specs.Covered.{Dated, dated_exchanges, IsCovered, IsLoopback, greatest_ttl}
+use Rattle.hickory_resolver_theorems.specs.Covered.{Dated, dated_exchanges, IsCovered, IsLoopback}
 
 -- ---- provenance: no record of the asked type outlives what was received (RFC 2181, section 8)
 

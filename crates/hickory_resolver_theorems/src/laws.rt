@@ -7,7 +7,7 @@ ghost use Rattle.hickory_proto_core.specs.records.query.Query.{Query};
 ghost use Rattle.hickory_proto_core.specs.declared.recorded.Exchange.{Exchange};
 ghost use Rattle.hickory_resolver_model.specs.Attempts.{Search};
 ghost use Rattle.hickory_resolver_theorems.specs.AttemptLaws.{AreAttemptsApart};
-ghost use Rattle.hickory_resolver_model.specs.Cache.{CacheValue};
+ghost use Rattle.hickory_resolver_model.specs.Cache.{CacheValue, IsCache};
 ghost use Rattle.hickory_resolver_model.specs.Hops.{LookupContext, IsReply};
 ghost use Rattle.hickory_resolver_model.specs.Lookup.{LookupResult};
 ghost use Rattle.hickory_resolver_model.specs.Run.{Settings, RequestValue, StepValue, Run};
@@ -39,13 +39,13 @@ pub fn nothing_outlives()
         (after : CacheValue) → IsReply s question asks result after → IsFresh s question asks result after }
 {}
 
-/// A look-up that is what the hops say has provenance: where the least TTL of the asked type is zero, no
-/// record of that type that it gives or stores outlives what its own exchanges brought or what the current
-/// entries of that type held.
+/// A look-up that is what the hops say, over what a cache may hold, has provenance: where the least TTL of the
+/// asked type is zero, no record of that type that it gives or stores outlives what its own exchanges brought
+/// or what the current entries of that type held.
 pub fn every_record_has_a_source()
     ensures { (s : LookupContext) (question : Query) (asks : List Exchange) (result : LookupResult)
-        (after : CacheValue) → IsReply s question asks result after
-        → HasProvenance s question asks result after }
+        (after : CacheValue) → IsCache s.cache.config s.cache.capacity s.cache.entries
+        → IsReply s question asks result after → HasProvenance s question asks result after }
 {}
 
 /// A look-up that is what the hops say is transparent: under every table that tells its exchanges it comes to
