@@ -1,0 +1,37 @@
+//! Times the cache, names and scripts, in nanoseconds an operation, where there is an argument. Without one it
+//! prints nothing.
+#![tactic(auto)]
+
+mod bare;
+mod cache;
+mod measure;
+mod names;
+mod samples;
+mod script;
+mod table;
+
+use measure::Stopwatch;
+use std::alloc::Global;
+use std::env;
+use std::rt::Clock;
+use table::print_head;
+
+fn main(rt: HostRuntime) -> anyhow::Result<()> {
+    if env::args(&rt)?.nth(1).is_none() {
+        return Ok(());
+    }
+    print_times(&rt, rt.alloc())
+}
+
+// What was computed is printed too, so that no operation is left out when the program is built.
+fn print_times<R: Clock + Print>(rt: &R, alloc: Global) -> anyhow::Result<()> {
+    let mut watch = Stopwatch::new(rt);
+    print_head(rt)?;
+    cache::print_times(rt, alloc, &mut watch)?;
+    bare::print_times(rt, alloc, &mut watch)?;
+    names::print_times(rt, alloc, &mut watch)?;
+    script::print_times(rt, alloc, &mut watch)?;
+    let seen = watch.seen();
+    println!(rt; "check sum {seen}")?;
+    Ok(())
+}

@@ -1,0 +1,59 @@
+//! The time that an operation takes.
+ghost use Rattle.std.specs.Prelude.{◌<◌};
+
+use hickory_proto_core::NetError;
+use std::rt::Clock;
+use std::time::Instant;
+
+const ROUNDS: u32 = 5;
+
+/// What is timed.
+pub trait Subject {
+    /// Makes ready for a round. Its time does not count.
+    fn prepare(&mut self) -> Result<(), NetError> {
+        Ok(())
+    }
+
+    /// A round of operations. Gives a number that depends on what they gave.
+    fn run(&mut self) -> Result<u64, NetError>;
+}
+
+/// Times subjects, and keeps a sum of what they computed.
+#[derive(Drop)]
+pub struct Stopwatch<'a, R> {
+    rt: &'a R,
+    seen: u64,
+}
+
+impl<'a, R: Clock> Stopwatch<'a, R> {
+    /// A stopwatch by this clock.
+    pub fn new(rt: &'a R) -> Stopwatch<'a, R> {
+        Stopwatch { rt, seen: 0 }
+    }
+
+    /// The sum of what the subjects computed so far.
+    pub fn seen(&self) -> u64 {
+        self.seen
+    }
+
+    /// Nanoseconds an operation in the best of five rounds, each of so many operations.
+    pub fn best<S: Subject>(&mut self, subject: &mut S, operations: u64) -> anyhow::Result<u64>
+        requires { 0 < operations }
+    {
+        let mut best = u64::MAX;
+        for _ in 0..ROUNDS {
+            best = best.min(self.round(subject)?);
+        }
+        Ok(best / operations)
+    }
+
+    // Nanoseconds of a round.
+    fn round<S: Subject>(&mut self, subject: &mut S) -> anyhow::Result<u64> {
+        subject.prepare()?;
+        let start = Instant::now(self.rt)?;
+        let seen = subject.run()?;
+        let elapsed = start.elapsed(self.rt)?;
+        self.seen = self.seen.wrapping_add(seen);
+        Ok(u64::try_from(elapsed.as_nanos()).unwrap_or(u64::MAX))
+    }
+}

@@ -1,0 +1,108 @@
+//! Names: reading, comparing, hashing.
+use crate::measure::{Stopwatch, Subject};
+use crate::samples::{OPERATIONS, host, host_text};
+use crate::table::print_figure;
+use hickory_proto_core::{Name, NetError};
+use std::alloc::Global;
+use std::hash::{BuildHasher, BuildHasherDefault, FoldHasher};
+use std::rt::Clock;
+
+/// Times what is done with names, and prints a line for each.
+pub fn print_times<R: Clock + Print>(
+    rt: &R,
+    alloc: Global,
+    watch: &mut Stopwatch<'_, R>,
+) -> anyhow::Result<()> {
+    let texts = texts(alloc)?;
+    let names = names(alloc)?;
+    let others = self::names(alloc)?;
+    let read = watch.best(
+        &mut Reads {
+            alloc,
+            texts: &texts,
+        },
+        OPERATIONS,
+    )?;
+    print_figure(rt, "read a name's text", read)?;
+    let compare = watch.best(
+        &mut Compares {
+            names: &names,
+            others: &others,
+        },
+        OPERATIONS,
+    )?;
+    print_figure(rt, "compare two equal names", compare)?;
+    let hash = watch.best(&mut Hashes { names: &names }, OPERATIONS)?;
+    print_figure(rt, "hash a name", hash)?;
+    Ok(())
+}
+
+fn texts(alloc: Global) -> Result<Vec<String>, NetError> {
+    let mut texts = Vec::new(alloc);
+    for number in 0..OPERATIONS {
+        texts.push(host_text(alloc, number)?)?;
+    }
+    Ok(texts)
+}
+
+fn names(alloc: Global) -> Result<Vec<Name>, NetError> {
+    let mut names = Vec::new(alloc);
+    for number in 0..OPERATIONS {
+        names.push(host(alloc, number)?)?;
+    }
+    Ok(names)
+}
+
+// Texts that are read.
+#[derive(Drop)]
+struct Reads<'a> {
+    alloc: Global,
+    texts: &'a [String],
+}
+
+impl Subject for Reads<'_> {
+    fn run(&mut self) -> Result<u64, NetError> {
+        let mut labels: u64 = 0;
+        for text in self.texts {
+            let name = Name::from_ascii(self.alloc, text.as_str())?;
+            labels = labels.wrapping_add(u64::from(name.num_labels()));
+        }
+        Ok(labels)
+    }
+}
+
+// Names that are compared with their equals.
+#[derive(Drop)]
+struct Compares<'a> {
+    names: &'a [Name],
+    others: &'a [Name],
+}
+
+impl Subject for Compares<'_> {
+    fn run(&mut self) -> Result<u64, NetError> {
+        let mut equal: u64 = 0;
+        for (name, other) in self.names.iter().zip(self.others) {
+            if name == other {
+                equal = equal.wrapping_add(1);
+            }
+        }
+        Ok(equal)
+    }
+}
+
+// Hashes of names.
+#[derive(Drop)]
+struct Hashes<'a> {
+    names: &'a [Name],
+}
+
+impl Subject for Hashes<'_> {
+    fn run(&mut self) -> Result<u64, NetError> {
+        let hasher = BuildHasherDefault::<FoldHasher>::new();
+        let mut sum: u64 = 0;
+        for name in self.names {
+            sum = sum.wrapping_add(hasher.hash_one(name));
+        }
+        Ok(sum)
+    }
+}
