@@ -1,13 +1,15 @@
 //! A client that asks an upstream through a cache.
-ghost use Rattle.std.specs.Prelude.{◌≡◌, ◌⊎◌, ◌≤◌, ◌∷◌, [], Ok, Err, OnOk, OnErr, IfOk, IsOkUnless};
+ghost use Rattle.std.specs.Prelude.{◌≡◌, ◌⊎◌, ◌≤◌, ◌∷◌, List, [], length, Ok, Err, OnOk, OnErr, IfOk, IsOkUnless};
 ghost use Rattle.hickory_proto_core.specs.ResponseKind.{ResponseKind, Answer, IsClassified, kind_of};
 ghost use Rattle.hickory_proto_core.specs.records.net_error.NetError.TheVariants.{Dns};
 ghost use Rattle.hickory_proto_core.specs.records.net_error.DnsError.TheVariants.{NoRecordsFound};
 ghost use Rattle.hickory_resolver_model.specs.Cache.{without_query};
 ghost use Rattle.hickory_resolver_model.specs.Lookup.{found_lookup};
-ghost use Rattle.hickory_resolver_model.specs.Hops.{no_match, hit_result, as_outcome, after_stores};
+ghost use Rattle.hickory_resolver_model.specs.Hops.{IsReply, no_match, hit_result, as_outcome, after_stores};
 ghost use Rattle.hickory_resolver_model.specs.Client.{ClientValue, IsLookup, start_of, KeepsHandle, empty_cache};
-ghost use Rattle.hickory_resolver_theorems.specs.WholeLookup.{IsWholeLookup};
+ghost use Rattle.hickory_proto_core.specs.declared.recorded.Exchange.{Exchange};
+ghost use Rattle.hickory_resolver_theorems.specs.Provenance.{HasProvenance};
+ghost use Rattle.hickory_resolver_theorems.specs.Statements.{IsFresh, IsTransparent};
 ghost use Rattle.hickory_resolver.specs.Special.{IsUnlessOut};
 ghost use Rattle.hickory_resolver.specs.Verdicts.{hop_of};
 ghost use Rattle.hickory_resolver.specs.Steps.{NeverFailsNegative, SettledAs, IsSettled, IsHopStep, stores_back, IsBeginning};
@@ -115,7 +117,18 @@ impl<H: DnsHandle, S: BuildHasher> CachingClient<H, S> {
         options: DnsRequestOptions,
         now: u64,
     ) -> Result<Lookup, NetError>
-        ensures { IsWholeLookup H.step options now self.old query result self.new }
+        ensures look_up { IsLookup H.step options now self.old query result self.new }
+        ensures few { (asks : List Exchange)
+            → IsReply (start_of self.old now) query asks result self.new.cache → length asks ≤ 8 }
+        ensures provenance { (asks : List Exchange)
+            → IsReply (start_of self.old now) query asks result self.new.cache
+            → HasProvenance (start_of self.old now) query asks result self.new.cache }
+        ensures fresh { (asks : List Exchange)
+            → IsReply (start_of self.old now) query asks result self.new.cache
+            → IsFresh (start_of self.old now) query asks result self.new.cache }
+        ensures transparent { (asks : List Exchange)
+            → IsReply (start_of self.old now) query asks result self.new.cache
+            → IsTransparent (start_of self.old now) query asks result self.new.cache }
     {
         // `len` is called for its clause on what holds of every cache.
         let _len = self.cache.len();

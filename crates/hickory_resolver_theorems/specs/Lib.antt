@@ -4,7 +4,6 @@ pub mod WithoutTimes
 pub mod Covered
 pub mod Statements
 pub mod Provenance
-pub mod WholeLookup
 pub mod WalkLaws
 pub mod Worked
 pub mod WorkedLoop

@@ -10,7 +10,7 @@ use Rattle.hickory_proto_core.specs.codes.dns_class.DNSClass.TheVariants as clas
 use Rattle.hickory_proto_core.specs.names.name_error.NameError.{NameError}
 use Rattle.hickory_proto_core.specs.names.name_error.NameError.TheVariants as name_error
 use Rattle.hickory_proto_core.specs.declared.recorded.Exchange.{Exchange}
-use Rattle.hickory_resolver.specs.WholeLookup.{IsWholeLookup}
+use Rattle.hickory_resolver_model.specs.Client.{IsLookup}
 use Rattle.hickory_resolver_model.specs.Lookup.{LookupResult}
 use Rattle.hickory_resolver_model.specs.Run.{RequestValue, Lookup}
 use Rattle.hickory_proto_core.specs.codes.record_type.RecordType.{RecordType}
@@ -28,12 +28,12 @@ named name read (inr e) = absurd (let h = e in cc)
 pub looked_up : (before after : ScriptClient) (request : RequestValue) (now : ℕ) (text : List ℕ) (t : RecordType) (name : NameValue) (question : Query) (reply : LookupResult)
     → request ≡ Lookup text t now → (Ok name ≡ text_name text) ⊎ (Ok name ≡ Err name_error.OutOfMemory)
     → question.name ≡ record name { fqdn = true } → question.query_type ≡ t → question.query_class ≡ class.IN
-    → IsWholeLookup (RecordedStep ScriptStep) request_options now before question reply after → Answers before request reply after
+    → IsLookup (RecordedStep ScriptStep) request_options now before question reply after → Answers before request reply after
 looked_up before after request now text t name question reply request_is read name_is type_is class_is look =
     let kept = recorded_leads ScriptStep request_options before.handle after.handle look.asks look.led in
     let is_name : Ok name ≡ text_name text = named name (text_name text) read in
     let question_is : question ≡ question_of (as_fqdn name) t = λ i. record { name = name_is i; query_type = type_is i; query_class = class_is i } in
-    let P : Query → Type 0 = λ q. IsWholeLookup (RecordedStep ScriptStep) request_options now before q reply after in
+    let P : Query → Type 0 = λ q. IsLookup (RecordedStep ScriptStep) request_options now before q reply after in
     let Q : Result NameValue NameError → Type 0 = λ n. IsLookedUp before t now n reply after in
     let R : RequestValue → Type 0 = λ r. IsAsked before r reply after in
     inl (record { kept = kept.kept; asked = subst R (sym request_is) (subst Q is_name (subst P question_is look)); exchanges_are = kept.exchanges_are })

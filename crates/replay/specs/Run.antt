@@ -11,8 +11,7 @@ use Rattle.hickory_proto_core.specs.declared.dns_request.DnsRequestOptions.{DnsR
 use Rattle.hickory_proto_core.specs.names.name_error.NameError.{NameError}
 use Rattle.hickory_proto_core.specs.records.net_error.NetError.TheVariants.{OutOfMemory}
 use Rattle.hickory_proto_core.specs.declared.recorded.Exchange.{Exchange}
-use Rattle.hickory_resolver_model.specs.Client.{ClientValue, empty_cache}
-use Rattle.hickory_resolver.specs.WholeLookup.{IsWholeLookup}
+use Rattle.hickory_resolver_model.specs.Client.{ClientValue, IsLookup, empty_cache}
 use Rattle.hickory_resolver_model.specs.Lookup.{LookupResult}
 use Rattle.hickory_resolver_model.specs.Hosts.{as_fqdn}
 use Rattle.hickory_resolver_model.specs.Calls.{question_of, is_out_of_memory}
@@ -48,7 +47,7 @@ request_options =
 abbrev pub IsLookedUp : ScriptClient → RecordType → ℕ → Result NameValue NameError → LookupResult → ScriptClient
     → Type 0
 IsLookedUp before t now (Ok name) reply after =
-    IsWholeLookup (RecordedStep ScriptStep) request_options now before (question_of (as_fqdn name) t) reply after
+    IsLookup (RecordedStep ScriptStep) request_options now before (question_of (as_fqdn name) t) reply after
 IsLookedUp before t now (Err error) reply after = (reply ≡ Err (net_error_of error)) × (after ≡ before)
 
 -- a script asks look-ups of names
