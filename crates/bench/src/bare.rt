@@ -2,7 +2,7 @@
 ghost use Rattle.std.specs.Prelude.{◌<◌};
 
 use crate::measure::{Stopwatch, Subject};
-use crate::samples::{OPERATIONS, answers, place, question, questions, visits};
+use crate::samples::{BATCH, BATCHES, DAY, OPERATIONS, Visits, answer, place, question};
 use crate::table::{SIZES, print_row};
 use hickory_proto_core::{Message, NetError, Query};
 use indexmap::IndexMap;
@@ -17,7 +17,7 @@ struct BareFigures {
     hash: u64,
     look_up: u64,
     copy: u64,
-    order: u64,
+    turn: u64,
 }
 
 /// Times the parts at each size, and prints a row for each.
@@ -32,14 +32,14 @@ pub fn print_times<R: Clock + Print>(
     print_row(rt, "bare: hash a question", [a.hash, b.hash, c.hash])?;
     print_row(
         rt,
-        "bare: look one up in a map",
+        "bare: look it up in a map",
         [a.look_up, b.look_up, c.look_up],
     )?;
-    print_row(rt, "bare: copy a message", [a.copy, b.copy, c.copy])?;
+    print_row(rt, "bare: copy its message", [a.copy, b.copy, c.copy])?;
     print_row(
         rt,
-        "bare: one in and one out of an order",
-        [a.order, b.order, c.order],
+        "bare: a turn in, the first out",
+        [a.turn, b.turn, c.turn],
     )?;
     Ok(())
 }
@@ -51,43 +51,55 @@ fn bare_figures<R: Clock>(
 ) -> anyhow::Result<BareFigures>
     requires { 0 < size }
 {
-    let asked = visits(alloc, OPERATIONS, size)?;
     Ok(BareFigures {
-        hash: watch.best(&mut Hashes { asked: &asked }, OPERATIONS)?,
-        look_up: time_look_ups(alloc, watch, &asked, size)?,
+        hash: time_hashes(watch, Visits::new(alloc, 0, size))?,
+        look_up: time_look_ups(alloc, watch, size)?,
         copy: time_copies(alloc, watch, size)?,
-        order: time_order(alloc, watch, size)?,
+        turn: time_turns(alloc, watch, size)?,
     })
 }
 
 // Hashes of questions.
 #[derive(Drop)]
-struct Hashes<'a> {
-    asked: &'a [Query],
+struct Hashes {
+    visits: Visits,
 }
 
-impl Subject for Hashes<'_> {
+impl Subject for Hashes {
+    fn prepare(&mut self) -> Result<(), NetError> {
+        self.visits.refill()
+    }
+
     fn run(&mut self) -> Result<u64, NetError> {
         let hasher = BuildHasherDefault::<FoldHasher>::new();
         let mut sum: u64 = 0;
-        for query in self.asked {
+        for query in &self.visits.asked {
             sum = sum.wrapping_add(hasher.hash_one(query));
         }
         Ok(sum)
     }
 }
 
-// Look-ups of questions in a map that has them all.
-#[derive(Drop)]
-struct LookUps<'a> {
-    map: IndexMap<Query, u64>,
-    asked: &'a [Query],
+fn time_hashes<R: Clock>(watch: &mut Stopwatch<'_, R>, visits: Visits) -> anyhow::Result<u64> {
+    watch.best(&mut Hashes { visits }, BATCHES, OPERATIONS)
 }
 
-impl Subject for LookUps<'_> {
+// Look-ups of questions in a map that has them all.
+#[derive(Drop)]
+struct LookUps {
+    map: IndexMap<Query, u64>,
+    visits: Visits,
+}
+
+impl Subject for LookUps {
+    fn prepare(&mut self) -> Result<(), NetError> {
+        self.visits.refill()
+    }
+
     fn run(&mut self) -> Result<u64, NetError> {
+        let visits = &self.visits;
         let mut sum: u64 = 0;
-        for query in self.asked {
+        for query in &visits.asked {
             sum = sum.wrapping_add(self.map.get(query).copied().unwrap_or(0));
         }
         Ok(sum)
@@ -97,11 +109,13 @@ impl Subject for LookUps<'_> {
 fn time_look_ups<R: Clock>(
     alloc: Global,
     watch: &mut Stopwatch<'_, R>,
-    asked: &[Query],
     size: u64,
-) -> anyhow::Result<u64> {
+) -> anyhow::Result<u64>
+    requires { 0 < size }
+{
     let map = numbers(alloc, size)?;
-    watch.best(&mut LookUps { map, asked }, OPERATIONS)
+    let visits = Visits::new(alloc, 0, size);
+    watch.best(&mut LookUps { map, visits }, BATCHES, OPERATIONS)
 }
 
 // The numbers of the first hosts.
@@ -116,18 +130,20 @@ fn numbers(alloc: Global, size: u64) -> Result<IndexMap<Query, u64>, NetError> {
 // Copies of messages.
 #[derive(Drop)]
 struct Copies {
-    messages: Vec<(Query, Message)>,
+    messages: Vec<Message>,
     size: u64,
+    next: u64,
     ghost some: { 0 < size },
 }
 
 impl Subject for Copies {
     fn run(&mut self) -> Result<u64, NetError> {
         let mut sum: u64 = 0;
-        for i in 0..OPERATIONS {
-            if let Some((_, message)) = self.messages.get(place(i, self.size) as usize) {
+        for _ in 0..BATCH {
+            if let Some(message) = self.messages.get(place(self.next, self.size) as usize) {
                 sum = sum.wrapping_add(message.clone()?.answers.len() as u64);
             }
+            self.next = self.next.wrapping_add(1);
         }
         Ok(sum)
     }
@@ -140,21 +156,44 @@ fn time_copies<R: Clock>(
 ) -> anyhow::Result<u64>
     requires { 0 < size }
 {
-    let messages = answers(alloc, questions(alloc, 0, size)?)?;
-    watch.best(&mut Copies { messages, size }, OPERATIONS)
+    let mut copies = Copies {
+        messages: messages(alloc, size)?,
+        size,
+        next: 0,
+    };
+    watch.best(&mut copies, BATCHES, OPERATIONS)
 }
 
-// Turns that come into an order where the first one leaves.
+// The answers for the first hosts.
+fn messages(alloc: Global, size: u64) -> Result<Vec<Message>, NetError> {
+    let mut messages = Vec::new(alloc);
+    for number in 0..size {
+        let query = question(alloc, number)?;
+        messages.push(answer(alloc, &query, number)?)?;
+    }
+    Ok(messages)
+}
+
+// Turns that come into an order, of which the first then leaves.
 #[derive(Drop)]
 struct Turns {
     order: BTreeMap<(u64, u64), u64>,
     next: u64,
 }
 
+impl Turns {
+    fn take_turn(&mut self) -> Result<(), NetError> {
+        let deadline = self.next.wrapping_add(place(self.next, DAY));
+        self.order.insert((deadline, self.next), self.next)?;
+        self.next = self.next.wrapping_add(1);
+        Ok(())
+    }
+}
+
 impl Subject for Turns {
     fn run(&mut self) -> Result<u64, NetError> {
         let mut sum: u64 = 0;
-        for _ in 0..OPERATIONS {
+        for _ in 0..BATCH {
             self.take_turn()?;
             if let Some((turn, _)) = self.order.pop_first() {
                 sum = sum.wrapping_add(turn.0);
@@ -164,16 +203,7 @@ impl Subject for Turns {
     }
 }
 
-impl Turns {
-    fn take_turn(&mut self) -> Result<(), NetError> {
-        let deadline = self.next.wrapping_add(place(self.next, 86_400));
-        self.order.insert((deadline, self.next), self.next)?;
-        self.next = self.next.wrapping_add(1);
-        Ok(())
-    }
-}
-
-fn time_order<R: Clock>(
+fn time_turns<R: Clock>(
     alloc: Global,
     watch: &mut Stopwatch<'_, R>,
     size: u64,
@@ -185,5 +215,5 @@ fn time_order<R: Clock>(
     for _ in 0..size {
         turns.take_turn()?;
     }
-    watch.best(&mut turns, OPERATIONS)
+    watch.best(&mut turns, BATCHES, OPERATIONS)
 }

@@ -2,7 +2,7 @@
 ghost use Rattle.std.specs.Prelude.{◌<◌};
 
 use crate::measure::{Stopwatch, Subject};
-use crate::samples::{DAY, OPERATIONS, answer, answers, question, questions, visits};
+use crate::samples::{BATCHES, DAY, OPERATIONS, Visits, answer, question};
 use crate::table::{SIZES, print_row};
 use hickory_proto_core::{Message, NetError, Query};
 use hickory_resolver_cache::ResponseCache;
@@ -34,11 +34,8 @@ pub fn print_times<R: Clock + Print>(
     print_row(rt, "miss", [a.miss, b.miss, c.miss])?;
     print_row(rt, "store with eviction", [a.store, b.store, c.store])?;
     print_row(rt, "clamped store", [a.clamped, b.clamped, c.clamped])?;
-    print_row(
-        rt,
-        "clear_query",
-        [a.clear_query, b.clear_query, c.clear_query],
-    )?;
+    let clear_query = [a.clear_query, b.clear_query, c.clear_query];
+    print_row(rt, "clear_query", clear_query)?;
     Ok(())
 }
 
@@ -51,10 +48,10 @@ fn cache_figures<R: Clock>(
 {
     let mut cache = filled(alloc, size)?;
     Ok(CacheFigures {
-        hit: time_gets(watch, &cache, &visits(alloc, OPERATIONS, size)?)?,
-        miss: time_gets(watch, &cache, &questions(alloc, size, OPERATIONS)?)?,
-        clamped: time_clamped(alloc, watch, &mut cache, size)?,
-        clear_query: time_clears(alloc, watch, &mut cache, size)?,
+        hit: time_gets(watch, &cache, Visits::new(alloc, 0, size))?,
+        miss: time_gets(watch, &cache, Visits::new(alloc, size, size))?,
+        clamped: time_clamped(watch, &mut cache, Visits::new(alloc, 0, size))?,
+        clear_query: time_clears(watch, &mut cache, Visits::new(alloc, 0, size))?,
         store: time_evictions(alloc, watch, &mut cache, size)?,
     })
 }
@@ -63,33 +60,28 @@ fn cache_figures<R: Clock>(
 fn filled(alloc: Global, size: u64) -> Result<ResponseCache, NetError> {
     let mut cache = ResponseCache::new(alloc, size, TtlConfig::default(alloc));
     for number in 0..size {
-        keep(alloc, &mut cache, question(alloc, number)?, number)?;
+        let query = question(alloc, number)?;
+        let message = answer(alloc, &query, number)?;
+        cache.insert(query, Ok(message), 0)?;
     }
     Ok(cache)
 }
 
-// Stores an answer, at the moment 0.
-fn keep(
-    alloc: Global,
-    cache: &mut ResponseCache,
-    query: Query,
-    number: u64,
-) -> Result<(), NetError> {
-    let message = answer(alloc, &query, number)?;
-    cache.insert(query, Ok(message), 0)
-}
-
-// Look-ups of some questions, a second after all was stored.
+// Look-ups, a second after all was stored.
 #[derive(Drop)]
 struct Gets<'a> {
     cache: &'a ResponseCache,
-    asked: &'a [Query],
+    visits: Visits,
 }
 
 impl Subject for Gets<'_> {
+    fn prepare(&mut self) -> Result<(), NetError> {
+        self.visits.refill()
+    }
+
     fn run(&mut self) -> Result<u64, NetError> {
         let mut found: u64 = 0;
-        for query in self.asked {
+        for query in &self.visits.asked {
             if let Some(hit) = self.cache.get(query, 1) {
                 found = found.wrapping_add(hit?.answers.len() as u64);
             }
@@ -101,29 +93,29 @@ impl Subject for Gets<'_> {
 fn time_gets<R: Clock>(
     watch: &mut Stopwatch<'_, R>,
     cache: &ResponseCache,
-    asked: &[Query],
+    visits: Visits,
 ) -> anyhow::Result<u64> {
-    watch.best(&mut Gets { cache, asked }, OPERATIONS)
+    watch.best(&mut Gets { cache, visits }, BATCHES, OPERATIONS)
 }
 
 // Stores over entries that are current.
 #[derive(Drop)]
 struct Clamped<'a> {
-    alloc: Global,
     cache: &'a mut ResponseCache,
-    size: u64,
+    visits: Visits,
     answers: Vec<(Query, Message)>,
-    ghost some: { 0 < size },
 }
 
 impl Subject for Clamped<'_> {
     fn prepare(&mut self) -> Result<(), NetError> {
-        self.answers = answers(self.alloc, visits(self.alloc, OPERATIONS, self.size)?)?;
+        self.visits.refill()?;
+        self.answers = self.visits.answers()?;
         Ok(())
     }
 
     fn run(&mut self) -> Result<u64, NetError> {
-        for (query, message) in mem::replace(&mut self.answers, Vec::new(self.alloc)) {
+        let none = Vec::new(self.cache.allocator());
+        for (query, message) in mem::replace(&mut self.answers, none) {
             self.cache.upsert_clamped_ttl(query, Ok(message), 0, true)?;
         }
         Ok(self.cache.len() as u64)
@@ -131,40 +123,44 @@ impl Subject for Clamped<'_> {
 }
 
 fn time_clamped<R: Clock>(
-    alloc: Global,
     watch: &mut Stopwatch<'_, R>,
     cache: &mut ResponseCache,
-    size: u64,
-) -> anyhow::Result<u64>
-    requires { 0 < size }
-{
+    visits: Visits,
+) -> anyhow::Result<u64> {
+    let answers = Vec::new(cache.allocator());
     let mut clamped = Clamped {
-        alloc,
         cache,
-        size,
-        answers: Vec::new(alloc),
+        visits,
+        answers,
     };
-    watch.best(&mut clamped, OPERATIONS)
+    watch.best(&mut clamped, BATCHES, OPERATIONS)
 }
 
-// Entries that are cleared, each of which is stored before the round.
+// Entries that are cleared, and stored again before the next batch.
 #[derive(Drop)]
 struct Clears<'a> {
-    alloc: Global,
     cache: &'a mut ResponseCache,
-    asked: Vec<Query>,
+    visits: Visits,
+}
+
+impl Clears<'_> {
+    fn store_again(&mut self) -> Result<(), NetError> {
+        for (query, message) in self.visits.answers()? {
+            self.cache.insert(query, Ok(message), 0)?;
+        }
+        Ok(())
+    }
 }
 
 impl Subject for Clears<'_> {
     fn prepare(&mut self) -> Result<(), NetError> {
-        for (i, query) in self.asked.iter().enumerate() {
-            keep(self.alloc, self.cache, query.clone()?, i as u64)?;
-        }
-        Ok(())
+        self.store_again()?;
+        self.visits.refill()
     }
 
     fn run(&mut self) -> Result<u64, NetError> {
-        for query in &self.asked {
+        let visits = &self.visits;
+        for query in &visits.asked {
             self.cache.clear_query(query);
         }
         Ok(self.cache.len() as u64)
@@ -173,47 +169,41 @@ impl Subject for Clears<'_> {
 
 // Leaves the cache full again.
 fn time_clears<R: Clock>(
-    alloc: Global,
     watch: &mut Stopwatch<'_, R>,
     cache: &mut ResponseCache,
-    size: u64,
-) -> anyhow::Result<u64>
-    requires { 0 < size }
-{
-    let operations = OPERATIONS.min(size);
-    let mut clears = Clears {
-        alloc,
-        cache,
-        asked: visits(alloc, operations, size)?,
-    };
-    let best = watch.best(&mut clears, operations)?;
-    clears.prepare()?;
+    visits: Visits,
+) -> anyhow::Result<u64> {
+    let mut clears = Clears { cache, visits };
+    let best = watch.best(&mut clears, BATCHES, OPERATIONS)?;
+    clears.store_again()?;
     Ok(best)
 }
 
-// Stores of answers to questions that the full cache does not have. The moment moves on by a day while as many
-// are stored as there is room for.
+// Stores for questions that the full cache does not have. The moment moves on by a day while as many are stored
+// as there is room for.
 #[derive(Drop)]
 struct Evictions<'a> {
-    alloc: Global,
     cache: &'a mut ResponseCache,
-    size: u64,
-    next: u64,
+    visits: Visits,
     answers: Vec<(Query, Message)>,
+    size: u64,
+    stored: u64,
     ghost some: { 0 < size },
 }
 
 impl Subject for Evictions<'_> {
     fn prepare(&mut self) -> Result<(), NetError> {
-        self.answers = answers(self.alloc, questions(self.alloc, self.next, OPERATIONS)?)?;
+        self.visits.refill()?;
+        self.answers = self.visits.answers()?;
         Ok(())
     }
 
     fn run(&mut self) -> Result<u64, NetError> {
-        for (query, message) in mem::replace(&mut self.answers, Vec::new(self.alloc)) {
-            let now = self.next.wrapping_mul(DAY) / self.size;
+        let none = Vec::new(self.cache.allocator());
+        for (query, message) in mem::replace(&mut self.answers, none) {
+            let now = self.stored.wrapping_mul(DAY) / self.size;
             self.cache.insert(query, Ok(message), now)?;
-            self.next = self.next.wrapping_add(1);
+            self.stored = self.stored.wrapping_add(1);
         }
         Ok(self.cache.len() as u64)
     }
@@ -228,11 +218,11 @@ fn time_evictions<R: Clock>(
     requires { 0 < size }
 {
     let mut evictions = Evictions {
-        alloc,
         cache,
-        size,
-        next: size,
+        visits: Visits::new(alloc, size, u64::MAX),
         answers: Vec::new(alloc),
+        size,
+        stored: 0,
     };
-    watch.best(&mut evictions, OPERATIONS)
+    watch.best(&mut evictions, BATCHES, OPERATIONS)
 }

@@ -7,7 +7,6 @@ mod cache;
 mod measure;
 mod names;
 mod samples;
-mod script;
 mod table;
 
 use measure::Stopwatch;
@@ -30,7 +29,6 @@ fn print_times<R: Clock + Print>(rt: &R, alloc: Global) -> anyhow::Result<()> {
     cache::print_times(rt, alloc, &mut watch)?;
     bare::print_times(rt, alloc, &mut watch)?;
     names::print_times(rt, alloc, &mut watch)?;
-    script::print_times(rt, alloc, &mut watch)?;
     let seen = watch.seen();
     println!(rt; "check sum {seen}")?;
     Ok(())

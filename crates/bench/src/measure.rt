@@ -9,12 +9,12 @@ const ROUNDS: u32 = 5;
 
 /// What is timed.
 pub trait Subject {
-    /// Makes ready for a round. Its time does not count.
+    /// Makes ready for a batch. Its time does not count.
     fn prepare(&mut self) -> Result<(), NetError> {
         Ok(())
     }
 
-    /// A round of operations. Gives a number that depends on what they gave.
+    /// A batch of operations. Gives a number that depends on what they gave.
     fn run(&mut self) -> Result<u64, NetError>;
 }
 
@@ -36,20 +36,34 @@ impl<'a, R: Clock> Stopwatch<'a, R> {
         self.seen
     }
 
-    /// Nanoseconds an operation in the best of five rounds, each of so many operations.
-    pub fn best<S: Subject>(&mut self, subject: &mut S, operations: u64) -> anyhow::Result<u64>
+    /// Nanoseconds an operation in the best of five rounds, each of so many batches and operations.
+    pub fn best<S: Subject>(
+        &mut self,
+        subject: &mut S,
+        batches: u64,
+        operations: u64,
+    ) -> anyhow::Result<u64>
         requires { 0 < operations }
     {
         let mut best = u64::MAX;
         for _ in 0..ROUNDS {
-            best = best.min(self.round(subject)?);
+            best = best.min(self.round(subject, batches)?);
         }
         Ok(best / operations)
     }
 
     // Nanoseconds of a round.
-    fn round<S: Subject>(&mut self, subject: &mut S) -> anyhow::Result<u64> {
-        subject.prepare()?;
+    fn round<S: Subject>(&mut self, subject: &mut S, batches: u64) -> anyhow::Result<u64> {
+        let mut sum: u64 = 0;
+        for _ in 0..batches {
+            subject.prepare()?;
+            sum = sum.saturating_add(self.batch(subject)?);
+        }
+        Ok(sum)
+    }
+
+    // Nanoseconds of a batch.
+    fn batch<S: Subject>(&mut self, subject: &mut S) -> anyhow::Result<u64> {
         let start = Instant::now(self.rt)?;
         let seen = subject.run()?;
         let elapsed = start.elapsed(self.rt)?;

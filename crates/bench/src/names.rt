@@ -1,6 +1,6 @@
 //! Names: reading, comparing, hashing.
 use crate::measure::{Stopwatch, Subject};
-use crate::samples::{OPERATIONS, host, host_text};
+use crate::samples::{BATCH, BATCHES, OPERATIONS, host, host_text};
 use crate::table::print_figure;
 use hickory_proto_core::{Name, NetError};
 use std::alloc::Global;
@@ -16,30 +16,22 @@ pub fn print_times<R: Clock + Print>(
     let texts = texts(alloc)?;
     let names = names(alloc)?;
     let others = self::names(alloc)?;
-    let read = watch.best(
-        &mut Reads {
-            alloc,
-            texts: &texts,
-        },
-        OPERATIONS,
-    )?;
+    let read = watch.best(&mut Reads { alloc, texts }, BATCHES, OPERATIONS)?;
     print_figure(rt, "read a name's text", read)?;
-    let compare = watch.best(
-        &mut Compares {
-            names: &names,
-            others: &others,
-        },
-        OPERATIONS,
+    let hashes = &mut Hashes { names: &names };
+    print_figure(rt, "hash a name", watch.best(hashes, BATCHES, OPERATIONS)?)?;
+    let pairs = &mut Compares { names, others };
+    print_figure(
+        rt,
+        "compare two equal names",
+        watch.best(pairs, BATCHES, OPERATIONS)?,
     )?;
-    print_figure(rt, "compare two equal names", compare)?;
-    let hash = watch.best(&mut Hashes { names: &names }, OPERATIONS)?;
-    print_figure(rt, "hash a name", hash)?;
     Ok(())
 }
 
 fn texts(alloc: Global) -> Result<Vec<String>, NetError> {
     let mut texts = Vec::new(alloc);
-    for number in 0..OPERATIONS {
+    for number in 0..BATCH {
         texts.push(host_text(alloc, number)?)?;
     }
     Ok(texts)
@@ -47,7 +39,7 @@ fn texts(alloc: Global) -> Result<Vec<String>, NetError> {
 
 fn names(alloc: Global) -> Result<Vec<Name>, NetError> {
     let mut names = Vec::new(alloc);
-    for number in 0..OPERATIONS {
+    for number in 0..BATCH {
         names.push(host(alloc, number)?)?;
     }
     Ok(names)
@@ -55,15 +47,15 @@ fn names(alloc: Global) -> Result<Vec<Name>, NetError> {
 
 // Texts that are read.
 #[derive(Drop)]
-struct Reads<'a> {
+struct Reads {
     alloc: Global,
-    texts: &'a [String],
+    texts: Vec<String>,
 }
 
-impl Subject for Reads<'_> {
+impl Subject for Reads {
     fn run(&mut self) -> Result<u64, NetError> {
         let mut labels: u64 = 0;
-        for text in self.texts {
+        for text in &self.texts {
             let name = Name::from_ascii(self.alloc, text.as_str())?;
             labels = labels.wrapping_add(u64::from(name.num_labels()));
         }
@@ -73,15 +65,15 @@ impl Subject for Reads<'_> {
 
 // Names that are compared with their equals.
 #[derive(Drop)]
-struct Compares<'a> {
-    names: &'a [Name],
-    others: &'a [Name],
+struct Compares {
+    names: Vec<Name>,
+    others: Vec<Name>,
 }
 
-impl Subject for Compares<'_> {
+impl Subject for Compares {
     fn run(&mut self) -> Result<u64, NetError> {
         let mut equal: u64 = 0;
-        for (name, other) in self.names.iter().zip(self.others) {
+        for (name, other) in self.names.iter().zip(&self.others) {
             if name == other {
                 equal = equal.wrapping_add(1);
             }

@@ -5,8 +5,15 @@ use hickory_proto_core::{Message, Name, NetError, OpCode, Query, RData, Record, 
 use std::alloc::Global;
 use std::net::Ipv4Addr;
 
-/// How many operations a round has, where there are as many to do.
-pub const OPERATIONS: u64 = 100_000;
+/// How many operations a batch has: few, so that what they are given is still in the processor's caches, as it is
+/// where it has just come in.
+pub const BATCH: u64 = 100;
+
+/// How many batches a round has.
+pub const BATCHES: u64 = 1_000;
+
+/// How many operations a round has.
+pub const OPERATIONS: u64 = BATCH * BATCHES;
 
 /// The seconds of a day.
 pub const DAY: u64 = 86_400;
@@ -38,26 +45,6 @@ pub fn question(alloc: Global, number: u64) -> Result<Query, NetError> {
     Ok(Query::query(host(alloc, number)?, RecordType::A))
 }
 
-/// The questions for some hosts, one after another.
-pub fn questions(alloc: Global, from: u64, count: u64) -> Result<Vec<Query>, NetError> {
-    let mut questions = Vec::new(alloc);
-    for i in 0..count {
-        questions.push(question(alloc, from.wrapping_add(i))?)?;
-    }
-    Ok(questions)
-}
-
-/// The questions for the first `size` hosts, in the order of so many visits.
-pub fn visits(alloc: Global, count: u64, size: u64) -> Result<Vec<Query>, NetError>
-    requires { 0 < size }
-{
-    let mut questions = Vec::new(alloc);
-    for i in 0..count {
-        questions.push(question(alloc, place(i, size))?)?;
-    }
-    Ok(questions)
-}
-
 /// A response to a question with one address, whose TTL follows from the number.
 pub fn answer(alloc: Global, query: &Query, number: u64) -> Result<Message, NetError> {
     let owner = query.name().clone()?;
@@ -68,17 +55,55 @@ pub fn answer(alloc: Global, query: &Query, number: u64) -> Result<Message, NetE
     Ok(message)
 }
 
-/// A response to each question.
-pub fn answers(alloc: Global, questions: Vec<Query>) -> Result<Vec<(Query, Message)>, NetError> {
-    let mut answers = Vec::new(alloc);
-    for query in questions {
-        let message = answer(alloc, &query, answers.len() as u64)?;
-        answers.push((query, message))?;
-    }
-    Ok(answers)
-}
-
 // From a minute to a day, in no order.
 fn ttl(number: u64) -> u32 {
     60 + place(number, 86_340) as u32
+}
+
+/// Hosts that are visited again and again, far from one another.
+#[derive(Drop)]
+pub struct Visits {
+    alloc: Global,
+    first: u64,
+    size: u64,
+    next: u64,
+    /// The questions of the batch.
+    pub asked: Vec<Query>,
+    ghost some: { 0 < size },
+}
+
+impl Visits {
+    /// Visits to so many hosts, from the first one on.
+    pub fn new(alloc: Global, first: u64, size: u64) -> Visits
+        requires { 0 < size }
+    {
+        Visits {
+            alloc,
+            first,
+            size,
+            next: 0,
+            asked: Vec::new(alloc),
+        }
+    }
+
+    /// Asks the questions of the next batch.
+    pub fn refill(&mut self) -> Result<(), NetError> {
+        self.asked.clear();
+        for _ in 0..BATCH {
+            let number = self.first.wrapping_add(place(self.next, self.size));
+            self.asked.push(question(self.alloc, number)?)?;
+            self.next = self.next.wrapping_add(1);
+        }
+        Ok(())
+    }
+
+    /// Responses to the questions of the batch, each with its question.
+    pub fn answers(&self) -> Result<Vec<(Query, Message)>, NetError> {
+        let mut answers = Vec::new(self.alloc);
+        for (i, query) in self.asked.iter().enumerate() {
+            let number = self.next.wrapping_add(i as u64);
+            answers.push((query.clone()?, answer(self.alloc, query, number)?))?;
+        }
+        Ok(answers)
+    }
 }

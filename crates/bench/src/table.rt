@@ -6,9 +6,10 @@ pub const SIZES: [u64; 3] = [100, 10_000, 1_000_000];
 
 /// Prints the head of a table by size.
 pub fn print_head(rt: &impl Print) -> io::Result<()> {
+    let [first, middle, last] = SIZES;
     println!(rt;
-        "{:<36}{:>10}{:>10}{:>10}{:>12}",
-        "entries", 100, 10_000, 1_000_000, "last/first"
+        "{:<36}{first:>10}{middle:>10}{last:>10}{:>12}",
+        "entries", "last/first"
     )
 }
 
