@@ -35,7 +35,11 @@ impl<S: BuildHasher> Model for ResponseCache<S> {
 
     ghost use Rattle.hickory_resolver_cache.specs.Turns.{entries_of, IsSound};
 
-    ghost view = { λ c. record { capacity = c.capacity; config = c.ttl_config; entries = entries_of c.index.entries c.next_number } };
+    ghost view = { λ c. record {
+      capacity = c.capacity;
+      config = c.ttl_config;
+      entries = entries_of c.index.entries c.next_number;
+    } };
 
     ghost invariant = { λ c. IsSound c.ttl_config c.capacity c.next_number c.index.entries c.order };
 }
@@ -100,7 +104,10 @@ impl<S: BuildHasher> ResponseCache<S> {
         clamp_valid_until: bool,
     ) -> Result<(), NetError>
         ensures ok { OnOk result
-            (self.new ≡ (if clamp_valid_until then store_clamped self.old query outcome now else store self.old query outcome now)) }
+            (self.new
+            ≡ (if clamp_valid_until
+            then store_clamped self.old query outcome now
+            else store self.old query outcome now)) }
         ensures unchanged { OnErr result (self.new ≡ self.old) }
         ensures err { IsOkUnless result NetError.OutOfMemory }
         ensures not_kept { IsNone (entry_of self.old.config query outcome now)
