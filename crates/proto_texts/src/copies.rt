@@ -1,10 +1,13 @@
-//! Copies by generic code.
+//! Values and their copies, as `Debug` prints them.
 use std::fmt::Debug;
 
-// The value and a copy of it, as `Debug` prints them.
-pub fn show<T: Clone + Debug + Drop>(rt: &impl Print, value: &T) -> anyhow::Result<()> {
-    println!(rt; "{value:?}")?;
-    let copied = value.clone()?;
-    println!(rt; "copy {copied:?}")?;
+pub fn show<T: Debug + Drop>(rt: &impl Print, label: &str, value: T) -> anyhow::Result<()> {
+    println!(rt; "{label} {value:?}")?;
     Ok(())
+}
+
+// A copy by generic code, and then the value.
+pub fn show_both<T: Clone + Debug + Drop>(rt: &impl Print, value: T) -> anyhow::Result<()> {
+    show(rt, "copy", value.clone()?)?;
+    show(rt, "value", value)
 }

@@ -1,44 +1,40 @@
 //! Names and data of each kind, and their copies.
 use crate::copies;
 use crate::sample::{name, soa_data};
-use hickory_proto_core::{NetError, RData};
+use hickory_proto_core::{Name, NetError, RData};
 use std::alloc::Global;
 use std::net::{Ipv4Addr, Ipv6Addr};
 
 pub fn show_all(rt: &impl Print, alloc: Global) -> anyhow::Result<()> {
-    show_name(rt, alloc)?;
+    show_name(rt, name(alloc, "WWW.a")?)?;
     show_addresses(rt)?;
     show_targets(rt, alloc)?;
-    show(rt, &soa_data(alloc)?)?;
-    show(rt, &service(alloc)?)?;
-    show(rt, &exchange(alloc)?)?;
-    show(rt, &strings(alloc)?)?;
-    show(rt, &unknown(alloc)?)
+    show(rt, soa_data(alloc)?)?;
+    show(rt, service(alloc)?)?;
+    show(rt, exchange(alloc)?)?;
+    show(rt, strings(alloc)?)?;
+    show(rt, unknown(alloc)?)
 }
 
-// The data, and a copy of it by its own call and by generic code.
-fn show(rt: &impl Print, data: &RData) -> anyhow::Result<()> {
-    copies::show(rt, data)?;
-    println!(rt; "own copy {:?}", data.clone()?)?;
-    Ok(())
+fn show(rt: &impl Print, data: RData) -> anyhow::Result<()> {
+    copies::show(rt, "own copy", data.clone()?)?;
+    copies::show_both(rt, data)
 }
 
-fn show_name(rt: &impl Print, alloc: Global) -> anyhow::Result<()> {
-    let name = name(alloc, "WWW.a")?;
-    copies::show(rt, &name)?;
-    println!(rt; "own copy {:?}", name.clone()?)?;
-    Ok(())
+fn show_name(rt: &impl Print, name: Name) -> anyhow::Result<()> {
+    copies::show(rt, "own copy", name.clone()?)?;
+    copies::show_both(rt, name)
 }
 
 fn show_addresses(rt: &impl Print) -> anyhow::Result<()> {
-    show(rt, &RData::A(Ipv4Addr::new(192, 0, 2, 1)))?;
-    show(rt, &RData::AAAA(Ipv6Addr::LOCALHOST))
+    show(rt, RData::A(Ipv4Addr::new(192, 0, 2, 1)))?;
+    show(rt, RData::AAAA(Ipv6Addr::LOCALHOST))
 }
 
 fn show_targets(rt: &impl Print, alloc: Global) -> anyhow::Result<()> {
-    show(rt, &RData::CNAME(name(alloc, "c.")?))?;
-    show(rt, &RData::NS(name(alloc, "n.")?))?;
-    show(rt, &RData::PTR(name(alloc, "p.")?))
+    show(rt, RData::CNAME(name(alloc, "c.")?))?;
+    show(rt, RData::NS(name(alloc, "n.")?))?;
+    show(rt, RData::PTR(name(alloc, "p.")?))
 }
 
 fn service(alloc: Global) -> Result<RData, NetError> {

@@ -12,10 +12,12 @@ pub fn show_all(rt: &impl Print, alloc: Global) -> anyhow::Result<()> {
     show_bounds(rt)?;
     show_plain(rt)?;
     show_codes(rt)?;
-    show_no_records(rt, alloc)
+    show(rt, no_records(alloc)?)?;
+    show(rt, NetError::Dns(no_records(alloc)?))?;
+    Ok(())
 }
 
-fn show(rt: &impl Print, error: &impl Error) -> io::Result<()> {
+fn show<E: Error + Drop>(rt: &impl Print, error: E) -> io::Result<()> {
     println!(rt; "{error:?}: {error}")
 }
 
@@ -30,40 +32,36 @@ fn show_names(rt: &impl Print) -> io::Result<()> {
         NameError::OutOfMemory,
     ];
     for error in errors {
-        show(rt, &error)?;
-        show(rt, &NetError::from(error))?;
+        show(rt, error)?;
+        show(rt, NetError::from(error))?;
     }
     Ok(())
 }
 
 fn show_bounds(rt: &impl Print) -> io::Result<()> {
     for error in [BoundsError::PositiveReversed, BoundsError::NegativeReversed] {
-        show(rt, &error)?;
-        show(rt, &NetError::Bounds(error))?;
+        show(rt, error)?;
+        show(rt, NetError::Bounds(error))?;
     }
     Ok(())
 }
 
 fn show_plain(rt: &impl Print) -> io::Result<()> {
-    show(rt, &NetError::from("no luck"))?;
-    show(rt, &NetError::Timeout)?;
-    show(rt, &NetError::NoOutcome)?;
-    show(rt, &NetError::OutOfMemory)
+    show(rt, NetError::from("no luck"))?;
+    show(rt, NetError::Timeout)?;
+    show(rt, NetError::NoOutcome)?;
+    show(rt, NetError::OutOfMemory)
 }
 
 fn show_codes(rt: &impl Print) -> io::Result<()> {
-    for code in [1, 77] {
-        let error = DnsError::ResponseCode(ResponseCode::from(code));
-        show(rt, &error)?;
-        show(rt, &NetError::Dns(error))?;
+    for code in [ResponseCode::FormErr, ResponseCode::Unknown(77)] {
+        show(rt, DnsError::ResponseCode(code))?;
+        show(rt, NetError::Dns(DnsError::ResponseCode(code)))?;
     }
     Ok(())
 }
 
-fn show_no_records(rt: &impl Print, alloc: Global) -> anyhow::Result<()> {
+fn no_records(alloc: Global) -> Result<DnsError, NetError> {
     let query = question(alloc, "x.a.", RecordType::A)?;
-    let error = DnsError::NoRecordsFound(NoRecords::new(query, ResponseCode::NXDomain));
-    show(rt, &error)?;
-    show(rt, &NetError::Dns(error))?;
-    Ok(())
+    Ok(DnsError::NoRecordsFound(NoRecords::new(query, ResponseCode::NXDomain)))
 }

@@ -1,80 +1,59 @@
-//! Negative answers with all that one may have, and their copies; copies of errors.
+//! Copies of negative answers and of errors.
 use crate::copies;
-use crate::sample::{address, question, server, soa};
+use crate::sample::{question, server, two_addresses};
 use hickory_proto_core::{
-    BoundsError, DnsError, ForwardNSData, NameError, NetError, NoRecords, Record, RecordType,
-    ResponseCode,
+    BoundsError, DnsError, ForwardNSData, NameError, NetError, NoRecords, RecordType, ResponseCode,
 };
 use std::alloc::Global;
 
 pub fn show_all(rt: &impl Print, alloc: Global) -> anyhow::Result<()> {
-    show_forward(rt, alloc)?;
-    show_no_records(rt, alloc)?;
-    show_dns_error(rt, alloc)?;
-    show_net_errors(rt)
-}
-
-fn list_of(alloc: Global, record: Record) -> Result<Vec<Record>, NetError> {
-    let mut records = Vec::new(alloc);
-    records.push(record)?;
-    Ok(records)
+    show_forward(rt, forward(alloc)?)?;
+    show_dns_error(rt, no_records(alloc)?)?;
+    show_error(rt, NetError::Dns(no_records(alloc)?))?;
+    show_errors(rt)
 }
 
 fn forward(alloc: Global) -> Result<ForwardNSData, NetError> {
+    let glue = two_addresses(alloc)?;
     let ns = server(alloc)?;
-    let glue = list_of(alloc, address(alloc, "n.a.", 3)?)?;
     Ok(ForwardNSData { ns, glue })
 }
 
-fn full(alloc: Global) -> Result<NoRecords, NetError> {
-    let mut none = NoRecords::new(
-        question(alloc, "x.a.", RecordType::A)?,
-        ResponseCode::NXDomain,
-    );
-    let mut servers = Vec::new(alloc);
-    servers.push(forward(alloc)?)?;
-    none.soa = Some(soa(alloc, "a.")?);
-    none.ns = Some(servers);
-    none.negative_ttl = Some(60);
-    none.authorities = Some(list_of(alloc, soa(alloc, "a.")?)?);
-    Ok(none)
-}
-
-fn show_forward(rt: &impl Print, alloc: Global) -> anyhow::Result<()> {
-    let forward = forward(alloc)?;
-    copies::show(rt, &forward)?;
-    println!(rt; "own copy {:?}", forward.clone()?)?;
-    Ok(())
-}
-
-fn show_no_records(rt: &impl Print, alloc: Global) -> anyhow::Result<()> {
-    let none = full(alloc)?;
-    copies::show(rt, &none)?;
-    println!(rt; "own copy {:?}", none.clone()?)?;
-    Ok(())
-}
-
-fn show_dns_error(rt: &impl Print, alloc: Global) -> anyhow::Result<()> {
+fn no_records(alloc: Global) -> Result<DnsError, NetError> {
     let query = question(alloc, "a.", RecordType::A)?;
-    let error = DnsError::NoRecordsFound(NoRecords::new(query, ResponseCode::NoError));
-    copies::show(rt, &error)?;
-    println!(rt; "own copy {:?}", error.clone()?)?;
-    show_net_error(rt, &NetError::Dns(error))
+    Ok(DnsError::NoRecordsFound(NoRecords::new(query, ResponseCode::NoError)))
 }
 
-fn show_net_error(rt: &impl Print, error: &NetError) -> anyhow::Result<()> {
-    copies::show(rt, error)?;
-    println!(rt; "own copy {:?}", error.clone()?)?;
-    Ok(())
+fn show_forward(rt: &impl Print, forward: ForwardNSData) -> anyhow::Result<()> {
+    copies::show(rt, "own copy", forward.clone()?)?;
+    copies::show_both(rt, forward)
 }
 
-fn show_net_errors(rt: &impl Print) -> anyhow::Result<()> {
-    let refused = DnsError::ResponseCode(ResponseCode::Refused);
-    show_net_error(rt, &NetError::Dns(refused))?;
-    show_net_error(rt, &NetError::from("no luck"))?;
-    show_net_error(rt, &NetError::Timeout)?;
-    show_net_error(rt, &NetError::Proto(NameError::NotArpa))?;
-    show_net_error(rt, &NetError::NoOutcome)?;
-    show_net_error(rt, &NetError::Bounds(BoundsError::NegativeReversed))?;
-    show_net_error(rt, &NetError::OutOfMemory)
+// The negative answer of a response.
+pub fn show_no_records(rt: &impl Print, none: NoRecords) -> anyhow::Result<()> {
+    copies::show(rt, "own copy", none.clone()?)?;
+    copies::show_both(rt, none)
+}
+
+fn show_dns_error(rt: &impl Print, error: DnsError) -> anyhow::Result<()> {
+    copies::show(rt, "own copy", error.clone()?)?;
+    copies::show_both(rt, error)
+}
+
+fn show_error(rt: &impl Print, error: NetError) -> anyhow::Result<()> {
+    copies::show(rt, "own copy", error.clone()?)?;
+    copies::show_both(rt, error)
+}
+
+fn show_errors(rt: &impl Print) -> anyhow::Result<()> {
+    show_error(
+        rt,
+        NetError::Dns(DnsError::ResponseCode(ResponseCode::Refused)),
+    )?;
+    show_error(rt, NetError::from("no luck"))?;
+    show_error(rt, NetError::Timeout)?;
+    show_error(rt, NetError::Proto(NameError::NotArpa))?;
+    show_error(rt, NetError::NoOutcome)?;
+    show_error(rt, NetError::Bounds(BoundsError::NegativeReversed))?;
+    show_error(rt, NetError::OutOfMemory)
 }

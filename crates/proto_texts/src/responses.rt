@@ -1,4 +1,6 @@
 //! What responses come to.
+use crate::copies;
+use crate::negative::show_no_records;
 use crate::sample::{address, name, response, server, soa};
 use hickory_proto_core::{
     DnsError, DnsResponse, Message, NetError, OpCode, RData, Record, RecordType, ResponseCode,
@@ -15,22 +17,20 @@ pub fn show_all(rt: &impl Print, alloc: Global) -> anyhow::Result<()> {
     show(rt, "nothing", Message::response(alloc, 0, OpCode::Query))
 }
 
-// That it is an answer, or its error and the negative answer that the error holds.
+// That it is an answer, or its error.
 fn show(rt: &impl Print, label: &str, message: Message) -> anyhow::Result<()> {
     match DnsError::from_response(DnsResponse::from_message(message)) {
-        Ok(_) => println!(rt; "{label}: an answer")?,
-        Err(error) => show_error(rt, label, error)?,
+        Ok(_) => Ok(println!(rt; "{label}: an answer")?),
+        Err(error) => show_error(rt, label, error),
     }
-    Ok(())
 }
 
 fn show_error(rt: &impl Print, label: &str, error: NetError) -> anyhow::Result<()> {
     println!(rt; "{label}: {error}")?;
     match error.into_no_records() {
-        Ok(none) => println!(rt; "{none:?}")?,
-        Err(error) => println!(rt; "{error:?}")?,
+        Ok(none) => show_no_records(rt, none),
+        Err(error) => copies::show(rt, "error", error),
     }
-    Ok(())
 }
 
 fn another_name(alloc: Global) -> Result<Message, NetError> {
