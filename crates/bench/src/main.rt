@@ -1,9 +1,10 @@
-//! Times the cache, names and scripts, in nanoseconds an operation, where there is an argument. Without one it
+//! Times the cache, names and the client, in nanoseconds an operation, where there is an argument. Without one it
 //! prints nothing.
 #![tactic(auto)]
 
 mod bare;
 mod cache;
+mod client;
 mod measure;
 mod names;
 mod samples;
@@ -29,6 +30,7 @@ fn print_times<R: Clock + Print>(rt: &R, alloc: Global) -> anyhow::Result<()> {
     cache::print_times(rt, alloc, &mut watch)?;
     bare::print_times(rt, alloc, &mut watch)?;
     names::print_times(rt, alloc, &mut watch)?;
+    client::print_times(rt, alloc, &mut watch)?;
     let seen = watch.seen();
     println!(rt; "check sum {seen}")?;
     Ok(())
