@@ -3,9 +3,13 @@ use replay::{ReplayError, replay_text};
 use std::alloc::{AllocError, Global};
 use std::test::Fail;
 
-// The line that tells what is wrong with a script, behind the status of a program that ends so.
 fn told(alloc: Global, script: &[u8]) -> Result<String, AllocError> {
-    match replay_text(alloc, script) {
+    told_over(alloc, script, b"")
+}
+
+// The line that tells what is wrong with a script or its hosts, behind the status of a program that ends so.
+fn told_over(alloc: Global, script: &[u8], hosts: &[u8]) -> Result<String, AllocError> {
+    match replay_text(alloc, script, hosts) {
         Ok(text) => format!(in alloc; "0 {text}"),
         Err(error) => format!(in alloc; "{} {error}", error.status()),
     }
@@ -180,5 +184,16 @@ fn want_of_memory(rt: HostRuntime) -> Result<(), Fail> {
     let told = ReplayError::Memory.to_string(rt.alloc())?;
     assert_eq!(rt; told.as_str(), "out of memory");
     assert_eq!(rt; ReplayError::Memory.status(), 3);
+    Ok(())
+}
+
+// A line that is not UTF-8 is a fault, also where no request is made. The script's fault comes first.
+#[test]
+fn broken_hosts(rt: HostRuntime) -> Result<(), Fail> {
+    let hosts = b"192.0.2.9 h\n\xff\n";
+    let broken = told_over(rt.alloc(), b"# nothing", hosts)?;
+    assert_eq!(rt; broken.as_str(), "4 hosts: not UTF-8");
+    let script = told_over(rt.alloc(), b"nothing", hosts)?;
+    assert_eq!(rt; script.as_str(), "1 script line 1: S2 unknown directive");
     Ok(())
 }

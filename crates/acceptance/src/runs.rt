@@ -21,8 +21,34 @@ at 130 lookup WWW.example.com. A
 
 #[test]
 fn a_cached_reply_is_counted_down(rt: HostRuntime) -> Result<(), Fail> {
-    let text = replay_text(rt.alloc(), FIRST_SCRIPT.as_bytes())?;
+    let text = replay_text(rt.alloc(), FIRST_SCRIPT.as_bytes(), b"")?;
     assert_eq!(rt; text.as_str(), FIRST_TEXT);
+    Ok(())
+}
+
+const HOSTS_SCRIPT: &str = "\
+at 7 lookup h A
+at 9 lookup h. AAAA
+at 10 lookup H. A
+";
+
+const HOSTS_TEXT: &str = "\
+at 7 lookup h A
+  ok h. IN A until 86407
+  answer h. 86400 IN A 192.0.2.9
+at 9 lookup h. AAAA
+  sent h. IN AAAA
+  err nooutcome
+at 10 lookup H. A
+  ok h. IN A until 86407
+  answer h. 86400 IN A 192.0.2.9
+";
+
+// The hosts are read at the moment of the first request, and asked before the upstream.
+#[test]
+fn hosts_come_before_the_upstream(rt: HostRuntime) -> Result<(), Fail> {
+    let text = replay_text(rt.alloc(), HOSTS_SCRIPT.as_bytes(), b"192.0.2.9 h")?;
+    assert_eq!(rt; text.as_str(), HOSTS_TEXT);
     Ok(())
 }
 
@@ -48,7 +74,7 @@ fn each_outcome_has_its_text(rt: HostRuntime) -> Result<(), Fail> {
         ),
     ];
     for (script, expected) in cases {
-        let text = replay_text(rt.alloc(), script.as_bytes())?;
+        let text = replay_text(rt.alloc(), script.as_bytes(), b"")?;
         assert_eq!(rt; text.as_str(), expected, "{script}");
     }
     Ok(())
@@ -73,7 +99,7 @@ fn names_of_requests(rt: HostRuntime) -> Result<(), Fail> {
         ("at 0 lookup @ A\n", "at 0 lookup @ A\n  err name N4\n"),
     ];
     for (script, expected) in cases {
-        let text = replay_text(rt.alloc(), script.as_bytes())?;
+        let text = replay_text(rt.alloc(), script.as_bytes(), b"")?;
         assert_eq!(rt; text.as_str(), expected, "{script}");
     }
     Ok(())
@@ -94,7 +120,7 @@ fn lines_of_a_script(rt: HostRuntime) -> Result<(), Fail> {
         b"at 5 lookup a. TYPE00001\n",
     ];
     for script in scripts {
-        let text = replay_text(rt.alloc(), script)?;
+        let text = replay_text(rt.alloc(), script, b"")?;
         let expected = if script.starts_with(b"# a CR") {
             ""
         } else {
@@ -129,7 +155,7 @@ at 2 lookup b. A
   answer b. 0 IN A 192.0.2.2
   answer b. 7 IN A 192.0.2.3
 ";
-    let text = replay_text(rt.alloc(), script.as_bytes())?;
+    let text = replay_text(rt.alloc(), script.as_bytes(), b"")?;
     assert_eq!(rt; text.as_str(), expected);
     Ok(())
 }
@@ -150,7 +176,7 @@ at 18446744073709551615 lookup a. A
   answer a. 9 IN A 192.0.2.1
   answer b. 9 IN A 192.0.2.2
 ";
-    let text = replay_text(rt.alloc(), script.as_bytes())?;
+    let text = replay_text(rt.alloc(), script.as_bytes(), b"")?;
     assert_eq!(rt; text.as_str(), expected);
     Ok(())
 }
@@ -172,7 +198,7 @@ at 0 lookup a. A
   sent a. IN A
   err nooutcome
 ";
-    let text = replay_text(rt.alloc(), script.as_bytes())?;
+    let text = replay_text(rt.alloc(), script.as_bytes(), b"")?;
     assert_eq!(rt; text.as_str(), expected);
     Ok(())
 }

@@ -1,4 +1,4 @@
-//! Runs a script against a caching client, and prints what happened.
+//! Runs a script against a table of hosts and a caching client, and prints what happened.
 #![tactic(auto)]
 
 use replay::{ReplayError, replay_text};
@@ -55,20 +55,24 @@ impl From<ReplayError> for RunError {
 
 // The whole text is made before any of it is written.
 fn run<R: AllocGlobal + Env + Files + Print>(rt: &R) -> Result<(), RunError> {
-    let path = script_path(rt)?;
-    let script = read(rt, path)?;
-    let text = replay_text(rt.alloc(), &script)?;
+    let (script, hosts) = paths(rt)?;
+    let script = read(rt, script)?;
+    let hosts = match hosts {
+        Some(path) => read(rt, path)?,
+        None => Vec::new(rt.alloc()),
+    };
+    let text = replay_text(rt.alloc(), &script, &hosts)?;
     rt.print(text).map_err(|_| RunError::Unwritable)
 }
 
-// The one argument behind the program's name.
-fn script_path<R: AllocGlobal + Env>(rt: &R) -> Result<String, RunError> {
+// The arguments behind the program's name: the path of the script, and that of the hosts where there is one.
+fn paths<R: AllocGlobal + Env>(rt: &R) -> Result<(String, Option<String>), RunError> {
     let mut arguments = match env::args(rt) {
         Ok(arguments) => arguments.skip(1),
         Err(error) => return Err(memory_or(error, RunError::Usage)),
     };
-    match (arguments.next(), arguments.next()) {
-        (Some(path), None) => Ok(path),
+    match (arguments.next(), arguments.next(), arguments.next()) {
+        (Some(script), hosts, None) => Ok((script, hosts)),
         _ => Err(RunError::Usage),
     }
 }

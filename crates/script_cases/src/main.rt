@@ -26,7 +26,7 @@ fn run<R: AllocGlobal + Files + Print>(rt: &R, path: String) -> io::Result<()> {
     let script = fs::read(rt, path.as_str())?;
     rt.print("# ")?;
     rt.println(path)?;
-    match replay_text(rt.alloc(), &script) {
+    match replay_text(rt.alloc(), &script, &[]) {
         Ok(text) => rt.print(text),
         Err(error) => rt.println(error),
     }

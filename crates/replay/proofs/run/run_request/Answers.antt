@@ -10,7 +10,7 @@ returns-clause-ok c =
     let rest : take (length shown - length old) (drop (length old) shown) ≡ drop (length old) shown = grind (arith, common_steps) in
     let before = c.exchanges-before.ensures ∙ ap (λ h. h.exchanges) c.handle.ensures in
     let after = c.exchanges-exchanges.ensures ∙ ap (λ h. h.exchanges) c.handle-2.ensures in
-    step_added c.args.client.now c.ask-reply.new.client _ _ c.args.request.now c.ask-reply.result _ c.ask-reply.ensures
+    step_added c.args.table.now c.args.client.now c.ask-reply.new.client _ _ c.args.request.now c.ask-reply.result _ c.ask-reply.ensures
     (sym c.is_out_of_memory.ensures ∙ c.if-is_out_of_memory.false)
     (rest ∙ ap (λ es. drop (length old) es) after ∙ ap (λ es. drop (length es) c.ask-reply.new.client.handle.exchanges) before)
     c.in_ok-push_step.ensures
