@@ -1,5 +1,5 @@
-//! Times the cache, names and the client, in nanoseconds an operation, where there is an argument. Without one it
-//! prints nothing.
+//! Times the cache, names and the client, in nanoseconds an operation, where there is an argument. Without one
+//! it prints nothing.
 #![tactic(auto)]
 
 mod bare;

@@ -27,7 +27,8 @@ impl Model for Name {
 
     ghost view = { λ n. record { labels = label_bytes n.labels.items; fqdn = n.fqdn } };
 
-    ghost invariant = { λ n. (label_fault (label_bytes n.labels.items) ≡ None) × IsTrue (are_bytes (label_bytes n.labels.items)) };
+    ghost invariant = { λ n. (label_fault (label_bytes n.labels.items) ≡ None)
+        × IsTrue (are_bytes (label_bytes n.labels.items)) };
 }
 
 impl Name {

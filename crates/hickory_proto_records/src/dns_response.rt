@@ -201,7 +201,8 @@ fn forwards(
     additionals: &[Record],
 ) -> Result<Option<Vec<ForwardNSData>>, NetError>
     ensures ok { IfOk result
-        (λ found. items_or_none found ≡ forwards_or_none (filter_map (forward_of additionals.now) authorities.now.items)) }
+        (λ found. items_or_none found
+        ≡ forwards_or_none (filter_map (forward_of additionals.now) authorities.now.items)) }
     ensures err { IsOkUnless result NetError.OutOfMemory }
 {
     let alloc = *authorities.allocator();

@@ -52,7 +52,11 @@ impl<H: DnsHandle, S: BuildHasher> Model for CachingClient<H, S> {
 
     ghost Value = { ClientValue H };
 
-    ghost view = { λ c. record { cache = c.cache; handle = c.handle; preserve_intermediates = c.preserve_intermediates } };
+    ghost view = { λ c. record {
+      cache = c.cache;
+      handle = c.handle;
+      preserve_intermediates = c.preserve_intermediates;
+    } };
 }
 
 impl<H: DnsHandle> CachingClient<H> {
@@ -64,7 +68,11 @@ impl<H: DnsHandle> CachingClient<H> {
         preserve_intermediates: bool,
     ) -> CachingClient<H>
         ensures { result
-            ≡ record { cache = empty_cache max_size; handle = handle; preserve_intermediates = preserve_intermediates } }
+            ≡ record {
+              cache = empty_cache max_size;
+              handle = handle;
+              preserve_intermediates = preserve_intermediates;
+            } }
     {
         let cache = ResponseCache::new(alloc, max_size, TtlConfig::default(alloc));
         CachingClient::with_cache(cache, handle, preserve_intermediates)

@@ -20,7 +20,12 @@ impl Model for CacheEntry {
 
     ghost Value = { Entry };
 
-    ghost view = { λ e. record { query = e.query; result = e.result; original_time = e.original_time; valid_until = e.valid_until } };
+    ghost view = { λ e. record {
+      query = e.query;
+      result = e.result;
+      original_time = e.original_time;
+      valid_until = e.valid_until;
+    } };
 }
 
 // The entry that an outcome becomes at a moment, where it is kept.

@@ -33,7 +33,8 @@ pub fn store<S: BuildHasher>(
     requires kept { IsKept capacity number index.old.entries order.old }
     ensures kept { OnOk result (IsKept capacity (number + 1) index.new.entries order.new) }
     ensures entries { OnOk result
-        (entries_of index.new.entries (number + 1) ≡ insert_entry capacity (entries_of index.old.entries number) entry) }
+        (entries_of index.new.entries (number + 1)
+        ≡ insert_entry capacity (entries_of index.old.entries number) entry) }
     ensures refused { OnErr result (IsSameList index.old.entries number index.new.entries number order.new) }
     ensures err { IsOkUnless result NetError.OutOfMemory }
 {

@@ -103,7 +103,8 @@ impl<S: BuildHasher> Hosts<S> {
 
     fn addresses(&self, query: &Query) -> Result<Option<Lookup>, NetError>
         ensures ok { IfOk result (λ found.
-            found ≡ option_and_then (family query.now.query_type) (find (is_host (as_fqdn query.now.name)) self.now)) }
+            found ≡ option_and_then (family query.now.query_type)
+            (find (is_host (as_fqdn query.now.name)) self.now)) }
         ensures err { IsOkUnless result NetError.OutOfMemory }
     {
         let name = as_fqdn(&query.name)?;

@@ -150,7 +150,8 @@ fn insert_pair<S: BuildHasher>(
     now: u64,
 ) -> Result<(), HostsError>
     ensures { MatchResult result
-        (λ _. hosts.new ≡ insert_host name (address_type (data_of_address address)) (one_address (as_fqdn name) (data_of_address address) now) now hosts.old)
+        (λ _. hosts.new ≡ insert_host name (address_type (data_of_address address))
+        (one_address (as_fqdn name) (data_of_address address) now) now hosts.old)
         (λ error. (error ≡ HostsError.OutOfMemory) × (hosts.new ≡ hosts.old)) }
 {
     let record_type = address_type(address);

@@ -25,7 +25,8 @@ pub fn pointer_records<S: BuildHasher>(
 ) -> Result<Vec<Record>, NetError>
     requires { IsIndexed (hosts_of names.now.entries) owners.now }
     ensures ok { IfOk result (λ records.
-        records.items ≡ pointers owner.now (filter (has_address (data_of_address address)) (hosts_of names.now.entries))) }
+        records.items ≡ pointers owner.now
+        (filter (has_address (data_of_address address)) (hosts_of names.now.entries))) }
     ensures err { IsOkUnless result NetError.OutOfMemory }
 {
     match owners.get(&address) {

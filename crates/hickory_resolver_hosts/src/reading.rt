@@ -50,7 +50,8 @@ impl<S: BuildHasher> Hosts<S> {
 // All that a reader gives, by one read after another.
 fn read_whole<R: Read>(alloc: Global, source: &mut Watched<R>) -> Result<Vec<u8>, HostsError>
     requires { source.old.failed ≡ false }
-    ensures { MatchResult result (λ bytes. (source.new.failed ≡ false) × IsAll (R.remaining source.old.inner) bytes.items)
+    ensures { MatchResult result
+        (λ bytes. (source.new.failed ≡ false) × IsAll (R.remaining source.old.inner) bytes.items)
         (λ error. IsReadFault error source.new.failed) }
 {
     let mut bytes = Vec::new(alloc);

@@ -63,7 +63,8 @@ fn insert<S: BuildHasher>(
 ) -> Result<(), HostsError>
     requires { place ≡ place_in name (hosts_of names.old.entries) }
     ensures ok { OnOk result
-        (hosts_of names.new.entries ≡ put_host (with_lookup name record_type lookup now) name (hosts_of names.old.entries)) }
+        (hosts_of names.new.entries
+        ≡ put_host (with_lookup name record_type lookup now) name (hosts_of names.old.entries)) }
     ensures unchanged { OnErr result (hosts_of names.new.entries ≡ hosts_of names.old.entries) }
     ensures err { IsOkUnless result HostsError.OutOfMemory }
 {
@@ -87,7 +88,8 @@ fn insert_new<S: BuildHasher>(
 ) -> Result<(), HostsError>
     requires { place_in name (hosts_of names.old.entries) ≡ length names.old.entries }
     ensures ok { OnOk result
-        (hosts_of names.new.entries ≡ put_host (with_lookup name record_type lookup now) name (hosts_of names.old.entries)) }
+        (hosts_of names.new.entries
+        ≡ put_host (with_lookup name record_type lookup now) name (hosts_of names.old.entries)) }
     ensures unchanged { OnErr result (hosts_of names.new.entries ≡ hosts_of names.old.entries) }
     ensures err { IsOkUnless result HostsError.OutOfMemory }
 {

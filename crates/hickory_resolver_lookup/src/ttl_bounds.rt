@@ -24,11 +24,26 @@ impl Model for TtlBounds {
 
     ghost Value = { BoundsValue };
 
-    ghost view = { λ b. record { positive_min = b.positive_min; negative_min = b.negative_min; positive_max = b.positive_max; negative_max = b.negative_max } };
+    ghost view = { λ b. record {
+      positive_min = b.positive_min;
+      negative_min = b.negative_min;
+      positive_max = b.positive_max;
+      negative_max = b.negative_max;
+    } };
 
-    ghost invariant = { λ b. bounds_fault (record { positive_min = b.positive_min; negative_min = b.negative_min; positive_max = b.positive_max; negative_max = b.negative_max }) ≡ None };
+    ghost invariant = { λ b. bounds_fault (record {
+      positive_min = b.positive_min;
+      negative_min = b.negative_min;
+      positive_max = b.positive_max;
+      negative_max = b.negative_max;
+    }) ≡ None };
 
-    ghost inverse = { λ b. record { positive_min = b.positive_min; negative_min = b.negative_min; positive_max = b.positive_max; negative_max = b.negative_max } };
+    ghost inverse = { λ b. record {
+      positive_min = b.positive_min;
+      negative_min = b.negative_min;
+      positive_max = b.positive_max;
+      negative_max = b.negative_max;
+    } };
 }
 
 impl TtlBounds {
@@ -42,7 +57,12 @@ impl TtlBounds {
         negative_max: Option<u64>,
     ) -> Result<TtlBounds, BoundsError>
         ensures { result
-            ≡ bounds_or_fault (record { positive_min = positive_min; negative_min = negative_min; positive_max = positive_max; negative_max = negative_max }) }
+            ≡ bounds_or_fault (record {
+              positive_min = positive_min;
+              negative_min = negative_min;
+              positive_max = positive_max;
+              negative_max = negative_max;
+            }) }
     {
         let positive = with_defaults(positive_min, positive_max);
         if is_reversed(positive) || is_reversed(reduce_both(positive)) {
@@ -79,7 +99,12 @@ impl TtlBounds {
 impl Default for TtlBounds {
     ghost use Rattle.std.specs.Prelude.{◌≡◌, None};
 
-    ghost is_default = { λ b. b ≡ record { positive_min = None; negative_min = None; positive_max = None; negative_max = None } };
+    ghost is_default = { λ b. b ≡ record {
+      positive_min = None;
+      negative_min = None;
+      positive_max = None;
+      negative_max = None;
+    } };
 
     fn default() -> TtlBounds {
         TtlBounds {

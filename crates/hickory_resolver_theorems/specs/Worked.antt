@@ -281,7 +281,8 @@ alias_cases = record {
   next_class_is_internet = refl;
 }
 
--- ---- a loop of two aliases: eight questions, a negative answer for the last one, and two entries that live no second longer
+-- ---- a loop of two aliases: eight questions, a negative answer for the last one, and two entries that live no
+-- second longer
 
 abbrev pub to_b : Exchange
 to_b = exchange (asks_a (name (codes "a"))) (rr (name (codes "a")) 9 (cname_data (name (codes "b"))) ∷ [])

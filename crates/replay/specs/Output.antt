@@ -135,7 +135,8 @@ asked_text name t = name ++ codes " " ++ type_text (type_code t)
 
 -- at MOMENT, and what is asked
 abbrev pub request_text : RequestValue → List ℕ
-request_text (Lookup name t now) = codes "at " ++ decimal now ++ codes " lookup " ++ asked_text name t ++ codes "\n"
+request_text (Lookup name t now) =
+    codes "at " ++ decimal now ++ codes " lookup " ++ asked_text name t ++ codes "\n"
 request_text (LookupIp host now) = codes "at " ++ decimal now ++ codes " lookup_ip " ++ host ++ codes "\n"
 request_text (ClearLookup name t now) =
     codes "at " ++ decimal now ++ codes " clear_lookup " ++ asked_text name t ++ codes "\n"

@@ -176,7 +176,8 @@ fn run_request(
     request: &Request,
 ) -> Result<(), ReplayError>
     ensures ok { OnOk result
-        (AddsStep table.now client.old (string_bytes text.old) request.entry.now client.new (string_bytes text.new)) }
+        (AddsStep table.now client.old (string_bytes text.old) request.entry.now client.new
+        (string_bytes text.new)) }
     ensures err { IsOkUnless result ReplayError.Memory }
 {
     let before = client.handle().exchanges().len();

@@ -95,7 +95,12 @@ impl Model for Reader {
 
     ghost Value = { ReaderValue };
 
-    ghost view = { λ r. record { closed = r.closed.items; open_reply = r.open_reply; requests = r.requests.items; latest = r.latest } };
+    ghost view = { λ r. record {
+      closed = r.closed.items;
+      open_reply = r.open_reply;
+      requests = r.requests.items;
+      latest = r.latest;
+    } };
 }
 
 impl Reader {
