@@ -4,8 +4,6 @@
 #[cfg(test)]
 mod clients;
 #[cfg(test)]
-mod faults;
 #[cfg(test)]
 mod own_handle;
 #[cfg(test)]
-mod runs;
