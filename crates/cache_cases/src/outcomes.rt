@@ -64,35 +64,40 @@ fn no_name(alloc: Global, query: &Query, words: &[&str]) -> Result<NoRecords, Ne
     if let Some(ttl) = words.first() {
         none.negative_ttl = ttl.parse().ok();
     }
-    match (none.negative_ttl, words.len()) {
-        (Some(ttl), 2) => in_full(alloc, none, ttl),
+    match words {
+        [ttl, "full"] => in_full(alloc, none, ttl),
         _ => Ok(none),
     }
 }
 
-// With a record of this TTL in each part.
-fn in_full(alloc: Global, none: NoRecords, ttl: u32) -> Result<NoRecords, NetError> {
-    let soa = record(alloc, RecordType::SOA, ttl)?;
-    let authorities = one(alloc, RecordType::NS, ttl)?;
-    let ns = servers(alloc, ttl)?;
+// With records of this TTL in all parts.
+fn in_full(alloc: Global, none: NoRecords, ttl: &str) -> Result<NoRecords, NetError> {
+    let mut parts = answer(
+        alloc,
+        &[
+            "answer", "NS", ttl, "answer", "SOA", ttl, "authority", "NS", ttl, "additional", "A",
+            ttl,
+        ],
+    )?;
+    let soa = parts.answers.pop();
+    let ns = servers(alloc, parts.answers, parts.additionals)?;
     Ok(NoRecords {
-        soa: Some(soa),
-        authorities: Some(authorities),
+        soa,
         ns: Some(ns),
+        authorities: Some(parts.authorities),
         ..none
     })
 }
 
-fn one(alloc: Global, kind: RecordType, ttl: u32) -> Result<Vec<Record>, NetError> {
-    let mut records = Vec::new(alloc);
-    records.push(record(alloc, kind, ttl)?)?;
-    Ok(records)
-}
-
-fn servers(alloc: Global, ttl: u32) -> Result<Vec<ForwardNSData>, NetError> {
-    let ns = record(alloc, RecordType::NS, ttl)?;
-    let glue = one(alloc, RecordType::A, ttl)?;
+// The server of the last of these NS records, with this glue.
+fn servers(
+    alloc: Global,
+    mut found: Vec<Record>,
+    glue: Vec<Record>,
+) -> Result<Vec<ForwardNSData>, NetError> {
     let mut servers = Vec::new(alloc);
-    servers.push(ForwardNSData { ns, glue })?;
+    if let Some(ns) = found.pop() {
+        servers.push(ForwardNSData { ns, glue })?;
+    }
     Ok(servers)
 }
