@@ -1,0 +1,40 @@
+//! Prints what bounds and caches answer. Each line of the file of cases is printed again with what comes of it;
+//! the output that is wanted stands beside this crate's sources. A line is:
+//!
+//! - `# TEXT`, a heading;
+//! - `bounds LEAST NEGATIVE_LEAST GREATEST NEGATIVE_GREATEST`, bounds, where `-` stands for none;
+//! - `cache CAPACITY`, four bounds, and for a type with its own bounds that type and four more: a new cache;
+//! - `MOMENT NAME TYPE VERB OUTCOME`, a call of the cache. The moment is in seconds, and the verbs are `get`,
+//!   `bounds`, `insert`, `upsert`, `upsert_unclamped`, `clear_query` and `clear`. The outcome of a store is
+//!   `NOERROR` with a section, a type and a TTL for each record, `NXDOMAIN TTL`, which `full` may follow for records
+//!   in all its parts, `REFUSED`, or `timeout`.
+#![tactic(auto)]
+
+mod outcomes;
+mod shown;
+mod steps;
+mod words;
+
+use hickory_proto_core::NetError;
+use hickory_resolver_cache::ResponseCache;
+use hickory_resolver_lookup::TtlConfig;
+use std::alloc::Global;
+use std::fs;
+
+fn main(rt: HostRuntime) -> anyhow::Result<()> {
+    let cases = fs::read_to_string(&rt, "cache.cases")?;
+    rt.print(text_of(rt.alloc(), cases.as_str())?)?;
+    Ok(())
+}
+
+fn text_of(alloc: Global, cases: &str) -> Result<String, NetError> {
+    let mut text = String::new(alloc);
+    let mut cache = ResponseCache::new(alloc, 0, TtlConfig::default(alloc));
+    for line in cases.lines() {
+        text.push_str(line)?;
+        steps::take_line(alloc, &mut text, &mut cache, line)?;
+        text.push_str("\n")?;
+    }
+    shown::push_equalities(alloc, &mut text)?;
+    Ok(text)
+}

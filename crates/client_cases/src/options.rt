@@ -1,0 +1,37 @@
+//! A client whose upstream keeps the options that it was asked with.
+use hickory_proto_core::{
+    DnsHandle, DnsRequest, DnsRequestOptions, DnsResponse, Name, NetError, Query, RecordType,
+};
+use hickory_resolver::CachingClient;
+use std::alloc::Global;
+
+// An upstream that has no outcome.
+#[derive(Drop)]
+struct KeepsOptions {
+    options: Option<DnsRequestOptions>,
+}
+
+impl DnsHandle for KeepsOptions {
+    fn send(&mut self, request: &DnsRequest) -> Result<DnsResponse, NetError> {
+        self.options = Some(request.options);
+        Err(NetError::NoOutcome)
+    }
+}
+
+pub fn push_options(alloc: Global, text: &mut String) -> Result<(), NetError> {
+    text.push_str("# options are handed on\n")?;
+    let mut client = CachingClient::new(alloc, 8, KeepsOptions { options: None }, false);
+    let options = DnsRequestOptions {
+        recursion_desired: false,
+        use_edns: true,
+        edns_payload_len: 4096,
+        case_randomization: true,
+    };
+    for given in [options, DnsRequestOptions::default()] {
+        let query = Query::query(Name::root(alloc), RecordType::A);
+        let failed = client.lookup(query, given, 0).is_err();
+        let kept = client.handle().options;
+        write!(text, "{failed} {kept:?}\n")?;
+    }
+    Ok(())
+}

@@ -1,0 +1,47 @@
+//! A client over a handle that is written for the occasion.
+use hickory_proto_core::{
+    DnsHandle, DnsRequest, DnsRequestOptions, DnsResponse, Message, Name, NetError, OpCode, Query,
+    RData, Record, RecordType,
+};
+use hickory_resolver::CachingClient;
+use std::alloc::Global;
+use std::net::Ipv4Addr;
+
+// An upstream that answers every question with one address for a minute, and counts what it is asked.
+#[derive(Drop)]
+struct OneAddress {
+    alloc: Global,
+    address: Ipv4Addr,
+    asked: u8,
+}
+
+impl DnsHandle for OneAddress {
+    fn send(&mut self, request: &DnsRequest) -> Result<DnsResponse, NetError> {
+        self.asked = self.asked.saturating_add(1);
+        let owner = request.query.name.clone()?;
+        let mut message = Message::response(self.alloc, 0, OpCode::Query);
+        message.add_query(request.query.clone()?)?;
+        message.add_answer(Record::from_rdata(owner, 60, RData::A(self.address)))?;
+        Ok(DnsResponse::from_message(message))
+    }
+}
+
+/// Adds the TTLs of its answers at some moments (seconds), and how often it was asked by then.
+pub fn push_own_handle(alloc: Global, text: &mut String) -> Result<(), NetError> {
+    text.push_str("# a handle that is asked once a minute\n")?;
+    let handle = OneAddress {
+        alloc,
+        address: Ipv4Addr::new(192, 0, 2, 1),
+        asked: 0,
+    };
+    let mut client = CachingClient::new(alloc, 100, handle, false);
+    for now in [1000, 1045, 1060, 1061] {
+        let query = Query::query(Name::from_ascii(alloc, "www.example.com.")?, RecordType::A);
+        let lookup = client.lookup(query, DnsRequestOptions::default(), now)?;
+        for answer in lookup.answers() {
+            let (ttl, asked) = (answer.ttl, client.handle().asked);
+            write!(text, "at {now} TTL {ttl} asked {asked}\n")?;
+        }
+    }
+    Ok(())
+}

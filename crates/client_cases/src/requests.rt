@@ -1,0 +1,68 @@
+//! The requests of scripts, and what comes of them.
+use hickory_proto_core::{
+    DnsError, DnsRequestOptions, Name, NetError, Query, Recorded, ScriptHandle,
+};
+use hickory_resolver::{CachingClient, Lookup};
+use replay::output::{ShownRecord, push_step};
+use replay_script::{Request, Script, read_script};
+use std::alloc::{AllocError, Global};
+
+/// A client over a script's outcomes, with a record of what it sends.
+pub type Client = CachingClient<Recorded<ScriptHandle>>;
+
+pub fn script_of(alloc: Global, script: &str) -> Result<Script, NetError> {
+    match read_script(alloc, script.as_bytes()) {
+        Ok(script) => Ok(script),
+        Err(_) => Err(NetError::Message("a block whose script has a fault")),
+    }
+}
+
+/// Asks a client, and adds what it sends, its reply, and how many entries its cache has then.
+pub fn push_requests(
+    alloc: Global,
+    text: &mut String,
+    client: &mut Client,
+    requests: &[Request],
+) -> Result<(), NetError> {
+    for request in requests {
+        push_request(alloc, text, client, request)?;
+        push_kept(text, client)?;
+    }
+    Ok(())
+}
+
+fn push_request(
+    alloc: Global,
+    text: &mut String,
+    client: &mut Client,
+    request: &Request,
+) -> Result<(), NetError> {
+    let before = client.handle().exchanges().len();
+    let name = Name::from_ascii(alloc, request.name.as_str())?;
+    let query = Query::query(name, request.record_type);
+    let reply = client.lookup(query, DnsRequestOptions::default(), request.now);
+    let sent = client.handle().exchanges().get(before..).unwrap_or(&[]);
+    push_step(text, request, sent, &reply)?;
+    push_soa(text, &reply)?;
+    Ok(())
+}
+
+// The SOA record of a negative answer, which a script's text leaves out.
+fn push_soa(text: &mut String, reply: &Result<Lookup, NetError>) -> Result<(), AllocError> {
+    let Err(NetError::Dns(DnsError::NoRecordsFound(none))) = reply else {
+        return Ok(());
+    };
+    match &none.soa {
+        Some(soa) => {
+            let soa = ShownRecord(soa);
+            write!(text, "  soa {soa}\n")
+        }
+        None => Ok(()),
+    }
+}
+
+/// Adds how many entries a client's cache has.
+pub fn push_kept(text: &mut String, client: &Client) -> Result<(), AllocError> {
+    let kept = client.cache().len();
+    write!(text, "  kept {kept}\n")
+}

@@ -1,0 +1,52 @@
+//! A client over a table of many outcomes, as a test rig hands them in: the last outcome of a question counts,
+//! whatever the case of its name.
+use crate::requests::script_of;
+use hickory_proto_core::dns_handle::Outcome;
+use hickory_proto_core::{DnsRequestOptions, Name, NetError, Query, RecordType, TableHandle};
+use hickory_resolver::CachingClient;
+use replay::output::push_step;
+use replay_script::Script;
+use std::alloc::Global;
+
+const SCRIPT: &str = "reply NOERROR N7. A
+answer n7. 30 IN A 192.0.2.1
+at 0 lookup n99999. A
+at 0 lookup n100000. A
+at 0 lookup n7. A
+";
+
+pub fn push_table(alloc: Global, text: &mut String) -> Result<(), NetError> {
+    text.push_str("# a table of a hundred thousand names\n")?;
+    let Script { outcomes, requests } = script_of(alloc, SCRIPT)?;
+    let table = table_of(alloc, outcomes)?;
+    let mut client = CachingClient::new(alloc, 8, table, false);
+    for request in &requests {
+        let name = Name::from_ascii(alloc, request.name.as_str())?;
+        let query = Query::query(name, request.record_type);
+        let reply = client.lookup(query, DnsRequestOptions::default(), request.now);
+        push_step(text, request, &[], &reply)?;
+    }
+    Ok(())
+}
+
+// No answer in time for each of a hundred thousand names, and then what a script says.
+fn table_of(alloc: Global, said: Vec<(Query, Outcome)>) -> Result<TableHandle, NetError> {
+    let mut outcomes = timeouts(alloc)?;
+    let mut said = said;
+    outcomes.append(&mut said)?;
+    TableHandle::new(outcomes)
+}
+
+fn timeouts(alloc: Global) -> Result<Vec<(Query, Outcome)>, NetError> {
+    let mut outcomes = Vec::new(alloc);
+    for number in 0..100_000_u32 {
+        outcomes.push((question(alloc, number)?, Err(NetError::Timeout)))?;
+    }
+    Ok(outcomes)
+}
+
+fn question(alloc: Global, number: u32) -> Result<Query, NetError> {
+    let text = format!(in alloc; "n{number}.")?;
+    let name = Name::from_ascii(alloc, text.as_str())?;
+    Ok(Query::query(name, RecordType::A))
+}
