@@ -14,7 +14,7 @@ use Rattle.hickory_resolver_model.specs.Bounds.{ConfigValue, greatest_ttl}
 use Rattle.hickory_resolver_model.specs.Cache.{CacheValue, Entry, IsCache, IsTimelyAnswer, OutlivesNoAnswer, is_for, is_current, store, positive_entry, negative_entry}
 use Rattle.hickory_resolver_model.specs.Lookup.{LookupResult}
 use Rattle.hickory_resolver_model.specs.Verdict.{all_records}
-use Rattle.hickory_resolver_model.specs.Hops.{LookupContext, Store, IsReply, after_stores}
+use Rattle.hickory_resolver_model.specs.Hops.{LookupContext, Store, IsReply, after_store, after_stores}
 use Rattle.hickory_resolver_theorems.specs.Covered.{Dated, dated_exchanges, IsCovered}
 use Rattle.hickory_resolver_theorems.specs.Statements.{IsFreshRecord, IsFreshReply, IsFreshOutcome, IsFreshEntry}
 use Rattle.hickory_resolver_theorems.specs.Provenance.{is_positive, is_source, dated_entry, sources_of, IsFromSources, HasProvenance}
@@ -80,9 +80,9 @@ store-known before cache sources now q (Err NoOutcome) known arrive = known
 store-known before cache sources now q (Err (Bounds error)) known arrive = known
 store-known before cache sources now q (Err OutOfMemory) known arrive = known
 
-stores-known : (before : List Entry) (cache : CacheValue) (sources : List Dated) (now : ℕ) (stores : List Store) → AllByRecursion (IsKnown before cache.config sources) cache.entries → AllByRecursion (StoresArrived cache.config sources now) stores → AllByRecursion (IsKnown before cache.config sources) (after_stores now stores cache).entries
-stores-known before cache sources now [] known all = known
-stores-known before cache sources now (s ∷ ss) known (arrive, all) = stores-known before (store cache s.query s.outcome now) sources now ss (store-known before cache sources now s.query s.outcome known arrive) all
+stores-known : (before : List Entry) (cache : CacheValue) (sources : List Dated) (stores : List Store) → AllByRecursion (IsKnown before cache.config sources) cache.entries → AllByRecursion (StoresArrived cache.config sources) stores → AllByRecursion (IsKnown before cache.config sources) (after_stores stores cache).entries
+stores-known before cache sources [] known all = known
+stores-known before cache sources (s ∷ ss) known (arrive, all) = stores-known before (after_store s cache) sources ss (store-known before cache sources s.now s.query s.outcome known arrive) all
 
 pub from_sources : (s : LookupContext) (question : Query) (asks : List Exchange) (result : LookupResult) (after : CacheValue) → IsCache s.cache.config s.cache.capacity s.cache.entries → IsReply s question asks result after → HasProvenance s question asks result after
 from_sources s question asks result after cache reply zero = by reply
@@ -102,8 +102,8 @@ from_sources s question asks result after cache reply zero = by reply
     old : AllByRecursion (IsKnown s.cache.entries s.cache.config sources) s.cache.entries
     old = has-all (IsKnown s.cache.entries s.cache.config sources) s.cache.entries (λ e h. inl (contains-from_recursion s.cache.entries e h))
 
-    stored : (stores : List Store) → AllByRecursion (StoresArrived s.cache.config sources s.now) stores → after ≡ after_stores s.now stores s.cache → AllByRecursion (IsKnown s.cache.entries s.cache.config sources) after.entries
-    stored stores arrive e = subst (λ c. AllByRecursion (IsKnown s.cache.entries s.cache.config sources) c.entries) (sym e) (stores-known s.cache.entries s.cache sources s.now stores old arrive)
+    stored : (stores : List Store) → AllByRecursion (StoresArrived s.cache.config sources) stores → after ≡ after_stores stores s.cache → AllByRecursion (IsKnown s.cache.entries s.cache.config sources) after.entries
+    stored stores arrive e = subst (λ c. AllByRecursion (IsKnown s.cache.entries s.cache.config sources) c.entries) (sym e) (stores-known s.cache.entries s.cache sources stores old arrive)
 
     out : result ≡ Err OutOfMemory → IsFreshReply s.cache.config sources code s.now result
     out e = subst (IsFreshReply s.cache.config sources code s.now) (sym e) tt
@@ -114,6 +114,6 @@ from_sources s question asks result after cache reply zero = by reply
         record { reply = subst (IsFreshReply s.cache.config sources code s.now) (sym whole.result_is) (hops.reply zero); stores = stored _ hops.stores whole.after_is }
     by (inr (e, inl cut)) =
         let hops = hops-fresh s question asks sources cut.hops hits own in
-        record { reply = out e; stores = stored cut.front (all-front (StoresArrived s.cache.config sources s.now) cut.front cut.back (subst (AllByRecursion (StoresArrived s.cache.config sources s.now)) (sym cut.parts) hops.stores)) cut.after_is }
+        record { reply = out e; stores = stored cut.front (all-front (StoresArrived s.cache.config sources) cut.front cut.back (subst (AllByRecursion (StoresArrived s.cache.config sources)) (sym cut.parts) hops.stores)) cut.after_is }
     by (inr (e, inr cut)) =
         record { reply = out e; stores = subst (λ c. AllByRecursion (IsKnown s.cache.entries s.cache.config sources) c.entries) (sym cut.after_is) old }

@@ -8,7 +8,7 @@ use Rattle.hickory_proto_core.specs.records.net_error.NetError.TheVariants.{Mess
 use Rattle.hickory_proto_core.specs.records.net_error.DnsError.TheVariants.{ResponseCode, NoRecordsFound}
 use Rattle.hickory_resolver_model.specs.Bounds.{ConfigValue, greatest_ttl}
 use Rattle.hickory_resolver_model.specs.Cache.{CacheValue, Entry, is_for, without, without_earliest, least_deadline, room_for, insert_entry, store, positive_entry, negative_entry}
-use Rattle.hickory_resolver_model.specs.Hops.{Store, after_stores}
+use Rattle.hickory_resolver_model.specs.Hops.{Store, after_store, after_stores}
 use Rattle.hickory_proto_core.specs.Records.{RecordValue}
 use Rattle.hickory_resolver_theorems.specs.Covered.{Dated, IsCovered, IsLoopback}
 use Rattle.hickory_resolver_theorems.specs.Statements.{HasNoLeast, IsFreshRecord, IsFreshOutcome, IsFreshEntry, AreFreshEntries}
@@ -33,8 +33,8 @@ abbrev pub StoresOutcome : ConfigValue → List Dated → ℕ → Query → Outc
 StoresOutcome config sources now q (Ok m) = HasNoLeast config (type_code q.query_type) → AllByRecursion (Arrives config sources (type_code q.query_type) now) m.answers
 StoresOutcome config sources now q (Err e) = Unit {0}
 
-abbrev pub StoresArrived : ConfigValue → List Dated → ℕ → Store → Type 0
-StoresArrived config sources now s = StoresOutcome config sources now s.query s.outcome
+abbrev pub StoresArrived : ConfigValue → List Dated → Store → Type 0
+StoresArrived config sources s = StoresOutcome config sources s.now s.query s.outcome
 
 pub store-fresh : (cache : CacheValue) (sources : List Dated) (now : ℕ) (q : Query) (outcome : OutcomeValue) → AreFreshEntries cache sources → StoresOutcome cache.config sources now q outcome → AreFreshEntries (store cache q outcome now) sources
 store-fresh cache sources now q (Ok m) fresh arrive =
@@ -48,9 +48,9 @@ store-fresh cache sources now q (Err NoOutcome) fresh arrive = fresh
 store-fresh cache sources now q (Err (Bounds error)) fresh arrive = fresh
 store-fresh cache sources now q (Err OutOfMemory) fresh arrive = fresh
 
-pub stores-fresh : (cache : CacheValue) (sources : List Dated) (now : ℕ) (stores : List Store) → AreFreshEntries cache sources → AllByRecursion (StoresArrived cache.config sources now) stores → AreFreshEntries (after_stores now stores cache) sources
-stores-fresh cache sources now [] fresh all = fresh
-stores-fresh cache sources now (s ∷ ss) fresh (arrive, all) = stores-fresh (store cache s.query s.outcome now) sources now ss (store-fresh cache sources now s.query s.outcome fresh arrive) all
+pub stores-fresh : (cache : CacheValue) (sources : List Dated) (stores : List Store) → AreFreshEntries cache sources → AllByRecursion (StoresArrived cache.config sources) stores → AreFreshEntries (after_stores stores cache) sources
+stores-fresh cache sources [] fresh all = fresh
+stores-fresh cache sources (s ∷ ss) fresh (arrive, all) = stores-fresh (after_store s cache) sources ss (store-fresh cache sources s.now s.query s.outcome fresh arrive) all
 
 -- entries stay fresh with more sources
 outcome-more : (config : ConfigValue) (xs ys : List Dated) (e : Entry) (o : OutcomeValue) → IsFreshOutcome config xs e o → IsFreshOutcome config (xs ++ ys) e o
