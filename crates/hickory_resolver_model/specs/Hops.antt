@@ -143,8 +143,7 @@ abbrev pub stores_of : LookupContext → List Exchange → Hop → ChainEnd → 
 stores_of s passed hop last =
     last_stores s hop last ++ map (λ x. earlier_store (result_of s hop last) s.now x.query) (reverse passed)
 
--- the cache after a store: nothing else looks into one. A store of an error other than a negative answer
--- changes nothing
+-- the cache after a store. A store of an error other than a negative answer changes nothing
 abbrev pub after_store : Store → CacheValue → CacheValue
 after_store s cache = store cache s.query s.outcome s.now
 

@@ -12,7 +12,7 @@ use Rattle.hickory_proto_core.specs.declared.recorded.Exchange.{Exchange}
 use Rattle.hickory_resolver_model.specs.Bounds.{ConfigValue, greatest_ttl}
 use Rattle.hickory_resolver_model.specs.Cache.{CacheValue, is_for, without_query}
 use Rattle.hickory_resolver_model.specs.Lookup.{LookupResult}
-use Rattle.hickory_resolver_model.specs.Hops.{LookupContext, Store, IsReply, after_store, after_stores, stores_of}
+use Rattle.hickory_resolver_model.specs.Hops.{LookupContext, IsReply, stores_of}
 use Rattle.hickory_resolver_model.specs.Calls.{Setting, Source, Static, Client, SubLookup, IsSubLookupBy, IsSubLookupFor, start_at, question_of, asks_of_sub_lookups}
 use Rattle.hickory_resolver_model.specs.Run.{Settings, setting_at, RequestValue, Lookup, LookupIp, ClearLookup, Clear, moment_of, StepReply, LookedUp, Cleared, drop_each, after_clear, IsServed, StepValue, Stage, IsStage, AreStages, Run}
 use Rattle.hickory_resolver_model.specs.Attempts.{attempts}
@@ -20,16 +20,12 @@ use Rattle.hickory_resolver_theorems.specs.Covered.{Dated, dated_exchanges, IsCo
 use Rattle.hickory_resolver_theorems.specs.Statements.{IsFreshRecord, IsFreshReply, IsFreshEntry, AreFreshEntries, IsFreshSubLookup, AsksAtMostEight, NothingOutlives}
 use Rattle.hickory_resolver_theorems.proofs.Lists.{all-weaker, all-filter}
 use Rattle.hickory_resolver_theorems.proofs.Covers.{covered-left}
-use Rattle.hickory_resolver_theorems.proofs.Stores.{entries-more}
+use Rattle.hickory_resolver_theorems.proofs.Stores.{stores-config, entries-more}
 use Rattle.hickory_resolver_theorems.proofs.Few.{few}
 use Rattle.hickory_resolver_theorems.proofs.Fresh.{fresh}
 use Rattle.hickory_resolver_theorems.proofs.Chains.{Chain, chain-name, chain-addresses}
 
 -- ---- the bounds stay
-
-stores-config : (stores : List Store) (cache : CacheValue) → (after_stores stores cache).config ≡ cache.config
-stores-config [] cache = refl
-stores-config (s ∷ ss) cache = stores-config ss (after_store s cache)
 
 pub reply-config : (s : LookupContext) (question : Query) (asks : List Exchange) (result : LookupResult) (after : CacheValue) → IsReply s question asks result after → after.config ≡ s.cache.config
 reply-config s question asks result after (inl whole) = ap (λ c. c.config) whole.after_is ∙ stores-config (stores_of s whole.hops.passed whole.hops.last_hop whole.hops.last) s.cache

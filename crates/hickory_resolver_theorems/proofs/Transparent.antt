@@ -14,16 +14,17 @@ use Rattle.hickory_proto_core.specs.declared.recorded.Exchange.{Exchange}
 use Rattle.hickory_proto_core.specs.records.net_error.NetError.{NetError}
 use Rattle.hickory_proto_core.specs.records.net_error.NetError.TheVariants.{Message, Timeout, Proto, Dns, NoOutcome, Bounds, OutOfMemory}
 use Rattle.hickory_proto_core.specs.records.net_error.DnsError.TheVariants.{ResponseCode, NoRecordsFound}
-use Rattle.hickory_resolver_model.specs.Cache.{CacheValue, is_for, is_current, age, aged_record, aged_message, aged_forward, aged_negative, aged_error, aged_outcome, positive_entry, negative_entry, store}
+use Rattle.hickory_resolver_model.specs.Bounds.{ConfigValue}
+use Rattle.hickory_resolver_model.specs.Cache.{CacheValue, is_for, is_current, age, aged_record, aged_message, aged_forward, aged_negative, aged_error, aged_outcome, positive_entry, negative_entry}
 use Rattle.hickory_resolver_model.specs.Lookup.{LookupResult}
 use Rattle.hickory_resolver_model.specs.SpecialUse.{special_use_result}
 use Rattle.hickory_resolver_model.specs.Verdict.{Hop, Verdict, Exists, CnameChain, NoMatch, verdict}
-use Rattle.hickory_resolver_model.specs.Hops.{LookupContext, IsAliasHop, FollowsAliases, ChainEnd, Special, Hit, Asked, IsChainEnd, HopList, Store, store_of, IsReply, asks_of, kind_result, verdict_result, hit_result, result_of, verdict_stores, kind_stores, last_stores, earlier_store, stores_of, after_store, after_stores}
+use Rattle.hickory_resolver_model.specs.Hops.{LookupContext, IsAliasHop, FollowsAliases, ChainEnd, Special, Hit, Asked, IsChainEnd, HopList, Store, IsReply, asks_of, kind_result, verdict_result, hit_result, result_of, verdict_stores, kind_stores, last_stores, earlier_store, stores_of, after_stores}
 use Rattle.hickory_resolver_theorems.specs.Cacheless.{ResolvesTo, IsConsistentWith, AreConsistentWith}
 use Rattle.hickory_resolver_theorems.specs.WithoutTimes.{folded_query, record_without_times, sections, forward_without_times, negative_without_times, error_without_times, WithoutTimes, without_times, stored_without_times}
 use Rattle.hickory_resolver_theorems.specs.Statements.{IsWhatItResolvesTo, AreWhatTheyResolveTo, IsTransparent}
 use Rattle.hickory_resolver_theorems.proofs.Lists.{all-weaker, all-append, all-front, all-back, all-map, all-has, all-reverse, find-has}
-use Rattle.hickory_resolver_theorems.proofs.Stores.{insert_entry-all}
+use Rattle.hickory_resolver_theorems.proofs.Stores.{Makes, after_stores-all}
 use Rattle.hickory_resolver_theorems.proofs.Folding.{map-map, query-same}
 use Rattle.hickory_resolver_theorems.proofs.Verdicts.{passed}
 use Rattle.hickory_resolver_theorems.proofs.Fresh.{class-answer}
@@ -234,23 +235,23 @@ last-meaning s table hop count (Asked (Err (Bounds error))) r n off none meant t
 abbrev pub StoresMeant : TableValue → Store → Type 0
 StoresMeant table s = (s.outcome ≡ Err OutOfMemory) ⊎ ((k : ℕ) × ResolvesTo table s.query (stored_without_times s.outcome) k)
 
-store-meant : (table : TableValue) (cache : CacheValue) (now : ℕ) (q : Query) (outcome : OutcomeValue) → AreWhatTheyResolveTo table cache → StoresMeant table (store_of q outcome now) → AreWhatTheyResolveTo table (store cache q outcome now)
-store-meant table cache now q (Ok m) meant (inl e) = let clash : Ok m ≡ Err OutOfMemory = e in cc
-store-meant table cache now q (Ok m) meant (inr (k, means)) =
-    insert_entry-all (IsWhatItResolvesTo table) cache.capacity cache.entries (positive_entry cache.config q m now) meant (k, subst (λ c. ResolvesTo table q (Ok c) k) (sym (sections-clamped_message cache.config m)) means)
-store-meant table cache now q (Err (Dns (NoRecordsFound n))) meant (inl e) = let clash : Err (Dns (NoRecordsFound n)) ≡ Err OutOfMemory = e in cc
-store-meant table cache now q (Err (Dns (NoRecordsFound n))) meant (inr means) = insert_entry-all (IsWhatItResolvesTo table) cache.capacity cache.entries (negative_entry cache.config q n now) meant means
-store-meant table cache now q (Err (Dns (ResponseCode code))) meant is = meant
-store-meant table cache now q (Err (Message text)) meant is = meant
-store-meant table cache now q (Err Timeout) meant is = meant
-store-meant table cache now q (Err (Proto error)) meant is = meant
-store-meant table cache now q (Err NoOutcome) meant is = meant
-store-meant table cache now q (Err (Bounds error)) meant is = meant
-store-meant table cache now q (Err OutOfMemory) meant is = meant
+makes-meant : (table : TableValue) (config : ConfigValue) (s : Store) → StoresMeant table s → Makes (IsWhatItResolvesTo table) config s
+makes-meant table config s is = (positive is, negative is)
+  where
+    positive : StoresMeant table s → (m : MessageValue) → s.outcome ≡ Ok m → IsWhatItResolvesTo table (positive_entry config s.query m s.now)
+    positive (inl out) m e = let clash : Ok m ≡ Err OutOfMemory = sym e ∙ out in cc
+    positive (inr (k, means)) m e = (
+      k,
+      subst (λ c. ResolvesTo table s.query (Ok c) k) (sym (sections-clamped_message config m)) (subst (λ o. ResolvesTo table s.query (stored_without_times o) k) e means),
+    )
+
+    negative : StoresMeant table s → (n : NoRecordsValue) → s.outcome ≡ Err (Dns (NoRecordsFound n)) → IsWhatItResolvesTo table (negative_entry config s.query n s.now)
+    negative (inl out) n e = let clash : Err (Dns (NoRecordsFound n)) ≡ Err OutOfMemory = sym e ∙ out in cc
+    negative (inr (k, means)) n e = (k, subst (λ o. ResolvesTo table s.query (stored_without_times o) k) e means)
 
 stores-meant : (table : TableValue) (stores : List Store) (cache : CacheValue) → AreWhatTheyResolveTo table cache → AllByRecursion (StoresMeant table) stores → AreWhatTheyResolveTo table (after_stores stores cache)
-stores-meant table [] cache meant all = meant
-stores-meant table (s ∷ ss) cache meant (is, all) = stores-meant table ss (after_store s cache) (store-meant table cache s.now s.query s.outcome meant is) all
+stores-meant table stores cache meant all =
+    after_stores-all (IsWhatItResolvesTo table) stores cache meant (all-weaker (StoresMeant table) (Makes (IsWhatItResolvesTo table) cache.config) (makes-meant table cache.config) stores all)
 
 -- the last hop's own store
 last-stored : (s : LookupContext) (table : TableValue) (hop : Hop) (last : ChainEnd) (r : WithoutTimes) (n : ℕ) → ResolvesTo table hop.query r n → IsOutOr (result_of s hop last) r → AllByRecursion (StoresMeant table) (last_stores s hop last)
