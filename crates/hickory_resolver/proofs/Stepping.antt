@@ -13,7 +13,7 @@ use Rattle.hickory_resolver_model.specs.Cache.{CacheValue, Entry, current, aged_
 use Rattle.hickory_resolver_model.specs.Lookup.{LookupResult, found_lookup}
 use Rattle.hickory_resolver_model.specs.SpecialUse.{special_use_result}
 use Rattle.hickory_resolver_model.specs.Verdict.{Hop, Verdict, Exists, CnameChain, NoMatch, verdict}
-use Rattle.hickory_resolver_model.specs.Hops.{LookupContext, GoesUpstream, Special, Hit, Asked, verdict_result, verdict_stores, after_stores, no_match, hit_result}
+use Rattle.hickory_resolver_model.specs.Hops.{LookupContext, GoesUpstream, Special, Hit, Asked, verdict_result, verdict_stores, store_of, after_stores, no_match, hit_result}
 use Rattle.hickory_resolver_model.specs.Client.{ClientValue, start_of}
 use Rattle.hickory_resolver.specs.Special.{IsUnlessOut, IsSpecialReply}
 use Rattle.hickory_resolver.specs.Verdicts.{IsVerdict}
@@ -65,14 +65,14 @@ module _ (s : LookupContext) (hop : Hop) (depth : ℕ) (m : MessageValue) (keep 
       let Q : Verdict → Type 0 = λ v. IsVerdict v m r in
       subst Q (ap₂ (λ k h. verdict k h m) same_option same_hop) (subst P e is)
 
-  pub settle_exists : (found : MessageValue) → held ≡ variant.Exists found → (result : LookupResult) (after : CacheValue) → SettledAs s (Ok (found_lookup s.cache.config given.query found s.now)) (record { query = given.query; outcome = Ok found } ∷ []) result after → IsSettled s hop depth (Answer m) (Ok (Done result)) after
+  pub settle_exists : (found : MessageValue) → held ≡ variant.Exists found → (result : LookupResult) (after : CacheValue) → SettledAs s (Ok (found_lookup s.cache.config given.query found s.now)) (store_of given.query (Ok found) s.now ∷ []) result after → IsSettled s hop depth (Answer m) (Ok (Done result)) after
   settle_exists found e result after (inr out) = inr out
   settle_exists found e result after (inl done) =
       let v = is_exists _ m found (judged (variant.Exists found) e) in
       inl (
         (λ next h. let w : Some (Exists found) ≡ Some (CnameChain next) = sym (ap (λ u. Some u) v) ∙ h in cc),
         (done.0 ∙ ap (λ h. Ok (found_lookup s.cache.config h.query found s.now)) same_hop ∙ ap (verdict_result s.cache.config hop.query s.now m) (sym v)),
-        (done.1 ∙ ap (λ h. after_stores s.now (record { query = h.query; outcome = Ok found } ∷ []) s.cache) same_hop ∙ ap (λ u. after_stores s.now (verdict_stores hop.query u) s.cache) (sym v)),
+        (done.1 ∙ ap (λ h. after_stores (store_of h.query (Ok found) s.now ∷ []) s.cache) same_hop ∙ ap (λ u. after_stores (verdict_stores hop.query s.now u) s.cache) (sym v)),
       )
 
   pub settle_none : (back : MessageValue) → held ≡ variant.NoMatch back → (result : LookupResult) → IsUnlessOut (Err (no_match given.query back)) result → IsSettled s hop depth (Answer m) (Ok (Done result)) s.cache
@@ -82,7 +82,7 @@ module _ (s : LookupContext) (hop : Hop) (depth : ℕ) (m : MessageValue) (keep 
       inl (
         (λ next h. let w : Some NoMatch ≡ Some (CnameChain next) = sym (ap (λ u. Some u) v.0) ∙ h in cc),
         (done ∙ ap₂ (λ h r. Err (no_match h.query r)) same_hop v.1 ∙ ap (verdict_result s.cache.config hop.query s.now m) (sym v.0)),
-        (ap (λ u. after_stores s.now (verdict_stores hop.query u) s.cache) (sym v.0)),
+        (ap (λ u. after_stores (verdict_stores hop.query s.now u) s.cache) (sym v.0)),
       )
 
   pub settle_last : (next : Hop) (back : MessageValue) → held ≡ variant.CnameChain next back → 7 ≤ depth → depth ≤ 7 → (result : LookupResult) → IsUnlessOut (Err (no_match given.query back)) result → IsSettled s hop depth (Answer m) (Ok (Done result)) s.cache
@@ -92,7 +92,7 @@ module _ (s : LookupContext) (hop : Hop) (depth : ℕ) (m : MessageValue) (keep 
       inl (
         (λ other h. omega arith),
         (done ∙ ap₂ (λ h r. Err (no_match h.query r)) same_hop v.1 ∙ ap (verdict_result s.cache.config hop.query s.now m) (sym v.0)),
-        (ap (λ u. after_stores s.now (verdict_stores hop.query u) s.cache) (sym v.0)),
+        (ap (λ u. after_stores (verdict_stores hop.query s.now u) s.cache) (sym v.0)),
       )
 
   pub settle_next : (next : Hop) (back : MessageValue) → held ≡ variant.CnameChain next back → depth < 7 → IsSettled s hop depth (Answer m) (Ok (Next given.query next)) s.cache

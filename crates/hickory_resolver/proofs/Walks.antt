@@ -11,7 +11,7 @@ use Rattle.hickory_proto_core.specs.records.net_error.NetError.TheVariants.{OutO
 use Rattle.hickory_resolver_model.specs.Cache.{CacheValue}
 use Rattle.hickory_resolver_model.specs.Lookup.{LookupResult}
 use Rattle.hickory_resolver_model.specs.Verdict.{Hop, first_hop, CnameChain}
-use Rattle.hickory_resolver_model.specs.Hops.{LookupContext, GoesUpstream, IsAliasHop, FollowsAliases, ChainEnd, IsChainEnd, kind_verdict, result_of, asks_of, Store, as_outcome, last_stores, stores_of, after_stores, HopList}
+use Rattle.hickory_resolver_model.specs.Hops.{LookupContext, GoesUpstream, IsAliasHop, FollowsAliases, ChainEnd, IsChainEnd, kind_verdict, result_of, asks_of, Store, earlier_store, last_stores, stores_of, after_stores, HopList}
 use Rattle.hickory_resolver_model.specs.Client.{ClientValue, start_of, IsLookup}
 use Rattle.hickory_resolver.specs.Steps.{GoesOn, IsDone, IsOut, IsHopStep, IsWalked, stores_back, IsBeginning}
 use Rattle.hickory_resolver.specs.declared.caching_client.HopStep.TheVariants.{Done}
@@ -21,30 +21,28 @@ FollowsAliases-append : (s : LookupContext) (hop mid next : Hop) (xs : List Exch
 FollowsAliases-append s hop mid next [] x e a = let P : Hop → Type 0 = λ h. IsAliasHop s h x next in (next, subst P e a, refl)
 FollowsAliases-append s hop mid next (y ∷ ys) x (after, a, rest) b = (after, a, FollowsAliases-append s after mid next ys x rest b)
 
-stores_back-cons : (reply : LookupResult) (q : Query) (qs : List Query) → stores_back reply (q ∷ qs) ≡ stores_back reply qs ++ record { query = q; outcome = as_outcome q reply } ∷ []
-stores_back-cons reply q qs =
-    ap (λ (rs : List Query). map (λ r. record { query = r; outcome = as_outcome r reply }) rs) (reverse_onto qs q [])
-    ∙ map-append (λ (r : Query). record { query = r; outcome = as_outcome r reply }) (reverse qs) (q ∷ [])
+stores_back-cons : (reply : LookupResult) (now : ℕ) (q : Query) (qs : List Query) → stores_back reply now (q ∷ qs) ≡ stores_back reply now qs ++ earlier_store reply now q ∷ []
+stores_back-cons reply now q qs =
+    ap (map (earlier_store reply now)) (reverse_onto qs q [])
+    ∙ map-append (earlier_store reply now) (reverse qs) (q ∷ [])
 
 -- the questions alone, or the exchanges with them
-abbrev store_of : LookupResult → Exchange → Store
-store_of reply x = record { query = x.query; outcome = as_outcome x.query reply }
-
-stores_back-map : (reply : LookupResult) (asks : List Exchange) → stores_back reply (map (λ x. x.query) asks) ≡ map (store_of reply) (reverse asks)
-stores_back-map reply [] = refl
-stores_back-map reply (x ∷ xs) =
-    stores_back-cons reply x.query (map (λ y. y.query) xs)
-    ∙ ap (λ ss. ss ++ store_of reply x ∷ []) (stores_back-map reply xs)
-    ∙ sym (ap (λ (ys : List Exchange). map (store_of reply) ys) (reverse_onto xs x []) ∙ map-append (store_of reply) (reverse xs) (x ∷ []))
+stores_back-map : (reply : LookupResult) (now : ℕ) (asks : List Exchange) → stores_back reply now (map (λ x. x.query) asks) ≡ map (λ x. earlier_store reply now x.query) (reverse asks)
+stores_back-map reply now [] = refl
+stores_back-map reply now (x ∷ xs) =
+    let again : Exchange → Store = λ y. earlier_store reply now y.query in
+    stores_back-cons reply now x.query (map (λ y. y.query) xs)
+    ∙ ap (λ ss. ss ++ again x ∷ []) (stores_back-map reply now xs)
+    ∙ sym (ap (λ (ys : List Exchange). map again ys) (reverse_onto xs x []) ∙ map-append again (reverse xs) (x ∷ []))
 
 -- stores of out of memory change nothing
-nothing_stored : (now : ℕ) (front back : List Store) (qs : List Query) (cache : CacheValue) → front ++ back ≡ map (λ q. record { query = q; outcome = Err OutOfMemory }) qs → after_stores now front cache ≡ cache
+nothing_stored : (now : ℕ) (front back : List Store) (qs : List Query) (cache : CacheValue) → front ++ back ≡ map (earlier_store (Err OutOfMemory) now) qs → after_stores front cache ≡ cache
 nothing_stored now [] back qs cache e = refl
 nothing_stored now (s ∷ ss) back [] cache e = cc
 nothing_stored now (s ∷ ss) back (q ∷ qs) cache e =
-    let first : s ≡ record { query = q; outcome = Err OutOfMemory } = cc in
-    let rest : ss ++ back ≡ map (λ r. record { query = r; outcome = Err OutOfMemory }) qs = cc in
-    ap (λ (t : Store). after_stores now (t ∷ ss) cache) first ∙ nothing_stored now ss back qs cache rest
+    let first : s ≡ earlier_store (Err OutOfMemory) now q = cc in
+    let rest : ss ++ back ≡ map (earlier_store (Err OutOfMemory) now) qs = cc in
+    ap (λ t. after_stores (t ∷ ss) cache) first ∙ nothing_stored now ss back qs cache rest
 
 module _ {H : Type 0} (step : Step H) (options : DnsRequestOptions) (now count : ℕ) (before : ClientValue H) (question : Query) (passed : List Query) (hop : Hop) (client : ClientValue H) (w : IsWalked step options now count before question passed hop client) where
   -- hits and options are those of the start
@@ -117,20 +115,20 @@ module _ {H : Type 0} (step : Step H) (options : DnsRequestOptions) (now count :
     result_same : result ≡ result_of (start_of before now) hop d.last
     result_same = d.result_is ∙ ap (λ s. result_of s hop d.last) same_start
 
-    cache_same : after.cache ≡ after_stores now (last_stores (start_of before now) hop d.last) before.cache
-    cache_same = d.after_is ∙ ap₂ (λ s c. after_stores now (last_stores s hop d.last) c) same_start w.cache_is
+    cache_same : after.cache ≡ after_stores (last_stores (start_of before now) hop d.last) before.cache
+    cache_same = d.after_is ∙ ap₂ (λ s c. after_stores (last_stores s hop d.last) c) same_start w.cache_is
 
     -- the stores under the passed questions are those of the hops
-    same_stores : last_stores (start_of before now) hop d.last ++ stores_back result passed ≡ stores_of (start_of before now) w.asks hop d.last
+    same_stores : last_stores (start_of before now) hop d.last ++ stores_back result now passed ≡ stores_of (start_of before now) w.asks hop d.last
     same_stores =
         let front = last_stores (start_of before now) hop d.last in
-        ap₂ (λ r qs. front ++ stores_back r qs) result_same (sym w.questions)
-        ∙ ap (λ ss. front ++ ss) (stores_back-map (result_of (start_of before now) hop d.last) w.asks)
+        ap₂ (λ r qs. front ++ stores_back r now qs) result_same (sym w.questions)
+        ∙ ap (λ ss. front ++ ss) (stores_back-map (result_of (start_of before now) hop d.last) now w.asks)
 
     all_led : Leads step options before.handle (w.asks ++ asks_of hop d.last) after.handle
     all_led = Leads-append step options before.handle client.handle after.handle w.asks (asks_of hop d.last) w.led d.led
 
-    done_whole : (cache : CacheValue) → cache ≡ after_stores now (stores_back result passed) after.cache → IsLookup step options now before question result (record after { cache = cache })
+    done_whole : (cache : CacheValue) → cache ≡ after_stores (stores_back result now passed) after.cache → IsLookup step options now before question result (record after { cache = cache })
     done_whole cache e =
         record {
           asks = w.asks ++ asks_of hop d.last;
@@ -138,14 +136,14 @@ module _ {H : Type 0} (step : Step H) (options : DnsRequestOptions) (now count :
           reply = inl (record {
             hops = hops_of d.last d.ends;
             result_is = result_same;
-            after_is = e ∙ ap (λ c. after_stores now (stores_back result passed) c) cache_same
-                ∙ sym (after_stores-append now (last_stores (start_of before now) hop d.last) (stores_back result passed) before.cache)
-                ∙ ap (λ ss. after_stores now ss before.cache) same_stores;
+            after_is = e ∙ ap (λ c. after_stores (stores_back result now passed) c) cache_same
+                ∙ sym (after_stores-append (last_stores (start_of before now) hop d.last) (stores_back result now passed) before.cache)
+                ∙ ap (λ ss. after_stores ss before.cache) same_stores;
           });
           option_stays = d.option_is ∙ w.option_is;
         }
 
-    done_cut : (answer : LookupResult) → answer ≡ Err OutOfMemory → (cache : CacheValue) → IsBeginning now (stores_back result passed) after.cache cache → IsLookup step options now before question answer (record after { cache = cache })
+    done_cut : (answer : LookupResult) → answer ≡ Err OutOfMemory → (cache : CacheValue) → IsBeginning (stores_back result now passed) after.cache cache → IsLookup step options now before question answer (record after { cache = cache })
     done_cut answer is cache b =
         record {
           asks = w.asks ++ asks_of hop d.last;
@@ -158,22 +156,22 @@ module _ {H : Type 0} (step : Step H) (options : DnsRequestOptions) (now count :
               back = b.back;
               parts = append_assoc (last_stores (start_of before now) hop d.last) b.front b.back
                   ∙ ap (λ ss. last_stores (start_of before now) hop d.last ++ ss) b.parts ∙ same_stores;
-              after_is = b.after_is ∙ ap (λ c. after_stores now b.front c) cache_same
-                  ∙ sym (after_stores-append now (last_stores (start_of before now) hop d.last) b.front before.cache);
+              after_is = b.after_is ∙ ap (λ c. after_stores b.front c) cache_same
+                  ∙ sym (after_stores-append (last_stores (start_of before now) hop d.last) b.front before.cache);
             }),
           );
           option_stays = d.option_is ∙ w.option_is;
         }
 
   module _ (result : LookupResult) (after : ClientValue H) where
-    pub walk_done : IsHopStep step options now count client hop (Ok (Done result)) after → (cache : CacheValue) → cache ≡ after_stores now (stores_back result passed) after.cache → IsLookup step options now before question result (record after { cache = cache })
+    pub walk_done : IsHopStep step options now count client hop (Ok (Done result)) after → (cache : CacheValue) → cache ≡ after_stores (stores_back result now passed) after.cache → IsLookup step options now before question result (record after { cache = cache })
     walk_done (inl d) cache e = done_whole result after d cache e
     walk_done (inr (is, o)) cache e =
         walk_out after o result is cache
-        (e ∙ ap (λ r. after_stores now (stores_back r passed) after.cache) is ∙ nothing_stored now (stores_back (Err OutOfMemory) passed) [] (reverse passed) after.cache (append-nil _))
+        (e ∙ ap (λ r. after_stores (stores_back r now passed) after.cache) is ∙ nothing_stored now (stores_back (Err OutOfMemory) now passed) [] (reverse passed) after.cache (append-nil _))
 
-    pub walk_done_cut : IsHopStep step options now count client hop (Ok (Done result)) after → (answer : LookupResult) → answer ≡ Err OutOfMemory → (cache : CacheValue) → IsBeginning now (stores_back result passed) after.cache cache → IsLookup step options now before question answer (record after { cache = cache })
+    pub walk_done_cut : IsHopStep step options now count client hop (Ok (Done result)) after → (answer : LookupResult) → answer ≡ Err OutOfMemory → (cache : CacheValue) → IsBeginning (stores_back result now passed) after.cache cache → IsLookup step options now before question answer (record after { cache = cache })
     walk_done_cut (inl d) answer is cache b = done_cut result after d answer is cache b
     walk_done_cut (inr (oom, o)) answer is cache b =
         walk_out after o answer is cache
-        (b.after_is ∙ nothing_stored now b.front b.back (reverse passed) after.cache (b.parts ∙ ap (λ r. stores_back r passed) oom))
+        (b.after_is ∙ nothing_stored now b.front b.back (reverse passed) after.cache (b.parts ∙ ap (λ r. stores_back r now passed) oom))

@@ -13,7 +13,7 @@ use Rattle.hickory_proto_core.specs.records.net_error.DnsError.TheVariants.{NoRe
 use Rattle.hickory_resolver_model.specs.Cache.{CacheValue}
 use Rattle.hickory_resolver_model.specs.Lookup.{LookupResult}
 use Rattle.hickory_resolver_model.specs.Verdict.{Hop, first_hop, CnameChain}
-use Rattle.hickory_resolver_model.specs.Hops.{LookupContext, GoesUpstream, FollowsAliases, ChainEnd, IsChainEnd, kind_verdict, kind_result, kind_stores, result_of, asks_of, last_stores, Store, as_outcome, after_stores}
+use Rattle.hickory_resolver_model.specs.Hops.{LookupContext, GoesUpstream, FollowsAliases, ChainEnd, IsChainEnd, kind_verdict, kind_result, kind_stores, result_of, asks_of, last_stores, Store, earlier_store, after_stores}
 use Rattle.hickory_resolver_model.specs.Client.{ClientValue, start_of}
 use Rattle.hickory_resolver.specs.declared.caching_client.HopStep as code
 use Rattle.hickory_resolver.specs.declared.caching_client.HopStep.TheVariants.{Next, Done}
@@ -25,7 +25,7 @@ NeverFailsNegative kind = (n : NoRecordsValue) → kind ≡ Failed (Dns (NoRecor
 -- this result, with these stores made; or out of memory, with nothing stored
 abbrev pub SettledAs : LookupContext → LookupResult → List Store → LookupResult → CacheValue → Type 0
 SettledAs s reply stores result after =
-    ((result ≡ reply) × (after ≡ after_stores s.now stores s.cache))
+    ((result ≡ reply) × (after ≡ after_stores stores s.cache))
     ⊎ ((result ≡ Err OutOfMemory) × (after ≡ s.cache))
 
 -- an alias ends a look-up only at the eighth question
@@ -39,7 +39,7 @@ IsSettled s hop depth kind (Ok (Next asked next)) after =
     (asked ≡ hop.query) × (kind_verdict s hop kind ≡ Some (CnameChain next)) × (depth < 7) × (after ≡ s.cache)
 IsSettled s hop depth kind (Ok (Done result)) after =
     (EndsAt s hop depth kind × (result ≡ kind_result s hop kind)
-    × (after ≡ after_stores s.now (kind_stores s hop kind) s.cache))
+    × (after ≡ after_stores (kind_stores s hop kind) s.cache))
     ⊎ ((result ≡ Err OutOfMemory) × (after ≡ s.cache))
 IsSettled s hop depth kind (Err error) after = (error ≡ OutOfMemory) × (after ≡ s.cache)
 
@@ -66,7 +66,7 @@ pub record IsDone
   pub ends : IsChainEnd (start_of before now) depth hop last
   pub led : Leads step options before.handle (asks_of hop last) after.handle
   pub result_is : result ≡ result_of (start_of before now) hop last
-  pub after_is : after.cache ≡ after_stores now (last_stores (start_of before now) hop last) before.cache
+  pub after_is : after.cache ≡ after_stores (last_stores (start_of before now) hop last) before.cache
   pub option_is : after.preserve_intermediates ≡ before.preserve_intermediates
 
 -- memory ran out, before the question was asked or after it; nothing was stored
@@ -106,19 +106,18 @@ pub record IsWalked
   pub option_is : client.preserve_intermediates ≡ before.preserve_intermediates
 
 -- a result under each question, from the last to the first
-abbrev pub stores_back : LookupResult → List Query → List Store
-stores_back result questions =
-    map (λ q. record { query = q; outcome = as_outcome q result }) (reverse questions)
+abbrev pub stores_back : LookupResult → ℕ → List Query → List Store
+stores_back result now questions = map (earlier_store result now) (reverse questions)
 
 -- a beginning of the stores was made
-pub record IsBeginning (now : ℕ) (stores : List Store) (before after : CacheValue) : Type 0 where
+pub record IsBeginning (stores : List Store) (before after : CacheValue) : Type 0 where
   pub front : List Store
   pub back : List Store
   pub parts : front ++ back ≡ stores
-  pub after_is : after ≡ after_stores now front before
+  pub after_is : after ≡ after_stores front before
 
 -- of all the stores these are left, and the cache has the others
-pub record StoredSoFar (now : ℕ) (rest all : List Store) (before after : CacheValue) : Type 0 where
+pub record StoredSoFar (rest all : List Store) (before after : CacheValue) : Type 0 where
   pub front : List Store
   pub parts : front ++ rest ≡ all
-  pub after_is : after ≡ after_stores now front before
+  pub after_is : after ≡ after_stores front before

@@ -1,9 +1,9 @@
 -- The verdict of the code, which holds the response where it is not accepted.
 use Rattle.std.specs.Prelude.{◌≡◌, Bool, ◌&&◌, ◌||◌, List}
-use Rattle.hickory_proto_core.specs.Name.{NameValue}
 use Rattle.hickory_proto_core.specs.Records.{RecordValue}
 use Rattle.hickory_proto_core.specs.Messages.{MessageValue}
 use Rattle.hickory_proto_core.specs.records.query.Query.{Query}
+use Rattle.hickory_resolver_model.specs.AliasWalk.{Walk}
 use Rattle.hickory_resolver_model.specs.Verdict.{Hop, Verdict, Exists, CnameChain, NoMatch, is_match, is_intermediate}
 use Rattle.hickory_resolver.specs.declared.verdict.Verdict as code
 use Rattle.hickory_resolver.specs.declared.verdict.Verdict.TheVariants as variant
@@ -18,6 +18,6 @@ IsVerdict NoMatch response (variant.NoMatch held) = held ≡ response
 IsVerdict _ response _ = ⊥
 
 -- a record that is passed on
-abbrev pub is_wanted : Query → NameValue → Bool → Bool → RecordValue → Bool
-is_wanted q last matches intermediates r =
-    (matches && is_match q last r) || (intermediates && is_intermediate q r)
+abbrev pub is_wanted : Query → Walk → Bool → Bool → RecordValue → Bool
+is_wanted q walk matches intermediates r =
+    (matches && is_match q walk r) || (intermediates && is_intermediate q r)

@@ -1,26 +1,64 @@
 //! The walk along the aliases among the answers of a response (RFC 1034, section 3.6.2; RFC 2782).
-ghost use Rattle.std.specs.Prelude.{◌≡◌, option_copied};
-ghost use Rattle.hickory_resolver_model.specs.AliasWalk.{walk_of, walk_from, leads_to, follows_aliases};
-ghost use Rattle.hickory_resolver.specs.Walks.{IsWalkOf};
+ghost use Rattle.std.specs.Prelude.{◌≡◌, not, option_copied};
+ghost use Rattle.hickory_proto_core.specs.ResponseKind.{is_empty};
+ghost use Rattle.hickory_resolver_model.specs.AliasWalk.{ends_at, walk_of, walk_from, leads_to, follows_aliases};
+ghost use Rattle.hickory_resolver.specs.Walks.{ShowsAs};
 
 use hickory_proto_core::{Name, Query, RData, Record, RecordType};
 use hickory_resolver_lookup::MAX_TTL;
+use std::marker::Model;
 
 /// Where the aliases among some answers lead.
 #[derive(Drop)]
 pub struct AliasWalk<'a> {
+    last: &'a Name,
+    ttl: u32,
+    followed: bool,
+}
+
+impl<'a> Model for AliasWalk<'a> {
+    ghost use Rattle.hickory_resolver_model.specs.AliasWalk.{Walk};
+    ghost use Rattle.hickory_resolver.specs.Walks.{shown_walk};
+
+    ghost Value = { Walk };
+
+    ghost view = { λ w. shown_walk w.last.now w.ttl w.followed };
+}
+
+impl<'a> AliasWalk<'a> {
     /// The last name reached: the asked one, where no alias was followed.
-    pub last: &'a Name,
+    pub fn last(&self) -> &'a Name
+        ensures { result.now ≡ self.now.last }
+    {
+        self.last
+    }
+
     /// The least of a day and the TTLs of the aliases that were followed (seconds).
-    pub ttl: u32,
+    pub fn ttl(&self) -> u32
+        ensures { result ≡ self.now.ttl }
+    {
+        self.ttl
+    }
+
     /// Whether an alias was followed.
-    pub followed: bool,
+    pub fn is_followed(&self) -> bool
+        ensures { result ≡ not (is_empty self.now.places) }
+    {
+        self.followed
+    }
+
+    /// Whether it ends at a name.
+    pub fn ends_at(&self, name: &Name) -> bool
+        ensures { result ≡ ends_at self.now name.now }
+    {
+        *self.last == *name
+    }
 }
 
 /// The walk of a question over the answers to it, in their order: along each CNAME of the name reached, and
 /// each SRV.
 pub fn walk_of<'a>(query: &'a Query, answers: &'a [Record]) -> AliasWalk<'a>
-    ensures { IsWalkOf (walk_of query.now answers.now) result.last.now result.ttl result.followed }
+    ensures { ShowsAs (walk_of query.now answers.now) result }
 {
     if follows_aliases(query) {
         walk_from(&query.name, answers)
@@ -34,7 +72,7 @@ pub fn walk_of<'a>(query: &'a Query, answers: &'a [Record]) -> AliasWalk<'a>
 }
 
 fn walk_from<'a>(name: &'a Name, answers: &'a [Record]) -> AliasWalk<'a>
-    ensures { IsWalkOf (walk_from 0 name.now answers.now) result.last.now result.ttl result.followed }
+    ensures { ShowsAs (walk_from 0 name.now answers.now) result }
 {
     let mut last = name;
     let mut ttl = MAX_TTL;

@@ -5,7 +5,7 @@ ghost use Rattle.hickory_proto_core.specs.records.net_error.NetError.TheVariants
 ghost use Rattle.hickory_proto_core.specs.records.net_error.DnsError.TheVariants.{NoRecordsFound};
 ghost use Rattle.hickory_resolver_model.specs.Cache.{without_query};
 ghost use Rattle.hickory_resolver_model.specs.Lookup.{found_lookup};
-ghost use Rattle.hickory_resolver_model.specs.Hops.{IsReply, no_match, hit_result, as_outcome, after_stores};
+ghost use Rattle.hickory_resolver_model.specs.Hops.{IsReply, no_match, hit_result, store_of, as_outcome, after_stores};
 ghost use Rattle.hickory_resolver_model.specs.Client.{ClientValue, IsLookup, start_of, KeepsHandle, empty_cache};
 ghost use Rattle.hickory_proto_core.specs.declared.recorded.Exchange.{Exchange};
 ghost use Rattle.hickory_resolver_theorems.specs.Provenance.{HasProvenance};
@@ -274,7 +274,7 @@ impl<H: DnsHandle, S: BuildHasher> CachingClient<H, S> {
     fn cache_answer(&mut self, query: Query, message: Message, now: u64) -> Result<Lookup, NetError>
         ensures settled { SettledAs (start_of self.old now)
             (Ok (found_lookup self.old.cache.config query message now))
-            (record { query = query; outcome = Ok message } ∷ []) result self.new.cache }
+            (store_of query (Ok message) now ∷ []) result self.new.cache }
         ensures stays { KeepsHandle self.old self.new }
     {
         let copy = message.clone()?;
@@ -291,10 +291,8 @@ impl<H: DnsHandle, S: BuildHasher> CachingClient<H, S> {
         none: NoRecords,
         now: u64,
     ) -> Result<Lookup, NetError>
-        ensures settled { SettledAs (start_of self.old now) (Err (Dns (NoRecordsFound none))) (record {
-          query = query;
-          outcome = Err (Dns (NoRecordsFound none));
-        } ∷ []) result self.new.cache }
+        ensures settled { SettledAs (start_of self.old now) (Err (Dns (NoRecordsFound none)))
+            (store_of query (Err (Dns (NoRecordsFound none))) now ∷ []) result self.new.cache }
         ensures stays { KeepsHandle self.old self.new }
     {
         let copy = none.clone()?;
@@ -311,8 +309,8 @@ fn store_back<S: BuildHasher>(
     now: u64,
 ) -> Result<(), NetError>
     ensures ok { OnOk result
-        (cache.new ≡ after_stores now (stores_back reply.now questions.items) cache.old) }
-    ensures err { OnErr result (IsBeginning now (stores_back reply.now questions.items) cache.old cache.new) }
+        (cache.new ≡ after_stores (stores_back reply.now now questions.items) cache.old) }
+    ensures err { OnErr result (IsBeginning (stores_back reply.now now questions.items) cache.old cache.new) }
     ensures memory { IsOkUnless result NetError.OutOfMemory }
 {
     while let Some(query) = questions.pop() {

@@ -3,7 +3,6 @@ ghost use Rattle.std.specs.Prelude.{◌≡◌, ◌++◌, ◌&&◌, ◌||◌, map
 ghost use Rattle.std.specs.List.{list_any};
 ghost use Rattle.hickory_proto_core.specs.Messages.{some_record};
 ghost use Rattle.hickory_resolver_model.specs.Verdict.{verdict, is_match, is_last_match, is_intermediate, has_class, has_type, with_ttl_at_most, all_records, is_accepted, is_filtered, filtered_answers, next_hop};
-ghost use Rattle.hickory_resolver.specs.Walks.{shown_walk};
 ghost use Rattle.hickory_resolver.specs.Verdicts.{IsVerdict, is_wanted, hop_of};
 
 use crate::alias_walk::{AliasWalk, walk_of};
@@ -72,7 +71,7 @@ pub fn verdict_of(
         accepted.answers = answers;
         return Ok(Verdict::Exists(accepted));
     }
-    if !walk.followed {
+    if !walk.is_followed() {
         return Ok(Verdict::NoMatch(response));
     }
     let next = next_hop(keep, query, preserved, &walk, message)?;
@@ -81,10 +80,9 @@ pub fn verdict_of(
 
 // Whether some record matches, and either no alias was followed or no record was preserved.
 fn is_accepted(query: &Query, preserved: &[Record], walk: &AliasWalk<'_>, message: &Message) -> bool
-    ensures { result ≡ is_accepted (hop_of query.now preserved.now)
-        (shown_walk walk.now.last.now walk.now.ttl walk.now.followed) message.now }
+    ensures { result ≡ is_accepted (hop_of query.now preserved.now) walk.now message.now }
 {
-    (!walk.followed || preserved.is_empty())
+    (!walk.is_followed() || preserved.is_empty())
         && (any_match(query, walk, &message.answers)
             || any_match(query, walk, &message.authorities)
             || any_match(query, walk, &message.additionals))
@@ -98,11 +96,10 @@ fn is_filtered(
     walk: &AliasWalk<'_>,
     message: &Message,
 ) -> bool
-    ensures { result ≡ is_filtered keep (hop_of query.now preserved.now)
-        (shown_walk walk.now.last.now walk.now.ttl walk.now.followed) message.now }
+    ensures { result ≡ is_filtered keep (hop_of query.now preserved.now) walk.now message.now }
 {
     !preserved.is_empty()
-        || (walk.followed
+        || (walk.is_followed()
             && !keep
             && (any_last_match(query, walk, &message.answers)
                 || any_last_match(query, walk, &message.authorities)
@@ -120,7 +117,7 @@ fn filtered_answers(
 ) -> Result<Vec<Record>, NetError>
     ensures ok { IfOk result
         (λ answers. answers.items ≡ filtered_answers keep (hop_of query.now preserved.items)
-        (shown_walk walk.now.last.now walk.now.ttl walk.now.followed) message.now) }
+        walk.now message.now) }
     ensures err { IsOkUnless result NetError.OutOfMemory }
 {
     let selection = Selection {
@@ -141,8 +138,7 @@ fn next_hop(
     message: &Message,
 ) -> Result<Hop, NetError>
     ensures ok { IfOk result
-        (λ next. next ≡ next_hop keep (hop_of query.now preserved.items)
-        (shown_walk walk.now.last.now walk.now.ttl walk.now.followed) message.now) }
+        (λ next. next ≡ next_hop keep (hop_of query.now preserved.items) walk.now message.now) }
     ensures err { IsOkUnless result NetError.OutOfMemory }
 {
     let selection = Selection {
@@ -154,7 +150,7 @@ fn next_hop(
     Ok(Hop {
         preserved: selection.copy_into(preserved, message)?,
         query: Query {
-            name: walk.last.clone()?,
+            name: walk.last().clone()?,
             query_type: query.query_type,
             query_class: DNSClass::IN,
         },
@@ -167,7 +163,7 @@ impl<'a> Selection<'a> {
     fn copy_into(&self, records: Vec<Record>, message: &Message) -> Result<Vec<Record>, NetError>
         ensures ok { IfOk result
             (λ copies. copies.items ≡ records.items ++ map (with_ttl_at_most self.now.walk.now.ttl)
-            (filter (is_wanted self.now.query.now self.now.walk.now.last.now self.now.matches
+            (filter (is_wanted self.now.query.now self.now.walk.now self.now.matches
             self.now.intermediates) (all_records message.now))) }
         ensures err { IsOkUnless result NetError.OutOfMemory }
     {
@@ -181,20 +177,20 @@ impl<'a> Selection<'a> {
     fn copy_section(&self, records: &[Record], copies: &mut Vec<Record>) -> Result<(), NetError>
         ensures ok { OnOk result
             (copies.new.items ≡ copies.old.items ++ map (with_ttl_at_most self.now.walk.now.ttl)
-            (filter (is_wanted self.now.query.now self.now.walk.now.last.now self.now.matches
+            (filter (is_wanted self.now.query.now self.now.walk.now self.now.matches
             self.now.intermediates) records.now)) }
         ensures err { IsOkUnless result NetError.OutOfMemory }
     {
         for found in records {
             if self.wants(found) {
-                copies.push(with_ttl_at_most(found, self.walk.ttl)?)?;
+                copies.push(with_ttl_at_most(found, self.walk.ttl())?)?;
             }
         }
         Ok(())
     }
 
     fn wants(&self, found: &Record) -> bool
-        ensures { result ≡ is_wanted self.now.query.now self.now.walk.now.last.now self.now.matches
+        ensures { result ≡ is_wanted self.now.query.now self.now.walk.now self.now.matches
             self.now.intermediates found.now }
     {
         (self.matches && is_match(self.query, self.walk, found))
@@ -213,13 +209,13 @@ fn with_ttl_at_most(found: &Record, ttl: u32) -> Result<Record, NetError>
 }
 
 fn any_match(query: &Query, walk: &AliasWalk<'_>, records: &[Record]) -> bool
-    ensures { result ≡ list_any (is_match query.now walk.now.last.now) records.now }
+    ensures { result ≡ list_any (is_match query.now walk.now) records.now }
 {
     records.iter().any(|found| is_match(query, walk, found))
 }
 
 fn any_last_match(query: &Query, walk: &AliasWalk<'_>, records: &[Record]) -> bool
-    ensures { result ≡ list_any (is_last_match query.now walk.now.last.now) records.now }
+    ensures { result ≡ list_any (is_last_match query.now walk.now) records.now }
 {
     records
         .iter()
@@ -229,18 +225,18 @@ fn any_last_match(query: &Query, walk: &AliasWalk<'_>, records: &[Record]) -> bo
 // Whether a record has the asked class and type, and is owned by the asked name or by the last name of the
 // walk.
 fn is_match(query: &Query, walk: &AliasWalk<'_>, found: &Record) -> bool
-    ensures { result ≡ is_match query.now walk.now.last.now found.now }
+    ensures { result ≡ is_match query.now walk.now found.now }
 {
     has_class(query, found)
         && has_type(query, found)
-        && (query.name == found.name || *walk.last == found.name)
+        && (query.name == found.name || walk.ends_at(&found.name))
 }
 
 // Whether the last name of the walk owns a match.
 fn is_last_match(query: &Query, walk: &AliasWalk<'_>, found: &Record) -> bool
-    ensures { result ≡ is_last_match query.now walk.now.last.now found.now }
+    ensures { result ≡ is_last_match query.now walk.now found.now }
 {
-    has_class(query, found) && has_type(query, found) && *walk.last == found.name
+    has_class(query, found) && has_type(query, found) && walk.ends_at(&found.name)
 }
 
 // Whether it is a CNAME record of the asked class.

@@ -45,6 +45,10 @@ pub record Walk : Type 0 where
   pub last : NameValue
   pub ttl : ℕ
 
+-- the walk ends at this name
+abbrev pub ends_at : Walk → NameValue → Bool
+ends_at walk name = name_eq walk.last name
+
 abbrev pub walk_step : ℕ → ℕ → Walk → Walk
 walk_step place ttl rest = record { places = place ∷ rest.places; last = rest.last; ttl = min ttl rest.ttl }
 

@@ -98,21 +98,25 @@ asks_of hop (Special reply) = []
 asks_of hop (Hit entry) = []
 asks_of hop (Asked outcome) = record { query = hop.query; outcome = outcome } ∷ []
 
--- what is stored, and under which question
+-- what is stored, under which question, and when: with the bounds of the cache, all that its entry is made of
 pub record Store : Type 0 where
   pub query : Query
   pub outcome : OutcomeValue
+  pub now : ℕ
+
+abbrev pub store_of : Query → OutcomeValue → ℕ → Store
+store_of q outcome now = record { query = q; outcome = outcome; now = now }
 
 -- what the last hop stores under its own question: an accepted response or a negative answer
-abbrev pub verdict_stores : Query → Verdict → List Store
-verdict_stores q (Exists m) = record { query = q; outcome = Ok m } ∷ []
-verdict_stores q (CnameChain next) = []
-verdict_stores q NoMatch = []
+abbrev pub verdict_stores : Query → ℕ → Verdict → List Store
+verdict_stores q now (Exists m) = store_of q (Ok m) now ∷ []
+verdict_stores q now (CnameChain next) = []
+verdict_stores q now NoMatch = []
 
 abbrev pub kind_stores : LookupContext → Hop → ResponseKind → List Store
-kind_stores s hop (Answer response) = verdict_stores hop.query (verdict s.preserve_intermediates hop response)
-kind_stores s hop (Negative none) =
-    record { query = hop.query; outcome = Err (Dns (NoRecordsFound none)) } ∷ []
+kind_stores s hop (Answer response) =
+    verdict_stores hop.query s.now (verdict s.preserve_intermediates hop response)
+kind_stores s hop (Negative none) = store_of hop.query (Err (Dns (NoRecordsFound none))) s.now ∷ []
 kind_stores s hop (Failed error) = []
 
 abbrev pub last_stores : LookupContext → Hop → ChainEnd → List Store
@@ -130,18 +134,23 @@ as_outcome q (Ok lookup) =
     })
 as_outcome q (Err error) = Err error
 
+-- a result under an earlier question
+abbrev pub earlier_store : LookupResult → ℕ → Query → Store
+earlier_store result now q = store_of q (as_outcome q result) now
+
 -- the last hop's own store, then the result under each earlier question, from the last to the first
 abbrev pub stores_of : LookupContext → List Exchange → Hop → ChainEnd → List Store
 stores_of s passed hop last =
-    last_stores s hop last ++ map (λ x. record {
-      query = x.query;
-      outcome = as_outcome x.query (result_of s hop last);
-    }) (reverse passed)
+    last_stores s hop last ++ map (λ x. earlier_store (result_of s hop last) s.now x.query) (reverse passed)
 
--- the cache after these stores, in order. A store of an error other than a negative answer changes nothing
-abbrev pub after_stores : ℕ → List Store → CacheValue → CacheValue
-after_stores now [] cache = cache
-after_stores now (s ∷ ss) cache = after_stores now ss (store cache s.query s.outcome now)
+-- the cache after a store. A store of an error other than a negative answer changes nothing
+abbrev pub after_store : Store → CacheValue → CacheValue
+after_store s cache = store cache s.query s.outcome s.now
+
+-- the cache after these stores, in order
+abbrev pub after_stores : List Store → CacheValue → CacheValue
+after_stores [] cache = cache
+after_stores (s ∷ ss) cache = after_stores ss (after_store s cache)
 
 -- the hops of a question, at most eight, with the exchanges that they make
 pub record HopList (s : LookupContext) (question : Query) (asks : List Exchange) : Type 0 where
@@ -159,7 +168,7 @@ pub record IsWhole
     : Type 0 where
   pub hops : HopList s question asks
   pub result_is : result ≡ result_of s hops.last_hop hops.last
-  pub after_is : after ≡ after_stores s.now (stores_of s hops.passed hops.last_hop hops.last) s.cache
+  pub after_is : after ≡ after_stores (stores_of s hops.passed hops.last_hop hops.last) s.cache
 
 -- memory ran out among the stores: a beginning of them was made
 pub record IsCutInStores
@@ -169,7 +178,7 @@ pub record IsCutInStores
   pub front : List Store
   pub back : List Store
   pub parts : front ++ back ≡ stores_of s hops.passed hops.last_hop hops.last
-  pub after_is : after ≡ after_stores s.now front s.cache
+  pub after_is : after ≡ after_stores front s.cache
 
 -- memory ran out among the hops: first hops were asked, the last of them with any outcome, and nothing was
 -- stored

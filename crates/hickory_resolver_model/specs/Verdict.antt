@@ -1,7 +1,7 @@
 -- Where a response leads the one who asked: it is accepted, or it is an alias of another name, or it has
 -- nothing that was asked for (RFC 1034, section 3.6.2; RFC 1035, section 7.3).
 use Rattle.std.specs.Prelude.{ℕ, Bool, true, false, not, ◌&&◌, ◌||◌, ◌==◌, List, [], ◌∷◌, ◌++◌, map, filter, min, if◌then◌else◌}
-use Rattle.hickory_proto_core.specs.Name.{NameValue, name_eq}
+use Rattle.hickory_proto_core.specs.Name.{name_eq}
 use Rattle.hickory_proto_core.specs.Codes.{type_code, class_code}
 use Rattle.hickory_proto_core.specs.Records.{RecordValue}
 use Rattle.hickory_proto_core.specs.Messages.{MessageValue, some_record}
@@ -9,7 +9,7 @@ use Rattle.hickory_proto_core.specs.ResponseKind.{is_any, record_type_code, is_o
 use Rattle.hickory_proto_core.specs.codes.record_type.RecordType.TheVariants as type
 use Rattle.hickory_proto_core.specs.records.query.Query.{Query}
 use Rattle.hickory_proto_core.specs.codes.dns_class.DNSClass.TheVariants as class
-use Rattle.hickory_resolver_model.specs.AliasWalk.{Walk, walk_of}
+use Rattle.hickory_resolver_model.specs.AliasWalk.{Walk, ends_at, walk_of}
 
 -- a question on the way of a look-up, and the records that were preserved before it
 pub record Hop : Type 0 where
@@ -35,12 +35,12 @@ has_type q r = is_any q || (type_code q.query_type == record_type_code r)
 
 -- a record of the asked class and type (any, for ANY), owned by the asked name or by the last name of the
 -- walk
-abbrev pub is_match : Query → NameValue → RecordValue → Bool
-is_match q last r = has_class q r && has_type q r && (name_eq q.name r.name || name_eq last r.name)
+abbrev pub is_match : Query → Walk → RecordValue → Bool
+is_match q walk r = has_class q r && has_type q r && (name_eq q.name r.name || ends_at walk r.name)
 
 -- a match that the last name of the walk owns
-abbrev pub is_last_match : Query → NameValue → RecordValue → Bool
-is_last_match q last r = has_class q r && has_type q r && name_eq last r.name
+abbrev pub is_last_match : Query → Walk → RecordValue → Bool
+is_last_match q walk r = has_class q r && has_type q r && ends_at walk r.name
 
 -- a CNAME record of the asked class
 abbrev pub is_intermediate : Query → RecordValue → Bool
@@ -55,14 +55,14 @@ all_records m = m.answers ++ m.authorities ++ m.additionals
 -- Some record matches, and either no alias was followed or no record was preserved.
 abbrev pub is_accepted : Hop → Walk → MessageValue → Bool
 is_accepted hop walk m =
-    some_record (is_match hop.query walk.last) m && (is_empty walk.places || is_empty hop.preserved)
+    some_record (is_match hop.query walk) m && (is_empty walk.places || is_empty hop.preserved)
 
 -- The answers of an accepted response are filtered where records were preserved; and where an alias was
 -- followed, the last name owns a match, and intermediate records are not wanted.
 abbrev pub is_filtered : Bool → Hop → Walk → MessageValue → Bool
 is_filtered keep hop walk m =
     not (is_empty hop.preserved)
-    || (not (is_empty walk.places) && some_record (is_last_match hop.query walk.last) m && not keep)
+    || (not (is_empty walk.places) && some_record (is_last_match hop.query walk) m && not keep)
 
 -- the preserved records, then the matches and, where they are wanted, the intermediate records of this
 -- response, whose TTLs are at most that of the walk
@@ -70,7 +70,7 @@ abbrev pub filtered_answers : Bool → Hop → Walk → MessageValue → List Re
 filtered_answers keep hop walk m =
     hop.preserved
     ++ map (with_ttl_at_most walk.ttl)
-    (filter (λ r. is_match hop.query walk.last r || (keep && is_intermediate hop.query r))
+    (filter (λ r. is_match hop.query walk r || (keep && is_intermediate hop.query r))
     (all_records m))
 
 abbrev pub found_message : Bool → Hop → Walk → MessageValue → MessageValue

@@ -20,13 +20,13 @@ use Rattle.hickory_resolver_model.specs.Lookup.{LookupResult, hit_lookup, hit_se
 use Rattle.hickory_resolver_model.specs.SpecialUse.{special_use_result, is_loopback_name, loopback_data, one_record, no_records, full_name}
 use Rattle.hickory_resolver_model.specs.AliasWalk.{Walk, walk_of}
 use Rattle.hickory_resolver_model.specs.Verdict.{Hop, Exists, CnameChain, NoMatch, is_accepted, found_message, next_hop, all_records, with_ttl_at_most}
-use Rattle.hickory_resolver_model.specs.Hops.{LookupContext, ChainEnd, Special, Hit, Asked, IsChainEnd, HopList, Store, IsReply, asks_of, hit_result, verdict_result, kind_result, result_of, verdict_stores, kind_stores, last_stores, as_outcome, stores_of, after_stores}
+use Rattle.hickory_resolver_model.specs.Hops.{LookupContext, ChainEnd, Special, Hit, Asked, IsChainEnd, HopList, Store, IsReply, asks_of, hit_result, verdict_result, kind_result, result_of, verdict_stores, kind_stores, last_stores, earlier_store, stores_of, after_stores}
 use Rattle.hickory_resolver_theorems.specs.Covered.{Dated, dated_exchanges, IsCovered, IsLoopback}
 use Rattle.hickory_resolver_theorems.specs.Statements.{HasNoLeast, IsFreshRecord, AreFreshRecords, IsFreshReply, IsFreshOutcome, IsFreshEntry, AreFreshEntries, IsFresh}
 use Rattle.hickory_resolver_theorems.proofs.Lists.{all-weaker, all-append, all-front, all-back, all-map, all-has, has-all, has-right, has-map, all-reverse, find-has, ContainsByRecursion, contains-from_recursion}
 use Rattle.hickory_resolver_theorems.proofs.Covers.{Arrives, arrived-fresh, fresh-arrives, covered-has, covered-lower, clamped_message-le, clamped_message-greatest, greatest-short, least-has, saturating-le}
 use Rattle.hickory_resolver_theorems.proofs.Verdicts.{KeepsType, leads-keep, found-answers}
-use Rattle.hickory_resolver_theorems.proofs.Stores.{StoresArrived, StoresOutcome, stores-fresh, entries-more}
+use Rattle.hickory_resolver_theorems.proofs.Stores.{StoresArrived, stores-fresh, entries-more}
 
 -- ---- special names
 
@@ -197,7 +197,7 @@ result-fresh s sources hop count (Asked outcome) keeps fresh zero there ends = b
 -- ---- what it stores
 
 last-arrives : (s : LookupContext) (sources : List Dated) (hop : Hop) (last : ChainEnd) → KeepsType (type_code hop.query.query_type) hop → AllByRecursion (λ x. ContainsByRecursion sources (record { moment = s.now; exchange = x })) (asks_of hop last)
-    → AllByRecursion (StoresArrived s.cache.config sources s.now) (last_stores s hop last)
+    → AllByRecursion (StoresArrived s.cache.config sources) (last_stores s hop last)
 last-arrives s sources hop (Special reply) keeps there = tt
 last-arrives s sources hop (Hit entry) keeps there = tt
 last-arrives s sources hop (Asked outcome) keeps there = by (kind_of outcome) refl
@@ -209,18 +209,18 @@ last-arrives s sources hop (Asked outcome) keeps there = by (kind_of outcome) re
     x = record { query = hop.query; outcome = outcome }
 
     on : (response : MessageValue) → outcome ≡ Ok response → (accepted nowhere : Bool)
-        → AllByRecursion (StoresArrived config sources s.now) (verdict_stores hop.query (if accepted then Exists (found_message s.preserve_intermediates hop (walk_of hop.query response.answers) response) else (if nowhere then NoMatch else CnameChain (next_hop s.preserve_intermediates hop (walk_of hop.query response.answers) response))))
+        → AllByRecursion (StoresArrived config sources) (verdict_stores hop.query s.now (if accepted then Exists (found_message s.preserve_intermediates hop (walk_of hop.query response.answers) response) else (if nowhere then NoMatch else CnameChain (next_hop s.preserve_intermediates hop (walk_of hop.query response.answers) response))))
     on response came true nowhere = ((λ zero. found-arrives config sources s.now (type_code hop.query.query_type) s.preserve_intermediates hop x response keeps zero there.0 came), tt)
     on response came false true = tt
     on response came false false = tt
 
-    by : (c : ResponseKind) → kind_of outcome ≡ c → AllByRecursion (StoresArrived config sources s.now) (kind_stores s hop c)
+    by : (c : ResponseKind) → kind_of outcome ≡ c → AllByRecursion (StoresArrived config sources) (kind_stores s hop c)
     by (Answer response) e = on response (class-answer outcome response e) (is_accepted hop (walk_of hop.query response.answers) response) (is_empty (walk_of hop.query response.answers).places)
     by (Negative none) e = (tt, tt)
     by (Failed error) e = tt
 
 -- a fresh result arrives once more under an earlier question of the same type
-again-arrives : (config : ConfigValue) (sources : List Dated) (now code : ℕ) (q : Query) (reply : LookupResult) → type_code q.query_type ≡ code → (HasNoLeast config code → IsFreshReply config sources code now reply) → StoresOutcome config sources now q (as_outcome q reply)
+again-arrives : (config : ConfigValue) (sources : List Dated) (now code : ℕ) (q : Query) (reply : LookupResult) → type_code q.query_type ≡ code → (HasNoLeast config code → IsFreshReply config sources code now reply) → StoresArrived config sources (earlier_store reply now q)
 again-arrives config sources now code q (Ok l) same fresh = λ zero.
     subst (λ c. AllByRecursion (Arrives config sources c now) l.message.answers) (sym same)
     (fresh-arrives config sources code now l.valid_until l.message.answers (subst (HasNoLeast config) same zero) (fresh (subst (HasNoLeast config) same zero)))
@@ -231,16 +231,16 @@ again-arrives config sources now code q (Err e) same fresh = tt
 -- what is known of a list of hops, with its own exchanges among the sources
 pub record AreFreshHops (s : LookupContext) (question : Query) (asks : List Exchange) (sources : List Dated) (h : HopList s question asks) : Type 0 where
   pub reply : HasNoLeast s.cache.config (type_code question.query_type) → IsFreshReply s.cache.config sources (type_code question.query_type) s.now (result_of s h.last_hop h.last)
-  pub stores : AllByRecursion (StoresArrived s.cache.config sources s.now) (stores_of s h.passed h.last_hop h.last)
+  pub stores : AllByRecursion (StoresArrived s.cache.config sources) (stores_of s h.passed h.last_hop h.last)
 
 pub hops-fresh : (s : LookupContext) (question : Query) (asks : List Exchange) (sources : List Dated) (h : HopList s question asks) → AreFreshHits s sources (type_code question.query_type) → AllByRecursion (λ x. ContainsByRecursion sources (record { moment = s.now; exchange = x })) asks
     → AreFreshHops s question asks sources h
 hops-fresh s question asks sources h fresh there = record {
   reply = reply;
-  stores = all-append (StoresArrived s.cache.config sources s.now) (last_stores s h.last_hop h.last) _ (last-arrives s sources h.last_hop h.last own last_there)
-      (all-map (StoresArrived s.cache.config sources s.now) (λ x. record { query = x.query; outcome = as_outcome x.query result }) (reverse h.passed)
-      (all-reverse (λ x. StoresOutcome s.cache.config sources s.now x.query (as_outcome x.query result)) h.passed
-      (all-weaker (λ x. type_code x.query.query_type ≡ code) (λ x. StoresOutcome s.cache.config sources s.now x.query (as_outcome x.query result)) (λ x same. again-arrives s.cache.config sources s.now code x.query result same reply) h.passed leads.1)));
+  stores = all-append (StoresArrived s.cache.config sources) (last_stores s h.last_hop h.last) _ (last-arrives s sources h.last_hop h.last own last_there)
+      (all-map (StoresArrived s.cache.config sources) again (reverse h.passed)
+      (all-reverse (λ x. StoresArrived s.cache.config sources (again x)) h.passed
+      (all-weaker (λ x. type_code x.query.query_type ≡ code) (λ x. StoresArrived s.cache.config sources (again x)) (λ x same. again-arrives s.cache.config sources s.now code x.query result same reply) h.passed leads.1)));
 }
   where
     code : ℕ
@@ -248,6 +248,9 @@ hops-fresh s question asks sources h fresh there = record {
 
     result : LookupResult
     result = result_of s h.last_hop h.last
+
+    again : Exchange → Store
+    again x = earlier_store result s.now x.query
 
     leads : KeepsType code h.last_hop × AllByRecursion (λ x. type_code x.query.query_type ≡ code) h.passed
     leads = leads-keep code s (record { query = question; preserved = [] }) h.passed h.last_hop (record { type_is = refl; others = tt }) h.leads
@@ -280,8 +283,8 @@ fresh s question asks result after reply sources entries = by reply
     known : AreFreshEntries s.cache all
     known = entries-more s.cache sources (dated_exchanges s.now asks) entries
 
-    stored : (stores : List Store) → AllByRecursion (StoresArrived s.cache.config all s.now) stores → after ≡ after_stores s.now stores s.cache → AreFreshEntries after all
-    stored stores arrive e = subst (λ c. AreFreshEntries c all) (sym e) (stores-fresh s.cache all s.now stores known arrive)
+    stored : (stores : List Store) → AllByRecursion (StoresArrived s.cache.config all) stores → after ≡ after_stores stores s.cache → AreFreshEntries after all
+    stored stores arrive e = subst (λ c. AreFreshEntries c all) (sym e) (stores-fresh s.cache all stores known arrive)
 
     out : result ≡ Err OutOfMemory → IsFreshReply s.cache.config all (type_code question.query_type) s.now result
     out e = subst (IsFreshReply s.cache.config all (type_code question.query_type) s.now) (sym e) tt
@@ -292,5 +295,5 @@ fresh s question asks result after reply sources entries = by reply
         ((λ zero. subst (IsFreshReply s.cache.config all (type_code question.query_type) s.now) (sym whole.result_is) (hops.reply zero)), stored _ hops.stores whole.after_is)
     by (inr (e, inl cut)) =
         let hops = hops-fresh s question asks all cut.hops (hits-fresh s all (type_code question.query_type) known) (own-sources sources s.now asks) in
-        ((λ zero. out e), stored cut.front (all-front (StoresArrived s.cache.config all s.now) cut.front cut.back (subst (AllByRecursion (StoresArrived s.cache.config all s.now)) (sym cut.parts) hops.stores)) cut.after_is)
+        ((λ zero. out e), stored cut.front (all-front (StoresArrived s.cache.config all) cut.front cut.back (subst (AllByRecursion (StoresArrived s.cache.config all)) (sym cut.parts) hops.stores)) cut.after_is)
     by (inr (e, inr cut)) = ((λ zero. out e), subst (λ c. AreFreshEntries c all) (sym cut.after_is) known)

@@ -1,5 +1,5 @@
 -- A reply over the exchanges that were answered is one over those that a recording handle kept.
-use Rattle.std.proofs.Common.{◌≡◌, ◌⊎◌, ◌≤◌, ℕ, List, [], ◌∷◌, ◌++◌, length, map, reverse, Some, None, Err, refl, sym, ap, ◌∙◌, subst, inl, inr}
+use Rattle.std.proofs.Common.{◌≡◌, ◌⊎◌, ◌≤◌, List, [], ◌∷◌, ◌++◌, length, map, reverse, Some, None, Err, refl, sym, ap, ◌∙◌, subst, inl, inr}
 use Rattle.std.proofs.lemmas.List.{append-nil}
 use Rattle.std.specs.List.{AllByRecursion}
 use Rattle.hickory_proto_core.specs.Handles.{OutcomeValue}
@@ -9,10 +9,10 @@ use Rattle.hickory_proto_core.specs.ResponseKind.{ResponseKind, Answer, Negative
 use Rattle.hickory_proto_core.specs.records.query.Query.{Query}
 use Rattle.hickory_proto_core.specs.declared.recorded.Exchange.{Exchange}
 use Rattle.hickory_proto_core.specs.records.net_error.NetError.TheVariants.{OutOfMemory}
-use Rattle.hickory_resolver_model.specs.Cache.{CacheValue, store}
+use Rattle.hickory_resolver_model.specs.Cache.{CacheValue}
 use Rattle.hickory_resolver_model.specs.Lookup.{LookupResult}
 use Rattle.hickory_resolver_model.specs.Verdict.{Hop, first_hop, Verdict, Exists, CnameChain, NoMatch, verdict}
-use Rattle.hickory_resolver_model.specs.Hops.{LookupContext, GoesUpstream, FollowsAliases, ChainEnd, Special, Hit, Asked, IsChainEnd, kind_verdict, kind_result, kind_stores, verdict_result, verdict_stores, result_of, asks_of, as_outcome, last_stores, stores_of, Store, after_stores, HopList, IsCutInAsks, IsReply}
+use Rattle.hickory_resolver_model.specs.Hops.{LookupContext, GoesUpstream, FollowsAliases, ChainEnd, Special, Hit, Asked, IsChainEnd, kind_verdict, kind_result, kind_stores, verdict_result, verdict_stores, result_of, asks_of, as_outcome, last_stores, earlier_store, stores_of, Store, after_store, after_stores, HopList, IsCutInAsks, IsReply}
 use Rattle.hickory_resolver_theorems.proofs.Lists.{all-append, all-map, has-all}
 
 -- ---- where memory ran out, no store changes the cache
@@ -20,11 +20,11 @@ use Rattle.hickory_resolver_theorems.proofs.Lists.{all-append, all-map, has-all}
 abbrev AllOut : List Store → Type 0
 AllOut ss = AllByRecursion (λ s. s.outcome ≡ Err OutOfMemory) ss
 
-none_stored : (now : ℕ) (front back : List Store) (cache : CacheValue) → AllOut (front ++ back) → after_stores now front cache ≡ cache
-none_stored now [] back cache a = refl
-none_stored now (s ∷ ss) back cache a = ap (λ (o : OutcomeValue). after_stores now ss (store cache s.query o now)) a.0 ∙ none_stored now ss back cache a.1
+none_stored : (front back : List Store) (cache : CacheValue) → AllOut (front ++ back) → after_stores front cache ≡ cache
+none_stored [] back cache a = refl
+none_stored (s ∷ ss) back cache a = ap (λ (o : OutcomeValue). after_stores ss (after_store (record s { outcome = o }) cache)) a.0 ∙ none_stored ss back cache a.1
 
-verdict_out : (s : LookupContext) (hop : Hop) (m : MessageValue) (v : Verdict) → verdict_result s.cache.config hop.query s.now m v ≡ Err OutOfMemory → AllOut (verdict_stores hop.query v)
+verdict_out : (s : LookupContext) (hop : Hop) (m : MessageValue) (v : Verdict) → verdict_result s.cache.config hop.query s.now m v ≡ Err OutOfMemory → AllOut (verdict_stores hop.query s.now v)
 verdict_out s hop m (Exists n) e = cc
 verdict_out s hop m (CnameChain next) e = tt
 verdict_out s hop m NoMatch e = tt
@@ -42,7 +42,7 @@ last_out s hop (Asked outcome) e = kind_out s hop (kind_of outcome) e
 all_out : (s : LookupContext) (passed : List Exchange) (hop : Hop) (last : ChainEnd) → result_of s hop last ≡ Err OutOfMemory → AllOut (stores_of s passed hop last)
 all_out s passed hop last e =
     let P : Store → Type 0 = λ t. t.outcome ≡ Err OutOfMemory in
-    let again : Exchange → Store = λ x. record { query = x.query; outcome = as_outcome x.query (result_of s hop last) } in
+    let again : Exchange → Store = λ x. earlier_store (result_of s hop last) s.now x.query in
     all-append P (last_stores s hop last) (map again (reverse passed)) (last_out s hop last e)
     (all-map P again (reverse passed) (has-all (λ x. P (again x)) (reverse passed) (λ x there. ap (as_outcome x.query) e)))
 
@@ -119,14 +119,14 @@ module _ (s : LookupContext) (question : Query) where
         | inr d ↦ inr (w.result_is ∙ d.0, inr (subst Q (sym (w.after_is ∙ whole_out w.hops d.0)) d.1))
       ]
     where
-      whole_out : (h : HopList s question asks) → result_of s h.last_hop h.last ≡ Err OutOfMemory → after_stores s.now (stores_of s h.passed h.last_hop h.last) s.cache ≡ s.cache
-      whole_out h e = none_stored s.now (stores_of s h.passed h.last_hop h.last) [] s.cache (subst AllOut (sym (append-nil _)) (all_out s h.passed h.last_hop h.last e))
+      whole_out : (h : HopList s question asks) → result_of s h.last_hop h.last ≡ Err OutOfMemory → after_stores (stores_of s h.passed h.last_hop h.last) s.cache ≡ s.cache
+      whole_out h e = none_stored (stores_of s h.passed h.last_hop h.last) [] s.cache (subst AllOut (sym (append-nil _)) (all_out s h.passed h.last_hop h.last e))
   kept_reply asks kept result after (inr (o, inl c)) r =
       let P : List Exchange → Type 0 = λ xs. IsReply s question xs result after in
       let Q : CacheValue → Type 0 = λ a. IsCutInAsks s question kept a in
       elim (kept_hops asks kept c.hops r) [
         | inl e ↦ subst P (sym e) (inr (o, inl c))
-        | inr d ↦ inr (o, inr (subst Q (sym (c.after_is ∙ none_stored s.now c.front c.back s.cache (subst AllOut (sym c.parts) (all_out s c.hops.passed c.hops.last_hop c.hops.last d.0)))) d.1))
+        | inr d ↦ inr (o, inr (subst Q (sym (c.after_is ∙ none_stored c.front c.back s.cache (subst AllOut (sym c.parts) (all_out s c.hops.passed c.hops.last_hop c.hops.last d.0)))) d.1))
       ]
   kept_reply asks kept result after (inr (o, inr c)) r =
       let Q : CacheValue → Type 0 = λ a. IsCutInAsks s question kept a in

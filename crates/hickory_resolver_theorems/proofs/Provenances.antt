@@ -1,5 +1,5 @@
 -- Every record that a look-up gives or stores comes from its sources.
-use Rattle.std.proofs.Common.{◌≡◌, ◌⊎◌, ◌≤◌, ◌==◌, ◌&&◌, ℕ, ◌+◌, Bool, true, false, List, [], ◌∷◌, ◌++◌, map, filter, Contains, Ok, Err, refl, sym, subst, inl, inr, arith, ◌∙◌}
+use Rattle.std.proofs.Common.{◌≡◌, ◌⊎◌, ◌≤◌, ◌==◌, ◌&&◌, ℕ, ◌+◌, Bool, true, false, List, ◌++◌, map, filter, Contains, Ok, Err, refl, sym, subst, inl, inr, arith, ◌∙◌}
 use Rattle.std.proofs.lemmas.Bool.{and_parts, eq-eqb}
 use Rattle.std.specs.List.{AllByRecursion}
 use Rattle.hickory_proto_core.specs.Codes.{type_code}
@@ -8,10 +8,9 @@ use Rattle.hickory_proto_core.specs.Records.{RecordValue}
 use Rattle.hickory_proto_core.specs.ResponseKind.{record_type_code}
 use Rattle.hickory_proto_core.specs.records.query.Query.{Query}
 use Rattle.hickory_proto_core.specs.declared.recorded.Exchange.{Exchange}
-use Rattle.hickory_proto_core.specs.records.net_error.NetError.TheVariants.{Message, Timeout, Proto, Dns, NoOutcome, Bounds, OutOfMemory}
-use Rattle.hickory_proto_core.specs.records.net_error.DnsError.TheVariants.{ResponseCode, NoRecordsFound}
+use Rattle.hickory_proto_core.specs.records.net_error.NetError.TheVariants.{OutOfMemory}
 use Rattle.hickory_resolver_model.specs.Bounds.{ConfigValue, greatest_ttl}
-use Rattle.hickory_resolver_model.specs.Cache.{CacheValue, Entry, IsCache, IsTimelyAnswer, OutlivesNoAnswer, is_for, is_current, store, positive_entry, negative_entry}
+use Rattle.hickory_resolver_model.specs.Cache.{CacheValue, Entry, IsCache, IsTimelyAnswer, OutlivesNoAnswer, is_for, is_current}
 use Rattle.hickory_resolver_model.specs.Lookup.{LookupResult}
 use Rattle.hickory_resolver_model.specs.Verdict.{all_records}
 use Rattle.hickory_resolver_model.specs.Hops.{LookupContext, Store, IsReply, after_stores}
@@ -19,8 +18,8 @@ use Rattle.hickory_resolver_theorems.specs.Covered.{Dated, dated_exchanges, IsCo
 use Rattle.hickory_resolver_theorems.specs.Statements.{IsFreshRecord, IsFreshReply, IsFreshOutcome, IsFreshEntry}
 use Rattle.hickory_resolver_theorems.specs.Provenance.{is_positive, is_source, dated_entry, sources_of, IsFromSources, HasProvenance}
 use Rattle.hickory_resolver_theorems.proofs.Lists.{all-has, has-all, all-front, has-left, has-map, has-filter, find-has, ContainsByRecursion, contains-from_recursion}
-use Rattle.hickory_resolver_theorems.proofs.Covers.{arrived-fresh, covered-has}
-use Rattle.hickory_resolver_theorems.proofs.Stores.{StoresArrived, StoresOutcome, insert_entry-all}
+use Rattle.hickory_resolver_theorems.proofs.Covers.{covered-has}
+use Rattle.hickory_resolver_theorems.proofs.Stores.{StoresArrived, stores-known}
 use Rattle.hickory_resolver_theorems.proofs.Fresh.{for-type, AreFreshHits, hops-fresh, own-sources}
 
 -- an entry that is a source is fresh by itself
@@ -68,22 +67,6 @@ hits-own s question asks timely q e same is =
 abbrev IsKnown : List Entry → ConfigValue → List Dated → Entry → Type 0
 IsKnown before config sources e = Contains before e ⊎ IsFreshEntry config sources e
 
-store-known : (before : List Entry) (cache : CacheValue) (sources : List Dated) (now : ℕ) (q : Query) (outcome : OutcomeValue) → AllByRecursion (IsKnown before cache.config sources) cache.entries → StoresOutcome cache.config sources now q outcome → AllByRecursion (IsKnown before cache.config sources) (store cache q outcome now).entries
-store-known before cache sources now q (Ok m) known arrive =
-    insert_entry-all (IsKnown before cache.config sources) cache.capacity cache.entries (positive_entry cache.config q m now) known (inr (λ zero. arrived-fresh cache.config sources q now m zero (arrive zero)))
-store-known before cache sources now q (Err (Dns (NoRecordsFound n))) known arrive = insert_entry-all (IsKnown before cache.config sources) cache.capacity cache.entries (negative_entry cache.config q n now) known (inr tt)
-store-known before cache sources now q (Err (Dns (ResponseCode code))) known arrive = known
-store-known before cache sources now q (Err (Message text)) known arrive = known
-store-known before cache sources now q (Err Timeout) known arrive = known
-store-known before cache sources now q (Err (Proto error)) known arrive = known
-store-known before cache sources now q (Err NoOutcome) known arrive = known
-store-known before cache sources now q (Err (Bounds error)) known arrive = known
-store-known before cache sources now q (Err OutOfMemory) known arrive = known
-
-stores-known : (before : List Entry) (cache : CacheValue) (sources : List Dated) (now : ℕ) (stores : List Store) → AllByRecursion (IsKnown before cache.config sources) cache.entries → AllByRecursion (StoresArrived cache.config sources now) stores → AllByRecursion (IsKnown before cache.config sources) (after_stores now stores cache).entries
-stores-known before cache sources now [] known all = known
-stores-known before cache sources now (s ∷ ss) known (arrive, all) = stores-known before (store cache s.query s.outcome now) sources now ss (store-known before cache sources now s.query s.outcome known arrive) all
-
 pub from_sources : (s : LookupContext) (question : Query) (asks : List Exchange) (result : LookupResult) (after : CacheValue) → IsCache s.cache.config s.cache.capacity s.cache.entries → IsReply s question asks result after → HasProvenance s question asks result after
 from_sources s question asks result after cache reply zero = by reply
   where
@@ -102,8 +85,8 @@ from_sources s question asks result after cache reply zero = by reply
     old : AllByRecursion (IsKnown s.cache.entries s.cache.config sources) s.cache.entries
     old = has-all (IsKnown s.cache.entries s.cache.config sources) s.cache.entries (λ e h. inl (contains-from_recursion s.cache.entries e h))
 
-    stored : (stores : List Store) → AllByRecursion (StoresArrived s.cache.config sources s.now) stores → after ≡ after_stores s.now stores s.cache → AllByRecursion (IsKnown s.cache.entries s.cache.config sources) after.entries
-    stored stores arrive e = subst (λ c. AllByRecursion (IsKnown s.cache.entries s.cache.config sources) c.entries) (sym e) (stores-known s.cache.entries s.cache sources s.now stores old arrive)
+    stored : (stores : List Store) → AllByRecursion (StoresArrived s.cache.config sources) stores → after ≡ after_stores stores s.cache → AllByRecursion (IsKnown s.cache.entries s.cache.config sources) after.entries
+    stored stores arrive e = subst (λ c. AllByRecursion (IsKnown s.cache.entries s.cache.config sources) c.entries) (sym e) (stores-known (IsKnown s.cache.entries s.cache.config sources) s.cache sources stores old (λ e h. inr h) arrive)
 
     out : result ≡ Err OutOfMemory → IsFreshReply s.cache.config sources code s.now result
     out e = subst (IsFreshReply s.cache.config sources code s.now) (sym e) tt
@@ -114,6 +97,6 @@ from_sources s question asks result after cache reply zero = by reply
         record { reply = subst (IsFreshReply s.cache.config sources code s.now) (sym whole.result_is) (hops.reply zero); stores = stored _ hops.stores whole.after_is }
     by (inr (e, inl cut)) =
         let hops = hops-fresh s question asks sources cut.hops hits own in
-        record { reply = out e; stores = stored cut.front (all-front (StoresArrived s.cache.config sources s.now) cut.front cut.back (subst (AllByRecursion (StoresArrived s.cache.config sources s.now)) (sym cut.parts) hops.stores)) cut.after_is }
+        record { reply = out e; stores = stored cut.front (all-front (StoresArrived s.cache.config sources) cut.front cut.back (subst (AllByRecursion (StoresArrived s.cache.config sources)) (sym cut.parts) hops.stores)) cut.after_is }
     by (inr (e, inr cut)) =
         record { reply = out e; stores = subst (λ c. AllByRecursion (IsKnown s.cache.entries s.cache.config sources) c.entries) (sym cut.after_is) old }

@@ -17,7 +17,7 @@ use Rattle.hickory_proto_core.specs.codes.op_code.OpCode.TheVariants as op
 use Rattle.hickory_proto_core.specs.records.net_error.NetError.{NetError}
 use Rattle.hickory_proto_core.specs.records.net_error.NetError.TheVariants.{Message, Timeout, Proto, Dns, NoOutcome, Bounds, OutOfMemory}
 use Rattle.hickory_proto_core.specs.records.net_error.DnsError.TheVariants.{ResponseCode, NoRecordsFound}
-use Rattle.hickory_resolver_model.specs.AliasWalk.{Walk, leads_to, walk_step, walk_from, walk_of, follows_aliases}
+use Rattle.hickory_resolver_model.specs.AliasWalk.{Walk, ends_at, leads_to, walk_step, walk_from, walk_of, follows_aliases}
 use Rattle.hickory_resolver_model.specs.Verdict.{Verdict, Exists, CnameChain, NoMatch, is_match, is_last_match, is_accepted, is_filtered, is_intermediate, found_message, filtered_answers, next_hop, all_records, with_ttl_at_most, verdict, first_hop}
 use Rattle.hickory_resolver_model.specs.Hops.{no_match}
 use Rattle.hickory_resolver_theorems.specs.WithoutTimes.{folded_name, folded_query, record_without_times, Sections, sections, forward_without_times, error_without_times, WithoutTimes, ResponseWithoutTimes, outcome_without_times}
@@ -75,7 +75,7 @@ negative_core_of m = Dns (NoRecordsFound (record {
 abbrev found_core : Query → Walk → MessageValue → Sections
 found_core q walk m =
     record {
-      answers = if is_filtered false (first_hop q) walk m then filter (is_match q walk.last) (all_records m) else m.answers;
+      answers = if is_filtered false (first_hop q) walk m then filter (is_match q walk) (all_records m) else m.answers;
       authorities = m.authorities;
       additionals = m.additionals;
     }
@@ -96,23 +96,30 @@ next_core q (Err e) = Ends (Err e)
 
 -- ---- tests of records
 
-match-folded_name : (q : Query) (last : NameValue) (r : RecordValue) → is_match (folded_query q) (folded_name last) (record_without_times r) ≡ is_match q last r
-match-folded_name q last r =
+-- the walk of a response without times, at the places and the last name of the walk of the response
+abbrev at_walk : Walk → Walk
+at_walk walk = record { places = walk.places; last = folded_name walk.last; ttl = 0 }
+
+ends-folded_name : (walk : Walk) (name : NameValue) → ends_at (at_walk walk) (folded_name name) ≡ ends_at walk name
+ends-folded_name walk name = name_eq-folded_name walk.last name
+
+match-folded_name : (q : Query) (walk : Walk) (r : RecordValue) → is_match (folded_query q) (at_walk walk) (record_without_times r) ≡ is_match q walk r
+match-folded_name q walk r =
     let tq = query_type-folded_name q in
     let tr = record_type-folded_name r in
     let cq = query_class-folded_name q in
     let cr = record_class-folded_name r in
     let own = name_eq-folded_name q.name r.name in
-    let ends = name_eq-folded_name last r.name in
+    let ends = ends-folded_name walk r.name in
     λ i. ((cq i == cr i) && ((tq i == 255) || (tq i == tr i))) && (own i || ends i)
 
-last_match-folded_name : (q : Query) (last : NameValue) (r : RecordValue) → is_last_match (folded_query q) (folded_name last) (record_without_times r) ≡ is_last_match q last r
-last_match-folded_name q last r =
+last_match-folded_name : (q : Query) (walk : Walk) (r : RecordValue) → is_last_match (folded_query q) (at_walk walk) (record_without_times r) ≡ is_last_match q walk r
+last_match-folded_name q walk r =
     let tq = query_type-folded_name q in
     let tr = record_type-folded_name r in
     let cq = query_class-folded_name q in
     let cr = record_class-folded_name r in
-    let ends = name_eq-folded_name last r.name in
+    let ends = ends-folded_name walk r.name in
     λ i. ((cq i == cr i) && ((tq i == 255) || (tq i == tr i))) && ends i
 
 asked-folded_name : (q : Query) (r : RecordValue) → is_asked (folded_query q) (record_without_times r) ≡ is_asked q r
@@ -244,37 +251,33 @@ or_false true = refl
 or_false false = refl
 
 -- the answers that are filtered
-filtered-folded_name : (q : Query) (walk : Walk) (m : MessageValue) → map record_without_times (filtered_answers false (first_hop q) walk m) ≡ filter (is_match (folded_query q) (folded_name walk.last)) (all_records (folded_message m))
+filtered-folded_name : (q : Query) (walk : Walk) (m : MessageValue) → map record_without_times (filtered_answers false (first_hop q) walk m) ≡ filter (is_match (folded_query q) (at_walk walk)) (all_records (folded_message m))
 filtered-folded_name q walk m =
     map-map record_without_times (with_ttl_at_most walk.ttl) record_without_times (λ r. refl) (filter test (all_records m))
-    ∙ sym (ap (filter (is_match (folded_query q) (folded_name walk.last))) (all-folded_name m) ∙ filter-map (is_match (folded_query q) (folded_name walk.last)) test record_without_times (λ r. match-folded_name q walk.last r ∙ sym (or_false (is_match q walk.last r))) (all_records m))
+    ∙ sym (ap (filter (is_match (folded_query q) (at_walk walk))) (all-folded_name m) ∙ filter-map (is_match (folded_query q) (at_walk walk)) test record_without_times (λ r. match-folded_name q walk r ∙ sym (or_false (is_match q walk r))) (all_records m))
   where
     test : RecordValue → Bool
-    test r = is_match q walk.last r || (false && is_intermediate q r)
-
--- the walk of the folded_name response, at the places and the last name of the walk of the response
-abbrev at_walk : Walk → Walk
-at_walk walk = record { places = walk.places; last = folded_name walk.last; ttl = 0 }
+    test r = is_match q walk r || (false && is_intermediate q r)
 
 found-folded_name : (q : Query) (walk : Walk) (m : MessageValue) → sections (found_message false (first_hop q) walk m) ≡ found_core (folded_query q) (at_walk walk) (folded_message m)
 found-folded_name q walk m = by (is_filtered false (first_hop q) walk m) (is_filtered false (first_hop (folded_query q)) (at_walk walk) (folded_message m)) same
   where
     same : is_filtered false (first_hop (folded_query q)) (at_walk walk) (folded_message m) ≡ is_filtered false (first_hop q) walk m
     same =
-        let some = some-folded_name (is_last_match (folded_query q) (folded_name walk.last)) (is_last_match q walk.last) m (last_match-folded_name q walk.last) in
+        let some = some-folded_name (is_last_match (folded_query q) (at_walk walk)) (is_last_match q walk) m (last_match-folded_name q walk) in
         λ i. not true || ((not (is_empty walk.places) && some i) && not false)
 
     by : (a b : Bool) → b ≡ a → sections (if a then record m { answers = filtered_answers false (first_hop q) walk m } else m)
         ≡ record {
-          answers = if b then filter (is_match (folded_query q) (folded_name walk.last)) (all_records (folded_message m)) else map record_without_times m.answers;
+          answers = if b then filter (is_match (folded_query q) (at_walk walk)) (all_records (folded_message m)) else map record_without_times m.answers;
           authorities = map record_without_times m.authorities;
           additionals = map record_without_times m.additionals;
         }
     by true b e =
-        let answers = filtered-folded_name q walk m ∙ sym (ap (λ c. if c then filter (is_match (folded_query q) (folded_name walk.last)) (all_records (folded_message m)) else map record_without_times m.answers) e) in
+        let answers = filtered-folded_name q walk m ∙ sym (ap (λ c. if c then filter (is_match (folded_query q) (at_walk walk)) (all_records (folded_message m)) else map record_without_times m.answers) e) in
         λ i. record { answers = answers i; authorities = map record_without_times m.authorities; additionals = map record_without_times m.additionals }
     by false b e =
-        let answers = sym (ap (λ c. if c then filter (is_match (folded_query q) (folded_name walk.last)) (all_records (folded_message m)) else map record_without_times m.answers) e) in
+        let answers = sym (ap (λ c. if c then filter (is_match (folded_query q) (at_walk walk)) (all_records (folded_message m)) else map record_without_times m.answers) e) in
         λ i. record { answers = answers i; authorities = map record_without_times m.authorities; additionals = map record_without_times m.additionals }
 
 verdict-folded_name : (q : Query) (m : MessageValue) → next_verdict q m (verdict false (first_hop q) m) ≡ answer_core (folded_query q) (folded_message m)
@@ -290,7 +293,7 @@ verdict-folded_name q m = by (is_accepted (first_hop q) walk m) (is_accepted (fi
 
     same : is_accepted (first_hop (folded_query q)) (at_walk walk) (folded_message m) ≡ is_accepted (first_hop q) walk m
     same =
-        let some = some-folded_name (is_match (folded_query q) (folded_name walk.last)) (is_match q walk.last) m (match-folded_name q walk.last) in
+        let some = some-folded_name (is_match (folded_query q) (at_walk walk)) (is_match q walk) m (match-folded_name q walk) in
         λ i. some i && (is_empty walk.places || true)
 
     core_by : Bool → Bool → Next

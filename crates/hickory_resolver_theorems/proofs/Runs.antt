@@ -10,9 +10,9 @@ use Rattle.hickory_proto_core.specs.codes.record_type.RecordType.{RecordType}
 use Rattle.hickory_proto_core.specs.names.name_error.NameError.{NameError}
 use Rattle.hickory_proto_core.specs.declared.recorded.Exchange.{Exchange}
 use Rattle.hickory_resolver_model.specs.Bounds.{ConfigValue, greatest_ttl}
-use Rattle.hickory_resolver_model.specs.Cache.{CacheValue, is_for, without_query, store}
+use Rattle.hickory_resolver_model.specs.Cache.{CacheValue, is_for, without_query}
 use Rattle.hickory_resolver_model.specs.Lookup.{LookupResult}
-use Rattle.hickory_resolver_model.specs.Hops.{LookupContext, Store, IsReply, after_stores, stores_of}
+use Rattle.hickory_resolver_model.specs.Hops.{LookupContext, IsReply, stores_of}
 use Rattle.hickory_resolver_model.specs.Calls.{Setting, Source, Static, Client, SubLookup, IsSubLookupBy, IsSubLookupFor, start_at, question_of, asks_of_sub_lookups}
 use Rattle.hickory_resolver_model.specs.Run.{Settings, setting_at, RequestValue, Lookup, LookupIp, ClearLookup, Clear, moment_of, StepReply, LookedUp, Cleared, drop_each, after_clear, IsServed, StepValue, Stage, IsStage, AreStages, Run}
 use Rattle.hickory_resolver_model.specs.Attempts.{attempts}
@@ -20,20 +20,16 @@ use Rattle.hickory_resolver_theorems.specs.Covered.{Dated, dated_exchanges, IsCo
 use Rattle.hickory_resolver_theorems.specs.Statements.{IsFreshRecord, IsFreshReply, IsFreshEntry, AreFreshEntries, IsFreshSubLookup, AsksAtMostEight, NothingOutlives}
 use Rattle.hickory_resolver_theorems.proofs.Lists.{all-weaker, all-filter}
 use Rattle.hickory_resolver_theorems.proofs.Covers.{covered-left}
-use Rattle.hickory_resolver_theorems.proofs.Stores.{entries-more}
+use Rattle.hickory_resolver_theorems.proofs.Stores.{stores-config, entries-more}
 use Rattle.hickory_resolver_theorems.proofs.Few.{few}
 use Rattle.hickory_resolver_theorems.proofs.Fresh.{fresh}
 use Rattle.hickory_resolver_theorems.proofs.Chains.{Chain, chain-name, chain-addresses}
 
 -- ---- the bounds stay
 
-stores-config : (now : ℕ) (stores : List Store) (cache : CacheValue) → (after_stores now stores cache).config ≡ cache.config
-stores-config now [] cache = refl
-stores-config now (s ∷ ss) cache = stores-config now ss (store cache s.query s.outcome now)
-
 pub reply-config : (s : LookupContext) (question : Query) (asks : List Exchange) (result : LookupResult) (after : CacheValue) → IsReply s question asks result after → after.config ≡ s.cache.config
-reply-config s question asks result after (inl whole) = ap (λ c. c.config) whole.after_is ∙ stores-config s.now (stores_of s whole.hops.passed whole.hops.last_hop whole.hops.last) s.cache
-reply-config s question asks result after (inr (e, inl cut)) = ap (λ c. c.config) cut.after_is ∙ stores-config s.now cut.front s.cache
+reply-config s question asks result after (inl whole) = ap (λ c. c.config) whole.after_is ∙ stores-config (stores_of s whole.hops.passed whole.hops.last_hop whole.hops.last) s.cache
+reply-config s question asks result after (inr (e, inl cut)) = ap (λ c. c.config) cut.after_is ∙ stores-config cut.front s.cache
 reply-config s question asks result after (inr (e, inr cut)) = ap (λ c. c.config) cut.after_is
 
 -- ---- a part

@@ -1,14 +1,16 @@
 -- Stores of fresh records, and of negative answers, leave fresh entries.
-use Rattle.std.proofs.Common.{◌⊎◌, ◌≤◌, ◌+◌, ℕ, ◌==◌, Bool, true, false, List, [], ◌∷◌, ◌++◌, length, nat_lt, Ok, Err, not, inl, inr, if◌then◌else◌}
+use Rattle.std.proofs.Common.{◌≡◌, ◌⊎◌, ◌≤◌, ◌+◌, ℕ, ◌==◌, Bool, true, false, List, [], ◌∷◌, ◌++◌, length, nat_lt, Ok, Err, not, refl, sym, subst, inl, inr, if◌then◌else◌}
 use Rattle.std.specs.List.{AllByRecursion, list_any, position_or_len}
 use Rattle.hickory_proto_core.specs.Codes.{type_code}
+use Rattle.hickory_proto_core.specs.Errors.{NoRecordsValue}
 use Rattle.hickory_proto_core.specs.Handles.{OutcomeValue}
+use Rattle.hickory_proto_core.specs.Messages.{MessageValue}
 use Rattle.hickory_proto_core.specs.records.query.Query.{Query}
 use Rattle.hickory_proto_core.specs.records.net_error.NetError.TheVariants.{Message, Timeout, Proto, Dns, NoOutcome, Bounds, OutOfMemory}
 use Rattle.hickory_proto_core.specs.records.net_error.DnsError.TheVariants.{ResponseCode, NoRecordsFound}
 use Rattle.hickory_resolver_model.specs.Bounds.{ConfigValue, greatest_ttl}
-use Rattle.hickory_resolver_model.specs.Cache.{CacheValue, Entry, is_for, without, without_earliest, least_deadline, room_for, insert_entry, store, positive_entry, negative_entry}
-use Rattle.hickory_resolver_model.specs.Hops.{Store, after_stores}
+use Rattle.hickory_resolver_model.specs.Cache.{CacheValue, Entry, is_for, without, without_earliest, least_deadline, room_for, insert_entry, positive_entry, negative_entry}
+use Rattle.hickory_resolver_model.specs.Hops.{Store, after_store, after_stores}
 use Rattle.hickory_proto_core.specs.Records.{RecordValue}
 use Rattle.hickory_resolver_theorems.specs.Covered.{Dated, IsCovered, IsLoopback}
 use Rattle.hickory_resolver_theorems.specs.Statements.{HasNoLeast, IsFreshRecord, IsFreshOutcome, IsFreshEntry, AreFreshEntries}
@@ -28,29 +30,64 @@ insert_entry-all P capacity es e all new = by (capacity == 0)
     by true = all
     by false = all-append P (room_for capacity e.query es) (e ∷ []) (room (list_any (is_for e.query) es) (nat_lt (length es) capacity)) (new, tt)
 
+-- the entry that a store makes, where it makes one
+abbrev pub Makes : (Entry → Type 0) → ConfigValue → Store → Type 0
+Makes P config s =
+    ((m : MessageValue) → s.outcome ≡ Ok m → P (positive_entry config s.query m s.now))
+    × ((n : NoRecordsValue) → s.outcome ≡ Err (Dns (NoRecordsFound n)) → P (negative_entry config s.query n s.now))
+
+-- what holds of every entry, and of those that stores make, holds after these stores
+after_store-all : (P : Entry → Type 0) (s : Store) (cache : CacheValue) → AllByRecursion P cache.entries → Makes P cache.config s → AllByRecursion P (after_store s cache).entries
+after_store-all P s cache all makes = by s.outcome makes.0 makes.1
+  where
+    by : (o : OutcomeValue) → ((m : MessageValue) → o ≡ Ok m → P (positive_entry cache.config s.query m s.now)) → ((n : NoRecordsValue) → o ≡ Err (Dns (NoRecordsFound n)) → P (negative_entry cache.config s.query n s.now))
+        → AllByRecursion P (after_store (record s { outcome = o }) cache).entries
+    by (Ok m) positive negative = insert_entry-all P cache.capacity cache.entries (positive_entry cache.config s.query m s.now) all (positive m refl)
+    by (Err (Dns (NoRecordsFound n))) positive negative = insert_entry-all P cache.capacity cache.entries (negative_entry cache.config s.query n s.now) all (negative n refl)
+    by (Err (Dns (ResponseCode code))) positive negative = all
+    by (Err (Message text)) positive negative = all
+    by (Err Timeout) positive negative = all
+    by (Err (Proto error)) positive negative = all
+    by (Err NoOutcome) positive negative = all
+    by (Err (Bounds error)) positive negative = all
+    by (Err OutOfMemory) positive negative = all
+
+pub after_stores-all : (P : Entry → Type 0) (stores : List Store) (cache : CacheValue) → AllByRecursion P cache.entries → AllByRecursion (Makes P cache.config) stores → AllByRecursion P (after_stores stores cache).entries
+after_stores-all P [] cache all makes = all
+after_stores-all P (s ∷ ss) cache all (first, rest) = after_stores-all P ss (after_store s cache) (after_store-all P s cache all first) rest
+
+-- stores leave the bounds
+pub stores-config : (stores : List Store) (cache : CacheValue) → (after_stores stores cache).config ≡ cache.config
+stores-config [] cache = refl
+stores-config (s ∷ ss) cache = stores-config ss (after_store s cache)
+
 -- the answers of what is stored arrive, where the least TTL of the type is zero
 abbrev pub StoresOutcome : ConfigValue → List Dated → ℕ → Query → OutcomeValue → Type 0
 StoresOutcome config sources now q (Ok m) = HasNoLeast config (type_code q.query_type) → AllByRecursion (Arrives config sources (type_code q.query_type) now) m.answers
 StoresOutcome config sources now q (Err e) = Unit {0}
 
-abbrev pub StoresArrived : ConfigValue → List Dated → ℕ → Store → Type 0
-StoresArrived config sources now s = StoresOutcome config sources now s.query s.outcome
+abbrev pub StoresArrived : ConfigValue → List Dated → Store → Type 0
+StoresArrived config sources s = StoresOutcome config sources s.now s.query s.outcome
 
-pub store-fresh : (cache : CacheValue) (sources : List Dated) (now : ℕ) (q : Query) (outcome : OutcomeValue) → AreFreshEntries cache sources → StoresOutcome cache.config sources now q outcome → AreFreshEntries (store cache q outcome now) sources
-store-fresh cache sources now q (Ok m) fresh arrive =
-    insert_entry-all (IsFreshEntry cache.config sources) cache.capacity cache.entries (positive_entry cache.config q m now) fresh (λ zero. arrived-fresh cache.config sources q now m zero (arrive zero))
-store-fresh cache sources now q (Err (Dns (NoRecordsFound n))) fresh arrive = insert_entry-all (IsFreshEntry cache.config sources) cache.capacity cache.entries (negative_entry cache.config q n now) fresh tt
-store-fresh cache sources now q (Err (Dns (ResponseCode code))) fresh arrive = fresh
-store-fresh cache sources now q (Err (Message text)) fresh arrive = fresh
-store-fresh cache sources now q (Err Timeout) fresh arrive = fresh
-store-fresh cache sources now q (Err (Proto error)) fresh arrive = fresh
-store-fresh cache sources now q (Err NoOutcome) fresh arrive = fresh
-store-fresh cache sources now q (Err (Bounds error)) fresh arrive = fresh
-store-fresh cache sources now q (Err OutOfMemory) fresh arrive = fresh
+makes-fresh : (config : ConfigValue) (sources : List Dated) (s : Store) → StoresArrived config sources s → Makes (IsFreshEntry config sources) config s
+makes-fresh config sources s arrive = (
+  (λ m e zero. arrived-fresh config sources s.query s.now m zero (subst (StoresOutcome config sources s.now s.query) e arrive zero)),
+  (λ n e. tt),
+)
 
-pub stores-fresh : (cache : CacheValue) (sources : List Dated) (now : ℕ) (stores : List Store) → AreFreshEntries cache sources → AllByRecursion (StoresArrived cache.config sources now) stores → AreFreshEntries (after_stores now stores cache) sources
-stores-fresh cache sources now [] fresh all = fresh
-stores-fresh cache sources now (s ∷ ss) fresh (arrive, all) = stores-fresh (store cache s.query s.outcome now) sources now ss (store-fresh cache sources now s.query s.outcome fresh arrive) all
+-- what holds of the entries before, and of every fresh one, holds of the entries after stores that arrived
+pub stores-known : (P : Entry → Type 0) (cache : CacheValue) (sources : List Dated) (stores : List Store) → AllByRecursion P cache.entries → ((e : Entry) → IsFreshEntry cache.config sources e → P e) → AllByRecursion (StoresArrived cache.config sources) stores → AllByRecursion P (after_stores stores cache).entries
+stores-known P cache sources stores all known arrived = after_stores-all P stores cache all (all-weaker (StoresArrived cache.config sources) (Makes P cache.config) made stores arrived)
+  where
+    made : (s : Store) → StoresArrived cache.config sources s → Makes P cache.config s
+    made s arrive =
+        let fresh = makes-fresh cache.config sources s arrive in
+        ((λ m e. known _ (fresh.0 m e)), (λ n e. known _ (fresh.1 n e)))
+
+pub stores-fresh : (cache : CacheValue) (sources : List Dated) (stores : List Store) → AreFreshEntries cache sources → AllByRecursion (StoresArrived cache.config sources) stores → AreFreshEntries (after_stores stores cache) sources
+stores-fresh cache sources stores fresh arrived =
+    subst (λ c. AllByRecursion (IsFreshEntry c sources) (after_stores stores cache).entries) (sym (stores-config stores cache))
+    (stores-known (IsFreshEntry cache.config sources) cache sources stores fresh (λ e h. h) arrived)
 
 -- entries stay fresh with more sources
 outcome-more : (config : ConfigValue) (xs ys : List Dated) (e : Entry) (o : OutcomeValue) → IsFreshOutcome config xs e o → IsFreshOutcome config (xs ++ ys) e o

@@ -14,16 +14,17 @@ use Rattle.hickory_proto_core.specs.declared.recorded.Exchange.{Exchange}
 use Rattle.hickory_proto_core.specs.records.net_error.NetError.{NetError}
 use Rattle.hickory_proto_core.specs.records.net_error.NetError.TheVariants.{Message, Timeout, Proto, Dns, NoOutcome, Bounds, OutOfMemory}
 use Rattle.hickory_proto_core.specs.records.net_error.DnsError.TheVariants.{ResponseCode, NoRecordsFound}
-use Rattle.hickory_resolver_model.specs.Cache.{CacheValue, is_for, is_current, age, aged_record, aged_message, aged_forward, aged_negative, aged_error, aged_outcome, positive_entry, negative_entry, store}
+use Rattle.hickory_resolver_model.specs.Bounds.{ConfigValue}
+use Rattle.hickory_resolver_model.specs.Cache.{CacheValue, is_for, is_current, age, aged_record, aged_message, aged_forward, aged_negative, aged_error, aged_outcome, positive_entry, negative_entry}
 use Rattle.hickory_resolver_model.specs.Lookup.{LookupResult}
 use Rattle.hickory_resolver_model.specs.SpecialUse.{special_use_result}
 use Rattle.hickory_resolver_model.specs.Verdict.{Hop, Verdict, Exists, CnameChain, NoMatch, verdict}
-use Rattle.hickory_resolver_model.specs.Hops.{LookupContext, IsAliasHop, FollowsAliases, ChainEnd, Special, Hit, Asked, IsChainEnd, HopList, Store, IsReply, asks_of, kind_result, verdict_result, hit_result, result_of, verdict_stores, kind_stores, last_stores, as_outcome, stores_of, after_stores}
+use Rattle.hickory_resolver_model.specs.Hops.{LookupContext, IsAliasHop, FollowsAliases, ChainEnd, Special, Hit, Asked, IsChainEnd, HopList, Store, IsReply, asks_of, kind_result, verdict_result, hit_result, result_of, verdict_stores, kind_stores, last_stores, earlier_store, stores_of, after_stores}
 use Rattle.hickory_resolver_theorems.specs.Cacheless.{ResolvesTo, IsConsistentWith, AreConsistentWith}
 use Rattle.hickory_resolver_theorems.specs.WithoutTimes.{folded_query, record_without_times, sections, forward_without_times, negative_without_times, error_without_times, WithoutTimes, without_times, stored_without_times}
 use Rattle.hickory_resolver_theorems.specs.Statements.{IsWhatItResolvesTo, AreWhatTheyResolveTo, IsTransparent}
 use Rattle.hickory_resolver_theorems.proofs.Lists.{all-weaker, all-append, all-front, all-back, all-map, all-has, all-reverse, find-has}
-use Rattle.hickory_resolver_theorems.proofs.Stores.{insert_entry-all}
+use Rattle.hickory_resolver_theorems.proofs.Stores.{Makes, after_stores-all}
 use Rattle.hickory_resolver_theorems.proofs.Folding.{map-map, query-same}
 use Rattle.hickory_resolver_theorems.proofs.Verdicts.{passed}
 use Rattle.hickory_resolver_theorems.proofs.Fresh.{class-answer}
@@ -234,23 +235,23 @@ last-meaning s table hop count (Asked (Err (Bounds error))) r n off none meant t
 abbrev pub StoresMeant : TableValue → Store → Type 0
 StoresMeant table s = (s.outcome ≡ Err OutOfMemory) ⊎ ((k : ℕ) × ResolvesTo table s.query (stored_without_times s.outcome) k)
 
-store-meant : (table : TableValue) (cache : CacheValue) (now : ℕ) (q : Query) (outcome : OutcomeValue) → AreWhatTheyResolveTo table cache → StoresMeant table (record { query = q; outcome = outcome }) → AreWhatTheyResolveTo table (store cache q outcome now)
-store-meant table cache now q (Ok m) meant (inl e) = let clash : Ok m ≡ Err OutOfMemory = e in cc
-store-meant table cache now q (Ok m) meant (inr (k, means)) =
-    insert_entry-all (IsWhatItResolvesTo table) cache.capacity cache.entries (positive_entry cache.config q m now) meant (k, subst (λ c. ResolvesTo table q (Ok c) k) (sym (sections-clamped_message cache.config m)) means)
-store-meant table cache now q (Err (Dns (NoRecordsFound n))) meant (inl e) = let clash : Err (Dns (NoRecordsFound n)) ≡ Err OutOfMemory = e in cc
-store-meant table cache now q (Err (Dns (NoRecordsFound n))) meant (inr means) = insert_entry-all (IsWhatItResolvesTo table) cache.capacity cache.entries (negative_entry cache.config q n now) meant means
-store-meant table cache now q (Err (Dns (ResponseCode code))) meant is = meant
-store-meant table cache now q (Err (Message text)) meant is = meant
-store-meant table cache now q (Err Timeout) meant is = meant
-store-meant table cache now q (Err (Proto error)) meant is = meant
-store-meant table cache now q (Err NoOutcome) meant is = meant
-store-meant table cache now q (Err (Bounds error)) meant is = meant
-store-meant table cache now q (Err OutOfMemory) meant is = meant
+makes-meant : (table : TableValue) (config : ConfigValue) (s : Store) → StoresMeant table s → Makes (IsWhatItResolvesTo table) config s
+makes-meant table config s is = (positive is, negative is)
+  where
+    positive : StoresMeant table s → (m : MessageValue) → s.outcome ≡ Ok m → IsWhatItResolvesTo table (positive_entry config s.query m s.now)
+    positive (inl out) m e = let clash : Ok m ≡ Err OutOfMemory = sym e ∙ out in cc
+    positive (inr (k, means)) m e = (
+      k,
+      subst (λ c. ResolvesTo table s.query (Ok c) k) (sym (sections-clamped_message config m)) (subst (λ o. ResolvesTo table s.query (stored_without_times o) k) e means),
+    )
 
-stores-meant : (table : TableValue) (now : ℕ) (stores : List Store) (cache : CacheValue) → AreWhatTheyResolveTo table cache → AllByRecursion (StoresMeant table) stores → AreWhatTheyResolveTo table (after_stores now stores cache)
-stores-meant table now [] cache meant all = meant
-stores-meant table now (s ∷ ss) cache meant (is, all) = stores-meant table now ss (store cache s.query s.outcome now) (store-meant table cache now s.query s.outcome meant is) all
+    negative : StoresMeant table s → (n : NoRecordsValue) → s.outcome ≡ Err (Dns (NoRecordsFound n)) → IsWhatItResolvesTo table (negative_entry config s.query n s.now)
+    negative (inl out) n e = let clash : Err (Dns (NoRecordsFound n)) ≡ Err OutOfMemory = sym e ∙ out in cc
+    negative (inr (k, means)) n e = (k, subst (λ o. ResolvesTo table s.query (stored_without_times o) k) e means)
+
+stores-meant : (table : TableValue) (stores : List Store) (cache : CacheValue) → AreWhatTheyResolveTo table cache → AllByRecursion (StoresMeant table) stores → AreWhatTheyResolveTo table (after_stores stores cache)
+stores-meant table stores cache meant all =
+    after_stores-all (IsWhatItResolvesTo table) stores cache meant (all-weaker (StoresMeant table) (Makes (IsWhatItResolvesTo table) cache.config) (makes-meant table cache.config) stores all)
 
 -- the last hop's own store
 last-stored : (s : LookupContext) (table : TableValue) (hop : Hop) (last : ChainEnd) (r : WithoutTimes) (n : ℕ) → ResolvesTo table hop.query r n → IsOutOr (result_of s hop last) r → AllByRecursion (StoresMeant table) (last_stores s hop last)
@@ -258,7 +259,7 @@ last-stored s table hop (Special reply) r n means is = tt
 last-stored s table hop (Hit entry) r n means is = tt
 last-stored s table hop (Asked outcome) r n means is = by (kind_of outcome) is
   where
-    on : (m : MessageValue) (v : Verdict) → IsOutOr (verdict_result s.cache.config hop.query s.now m v) r → AllByRecursion (StoresMeant table) (verdict_stores hop.query v)
+    on : (m : MessageValue) (v : Verdict) → IsOutOr (verdict_result s.cache.config hop.query s.now m v) r → AllByRecursion (StoresMeant table) (verdict_stores hop.query s.now v)
     on m (Exists f) (inl e) = cc
     on m (Exists f) (inr e) = (inr (n, subst (λ c. ResolvesTo table hop.query c n) (sym e ∙ ap Ok (sections-clamped_message s.cache.config f)) means), tt)
     on m (CnameChain next) k = tt
@@ -271,11 +272,11 @@ last-stored s table hop (Asked outcome) r n means is = by (kind_of outcome) is
     by (Failed error) k = tt
 
 -- the result under an earlier question
-again-stored : (table : TableValue) (q : Query) (reply : LookupResult) (r : WithoutTimes) → (k : ℕ) × ResolvesTo table q r k → IsOutOr reply r → StoresMeant table (record { query = q; outcome = as_outcome q reply })
-again-stored table q (Ok l) r (k, means) (inl e) = let clash : Ok l ≡ Err OutOfMemory = e in cc
-again-stored table q (Ok l) r (k, means) (inr e) = inr (k, subst (λ c. ResolvesTo table q c k) (sym e) means)
-again-stored table q (Err error) r (k, means) (inl e) = let same : error ≡ OutOfMemory = cc in inl (ap Err same)
-again-stored table q (Err error) r (k, means) (inr e) = inr (k, subst (λ c. ResolvesTo table q c k) (sym e) means)
+again-stored : (table : TableValue) (now : ℕ) (q : Query) (reply : LookupResult) (r : WithoutTimes) → (k : ℕ) × ResolvesTo table q r k → IsOutOr reply r → StoresMeant table (earlier_store reply now q)
+again-stored table now q (Ok l) r (k, means) (inl e) = let clash : Ok l ≡ Err OutOfMemory = e in cc
+again-stored table now q (Ok l) r (k, means) (inr e) = inr (k, subst (λ c. ResolvesTo table q c k) (sym e) means)
+again-stored table now q (Err error) r (k, means) (inl e) = let same : error ≡ OutOfMemory = cc in inl (ap Err same)
+again-stored table now q (Err error) r (k, means) (inr e) = inr (k, subst (λ c. ResolvesTo table q c k) (sym e) means)
 
 -- ---- a look-up
 
@@ -287,11 +288,14 @@ hops-meant : (s : LookupContext) (table : TableValue) (question : Query) (asks :
 hops-meant s table question asks r n h off tells meant means few = record {
   reply = reply;
   stores = all-append (StoresMeant table) (last_stores s h.last_hop h.last) _ (last-stored s table h.last_hop h.last r led.rest led.means reply)
-      (all-map (StoresMeant table) (λ x. record { query = x.query; outcome = as_outcome x.query (result_of s h.last_hop h.last) }) (reverse h.passed)
-      (all-reverse (λ x. StoresMeant table (record { query = x.query; outcome = as_outcome x.query (result_of s h.last_hop h.last) })) h.passed
-      (all-weaker (λ x. (k : ℕ) × ResolvesTo table x.query r k) (λ x. StoresMeant table (record { query = x.query; outcome = as_outcome x.query (result_of s h.last_hop h.last) })) (λ x k. again-stored table x.query (result_of s h.last_hop h.last) r k reply) h.passed led.each)));
+      (all-map (StoresMeant table) again (reverse h.passed)
+      (all-reverse (λ x. StoresMeant table (again x)) h.passed
+      (all-weaker (λ x. (k : ℕ) × ResolvesTo table x.query r k) (λ x. StoresMeant table (again x)) (λ x k. again-stored table s.now x.query (result_of s h.last_hop h.last) r k reply) h.passed led.each)));
 }
   where
+    again : Exchange → Store
+    again x = earlier_store (result_of s h.last_hop h.last) s.now x.query
+
     both : AllByRecursion (IsConsistentWith table) (h.passed ++ asks_of h.last_hop h.last)
     both = subst (AllByRecursion (IsConsistentWith table)) h.asks_are tells
 
@@ -305,8 +309,8 @@ hops-meant s table question asks r n h off tells meant means few = record {
 pub transparent : (s : LookupContext) (question : Query) (asks : List Exchange) (result : LookupResult) (after : CacheValue) → IsReply s question asks result after → IsTransparent s question asks result after
 transparent s question asks result after is table off apart tells meant r n means few = by is
   where
-    stored : (stores : List Store) → AllByRecursion (StoresMeant table) stores → after ≡ after_stores s.now stores s.cache → AreWhatTheyResolveTo table after
-    stored stores all e = subst (AreWhatTheyResolveTo table) (sym e) (stores-meant table s.now stores s.cache meant all)
+    stored : (stores : List Store) → AllByRecursion (StoresMeant table) stores → after ≡ after_stores stores s.cache → AreWhatTheyResolveTo table after
+    stored stores all e = subst (AreWhatTheyResolveTo table) (sym e) (stores-meant table stores s.cache meant all)
 
     by : IsReply s question asks result after → ((result ≡ Err OutOfMemory) ⊎ (without_times result ≡ r)) × AreWhatTheyResolveTo table after
     by (inl whole) =

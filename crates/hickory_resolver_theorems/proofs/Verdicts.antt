@@ -95,7 +95,7 @@ pub found-answers : (P : RecordValue → Type 0) (keep : Bool) (hop : Hop) (walk
 found-answers P keep hop walk m front all = by (is_filtered keep hop walk m)
   where
     test : RecordValue → Bool
-    test = λ r. is_match hop.query walk.last r || (keep && is_intermediate hop.query r)
+    test = λ r. is_match hop.query walk r || (keep && is_intermediate hop.query r)
 
     low : AllByRecursion P (map (with_ttl_at_most walk.ttl) (filter test (all_records m)))
     low = all-map P (with_ttl_at_most walk.ttl) (filter test (all_records m)) (all-filter (λ r. P (with_ttl_at_most walk.ttl r)) test (all_records m) (all-weaker (λ r. P r × P (with_ttl_at_most walk.ttl r)) (λ r. P (with_ttl_at_most walk.ttl r)) (λ r h. h.1) (all_records m) all))
