@@ -89,7 +89,7 @@ IsTransparent s question asks result after =
 
 -- ---- the headline, of a run
 
--- each attempt at one name and type sends at most eight questions
+-- each sub-look-up, of one name and one type, sends at most eight questions
 abbrev pub AsksAtMostEight : Stage → Type 0
 AsksAtMostEight stage = AllByRecursion (λ p. length p.asks ≤ 8) stage.parts
 
@@ -158,11 +158,11 @@ abbrev pub NeverGoBack : ℕ → List StepValue → Type 0
 NeverGoBack now [] = Unit {0}
 NeverGoBack now (step ∷ steps) = (now ≤ step.now) × NeverGoBack step.now steps
 
--- From a new resolver, over every run whose moments never go back, each attempt at one name and type sends at
--- most eight questions; where the asked type's least TTL is zero, no upstream answer record of that type
--- outlives its received TTL cut at the maximum; and where equal questions get equal outcomes, no chain needs
--- a ninth question and intermediate records are not preserved, every reply is the cacheless resolver's, TTLs,
--- deadlines and headers aside.
+-- From a new resolver, over every run whose moments never go back, each sub-look-up, of one name and one type,
+-- sends at most eight questions; where the asked type's least TTL is zero, no upstream answer record of that
+-- type outlives its received TTL cut at the maximum; and where equal questions get equal outcomes, no chain
+-- needs a ninth question and intermediate records are not preserved, every reply is the cacheless resolver's,
+-- TTLs, deadlines and headers aside.
 abbrev pub Headline : Settings → CacheValue → List RequestValue → List StepValue → List Exchange → CacheValue
     → Type 0
 Headline s empty requests steps exchanges after =
