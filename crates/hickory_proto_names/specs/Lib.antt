@@ -1,5 +1,6 @@
 pub mod Addresses
 pub mod Arpa
+pub mod LabelList
 pub mod Name
 pub mod NameDecided
 pub mod NameGiven

@@ -22,8 +22,8 @@ impl Name {
         ensures err { IsOkUnless result NameError.OutOfMemory }
     {
         match address {
-            IpAddr::V4(address) => ipv4_name(alloc, address),
-            IpAddr::V6(address) => ipv6_name(alloc, address),
+            IpAddr::V4(address) => ipv4_name(alloc, address)?.share(),
+            IpAddr::V6(address) => ipv6_name(alloc, address)?.share(),
         }
     }
 

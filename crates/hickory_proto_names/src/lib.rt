@@ -5,6 +5,7 @@
 pub mod arpa;
 pub mod into_name;
 pub mod ip;
+mod label_list;
 pub mod name;
 pub mod name_error;
 pub mod name_text;

@@ -5,6 +5,7 @@ ghost use Rattle.std.specs.Cmp.Lexicographic.{pointwise, slice_cmp};
 ghost use Rattle.std.specs.Ordering.{nat_cmp};
 ghost use Rattle.hickory_proto_names.specs.Name.{NameValue, label_bytes, label_fault, lower_label, lower_labels, fed_label, labels_eq, labels_cmp, is_empty_label, is_long_label, wire_len, is_bytes, are_bytes, num_labels_of, appended_name, append_fault, trimmed_name, base_of, localhost, is_zone_of};
 
+use crate::label_list::LabelList;
 use crate::name_error::NameError;
 use std::alloc::{AllocError, Global};
 use std::cmp::Ordering;
@@ -15,20 +16,19 @@ use std::marker::Model;
 /// 2.3). On the wire it takes at most 255 bytes. Names are equal, ordered and hashed without ASCII case.
 #[derive(Debug, Drop)]
 pub struct Name {
-    labels: Vec<Vec<u8>>,
+    labels: LabelList,
     fqdn: bool,
 }
 
 impl Model for Name {
     ghost use Rattle.std.specs.Prelude.{◌≡◌, None, IsTrue};
-    ghost use Rattle.hickory_proto_names.specs.Name.{NameValue, label_bytes, label_fault, are_bytes};
+    ghost use Rattle.hickory_proto_names.specs.Name.{NameValue, label_fault, are_bytes};
 
     ghost Value = { NameValue };
 
-    ghost view = { λ n. record { labels = label_bytes n.labels.items; fqdn = n.fqdn } };
+    ghost view = { λ n. record { labels = n.labels; fqdn = n.fqdn } };
 
-    ghost invariant = { λ n. (label_fault (label_bytes n.labels.items) ≡ None)
-        × IsTrue (are_bytes (label_bytes n.labels.items)) };
+    ghost invariant = { λ n. (label_fault n.labels ≡ None) × IsTrue (are_bytes n.labels) };
 }
 
 impl Name {
@@ -37,7 +37,7 @@ impl Name {
         ensures { result ≡ record { labels = []; fqdn = false } }
     {
         Name {
-            labels: Vec::new(alloc),
+            labels: LabelList::own(Vec::new(alloc)),
             fqdn: false,
         }
     }
@@ -54,7 +54,7 @@ impl Name {
         ensures { result ≡ record { labels = []; fqdn = true } }
     {
         Name {
-            labels: Vec::new(alloc),
+            labels: LabelList::own(Vec::new(alloc)),
             fqdn: true,
         }
     }
@@ -75,7 +75,10 @@ impl Name {
         if 255 < wire_length(&labels) {
             return Err(NameError::NameTooLong);
         }
-        Ok(Name { labels, fqdn: true })
+        Ok(Name {
+            labels: LabelList::own(labels),
+            fqdn: true,
+        })
     }
 
     /// The labels, from the first to the last.
@@ -84,7 +87,7 @@ impl Name {
         ensures valid { label_fault self.now.labels ≡ None }
         ensures bytes { IsTrue (are_bytes self.now.labels) }
     {
-        &self.labels
+        self.labels.as_slice()
     }
 
     /// Whether the name is fully qualified.
@@ -106,8 +109,9 @@ impl Name {
     pub fn num_labels(&self) -> u8
         ensures { result ≡ num_labels_of self.now.labels }
     {
-        let count = self.labels.len();
-        match self.labels.first() {
+        let labels = self.labels();
+        let count = labels.len();
+        match labels.first() {
             Some(label) if label.as_slice() == b"*".as_slice() => (count - 1) as u8,
             _ => count as u8,
         }
@@ -120,12 +124,16 @@ impl Name {
         ensures fits { OnOk result (wire_len (self.labels ++ domain.now.labels) ≤ 255) }
         ensures err { IfErr result (λ e. e ≡ append_fault self domain.now) }
     {
-        if 256 < wire_length(&self.labels) + wire_length(&domain.labels) {
+        if 256 < wire_length(self.labels()) + wire_length(domain.labels()) {
             return Err(NameError::NameTooLong);
         }
-        let Name { mut labels, .. } = self;
-        labels.extend_with_clones(&domain.labels)?;
-        Ok(Name { labels, fqdn: true })
+        let Name { labels, .. } = self;
+        let mut labels = labels.into_vec()?;
+        labels.extend_with_clones(domain.labels())?;
+        Ok(Name {
+            labels: LabelList::shared(labels)?,
+            fqdn: true,
+        })
     }
 
     /// The fully qualified name of the last `n` labels, or a copy where there are fewer than `n`.
@@ -133,13 +141,17 @@ impl Name {
         ensures ok { IfOk result (λ m. m ≡ trimmed_name n self.now) }
         ensures err { IsOkUnless result NameError.OutOfMemory }
     {
-        let count = self.labels.len();
+        let all = self.labels();
+        let count = all.len();
         if count < n {
             return self.clone();
         }
-        let mut labels = Vec::new(*self.labels.allocator());
-        labels.extend_with_clones(&self.labels[count - n..])?;
-        Ok(Name { labels, fqdn: true })
+        let mut labels = Vec::new(self.labels.allocator());
+        labels.extend_with_clones(&all[count - n..])?;
+        Ok(Name {
+            labels: LabelList::shared(labels)?,
+            fqdn: true,
+        })
     }
 
     /// The fully qualified name of all labels but the first, or a copy of a name without labels.
@@ -147,7 +159,7 @@ impl Name {
         ensures ok { IfOk result (λ m. m ≡ base_of self.now) }
         ensures err { IsOkUnless result NameError.OutOfMemory }
     {
-        match self.labels.len() {
+        match self.labels().len() {
             0 => self.clone(),
             count => self.trim_to(count - 1),
         }
@@ -157,7 +169,7 @@ impl Name {
     pub fn is_localhost(&self) -> bool
         ensures { result ≡ is_zone_of localhost self.now }
     {
-        match self.labels.as_slice() {
+        match self.labels() {
             [.., last] => label_eq(b"localhost", last),
             [] => false,
         }
@@ -167,8 +179,8 @@ impl Name {
     pub fn zone_of(&self, name: &Name) -> bool
         ensures { result ≡ is_zone_of self.now name.now }
     {
-        let (zone, labels) = (self.labels.len(), name.labels.len());
-        zone <= labels && labels_eq(&self.labels, &name.labels[labels - zone..])
+        let (zone, labels) = (self.labels(), name.labels());
+        zone.len() <= labels.len() && labels_eq(zone, &labels[labels.len() - zone.len()..])
     }
 
     /// A copy of every field.
@@ -177,6 +189,16 @@ impl Name {
         ensures err { IsOkUnless result NameError.OutOfMemory }
     {
         Ok(Clone::clone(self)?)
+    }
+
+    // The same name, of which copies take no memory.
+    pub(crate) fn share(self) -> Result<Name, NameError>
+        ensures ok { IfOk result (λ n. n ≡ self) }
+        ensures err { IsOkUnless result NameError.OutOfMemory }
+    {
+        let Name { labels, fqdn } = self;
+        let labels = labels.share()?;
+        Ok(Name { labels, fqdn })
     }
 }
 
@@ -205,7 +227,7 @@ impl PartialEq for Name {
     ghost laws = { partial_equiv_from_equiv name_equiv };
 
     fn eq(&self, other: &Name) -> bool {
-        self.fqdn == other.fqdn && labels_eq(&self.labels, &other.labels)
+        self.fqdn == other.fqdn && labels_eq(self.labels(), other.labels())
     }
 }
 
@@ -231,7 +253,7 @@ impl Ord for Name {
 
     fn cmp(&self, other: &Name) -> Ordering {
         match self.fqdn.cmp(&other.fqdn) {
-            Ordering::Equal => labels_cmp(&self.labels, &other.labels),
+            Ordering::Equal => labels_cmp(self.labels(), other.labels()),
             marks => marks,
         }
     }
@@ -261,8 +283,9 @@ impl Hash for Name {
 
     fn hash<H: Hasher>(&self, state: &mut H) {
         self.fqdn.hash(state);
-        self.labels.len().hash(state);
-        for label in &self.labels {
+        let labels = self.labels();
+        labels.len().hash(state);
+        for label in labels {
             hash_label(label, state);
         }
     }

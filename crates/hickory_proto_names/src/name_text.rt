@@ -68,7 +68,7 @@ fn read_name(alloc: Global, text: &str) -> Result<Name, NameError>
     let fqdn = take_mark(&mut pieces);
     let mut name = Name::from_labels(pieces)?;
     name.set_fqdn(fqdn);
-    Ok(name)
+    name.share()
 }
 
 /// The labels joined by `.`, and a `.` at the end of a fully qualified name (RFC 1035, section 5.1).
