@@ -47,7 +47,7 @@ default_port (over_https server_name path) = 443
 default_port (over_quic server_name) = 853
 default_port (over_h3 server_name path disable_grease) = 443
 
--- the path that is given, or the usual one (RFC 8484, section 4.1)
+-- the path that is given, or that of the examples in RFC 8484, section 4.1.1
 abbrev pub path_or_default : {Z : Type 0} → Option (String Z) → List ℕ
 path_or_default None = codes "/dns-query"
 path_or_default (Some path) = string_bytes path
@@ -98,6 +98,7 @@ protocol_equiv =
     (on_equiv path_of (lists_equiv nat_eq_equiv)))
     (on_equiv disables_grease bool_eq_equiv)
 
+-- the same of the configurations themselves
 abbrev pub config_protocol_eq : ProtocolConfig → ProtocolConfig → Bool
 config_protocol_eq p q = protocol_eq (protocol_value p) (protocol_value q)
 

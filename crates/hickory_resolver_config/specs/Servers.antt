@@ -38,8 +38,8 @@ transport_protocols Https server_name path = over_https server_name path ∷ []
 transport_protocols Quic server_name path = over_quic server_name ∷ []
 transport_protocols H3 server_name path = over_h3 server_name path false ∷ []
 
--- the servers to come before a call, what it gives, and the servers to come after it. The first one is given, or
--- there was no memory for it; either way the others are left. Nothing comes after the last
+-- the servers to come before a call, what it gives, and the servers to come after it. The first one is given,
+-- or there was no memory for it; either way the others are left. Nothing comes after the last
 abbrev pub GivesNextServer : List ServerValue → Option (Result ServerValue NetError) → List ServerValue → Type 0
 GivesNextServer [] result after = (result ≡ None) × (after ≡ [])
 GivesNextServer (s ∷ ss) result after =

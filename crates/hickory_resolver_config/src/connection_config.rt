@@ -1,5 +1,5 @@
 //! Connections to a server.
-ghost use Rattle.std.specs.Prelude.{◌≡◌, false, IfOk, IsOkUnless, string_bytes};
+ghost use Rattle.std.specs.Prelude.{◌≡◌, false, IfOk, IsOk, IsOkUnless, IsSome, string_bytes};
 ghost use Rattle.hickory_resolver_config.specs.Connections.{ConnectionValue, protocol_value, connection_over, over_udp, over_tcp, over_tls, over_https, over_quic, over_h3, path_or_default};
 
 use crate::protocol_config::{DEFAULT_DNS_QUERY_PATH, ProtocolConfig};
@@ -65,10 +65,11 @@ impl ConnectionConfig {
     }
 
     /// A connection over HTTPS to the server of this name, with this path, or `/dns-query` where none is
-    /// given. The only error is to be out of memory for that.
+    /// given. The only error is to be out of memory for that one.
     pub fn https(server_name: String, path: Option<String>) -> Result<ConnectionConfig, NetError>
         ensures ok { IfOk result
             (λ c. c ≡ connection_over (over_https (string_bytes server_name) (path_or_default path))) }
+        ensures given { IsSome path → IsOk result }
         ensures err { IsOkUnless result NetError.OutOfMemory }
     {
         let path = given_or_default(&server_name, path)?;
@@ -83,10 +84,11 @@ impl ConnectionConfig {
     }
 
     /// A connection over HTTP/3 to the server of this name, with this path, or `/dns-query` where none is
-    /// given, and with reserved values sent. The only error is to be out of memory for the path.
+    /// given, and with reserved values sent. The only error is to be out of memory for that path.
     pub fn h3(server_name: String, path: Option<String>) -> Result<ConnectionConfig, NetError>
         ensures ok { IfOk result
             (λ c. c ≡ connection_over (over_h3 (string_bytes server_name) (path_or_default path) false)) }
+        ensures given { IsSome path → IsOk result }
         ensures err { IsOkUnless result NetError.OutOfMemory }
     {
         let path = given_or_default(&server_name, path)?;
@@ -121,13 +123,14 @@ impl Clone for ConnectionConfig {
     }
 }
 
-// The path that is given, or the default one in memory of the allocator of the other text.
-fn given_or_default(near: &String, path: Option<String>) -> Result<String, NetError>
+// The path that is given, or the default one, in memory of the allocator of the server's name.
+fn given_or_default(server_name: &String, path: Option<String>) -> Result<String, NetError>
     ensures ok { IfOk result (λ p. string_bytes p ≡ path_or_default path) }
+    ensures given { IsSome path → IsOk result }
     ensures err { IsOkUnless result NetError.OutOfMemory }
 {
     match path {
         Some(path) => Ok(path),
-        None => Ok(String::from_str(*near.allocator(), DEFAULT_DNS_QUERY_PATH)?),
+        None => Ok(String::from_str(*server_name.allocator(), DEFAULT_DNS_QUERY_PATH)?),
     }
 }

@@ -1,5 +1,5 @@
-//! The configuration of a resolver: plain values, their defaults and their copies. Each type says of its fields
-//! which of them have an effect here, where an upstream is handed in and there are no transports.
+//! The configuration of a resolver: plain values, their defaults, equalities and copies. Each type says which
+//! of its fields have an effect here, where an upstream is handed in and there are no transports.
 #![tactic(auto)]
 
 pub mod connection_config;
@@ -15,7 +15,7 @@ pub mod strategies;
 pub use connection_config::ConnectionConfig;
 pub use name_server_config::NameServerConfig;
 pub use opportunistic_encryption::{OpportunisticEncryption, OpportunisticEncryptionConfig};
-pub use protocol_config::{DEFAULT_DNS_QUERY_PATH, ProtocolConfig};
+pub use protocol_config::ProtocolConfig;
 pub use resolver_config::ResolverConfig;
 pub use resolver_opts::ResolverOpts;
 pub use server_group::{ServerGroup, cloudflare, google, quad9};

@@ -10,8 +10,8 @@ use std::alloc::{AllocError, Global};
 use std::marker::Model;
 use std::net::IpAddr;
 
-/// A name server and how it is asked. No field has an effect here: the upstream that is handed in decides whom
-/// it asks, and how.
+/// A name server and how it is asked. No field has an effect here: the upstream that is handed in decides
+/// whom it asks, and how.
 #[derive(Debug, Drop)]
 pub struct NameServerConfig {
     /// The address of the server.
@@ -129,8 +129,8 @@ impl NameServerConfig {
         trusted(alloc, ip, ConnectionConfig::h3(server_name, path)?)
     }
 
-    /// A trusted server for opportunistic encryption (RFC 9539): UDP, TCP, TLS and QUIC, the last two with the
-    /// text of the address as the name of the server.
+    /// A trusted server for opportunistic encryption (RFC 9539): UDP, TCP, TLS and QUIC, the last two with
+    /// the text of the address as the name of the server.
     pub fn opportunistic_encryption(alloc: Global, ip: IpAddr) -> Result<NameServerConfig, NetError>
         ensures ok { IfOk result (λ s. s
             ≡ server_over

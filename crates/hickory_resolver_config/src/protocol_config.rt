@@ -5,8 +5,8 @@ ghost use Rattle.hickory_resolver_config.specs.Connections.{protocol_value, prot
 use hickory_proto_core::{NetError, Protocol};
 use std::alloc::AllocError;
 
-/// The path of a query over HTTP where no other is given (RFC 8484, section 4.1).
-pub const DEFAULT_DNS_QUERY_PATH: &str = "/dns-query";
+// The path of a query over HTTP where no other is given: that of the examples in RFC 8484, section 4.1.1.
+pub(crate) const DEFAULT_DNS_QUERY_PATH: &str = "/dns-query";
 
 /// The protocol of a connection, with what it needs to know of the server. No field has an effect here: the
 /// upstream that is handed in decides how it asks.
@@ -59,8 +59,8 @@ impl ProtocolConfig {
         }
     }
 
-    /// The port at which servers of this protocol listen: 53 for UDP and TCP, 853 for TLS and QUIC, 443 for
-    /// HTTPS and HTTP/3.
+    /// The port at which servers of this protocol listen: 53 for UDP and TCP, 853 for TLS (RFC 7858, section
+    /// 3.1) and QUIC (RFC 9250, section 4.1.1), 443 for HTTPS and HTTP/3.
     pub fn default_port(&self) -> u16
         ensures { result ≡ default_port (protocol_value self.now) }
     {

@@ -14,9 +14,10 @@ use std::marker::Model;
 /// The domain, the search list and the servers of a resolver.
 #[derive(Debug, Drop)]
 pub struct ResolverConfig {
-    /// The domain that a relative name is first looked up in.
+    /// A domain that relative names are looked up in, before those of the search list unless it is among
+    /// them.
     pub domain: Option<Name>,
-    /// The domains that a relative name is looked up in after that, in order.
+    /// The search list: the domains that relative names are looked up in, in order.
     pub search: Vec<Name>,
     /// The servers. No effect: the upstream that is handed in decides whom it asks.
     pub name_servers: Vec<NameServerConfig>,

@@ -12,7 +12,9 @@ use std::marker::Model;
 /// servers that are chosen among.
 #[derive(Debug, Drop)]
 pub struct ResolverOpts {
-    /// A name of more labels than this is first looked up as it is, before the search list.
+    /// A relative name of more labels than this is looked up as it is before the domain and the search list
+    /// are tried, and else after them. The text of an IPv4 address is looked up as a name only where this is 5
+    /// or more.
     pub ndots: usize,
     /// After how many seconds a request has failed. No effect: the upstream answers or fails.
     pub timeout: u64,
