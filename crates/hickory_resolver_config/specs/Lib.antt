@@ -1,0 +1,4 @@
+pub mod Connections
+pub mod Encryption
+pub mod Servers
+pub mod Resolver
