@@ -45,7 +45,8 @@ pub fn question(alloc: Global, number: u64) -> Result<Query, NetError> {
     Ok(Query::query(host(alloc, number)?, RecordType::A))
 }
 
-/// A response to a question with one address, whose TTL follows from the number.
+/// A response to a question with one address, whose TTL follows from the number. A caller reads a name once: the
+/// names of the response are copies of the asked one.
 pub fn answer(alloc: Global, query: &Query, number: u64) -> Result<Message, NetError> {
     let owner = query.name().clone()?;
     let address = RData::A(Ipv4Addr::new(192, 0, 2, 1));
