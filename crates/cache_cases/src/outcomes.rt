@@ -75,7 +75,17 @@ fn in_full(alloc: Global, none: NoRecords, ttl: &str) -> Result<NoRecords, NetEr
     let mut parts = answer(
         alloc,
         &[
-            "answer", "NS", ttl, "answer", "SOA", ttl, "authority", "NS", ttl, "additional", "A",
+            "answer",
+            "NS",
+            ttl,
+            "answer",
+            "SOA",
+            ttl,
+            "authority",
+            "NS",
+            ttl,
+            "additional",
+            "A",
             ttl,
         ],
     )?;

@@ -3,7 +3,7 @@ use hickory_proto_core::{
     DnsError, DnsRequestOptions, Name, NetError, Query, Recorded, ScriptHandle,
 };
 use hickory_resolver::{CachingClient, Lookup};
-use replay::output::{ShownRecord, push_step};
+use replay::output::push_step;
 use replay_script::{Request, Script, read_script};
 use std::alloc::{AllocError, Global};
 
@@ -47,17 +47,18 @@ fn push_request(
     Ok(())
 }
 
-// The SOA record of a negative answer, which a script's text leaves out.
+// The TTL of the SOA record of a negative answer, which a script's text leaves out.
 fn push_soa(text: &mut String, reply: &Result<Lookup, NetError>) -> Result<(), AllocError> {
-    let Err(NetError::Dns(DnsError::NoRecordsFound(none))) = reply else {
-        return Ok(());
-    };
-    match &none.soa {
-        Some(soa) => {
-            let soa = ShownRecord(soa);
-            write!(text, "  soa {soa}\n")
-        }
+    match soa_ttl(reply) {
+        Some(ttl) => write!(text, "  soa {ttl}\n"),
         None => Ok(()),
+    }
+}
+
+fn soa_ttl(reply: &Result<Lookup, NetError>) -> Option<u32> {
+    match reply {
+        Err(NetError::Dns(DnsError::NoRecordsFound(none))) => Some(none.soa.as_ref()?.ttl),
+        _ => None,
     }
 }
 
