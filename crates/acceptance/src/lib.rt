@@ -1,11 +1,7 @@
-//! Tests that cross crates: clients over handles, whole scripts, and the text that a run of each makes.
+//! Tests of whole scripts, and of the text that a run of each makes.
 #![tactic(auto)]
 
 #[cfg(test)]
-mod clients;
-#[cfg(test)]
 mod faults;
-#[cfg(test)]
-mod own_handle;
 #[cfg(test)]
 mod runs;
