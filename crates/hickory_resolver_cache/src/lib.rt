@@ -6,8 +6,6 @@ mod entry;
 mod kept;
 mod renumber;
 pub mod response_cache;
-#[cfg(test)]
-mod tests;
 mod turns;
 
 pub use response_cache::ResponseCache;
