@@ -1,5 +1,5 @@
 //! Groups of servers, and known ones.
-ghost use Rattle.std.specs.Prelude.{◌≡◌, false, [], ◌∷◌, IfOk, IsOkUnless};
+ghost use Rattle.std.specs.Prelude.{◌≡◌, false, [], ◌∷◌, IfOk, IsOkUnless, codes};
 ghost use Rattle.hickory_resolver_config.specs.Connections.{over_udp, over_tcp, over_tls, over_https, over_quic, over_h3};
 ghost use Rattle.hickory_resolver_config.specs.Servers.{GroupValue, servers_over, transport_protocols, google_group, cloudflare_group, quad9_group};
 
@@ -121,17 +121,13 @@ pub fn google(alloc: Global) -> Result<ServerGroup<'static>, NetError>
     ensures ok { IfOk result (λ g. g ≡ google_group) }
     ensures err { IsOkUnless result NetError.OutOfMemory }
 {
-    let ips = vec![in alloc;
+    let ips = [
         IpAddr::V4(Ipv4Addr::new(8, 8, 8, 8)),
         IpAddr::V4(Ipv4Addr::new(8, 8, 4, 4)),
         IpAddr::V6(Ipv6Addr::new(0x2001, 0x4860, 0x4860, 0, 0, 0, 0, 0x8888)),
         IpAddr::V6(Ipv6Addr::new(0x2001, 0x4860, 0x4860, 0, 0, 0, 0, 0x8844)),
-    ]?;
-    Ok(ServerGroup {
-        ips,
-        server_name: "dns.google",
-        path: DEFAULT_DNS_QUERY_PATH,
-    })
+    ];
+    known_group(alloc, &ips, "dns.google")
 }
 
 /// The public resolvers of Cloudflare.
@@ -139,17 +135,13 @@ pub fn cloudflare(alloc: Global) -> Result<ServerGroup<'static>, NetError>
     ensures ok { IfOk result (λ g. g ≡ cloudflare_group) }
     ensures err { IsOkUnless result NetError.OutOfMemory }
 {
-    let ips = vec![in alloc;
+    let ips = [
         IpAddr::V4(Ipv4Addr::new(1, 1, 1, 1)),
         IpAddr::V4(Ipv4Addr::new(1, 0, 0, 1)),
         IpAddr::V6(Ipv6Addr::new(0x2606, 0x4700, 0x4700, 0, 0, 0, 0, 0x1111)),
         IpAddr::V6(Ipv6Addr::new(0x2606, 0x4700, 0x4700, 0, 0, 0, 0, 0x1001)),
-    ]?;
-    Ok(ServerGroup {
-        ips,
-        server_name: "cloudflare-dns.com",
-        path: DEFAULT_DNS_QUERY_PATH,
-    })
+    ];
+    known_group(alloc, &ips, "cloudflare-dns.com")
 }
 
 /// The public resolvers of Quad9.
@@ -157,15 +149,31 @@ pub fn quad9(alloc: Global) -> Result<ServerGroup<'static>, NetError>
     ensures ok { IfOk result (λ g. g ≡ quad9_group) }
     ensures err { IsOkUnless result NetError.OutOfMemory }
 {
-    let ips = vec![in alloc;
+    let ips = [
         IpAddr::V4(Ipv4Addr::new(9, 9, 9, 9)),
         IpAddr::V4(Ipv4Addr::new(149, 112, 112, 112)),
         IpAddr::V6(Ipv6Addr::new(0x2620, 0xfe, 0, 0, 0, 0, 0, 0xfe)),
         IpAddr::V6(Ipv6Addr::new(0x2620, 0xfe, 0, 0, 0, 0, 0, 9)),
-    ]?;
+    ];
+    known_group(alloc, &ips, "dns.quad9.net")
+}
+
+// The group of this name at these addresses, with the usual path.
+fn known_group<'a>(
+    alloc: Global,
+    ips: &[IpAddr],
+    server_name: &'a str,
+) -> Result<ServerGroup<'a>, NetError>
+    ensures ok { IfOk result (λ g. g ≡ record {
+      ips = ips.now;
+      server_name = server_name.now;
+      path = codes "/dns-query";
+    }) }
+    ensures err { IsOkUnless result NetError.OutOfMemory }
+{
     Ok(ServerGroup {
-        ips,
-        server_name: "dns.quad9.net",
+        ips: Vec::from_slice(alloc, ips)?,
+        server_name,
         path: DEFAULT_DNS_QUERY_PATH,
     })
 }
