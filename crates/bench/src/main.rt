@@ -1,10 +1,11 @@
-//! Times the cache, names and the client, in nanoseconds an operation, where there is an argument. Without one
-//! it prints nothing.
+//! Times the cache, names, the client and tables of hosts, in nanoseconds an operation, where there is an argument.
+//! Without one it prints nothing.
 #![tactic(auto)]
 
 mod bare;
 mod cache;
 mod client;
+mod hosts;
 mod measure;
 mod names;
 mod samples;
@@ -31,6 +32,7 @@ fn print_times<R: Clock + Print>(rt: &R, alloc: Global) -> anyhow::Result<()> {
     bare::print_times(rt, alloc, &mut watch)?;
     names::print_times(rt, alloc, &mut watch)?;
     client::print_times(rt, alloc, &mut watch)?;
+    hosts::print_times(rt, alloc, &mut watch)?;
     let seen = watch.seen();
     println!(rt; "check sum {seen}")?;
     Ok(())
