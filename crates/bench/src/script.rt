@@ -33,7 +33,10 @@ fn script(alloc: Global) -> anyhow::Result<String> {
     let mut script = String::new(alloc);
     for number in 0..NAMES {
         let name = host_text(alloc, number)?;
-        write!(script, "reply NOERROR {name} A\nanswer {name} 86400 IN A 192.0.2.1\n")?;
+        write!(
+            script,
+            "reply NOERROR {name} A\nanswer {name} 86400 IN A 192.0.2.1\n"
+        )?;
     }
     for number in 0..REQUESTS {
         let name = host_text(alloc, number % NAMES)?;
