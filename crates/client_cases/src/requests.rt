@@ -1,6 +1,6 @@
 //! The requests of scripts, and what comes of them.
 use hickory_proto_core::{
-    DnsError, DnsRequestOptions, Name, NetError, NoRecords, Query, Recorded, ScriptHandle,
+    DnsError, DnsRequestOptions, Name, NetError, Query, Recorded, ScriptHandle,
 };
 use hickory_resolver::{CachingClient, Lookup};
 use replay::output::push_step;
@@ -57,20 +57,12 @@ fn push_soa(text: &mut String, reply: &Result<Lookup, NetError>) -> Result<(), A
 
 fn soa_ttl(reply: &Result<Lookup, NetError>) -> Option<u32> {
     match reply {
-        Err(NetError::Dns(error)) => ttl_of(no_records(error)?),
+        Err(NetError::Dns(DnsError::NoRecordsFound(none))) => match &none.soa {
+            Some(soa) => Some(soa.ttl),
+            None => None,
+        },
         _ => None,
     }
-}
-
-fn no_records(error: &DnsError) -> Option<&NoRecords> {
-    match error {
-        DnsError::NoRecordsFound(none) => Some(none),
-        _ => None,
-    }
-}
-
-fn ttl_of(none: &NoRecords) -> Option<u32> {
-    Some(none.soa.as_ref()?.ttl)
 }
 
 /// Adds how many entries a client's cache has.
