@@ -23,35 +23,37 @@ pub fn print_calls(rt: &impl Print, alloc: Global) -> anyhow::Result<()> {
 
 // What a table answers into which a caller put an IPv4 and an IPv6 address, both as A.
 fn inserted_text(alloc: Global) -> anyhow::Result<String> {
-    let mut hosts = Hosts::default(alloc);
-    let (first, second) = (
-        RData::A(Ipv4Addr::new(192, 0, 2, 1)),
-        RData::AAAA(Ipv6Addr::LOCALHOST),
-    );
-    hosts.insert(
-        Name::from_ascii(alloc, "N")?,
-        RecordType::A,
-        given(alloc, first, 100)?,
-        50,
-    )?;
-    hosts.insert(
-        Name::from_ascii(alloc, "n.")?,
-        RecordType::A,
-        given(alloc, second, 3)?,
-        999,
-    )?;
+    let hosts = inserted(alloc)?;
     let mut text = String::new(alloc);
-    push_asked(alloc, &mut text, &hosts, "n.", RecordType::A)?;
-    push_asked(alloc, &mut text, &hosts, "n.", RecordType::AAAA)?;
-    push_asked(
-        alloc,
-        &mut text,
-        &hosts,
-        "1.2.0.192.in-addr.arpa.",
-        RecordType::PTR,
-    )?;
-    push_asked(alloc, &mut text, &hosts, LOOPBACK, RecordType::PTR)?;
+    for (name, record_type) in [
+        ("n.", RecordType::A),
+        ("n.", RecordType::AAAA),
+        ("1.2.0.192.in-addr.arpa.", RecordType::PTR),
+        (LOOPBACK, RecordType::PTR),
+    ] {
+        push_asked(alloc, &mut text, &hosts, name, record_type)?;
+    }
     Ok(text)
+}
+
+fn inserted(alloc: Global) -> anyhow::Result<Hosts> {
+    let mut hosts = Hosts::default(alloc);
+    let first = RData::A(Ipv4Addr::new(192, 0, 2, 1));
+    insert_as_a(alloc, &mut hosts, "N", given(alloc, first, 100)?, 50)?;
+    let second = RData::AAAA(Ipv6Addr::LOCALHOST);
+    insert_as_a(alloc, &mut hosts, "n.", given(alloc, second, 3)?, 999)?;
+    Ok(hosts)
+}
+
+fn insert_as_a(
+    alloc: Global,
+    hosts: &mut Hosts,
+    name: &str,
+    lookup: Lookup,
+    now: u64,
+) -> anyhow::Result<()> {
+    let name = Name::from_ascii(alloc, name)?;
+    Ok(hosts.insert(name, RecordType::A, lookup, now)?)
 }
 
 // One address, for a day from a moment.
