@@ -1,6 +1,6 @@
 //! A client that asks an upstream through a cache.
 ghost use Rattle.std.specs.Prelude.{◌≡◌, ◌⊎◌, ◌≤◌, ◌∷◌, List, [], length, Ok, Err, OnOk, OnErr, IfOk, IsOkUnless};
-ghost use Rattle.hickory_proto_core.specs.ResponseKind.{ResponseKind, Answer, IsClassified, kind_of};
+ghost use Rattle.hickory_proto_core.specs.ResponseKind.{ResponseKind, Answer, IsClassified, first_soa, kind_of};
 ghost use Rattle.hickory_proto_core.specs.records.net_error.NetError.TheVariants.{Dns};
 ghost use Rattle.hickory_proto_core.specs.records.net_error.DnsError.TheVariants.{NoRecordsFound};
 ghost use Rattle.hickory_resolver_model.specs.Cache.{without_query};
@@ -18,7 +18,7 @@ use crate::special_use::special_use_result;
 use crate::verdict::{Hop, Verdict, verdict_of};
 use hickory_proto_core::{
     DnsError, DnsHandle, DnsRequest, DnsRequestOptions, DnsResponse, Message, NetError, NoRecords,
-    OpCode, Query,
+    OpCode, Query, Record,
 };
 use hickory_resolver_cache::ResponseCache;
 use hickory_resolver_lookup::{Lookup, TtlConfig};
@@ -277,10 +277,8 @@ impl<H: DnsHandle, S: BuildHasher> CachingClient<H, S> {
             (store_of query (Ok message) now ∷ []) result self.new.cache }
         ensures stays { KeepsHandle self.old self.new }
     {
-        let copy = message.clone()?;
-        let key = query.clone()?;
-        let lookup = Lookup::of_response(self.cache.ttl_config(), query, message, now)?;
-        self.cache.insert(key, Ok(copy), now)?;
+        let lookup = found_lookup(self.cache.ttl_config(), &query, &message, now)?;
+        self.cache.insert(query, Ok(message), now)?;
         Ok(lookup)
     }
 
@@ -295,10 +293,39 @@ impl<H: DnsHandle, S: BuildHasher> CachingClient<H, S> {
             (store_of query (Err (Dns (NoRecordsFound none))) now ∷ []) result self.new.cache }
         ensures stays { KeepsHandle self.old self.new }
     {
-        let copy = none.clone()?;
-        self.cache.insert(query, Err(NetError::from(copy)), now)?;
+        insert_negative(&mut self.cache, query, &none, now)?;
         Err(NetError::from(none))
     }
+}
+
+// The look-up that an accepted response comes to.
+fn found_lookup(
+    config: &TtlConfig,
+    query: &Query,
+    message: &Message,
+    now: u64,
+) -> Result<Lookup, NetError>
+    ensures ok { IfOk result (λ found. found ≡ found_lookup config.now query.now message.now now) }
+    ensures err { IsOkUnless result NetError.OutOfMemory }
+{
+    let copy = message.clone()?;
+    Lookup::of_response(config, query.clone()?, copy, now)
+}
+
+// Keeps a copy of a negative answer. A refused call changes nothing.
+fn insert_negative<S: BuildHasher>(
+    cache: &mut ResponseCache<S>,
+    query: Query,
+    none: &NoRecords,
+    now: u64,
+) -> Result<(), NetError>
+    ensures ok { OnOk result (cache.new
+        ≡ after_stores (store_of query (Err (Dns (NoRecordsFound none.now))) now ∷ []) cache.old) }
+    ensures unchanged { OnErr result (cache.new ≡ cache.old) }
+    ensures err { IsOkUnless result NetError.OutOfMemory }
+{
+    let copy = none.clone()?;
+    cache.insert(query, Err(NetError::from(copy)), now)
 }
 
 // Keeps a result under each of these questions, from the last to the first.
@@ -374,12 +401,20 @@ fn lookup_of_hit(query: Query, hit: Result<Message, NetError>, now: u64) -> Resu
 fn no_match(query: Query, response: &DnsResponse) -> Result<Lookup, NetError>
     ensures { IsUnlessOut (Err (no_match query response.now)) result }
 {
-    let soa = match response.soa() {
-        Some(soa) => Some(soa.clone()?),
-        None => None,
-    };
+    let soa = soa_of(response)?;
     let mut none = NoRecords::new(query, response.message().metadata.response_code);
     none.soa = soa;
     none.negative_ttl = response.negative_ttl();
     Err(NetError::from(none))
+}
+
+// A copy of the SOA record that a response has among its authorities, if it has one.
+fn soa_of(response: &DnsResponse) -> Result<Option<Record>, NetError>
+    ensures ok { IfOk result (λ soa. soa ≡ first_soa response.now.authorities) }
+    ensures err { IsOkUnless result NetError.OutOfMemory }
+{
+    match response.soa() {
+        Some(soa) => Ok(Some(soa.clone()?)),
+        None => Ok(None),
+    }
 }

@@ -1,5 +1,5 @@
 //! Runs a script.
-ghost use Rattle.std.specs.Prelude.{◌≡◌, ◌⊎◌, Err, IfErr, IfOk, IsOkUnless, MatchResult, OnOk, map, string_bytes};
+ghost use Rattle.std.specs.Prelude.{◌≡◌, ◌⊎◌, Err, IfErr, IfOk, IsOkUnless, MatchResult, OnOk, false, map, string_bytes};
 ghost use Rattle.hickory_proto_core.specs.records.net_error.NetError.TheVariants.{OutOfMemory};
 ghost use Rattle.replay.specs.Run.{AddsStep, Answers, IsLookedUp, IsNoTable, IsRefused, IsReplayed, IsScriptRun, IsTable, RunTo, first_moment};
 ghost use Rattle.hickory_resolver_model.specs.Calls.{is_out_of_memory};
@@ -181,13 +181,20 @@ fn run_request(
     ensures err { IsOkUnless result ReplayError.Memory }
 {
     let before = client.handle().exchanges().len();
-    let reply = ask(alloc, table, client, request);
+    let reply = remembered(ask(alloc, table, client, request))?;
+    let exchanges = client.handle().exchanges();
+    Ok(push_step(text, request, &exchanges[before..], &reply)?)
+}
+
+// A reply for which there was memory.
+fn remembered(reply: Result<Lookup, NetError>) -> Result<Result<Lookup, NetError>, ReplayError>
+    ensures ok { IfOk result (λ kept. (kept ≡ reply) × (is_out_of_memory reply ≡ false)) }
+    ensures err { IsOkUnless result ReplayError.Memory }
+{
     if is_out_of_memory(&reply) {
         return Err(ReplayError::Memory);
     }
-    let exchanges = client.handle().exchanges();
-    push_step(text, request, &exchanges[before..], &reply)?;
-    Ok(())
+    Ok(reply)
 }
 
 fn is_out_of_memory(reply: &Result<Lookup, NetError>) -> bool
