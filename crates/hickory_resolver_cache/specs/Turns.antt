@@ -34,6 +34,18 @@ stored_entry p =
       valid_until = p.1.valid_until;
     }
 
+-- the pair that is kept of an entry under a number
+abbrev pub pair_of : Entry → ℕ → Pair
+pair_of e n = (
+  e.query,
+  record {
+    result = e.result;
+    original_time = e.original_time;
+    valid_until = e.valid_until;
+    number = n;
+  },
+)
+
 abbrev pub by_number : List Pair → List (ℕ × Pair)
 by_number ps = map (λ p. (p.1.number, p)) ps
 

@@ -206,18 +206,24 @@ impl<S: BuildHasher> ResponseCache<S> {
         ensures no_capacity { self.old.capacity ≡ 0 → IsOk result }
     {
         if self.capacity == 0 {
+            drop(entry);
             return Ok(());
         }
-        let number = next_number(&mut self.index, &mut self.order, self.next_number)?;
-        self.next_number = number;
+        match next_number(&mut self.index, &mut self.order, self.next_number) {
+            Ok(number) => self.next_number = number,
+            Err(error) => {
+                drop(entry);
+                return Err(error);
+            }
+        }
         store(
             &mut self.index,
             &mut self.order,
             self.capacity,
-            number,
+            self.next_number,
             entry,
         )?;
-        self.next_number = number + 1;
+        self.next_number += 1;
         Ok(())
     }
 

@@ -1,11 +1,12 @@
 //! The two maps of a cache: entries by question, and questions by deadline and number.
-ghost use Rattle.std.specs.Prelude.{◌≡◌, ◌<◌, ◌≤◌, ◌+◌, ◌∷◌, ◌++◌, [], nat_eq, None, OnOk, OnErr, IsOkUnless};
+ghost use Rattle.std.specs.Prelude.{◌≡◌, ◌<◌, ◌≤◌, ◌+◌, ◌∷◌, ◌++◌, [], nat_eq, None, Some, cond, OnOk, OnErr, IsOkUnless};
 ghost use Rattle.std.specs.List.{IsDistinct};
 ghost use Rattle.std.specs.Map.{keys_of};
+ghost use Rattle.std.specs.BTreeMap.{get as turn_get, is_at};
 ghost use Rattle.indexmap.specs.IndexMap.{spare, get, IsUnique};
 ghost use Rattle.hickory_proto_core.specs.Query.{query_eq};
 ghost use Rattle.hickory_resolver_model.specs.Cache.{insert_entry};
-ghost use Rattle.hickory_resolver_cache.specs.Turns.{by_number, entries_of, IsKept, IsNumbered, IsPlaced, IsSameList, Gone, TurnGone, IsTaken, IsTurnOf, IsSomeTurn, IsFirstTurn, MakesRoom};
+ghost use Rattle.hickory_resolver_cache.specs.Turns.{Turn, by_number, entries_of, pair_of, turn_cmp, IsKept, IsNumbered, IsPlaced, IsSameList, Gone, TurnGone, IsTaken, IsTurnOf, IsSomeTurn, IsFirstTurn, MakesRoom};
 
 use crate::entry::CacheEntry;
 use crate::kept::Kept;
@@ -38,34 +39,53 @@ pub fn store<S: BuildHasher>(
     ensures refused { OnErr result (IsSameList index.old.entries number index.new.entries number order.new) }
     ensures err { IsOkUnless result NetError.OutOfMemory }
 {
+    let turn = leaving(index, order, capacity, number, &entry.query);
+    add_turn(index, order, (entry.valid_until, number), &entry.query)?;
+    take_out(index, order, turn);
+    insert_entry(index, entry, number);
+    Ok(())
+}
+
+// Makes room for one more entry, and gives its question this turn. A refused call leaves the entries and
+// their turns as they were.
+fn add_turn<S: BuildHasher>(
+    index: &mut Index<S>,
+    order: &mut Order,
+    turn: (u64, u64),
+    query: &Query,
+) -> Result<(), NetError>
+    ensures entries { index.new.entries ≡ index.old.entries }
+    ensures room { OnOk result (0 < spare index.new) }
+    ensures added { OnOk result ((u : Turn) →
+        turn_get turn_cmp order.new u ≡ cond (is_at (turn_cmp turn) u) (Some query.now) (turn_get turn_cmp order.old u)) }
+    ensures unchanged { OnErr result ((u : Turn) → turn_get turn_cmp order.new u ≡ turn_get turn_cmp order.old u) }
+    ensures err { IsOkUnless result NetError.OutOfMemory }
+{
+    index.reserve(1)?;
+    let copy = query.clone()?;
+    order.insert(turn, copy)?;
+    Ok(())
+}
+
+// Puts an entry last, by this number, where there is room and none for its question.
+fn insert_entry<S: BuildHasher>(index: &mut Index<S>, entry: CacheEntry, number: u64)
+    requires room { 0 < spare index.old }
+    requires new { get query_eq index.old entry.query ≡ None }
+    ensures { index.new.entries ≡ index.old.entries ++ pair_of entry number ∷ [] }
+{
     let CacheEntry {
         query,
         result,
         original_time,
         valid_until,
     } = entry;
-    let turn = leaving(index, order, capacity, number, &query);
-    index.reserve(1)?;
-    let copy = query.clone()?;
-    order.insert((valid_until, number), copy)?;
-    take_out(index, order, turn);
     let kept = Kept {
         result,
         original_time,
         valid_until,
         number,
     };
-    insert_entry(index, query, kept);
-    Ok(())
-}
-
-// Puts a pair last, where there is room and none for its question.
-fn insert_entry<S: BuildHasher>(index: &mut Index<S>, query: Query, kept: Kept)
-    requires room { 0 < spare index.old }
-    requires new { get query_eq index.old query ≡ None }
-    ensures { index.new.entries ≡ index.old.entries ++ (query, kept) ∷ [] }
-{
-    let _ = index.insert(query, kept);
+    drop(index.insert(query, kept));
 }
 
 // Takes out the pair at a turn, if there is one. Its question is found by the spelling that the order has.
