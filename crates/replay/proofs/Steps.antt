@@ -4,7 +4,7 @@ use Rattle.std.proofs.lemmas.List.{append-nil}
 use Rattle.hickory_proto_core.specs.Name.{NameValue}
 use Rattle.hickory_proto_core.specs.NameDecided.{text_name}
 use Rattle.hickory_proto_core.specs.Handles.{OutcomeValue, ScriptStep}
-use Rattle.hickory_proto_core.specs.Recorded.{RecordedStep, recorded_leads}
+use Rattle.hickory_proto_core.specs.Recorded.{recorded_leads}
 use Rattle.hickory_proto_core.specs.records.query.Query.{Query}
 use Rattle.hickory_proto_core.specs.codes.dns_class.DNSClass.TheVariants as class
 use Rattle.hickory_proto_core.specs.names.name_error.NameError.{NameError}
@@ -18,7 +18,7 @@ use Rattle.hickory_resolver_model.specs.Lookup.{LookupResult, LookupValue}
 use Rattle.hickory_resolver_model.specs.Run.{RequestValue, Lookup}
 use Rattle.hickory_proto_core.specs.codes.record_type.RecordType.{RecordType}
 use Rattle.replay.specs.Run.{ScriptClient, request_options, IsReplied, IsLookedUp, IsNameAsked, IsAsked, Answers, AddsStep, RunTo, IsTable, IsNoTable, IsScriptRun, first_client, first_moment, hosts_fault}
-use Rattle.hickory_resolver_model.specs.Hosts.{Host, IsStatic, as_fqdn}
+use Rattle.hickory_resolver_model.specs.Hosts.{Host, as_fqdn}
 use Rattle.hickory_resolver_model.specs.Calls.{question_of, is_out_of_memory}
 use Rattle.replay_script.specs.Script.{ScriptValue}
 use Rattle.replay.specs.declared.run.ReplayError.{ReplayError}

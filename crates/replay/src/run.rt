@@ -1,7 +1,7 @@
 //! Runs a script.
 ghost use Rattle.std.specs.Prelude.{◌≡◌, ◌⊎◌, Err, IfErr, IfOk, IsOkUnless, MatchResult, OnOk, false, map, string_bytes};
 ghost use Rattle.hickory_proto_core.specs.records.net_error.NetError.TheVariants.{OutOfMemory};
-ghost use Rattle.replay.specs.Run.{AddsStep, Answers, IsLookedUp, IsNoTable, IsRefused, IsReplayed, IsScriptRun, IsTable, RunTo, first_moment};
+ghost use Rattle.replay.specs.Run.{AddsStep, Answers, IsLookedUp, IsNoTable, IsRefused, IsReplayed, IsScriptRun, IsTable, RunTo, first_client, first_moment};
 ghost use Rattle.hickory_resolver_model.specs.Calls.{is_out_of_memory};
 
 use crate::output::push_step;
@@ -111,9 +111,7 @@ fn run_script(alloc: Global, script: Script, hosts: &[u8]) -> Result<String, Rep
 {
     let Script { outcomes, requests } = script;
     let table = read_table(alloc, hosts, first_moment(&requests))?;
-    let outcomes = without_questions(alloc, outcomes)?;
-    let handle = Recorded::new(alloc, ScriptHandle::new(outcomes));
-    let mut client = CachingClient::new(alloc, CACHE_SIZE, handle, true);
+    let mut client = first_client(alloc, outcomes)?;
     run_requests(alloc, &table, &mut client, &requests)
 }
 
@@ -136,6 +134,16 @@ fn read_table(alloc: Global, hosts: &[u8], now: u64) -> Result<Hosts, ReplayErro
         Ok(()) => Ok(table),
         Err(error) => Err(ReplayError::from(error)),
     }
+}
+
+// A client of these outcomes, before its first request.
+fn first_client(alloc: Global, outcomes: Vec<(Query, Outcome)>) -> Result<Client, ReplayError>
+    ensures ok { IfOk result (λ client. client ≡ first_client (map (λ o. o.1) outcomes.items)) }
+    ensures err { IsOkUnless result ReplayError.Memory }
+{
+    let outcomes = without_questions(alloc, outcomes)?;
+    let handle = Recorded::new(alloc, ScriptHandle::new(outcomes));
+    Ok(CachingClient::new(alloc, CACHE_SIZE, handle, true))
 }
 
 // The outcomes without the questions of their lines: they come in order, whatever is asked.
