@@ -29,12 +29,27 @@ fn main(rt: HostRuntime) -> anyhow::Result<()> {
 
 fn text_of(alloc: Global, cases: &str) -> Result<String, NetError> {
     let mut text = String::new(alloc);
-    let mut cache = ResponseCache::new(alloc, 0, TtlConfig::default(alloc));
-    for line in cases.lines() {
-        text.push_str(line)?;
-        steps::take_line(alloc, &mut text, &mut cache, line)?;
-        text.push_str("\n")?;
-    }
+    push_cases(alloc, &mut text, cases)?;
     shown::push_equalities(alloc, &mut text)?;
     Ok(text)
+}
+
+fn push_cases(alloc: Global, text: &mut String, cases: &str) -> Result<(), NetError> {
+    let mut cache = ResponseCache::new(alloc, 0, TtlConfig::default(alloc));
+    for line in cases.lines() {
+        push_case(alloc, text, &mut cache, line)?;
+    }
+    Ok(())
+}
+
+fn push_case(
+    alloc: Global,
+    text: &mut String,
+    cache: &mut ResponseCache,
+    line: &str,
+) -> Result<(), NetError> {
+    text.push_str(line)?;
+    steps::take_line(alloc, text, cache, line)?;
+    text.push_str("\n")?;
+    Ok(())
 }

@@ -60,54 +60,56 @@ fn data(alloc: Global, kind: RecordType) -> RData {
 }
 
 fn no_name(alloc: Global, query: &Query, words: &[&str]) -> Result<NoRecords, NetError> {
-    let mut none = NoRecords::new(query.clone()?, ResponseCode::NXDomain);
-    if let Some(ttl) = words.first() {
-        none.negative_ttl = ttl.parse().ok();
-    }
+    let query = query.clone()?;
     match words {
-        [ttl, "full"] => in_full(alloc, none, ttl),
-        _ => Ok(none),
+        [ttl, "full"] => in_full(alloc, query, ttl.parse().unwrap_or(0)),
+        [ttl, ..] => Ok(for_seconds(query, ttl.parse().ok())),
+        [] => Ok(for_seconds(query, None)),
     }
+}
+
+fn for_seconds(query: Query, ttl: Option<u32>) -> NoRecords {
+    let mut none = NoRecords::new(query, ResponseCode::NXDomain);
+    none.negative_ttl = ttl;
+    none
 }
 
 // With records of this TTL in all parts.
-fn in_full(alloc: Global, none: NoRecords, ttl: &str) -> Result<NoRecords, NetError> {
-    let mut parts = answer(
-        alloc,
-        &[
-            "answer",
-            "NS",
-            ttl,
-            "answer",
-            "SOA",
-            ttl,
-            "authority",
-            "NS",
-            ttl,
-            "additional",
-            "A",
-            ttl,
-        ],
-    )?;
-    let soa = parts.answers.pop();
-    let ns = servers(alloc, parts.answers, parts.additionals)?;
+fn in_full(alloc: Global, query: Query, ttl: u32) -> Result<NoRecords, NetError> {
+    let ns = servers(alloc, ttl)?;
+    let (soa, authorities) = authority(alloc, ttl)?;
     Ok(NoRecords {
-        soa,
+        query,
+        soa: Some(soa),
         ns: Some(ns),
-        authorities: Some(parts.authorities),
-        ..none
+        negative_ttl: Some(ttl),
+        response_code: ResponseCode::NXDomain,
+        authorities: Some(authorities),
     })
 }
 
-// The server of the last of these NS records, with this glue.
-fn servers(
-    alloc: Global,
-    mut found: Vec<Record>,
-    glue: Vec<Record>,
-) -> Result<Vec<ForwardNSData>, NetError> {
+// The SOA record of a zone, and the record of its server.
+fn authority(alloc: Global, ttl: u32) -> Result<(Record, Vec<Record>), NetError> {
+    let servers = one(alloc, RecordType::NS, ttl)?;
+    let soa = record(alloc, RecordType::SOA, ttl)?;
+    Ok((soa, servers))
+}
+
+fn one(alloc: Global, kind: RecordType, ttl: u32) -> Result<Vec<Record>, NetError> {
+    let mut records = Vec::new(alloc);
+    records.push(record(alloc, kind, ttl)?)?;
+    Ok(records)
+}
+
+// One server, with glue of one address.
+fn servers(alloc: Global, ttl: u32) -> Result<Vec<ForwardNSData>, NetError> {
     let mut servers = Vec::new(alloc);
-    if let Some(ns) = found.pop() {
-        servers.push(ForwardNSData { ns, glue })?;
-    }
+    servers.push(server(alloc, ttl)?)?;
     Ok(servers)
+}
+
+fn server(alloc: Global, ttl: u32) -> Result<ForwardNSData, NetError> {
+    let glue = one(alloc, RecordType::A, ttl)?;
+    let ns = record(alloc, RecordType::NS, ttl)?;
+    Ok(ForwardNSData { ns, glue })
 }

@@ -2,7 +2,7 @@
 use crate::outcomes::outcome_of;
 use crate::shown::{push_bounds, push_hit};
 use crate::words::{NO_LINE, bounds_of, config_of, question, type_of};
-use hickory_proto_core::{NetError, Query};
+use hickory_proto_core::{Message, NetError, Query};
 use hickory_resolver_cache::ResponseCache;
 use std::alloc::Global;
 
@@ -14,27 +14,39 @@ pub fn take_line(
     line: &str,
 ) -> Result<(), NetError> {
     let words: Vec<&str> = line.split_whitespace().collect(alloc)?;
+    take_words(alloc, text, cache, &words)
+}
+
+fn take_words(
+    alloc: Global,
+    text: &mut String,
+    cache: &mut ResponseCache,
+    words: &[&str],
+) -> Result<(), NetError> {
     let Some((first, words)) = words.split_first() else {
         return Ok(());
     };
     match *first {
-        "#" => {}
-        "bounds" => {
-            let made = bounds_of(words);
-            write!(text, ": {made:?}")?;
-        }
-        "cache" => *cache = cache_of(alloc, words)?,
-        moment => push_step(alloc, text, cache, moment.parse().unwrap_or(0), words)?,
+        "#" => Ok(()),
+        "bounds" => push_made(text, words),
+        "cache" => set_cache(alloc, cache, words),
+        moment => push_step(alloc, text, cache, moment.parse().unwrap_or(0), words),
     }
+}
+
+fn push_made(text: &mut String, words: &[&str]) -> Result<(), NetError> {
+    let made = bounds_of(words);
+    write!(text, ": {made:?}")?;
     Ok(())
 }
 
-fn cache_of(alloc: Global, words: &[&str]) -> Result<ResponseCache, NetError> {
+fn set_cache(alloc: Global, cache: &mut ResponseCache, words: &[&str]) -> Result<(), NetError> {
     let Some((capacity, bounds)) = words.split_first() else {
         return Err(NO_LINE);
     };
     let config = config_of(alloc, bounds)?;
-    Ok(ResponseCache::new(alloc, capacity.parse().unwrap_or(0), config))
+    *cache = ResponseCache::new(alloc, capacity.parse().unwrap_or(0), config);
+    Ok(())
 }
 
 fn push_step(
@@ -47,17 +59,32 @@ fn push_step(
     let [name, asked, verb, outcome @ ..] = words else {
         return Err(NO_LINE);
     };
-    let asked = type_of(asked);
-    let query = question(alloc, name, asked)?;
+    let query = question(alloc, name, type_of(asked))?;
     match *verb {
-        "get" => push_hit(text, &cache.get(&query, now))?,
-        "bounds" => push_bounds(text, cache.ttl_config(), asked)?,
+        "get" => push_got(text, cache, &query, now),
+        "bounds" => push_bounds(text, cache.ttl_config(), query.query_type),
         _ => {
             change(alloc, cache, query, now, verb, outcome)?;
-            let kept = cache.len();
-            write!(text, ": {kept} kept")?;
+            push_kept(text, cache)
         }
     }
+}
+
+fn push_got(
+    text: &mut String,
+    cache: &ResponseCache,
+    query: &Query,
+    now: u64,
+) -> Result<(), NetError> {
+    let hit = cache.get(query, now);
+    let pushed = push_hit(text, &hit);
+    drop(hit);
+    pushed
+}
+
+fn push_kept(text: &mut String, cache: &ResponseCache) -> Result<(), NetError> {
+    let kept = cache.len();
+    write!(text, ": {kept} kept")?;
     Ok(())
 }
 
@@ -72,14 +99,23 @@ fn change(
     match verb {
         "clear" => cache.clear(),
         "clear_query" => cache.clear_query(&query),
-        "insert" => {
-            let outcome = outcome_of(alloc, &query, outcome)?;
-            cache.insert(query, outcome, now)?;
-        }
         _ => {
             let outcome = outcome_of(alloc, &query, outcome)?;
-            cache.upsert_clamped_ttl(query, outcome, now, verb == "upsert")?;
+            store(cache, query, outcome, now, verb)?;
         }
     }
     Ok(())
+}
+
+fn store(
+    cache: &mut ResponseCache,
+    query: Query,
+    outcome: Result<Message, NetError>,
+    now: u64,
+    verb: &str,
+) -> Result<(), NetError> {
+    match verb {
+        "insert" => cache.insert(query, outcome, now),
+        _ => cache.upsert_clamped_ttl(query, outcome, now, verb == "upsert"),
+    }
 }
