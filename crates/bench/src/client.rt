@@ -111,11 +111,19 @@ fn requests(alloc: Global, aliases: u64) -> Result<Vec<DnsRequest>, NetError> {
 fn handle_of(alloc: Global, aliases: u64, addresses: u32) -> Result<TableHandle, NetError> {
     let mut outcomes = Vec::new(alloc);
     for number in 0..aliases {
-        let target = RData::CNAME(host(alloc, number + 1)?);
-        outcomes.push(outcome(alloc, number, &target, 1)?)?;
+        outcomes.push(alias(alloc, number)?)?;
     }
-    outcomes.push(outcome(alloc, aliases, &address(), addresses)?)?;
+    outcomes.push(last(alloc, aliases, addresses)?)?;
     TableHandle::new(outcomes)
+}
+
+fn alias(alloc: Global, number: u64) -> Result<(Query, Outcome), NetError> {
+    let target = RData::CNAME(host(alloc, number.wrapping_add(1))?);
+    outcome(alloc, number, &target, 1)
+}
+
+fn last(alloc: Global, number: u64, addresses: u32) -> Result<(Query, Outcome), NetError> {
+    outcome(alloc, number, &address(), addresses)
 }
 
 // A host's question, and a response to it with so many answers of these data.
