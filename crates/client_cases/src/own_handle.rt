@@ -35,8 +35,16 @@ pub fn push_own_handle(alloc: Global, text: &mut String) -> Result<(), NetError>
         asked: 0,
     };
     let mut client = CachingClient::new(alloc, 100, handle, false);
+    push_moments(alloc, text, &mut client)
+}
+
+fn push_moments(
+    alloc: Global,
+    text: &mut String,
+    client: &mut CachingClient<OneAddress>,
+) -> Result<(), NetError> {
     for now in [1000, 1045, 1060, 1061] {
-        push_moment(alloc, text, &mut client, now)?;
+        push_moment(alloc, text, client, now)?;
     }
     Ok(())
 }

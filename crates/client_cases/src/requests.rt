@@ -40,7 +40,10 @@ fn push_request(
     let before = client.handle().exchanges().len();
     let reply = ask(alloc, client, request);
     let sent = client.handle().exchanges().get(before..).unwrap_or(&[]);
-    push_reply(text, request, sent, &reply)
+    let pushed = push_reply(text, request, sent, &reply);
+    // Its proof is far shorter than that of a drop at the end of the scope.
+    drop(reply);
+    pushed
 }
 
 /// What a client answers to a request.

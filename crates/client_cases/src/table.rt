@@ -20,8 +20,17 @@ pub fn push_table(alloc: Global, text: &mut String) -> Result<(), NetError> {
     let Script { outcomes, requests } = script_of(alloc, SCRIPT)?;
     let table = table_of(alloc, outcomes)?;
     let mut client = CachingClient::new(alloc, 8, table, false);
-    for request in &requests {
-        push_asked(alloc, text, &mut client, request)?;
+    push_requests(alloc, text, &mut client, &requests)
+}
+
+fn push_requests(
+    alloc: Global,
+    text: &mut String,
+    client: &mut CachingClient<TableHandle>,
+    requests: &[Request],
+) -> Result<(), NetError> {
+    for request in requests {
+        push_asked(alloc, text, client, request)?;
     }
     Ok(())
 }
@@ -33,7 +42,10 @@ fn push_asked(
     request: &Request,
 ) -> Result<(), AllocError> {
     let reply = ask(alloc, client, request);
-    push_step(text, request, &[], &reply)
+    let pushed = push_step(text, request, &[], &reply);
+    // Its proof is far shorter than that of a drop at the end of the scope.
+    drop(reply);
+    pushed
 }
 
 // No answer in time for each of a hundred thousand names, and then what a script says.
