@@ -47,12 +47,24 @@ fn cache_figures<R: Clock>(
     requires { 0 < size }
 {
     let mut cache = filled(alloc, size)?;
+    figures_of(alloc, watch, &mut cache, size)
+}
+
+// The figures of a cache that is full.
+fn figures_of<R: Clock>(
+    alloc: Global,
+    watch: &mut Stopwatch<'_, R>,
+    cache: &mut ResponseCache,
+    size: u64,
+) -> anyhow::Result<CacheFigures>
+    requires { 0 < size }
+{
     Ok(CacheFigures {
-        hit: time_gets(watch, &cache, Visits::new(alloc, 0, size))?,
-        miss: time_gets(watch, &cache, Visits::new(alloc, size, size))?,
-        clamped: time_clamped(watch, &mut cache, Visits::new(alloc, 0, size))?,
-        clear_query: time_clears(watch, &mut cache, Visits::new(alloc, 0, size))?,
-        store: time_evictions(alloc, watch, &mut cache, size)?,
+        hit: time_gets(watch, cache, Visits::new(alloc, 0, size))?,
+        miss: time_gets(watch, cache, Visits::new(alloc, size, size))?,
+        clamped: time_clamped(watch, cache, Visits::new(alloc, 0, size))?,
+        clear_query: time_clears(watch, cache, Visits::new(alloc, 0, size))?,
+        store: time_evictions(alloc, watch, cache, size)?,
     })
 }
 
@@ -60,11 +72,17 @@ fn cache_figures<R: Clock>(
 fn filled(alloc: Global, size: u64) -> Result<ResponseCache, NetError> {
     let mut cache = ResponseCache::new(alloc, size, TtlConfig::default(alloc));
     for number in 0..size {
-        let query = question(alloc, number)?;
-        let message = answer(alloc, &query, number)?;
-        cache.insert(query, Ok(message), 0)?;
+        store(alloc, &mut cache, number)?;
     }
     Ok(cache)
+}
+
+// Stores an answer for a host.
+fn store(alloc: Global, cache: &mut ResponseCache, number: u64) -> Result<(), NetError> {
+    let query = question(alloc, number)?;
+    let message = answer(alloc, &query, number)?;
+    cache.insert(query, Ok(message), 0)?;
+    Ok(())
 }
 
 // Look-ups, a second after all was stored.

@@ -2,74 +2,59 @@
 ghost use Rattle.std.specs.Prelude.{◌<◌};
 
 use crate::measure::{Stopwatch, Subject};
-use crate::samples::{host, question};
-use crate::table::print_figure;
+use crate::samples::{address, host, question, response};
 use hickory_proto_core::dns_handle::Outcome;
 use hickory_proto_core::{
-    DnsHandle, DnsRequest, DnsRequestOptions, DnsResponse, Message, NetError, OpCode, Query, RData,
-    Record, TableHandle,
+    DnsHandle, DnsRequest, DnsRequestOptions, DnsResponse, NetError, Query, RData, TableHandle,
 };
 use hickory_resolver::CachingClient;
 use std::alloc::Global;
-use std::net::Ipv4Addr;
 use std::rt::Clock;
 
 // How many look-ups a round has.
 const LOOKUPS: u64 = 2_000;
 
-// How many aliases stand before the address.
-const ALIASES: u64 = 3;
-
-// How many answers the long response has.
-const ANSWERS: u64 = 1_000;
-
 /// Times look-ups over an empty cache, and prints a row for each.
 pub fn print_times<R: Clock + Print>(
-    rt: &R,
     alloc: Global,
     watch: &mut Stopwatch<'_, R>,
 ) -> anyhow::Result<()> {
-    let looked_up = time_look_ups(alloc, watch, chain(alloc)?, LOOKUPS)?;
-    let sent = time_sends(alloc, watch, chain(alloc)?, LOOKUPS)?;
-    print_figure(rt, "look-up by three aliases", looked_up)?;
-    print_figure(rt, "bare: its four responses", sent)?;
-    let looked_up = time_look_ups(alloc, watch, long(alloc)?, LOOKUPS * ANSWERS)?;
-    let sent = time_sends(alloc, watch, long(alloc)?, LOOKUPS * ANSWERS)?;
-    print_figure(rt, "look-up of 1,000 answers, a record", looked_up)?;
-    print_figure(rt, "bare: its response, a record", sent)?;
-    Ok(())
+    print_look_ups(alloc, watch, "look-up by three aliases", 3, 1)?;
+    print_sends(alloc, watch, "bare: its four responses", 3, 1)?;
+    print_look_ups(alloc, watch, "look-up of 1,000 answers, a record", 0, 1_000)?;
+    print_sends(alloc, watch, "bare: its response, a record", 0, 1_000)
 }
 
-fn time_look_ups<R: Clock>(
+// The figure is for an address.
+fn print_look_ups<R: Clock + Print>(
     alloc: Global,
     watch: &mut Stopwatch<'_, R>,
-    outcomes: Vec<(Query, Outcome)>,
-    operations: u64,
-) -> anyhow::Result<u64>
-    requires { 0 < operations }
+    what: &str,
+    aliases: u64,
+    addresses: u32,
+) -> anyhow::Result<()>
+    requires { 0 < addresses }
 {
-    let handle = TableHandle::new(outcomes)?;
-    let mut subject = LookUps {
-        client: CachingClient::new(alloc, 100, handle, true),
-        first: question(alloc, 0)?,
-    };
-    watch.best(&mut subject, LOOKUPS, operations)
+    let first = question(alloc, 0)?;
+    let handle = handle_of(alloc, aliases, addresses)?;
+    let client = CachingClient::new(alloc, 100, handle, true);
+    let operations = LOOKUPS * u64::from(addresses);
+    watch.print_best(what, &mut LookUps { client, first }, LOOKUPS, operations)
 }
 
-fn time_sends<R: Clock>(
+fn print_sends<R: Clock + Print>(
     alloc: Global,
     watch: &mut Stopwatch<'_, R>,
-    outcomes: Vec<(Query, Outcome)>,
-    operations: u64,
-) -> anyhow::Result<u64>
-    requires { 0 < operations }
+    what: &str,
+    aliases: u64,
+    addresses: u32,
+) -> anyhow::Result<()>
+    requires { 0 < addresses }
 {
-    let requests = requests_of(alloc, &outcomes)?;
-    let mut subject = Sends {
-        handle: TableHandle::new(outcomes)?,
-        requests,
-    };
-    watch.best(&mut subject, LOOKUPS, operations)
+    let requests = requests(alloc, aliases)?;
+    let handle = handle_of(alloc, aliases, addresses)?;
+    let operations = LOOKUPS * u64::from(addresses);
+    watch.print_best(what, &mut Sends { handle, requests }, LOOKUPS, operations)
 }
 
 // Look-ups of the first host, each over an empty cache.
@@ -110,51 +95,45 @@ impl Subject for Sends {
     }
 }
 
-fn requests_of(alloc: Global, outcomes: &[(Query, Outcome)]) -> Result<Vec<DnsRequest>, NetError> {
+// Asks each host.
+fn requests(alloc: Global, aliases: u64) -> Result<Vec<DnsRequest>, NetError> {
     let mut requests = Vec::new(alloc);
-    for (query, _) in outcomes {
+    for number in 0..=aliases {
         requests.push(DnsRequest {
-            query: query.clone()?,
+            query: question(alloc, number)?,
             options: DnsRequestOptions::default(),
         })?;
     }
     Ok(requests)
 }
 
-// Each host but the last is an alias of the next.
-fn chain(alloc: Global) -> Result<Vec<(Query, Outcome)>, NetError> {
+// Each host but the last is an alias of the next, and the last has so many addresses.
+fn handle_of(alloc: Global, aliases: u64, addresses: u32) -> Result<TableHandle, NetError> {
     let mut outcomes = Vec::new(alloc);
-    for number in 0..ALIASES {
-        let target = RData::CNAME(host(alloc, number + 1)?);
-        outcomes.push(outcome(alloc, number, target, 1)?)?;
+    for number in 0..aliases {
+        outcomes.push(alias(alloc, number)?)?;
     }
-    outcomes.push(outcome(alloc, ALIASES, address(), 1)?)?;
-    Ok(outcomes)
+    outcomes.push(last(alloc, aliases, addresses)?)?;
+    TableHandle::new(outcomes)
 }
 
-// The first host has many addresses.
-fn long(alloc: Global) -> Result<Vec<(Query, Outcome)>, NetError> {
-    let mut outcomes = Vec::new(alloc);
-    outcomes.push(outcome(alloc, 0, address(), ANSWERS)?)?;
-    Ok(outcomes)
+fn alias(alloc: Global, number: u64) -> Result<(Query, Outcome), NetError> {
+    let target = RData::CNAME(host(alloc, number.wrapping_add(1))?);
+    outcome(alloc, number, &target, 1)
 }
 
-fn address() -> RData {
-    RData::A(Ipv4Addr::new(192, 0, 2, 1))
+fn last(alloc: Global, number: u64, addresses: u32) -> Result<(Query, Outcome), NetError> {
+    outcome(alloc, number, &address(), addresses)
 }
 
 // A host's question, and a response to it with so many answers of these data.
 fn outcome(
     alloc: Global,
     number: u64,
-    rdata: RData,
-    answers: u64,
+    rdata: &RData,
+    answers: u32,
 ) -> Result<(Query, Outcome), NetError> {
     let query = question(alloc, number)?;
-    let mut message = Message::response(alloc, 0, OpCode::Query);
-    message.add_query(query.clone()?)?;
-    for _ in 0..answers {
-        message.add_answer(Record::from_rdata(query.name().clone()?, 60, rdata.clone()?))?;
-    }
+    let message = response(alloc, &query, 60, rdata, u64::from(answers))?;
     Ok((query, Ok(DnsResponse::from_message(message))))
 }

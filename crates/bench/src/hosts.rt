@@ -3,7 +3,6 @@ ghost use Rattle.std.specs.Prelude.{◌<◌, ◌^◌};
 
 use crate::measure::{Stopwatch, Subject};
 use crate::samples::{BATCH, BATCHES, OPERATIONS, host, host_text, place};
-use crate::table::print_figure;
 use hickory_proto_core::{Name, NetError, Query, RecordType};
 use hickory_resolver::Hosts;
 use std::alloc::Global;
@@ -15,46 +14,35 @@ const LINES: u64 = 100_000;
 
 /// Times tables of hosts, and prints a line for each operation.
 pub fn print_times<R: Clock + Print>(
-    rt: &R,
     alloc: Global,
     watch: &mut Stopwatch<'_, R>,
 ) -> anyhow::Result<()> {
-    print_read(
-        rt,
-        watch,
-        "read 1 address a name, a line",
-        Reads::new(alloc, 1)?,
-    )?;
-    print_read(
-        rt,
-        watch,
-        "read 1,000 addresses a name, a line",
-        Reads::new(alloc, 1_000)?,
-    )?;
-    print_read(
-        rt,
-        watch,
-        "read 10,000 addresses a name, a line",
-        Reads::new(alloc, 10_000)?,
-    )?;
-    let mut look_ups = LookUps::new(alloc)?;
-    let found = watch.best(&mut look_ups, BATCHES, OPERATIONS)?;
-    print_figure(rt, "static look-up of A", found)?;
-    look_ups.record_type = RecordType::PTR;
-    let found = watch.best(&mut look_ups, BATCHES, OPERATIONS)?;
-    print_figure(rt, "static look-up of PTR", found)?;
-    Ok(())
+    print_read(alloc, watch, "read 1 address a name, a line", 1)?;
+    print_read(alloc, watch, "read 1,000 addresses a name, a line", 1_000)?;
+    print_read(alloc, watch, "read 10,000 addresses a name, a line", 10_000)?;
+    print_look_ups(alloc, watch)
 }
 
 fn print_read<R: Clock + Print>(
-    rt: &R,
+    alloc: Global,
     watch: &mut Stopwatch<'_, R>,
     what: &str,
-    reads: Reads,
+    addresses: u64,
+) -> anyhow::Result<()>
+    requires { 0 < addresses }
+{
+    let mut reads = Reads::new(alloc, addresses)?;
+    watch.print_best(what, &mut reads, 1, LINES)
+}
+
+fn print_look_ups<R: Clock + Print>(
+    alloc: Global,
+    watch: &mut Stopwatch<'_, R>,
 ) -> anyhow::Result<()> {
-    let mut reads = reads;
-    print_figure(rt, what, watch.best(&mut reads, 1, LINES)?)?;
-    Ok(())
+    let mut look_ups = LookUps::new(alloc)?;
+    watch.print_best("static look-up of A", &mut look_ups, BATCHES, OPERATIONS)?;
+    look_ups.record_type = RecordType::PTR;
+    watch.print_best("static look-up of PTR", &mut look_ups, BATCHES, OPERATIONS)
 }
 
 // A file that is read into an empty table.

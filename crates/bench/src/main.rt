@@ -31,10 +31,10 @@ fn print_times<R: Clock + Print>(rt: &R, alloc: Global) -> anyhow::Result<()> {
     print_head(rt)?;
     cache::print_times(rt, alloc, &mut watch)?;
     bare::print_times(rt, alloc, &mut watch)?;
-    names::print_times(rt, alloc, &mut watch)?;
-    client::print_times(rt, alloc, &mut watch)?;
-    hosts::print_times(rt, alloc, &mut watch)?;
-    script::print_times(rt, alloc, &mut watch)?;
+    names::print_times(alloc, &mut watch)?;
+    client::print_times(alloc, &mut watch)?;
+    hosts::print_times(alloc, &mut watch)?;
+    script::print_times(alloc, &mut watch)?;
     let seen = watch.seen();
     println!(rt; "check sum {seen}")?;
     Ok(())

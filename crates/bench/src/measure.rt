@@ -1,6 +1,7 @@
 //! The time that an operation takes.
 ghost use Rattle.std.specs.Prelude.{◌<◌};
 
+use crate::table::print_figure;
 use hickory_proto_core::NetError;
 use std::rt::Clock;
 use std::time::Instant;
@@ -23,6 +24,23 @@ pub trait Subject {
 pub struct Stopwatch<'a, R> {
     rt: &'a R,
     seen: u64,
+}
+
+impl<'a, R: Clock + Print> Stopwatch<'a, R> {
+    /// Prints the nanoseconds of an operation, as `best` has them.
+    pub fn print_best<S: Subject>(
+        &mut self,
+        what: &str,
+        subject: &mut S,
+        batches: u64,
+        operations: u64,
+    ) -> anyhow::Result<()>
+        requires { 0 < operations }
+    {
+        let best = self.best(subject, batches, operations)?;
+        print_figure(self.rt, what, best)?;
+        Ok(())
+    }
 }
 
 impl<'a, R: Clock> Stopwatch<'a, R> {

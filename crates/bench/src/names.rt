@@ -1,7 +1,6 @@
 //! Names: reading, comparing, hashing.
 use crate::measure::{Stopwatch, Subject};
 use crate::samples::{BATCH, BATCHES, OPERATIONS, host, host_text};
-use crate::table::print_figure;
 use hickory_proto_core::{Name, NetError};
 use std::alloc::Global;
 use std::hash::{BuildHasher, BuildHasherDefault, FoldHasher};
@@ -9,24 +8,26 @@ use std::rt::Clock;
 
 /// Times what is done with names, and prints a line for each.
 pub fn print_times<R: Clock + Print>(
-    rt: &R,
     alloc: Global,
     watch: &mut Stopwatch<'_, R>,
 ) -> anyhow::Result<()> {
     let texts = texts(alloc)?;
+    let reads = &mut Reads { alloc, texts };
+    watch.print_best("read a name's text", reads, BATCHES, OPERATIONS)?;
+    print_known(alloc, watch)
+}
+
+// The operations on names that were read.
+fn print_known<R: Clock + Print>(
+    alloc: Global,
+    watch: &mut Stopwatch<'_, R>,
+) -> anyhow::Result<()> {
     let names = names(alloc)?;
-    let others = self::names(alloc)?;
-    let read = watch.best(&mut Reads { alloc, texts }, BATCHES, OPERATIONS)?;
-    print_figure(rt, "read a name's text", read)?;
     let hashes = &mut Hashes { names: &names };
-    print_figure(rt, "hash a name", watch.best(hashes, BATCHES, OPERATIONS)?)?;
+    watch.print_best("hash a name", hashes, BATCHES, OPERATIONS)?;
+    let others = self::names(alloc)?;
     let pairs = &mut Compares { names, others };
-    print_figure(
-        rt,
-        "compare two equal names",
-        watch.best(pairs, BATCHES, OPERATIONS)?,
-    )?;
-    Ok(())
+    watch.print_best("compare two equal names", pairs, BATCHES, OPERATIONS)
 }
 
 fn texts(alloc: Global) -> Result<Vec<String>, NetError> {

@@ -45,15 +45,42 @@ pub fn question(alloc: Global, number: u64) -> Result<Query, NetError> {
     Ok(Query::query(host(alloc, number)?, RecordType::A))
 }
 
-/// A response to a question with one address, whose TTL follows from the number. A caller reads a name once: the
-/// names of the response are copies of the asked one.
+/// A response to a question with one address, whose TTL follows from the number.
 pub fn answer(alloc: Global, query: &Query, number: u64) -> Result<Message, NetError> {
-    let owner = query.name().clone()?;
-    let address = RData::A(Ipv4Addr::new(192, 0, 2, 1));
+    response(alloc, query, ttl(number), &address(), 1)
+}
+
+/// A response to a question with so many answers of these data. A caller reads a name once: the names of the
+/// response are copies of the asked one.
+pub fn response(
+    alloc: Global,
+    query: &Query,
+    ttl: u32,
+    rdata: &RData,
+    answers: u64,
+) -> Result<Message, NetError> {
     let mut message = Message::response(alloc, 0, OpCode::Query);
     message.add_query(query.clone()?)?;
-    message.add_answer(Record::from_rdata(owner, ttl(number), address))?;
+    for _ in 0..answers {
+        add_answer(&mut message, query, ttl, rdata)?;
+    }
     Ok(message)
+}
+
+fn add_answer(
+    message: &mut Message,
+    query: &Query,
+    ttl: u32,
+    rdata: &RData,
+) -> Result<(), NetError> {
+    let owner = query.name().clone()?;
+    message.add_answer(Record::from_rdata(owner, ttl, rdata.clone()?))?;
+    Ok(())
+}
+
+/// The data of an address.
+pub fn address() -> RData {
+    RData::A(Ipv4Addr::new(192, 0, 2, 1))
 }
 
 // From a minute to a day, in no order.
@@ -103,8 +130,14 @@ impl Visits {
         let mut answers = Vec::new(self.alloc);
         for (i, query) in self.asked.iter().enumerate() {
             let number = self.next.wrapping_add(i as u64);
-            answers.push((query.clone()?, answer(self.alloc, query, number)?))?;
+            answers.push(answered(self.alloc, query, number)?)?;
         }
         Ok(answers)
     }
+}
+
+// A question, and a response to it.
+fn answered(alloc: Global, query: &Query, number: u64) -> Result<(Query, Message), NetError> {
+    let message = answer(alloc, query, number)?;
+    Ok((query.clone()?, message))
 }

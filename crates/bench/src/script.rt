@@ -1,7 +1,6 @@
 //! A script of many requests, from its bytes to the text of its run.
 use crate::measure::{Stopwatch, Subject};
 use crate::samples::host_text;
-use crate::table::print_figure;
 use hickory_proto_core::NetError;
 use replay::replay_text;
 use std::alloc::Global;
@@ -14,18 +13,12 @@ const REQUESTS: u64 = 1_000_000;
 
 /// Times the run of a script, and prints a line for one of its requests.
 pub fn print_times<R: Clock + Print>(
-    rt: &R,
     alloc: Global,
     watch: &mut Stopwatch<'_, R>,
 ) -> anyhow::Result<()> {
     let script = script(alloc)?;
     let requests = &mut Requests { alloc, script };
-    print_figure(
-        rt,
-        "a request of 1,000,000 in a script",
-        watch.best(requests, 1, REQUESTS)?,
-    )?;
-    Ok(())
+    watch.print_best("a request of 1,000,000 in a script", requests, 1, REQUESTS)
 }
 
 // Each name has an address for a day. The first 8,000 requests are asked upstream, and the others are hits.

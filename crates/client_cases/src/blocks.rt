@@ -7,7 +7,7 @@ use replay_script::Script;
 use std::alloc::Global;
 
 pub fn push_blocks(alloc: Global, text: &mut String, cases: &str) -> Result<(), NetError> {
-    let mut client = client_of(alloc, &[], Vec::new(alloc))?;
+    let mut client = client_of(alloc, "", Vec::new(alloc))?;
     for block in cases.split("\n\n") {
         push_block(alloc, text, &mut client, block)?;
     }
@@ -22,58 +22,77 @@ fn push_block(
 ) -> Result<(), NetError> {
     let (head, script) = block.split_once('\n').unwrap_or((block, ""));
     write!(text, "# {head}\n")?;
-    let words: Vec<&str> = head.split_whitespace().collect(alloc)?;
     let Script { outcomes, requests } = script_of(alloc, script)?;
-    if head.starts_with("clear") {
-        clear(alloc, client, &words)?;
-        push_kept(text, client)?;
-    } else {
-        let is_late = head.starts_with("late");
-        let outcomes = outcomes_of(alloc, is_late, outcomes)?;
-        *client = client_of(alloc, &words, outcomes)?;
-    }
+    begin(alloc, text, client, head, outcomes)?;
     push_requests(alloc, text, client, &requests)
 }
 
-// Clears what a name has, or all.
-fn clear(alloc: Global, client: &mut Client, words: &[&str]) -> Result<(), NetError> {
-    match words.get(1) {
-        Some(name) => {
-            let name = Name::from_ascii(alloc, name)?;
-            client.clear_cache_query(&Query::query(name, RecordType::A));
+// Makes or clears the client, as the head of a block says.
+fn begin(
+    alloc: Global,
+    text: &mut String,
+    client: &mut Client,
+    head: &str,
+    said: Vec<(Query, Outcome)>,
+) -> Result<(), NetError> {
+    match head.strip_prefix("clear") {
+        Some(name) => clear(alloc, text, client, name.trim()),
+        None => {
+            *client = client_of(alloc, head, said)?;
+            Ok(())
         }
-        None => client.clear_cache(),
+    }
+}
+
+// Clears what a name has, or all.
+fn clear(
+    alloc: Global,
+    text: &mut String,
+    client: &mut Client,
+    name: &str,
+) -> Result<(), NetError> {
+    if name.is_empty() {
+        client.clear_cache();
+    } else {
+        let name = Name::from_ascii(alloc, name)?;
+        client.clear_cache_query(&Query::query(name, RecordType::A));
+    }
+    push_kept(text, client)?;
+    Ok(())
+}
+
+// The client of a head, over the outcomes of a script.
+fn client_of(alloc: Global, head: &str, said: Vec<(Query, Outcome)>) -> Result<Client, NetError> {
+    let outcomes = outcomes_of(alloc, head, said)?;
+    let handle = Recorded::new(alloc, ScriptHandle::new(outcomes));
+    Ok(CachingClient::with_cache(cache_of(alloc, head)?, handle, false))
+}
+
+// Where the client is late, there is first one question without an answer in time.
+fn outcomes_of(
+    alloc: Global,
+    head: &str,
+    said: Vec<(Query, Outcome)>,
+) -> Result<Vec<Outcome>, NetError> {
+    let mut outcomes = Vec::new(alloc);
+    if head.starts_with("late") {
+        outcomes.push(Err(NetError::Timeout))?;
+    }
+    add_said(&mut outcomes, said)?;
+    Ok(outcomes)
+}
+
+fn add_said(outcomes: &mut Vec<Outcome>, said: Vec<(Query, Outcome)>) -> Result<(), NetError> {
+    for (_, outcome) in said {
+        outcomes.push(outcome)?;
     }
     Ok(())
 }
 
-// The outcomes of a script. Where it is late, there is first one question without an answer in time.
-fn outcomes_of(
-    alloc: Global,
-    is_late: bool,
-    said: Vec<(Query, Outcome)>,
-) -> Result<Vec<Outcome>, NetError> {
-    let mut outcomes = Vec::new(alloc);
-    if is_late {
-        outcomes.push(Err(NetError::Timeout))?;
-    }
-    for (_, outcome) in said {
-        outcomes.push(outcome)?;
-    }
-    Ok(outcomes)
-}
-
-fn client_of(alloc: Global, words: &[&str], outcomes: Vec<Outcome>) -> Result<Client, NetError> {
-    let cache = match words {
-        [_, capacity, greatest, ..] => cache_of(alloc, capacity, greatest)?,
-        _ => cache_of(alloc, "", "")?,
-    };
-    let handle = Recorded::new(alloc, ScriptHandle::new(outcomes));
-    Ok(CachingClient::with_cache(cache, handle, false))
-}
-
-fn cache_of(alloc: Global, capacity: &str, greatest: &str) -> Result<ResponseCache, NetError> {
-    let bounds = TtlBounds::new(None, None, greatest.parse().ok(), None);
-    let config = TtlConfig::from(alloc, bounds.map_err(NetError::Bounds)?);
-    Ok(ResponseCache::new(alloc, capacity.parse().unwrap_or(0), config))
+fn cache_of(alloc: Global, head: &str) -> Result<ResponseCache, NetError> {
+    let mut words = head.split_whitespace().skip(1);
+    let capacity = words.next().unwrap_or("").parse().unwrap_or(0);
+    let greatest = words.next().unwrap_or("").parse().ok();
+    let bounds = TtlBounds::new(None, None, greatest, None).map_err(NetError::Bounds)?;
+    Ok(ResponseCache::new(alloc, capacity, TtlConfig::from(alloc, bounds)))
 }

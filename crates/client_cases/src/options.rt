@@ -27,11 +27,31 @@ pub fn push_options(alloc: Global, text: &mut String) -> Result<(), NetError> {
         edns_payload_len: 4096,
         case_randomization: true,
     };
-    for given in [options, DnsRequestOptions::default()] {
-        let query = Query::query(Name::root(alloc), RecordType::A);
-        let failed = client.lookup(query, given, 0).is_err();
-        let kept = client.handle().options;
-        write!(text, "{failed} {kept:?}\n")?;
-    }
+    push_given(alloc, text, &mut client, options)?;
+    push_given(alloc, text, &mut client, DnsRequestOptions::default())
+}
+
+fn push_given(
+    alloc: Global,
+    text: &mut String,
+    client: &mut CachingClient<KeepsOptions>,
+    given: DnsRequestOptions,
+) -> Result<(), NetError> {
+    let failed = fails(alloc, client, given);
+    let kept = client.handle().options;
+    write!(text, "{failed} {kept:?}\n")?;
     Ok(())
+}
+
+fn fails(
+    alloc: Global,
+    client: &mut CachingClient<KeepsOptions>,
+    given: DnsRequestOptions,
+) -> bool {
+    let query = Query::query(Name::root(alloc), RecordType::A);
+    let reply = client.lookup(query, given, 0);
+    let failed = reply.is_err();
+    // Its proof is far shorter than that of a drop at the end of the scope.
+    drop(reply);
+    failed
 }

@@ -3,8 +3,8 @@ use hickory_proto_core::{
     DnsHandle, DnsRequest, DnsRequestOptions, DnsResponse, Message, Name, NetError, OpCode, Query,
     RData, Record, RecordType,
 };
-use hickory_resolver::CachingClient;
-use std::alloc::Global;
+use hickory_resolver::{CachingClient, Lookup};
+use std::alloc::{AllocError, Global};
 use std::net::Ipv4Addr;
 
 // An upstream that answers every question with one address for a minute, and counts what it is asked.
@@ -35,13 +35,45 @@ pub fn push_own_handle(alloc: Global, text: &mut String) -> Result<(), NetError>
         asked: 0,
     };
     let mut client = CachingClient::new(alloc, 100, handle, false);
+    push_moments(alloc, text, &mut client)
+}
+
+fn push_moments(
+    alloc: Global,
+    text: &mut String,
+    client: &mut CachingClient<OneAddress>,
+) -> Result<(), NetError> {
     for now in [1000, 1045, 1060, 1061] {
-        let query = Query::query(Name::from_ascii(alloc, "www.example.com.")?, RecordType::A);
-        let lookup = client.lookup(query, DnsRequestOptions::default(), now)?;
-        for answer in lookup.answers() {
-            let (ttl, asked) = (answer.ttl, client.handle().asked);
-            write!(text, "at {now} TTL {ttl} asked {asked}\n")?;
-        }
+        push_moment(alloc, text, client, now)?;
+    }
+    Ok(())
+}
+
+fn push_moment(
+    alloc: Global,
+    text: &mut String,
+    client: &mut CachingClient<OneAddress>,
+    now: u64,
+) -> Result<(), NetError> {
+    let lookup = ask(alloc, client, now)?;
+    let asked = client.handle().asked;
+    push_ttls(text, now, asked, lookup.answers())?;
+    Ok(())
+}
+
+fn ask(
+    alloc: Global,
+    client: &mut CachingClient<OneAddress>,
+    now: u64,
+) -> Result<Lookup, NetError> {
+    let query = Query::query(Name::from_ascii(alloc, "www.example.com.")?, RecordType::A);
+    client.lookup(query, DnsRequestOptions::default(), now)
+}
+
+fn push_ttls(text: &mut String, now: u64, asked: u8, answers: &[Record]) -> Result<(), AllocError> {
+    for answer in answers {
+        let ttl = answer.ttl;
+        write!(text, "at {now} TTL {ttl} asked {asked}\n")?;
     }
     Ok(())
 }

@@ -1,6 +1,6 @@
 //! The requests of scripts, and what comes of them.
 use hickory_proto_core::{
-    DnsError, DnsRequestOptions, Name, NetError, Query, Recorded, ScriptHandle,
+    DnsError, DnsHandle, DnsRequestOptions, Exchange, Name, NetError, Query, Recorded, ScriptHandle,
 };
 use hickory_resolver::{CachingClient, Lookup};
 use replay::output::push_step;
@@ -36,15 +36,35 @@ fn push_request(
     text: &mut String,
     client: &mut Client,
     request: &Request,
-) -> Result<(), NetError> {
+) -> Result<(), AllocError> {
     let before = client.handle().exchanges().len();
+    let reply = ask(alloc, client, request);
+    let sent = client.handle().exchanges().get(before..).unwrap_or(&[]);
+    let pushed = push_reply(text, request, sent, &reply);
+    // Its proof is far shorter than that of a drop at the end of the scope.
+    drop(reply);
+    pushed
+}
+
+/// What a client answers to a request.
+pub fn ask<H: DnsHandle>(
+    alloc: Global,
+    client: &mut CachingClient<H>,
+    request: &Request,
+) -> Result<Lookup, NetError> {
     let name = Name::from_ascii(alloc, request.name.as_str())?;
     let query = Query::query(name, request.record_type);
-    let reply = client.lookup(query, DnsRequestOptions::default(), request.now);
-    let sent = client.handle().exchanges().get(before..).unwrap_or(&[]);
-    push_step(text, request, sent, &reply)?;
-    push_soa(text, &reply)?;
-    Ok(())
+    client.lookup(query, DnsRequestOptions::default(), request.now)
+}
+
+fn push_reply(
+    text: &mut String,
+    request: &Request,
+    sent: &[Exchange],
+    reply: &Result<Lookup, NetError>,
+) -> Result<(), AllocError> {
+    push_step(text, request, sent, reply)?;
+    push_soa(text, reply)
 }
 
 // The TTL of the SOA record of a negative answer, which a script's text leaves out.

@@ -1,12 +1,12 @@
 //! A client over a table of many outcomes, as a test rig hands them in: the last outcome of a question counts,
 //! whatever the case of its name.
-use crate::requests::script_of;
+use crate::requests::{ask, script_of};
 use hickory_proto_core::dns_handle::Outcome;
-use hickory_proto_core::{DnsRequestOptions, Name, NetError, Query, RecordType, TableHandle};
+use hickory_proto_core::{Name, NetError, Query, RecordType, TableHandle};
 use hickory_resolver::CachingClient;
 use replay::output::push_step;
-use replay_script::Script;
-use std::alloc::Global;
+use replay_script::{Request, Script};
+use std::alloc::{AllocError, Global};
 
 const SCRIPT: &str = "reply NOERROR N7. A
 answer n7. 30 IN A 192.0.2.1
@@ -20,13 +20,32 @@ pub fn push_table(alloc: Global, text: &mut String) -> Result<(), NetError> {
     let Script { outcomes, requests } = script_of(alloc, SCRIPT)?;
     let table = table_of(alloc, outcomes)?;
     let mut client = CachingClient::new(alloc, 8, table, false);
-    for request in &requests {
-        let name = Name::from_ascii(alloc, request.name.as_str())?;
-        let query = Query::query(name, request.record_type);
-        let reply = client.lookup(query, DnsRequestOptions::default(), request.now);
-        push_step(text, request, &[], &reply)?;
+    push_requests(alloc, text, &mut client, &requests)
+}
+
+fn push_requests(
+    alloc: Global,
+    text: &mut String,
+    client: &mut CachingClient<TableHandle>,
+    requests: &[Request],
+) -> Result<(), NetError> {
+    for request in requests {
+        push_asked(alloc, text, client, request)?;
     }
     Ok(())
+}
+
+fn push_asked(
+    alloc: Global,
+    text: &mut String,
+    client: &mut CachingClient<TableHandle>,
+    request: &Request,
+) -> Result<(), AllocError> {
+    let reply = ask(alloc, client, request);
+    let pushed = push_step(text, request, &[], &reply);
+    // Its proof is far shorter than that of a drop at the end of the scope.
+    drop(reply);
+    pushed
 }
 
 // No answer in time for each of a hundred thousand names, and then what a script says.

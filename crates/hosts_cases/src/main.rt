@@ -7,28 +7,37 @@ mod hashers;
 mod pieces;
 mod shown;
 
-use hickory_proto_core::{Name, Query, RecordType};
+use hickory_proto_core::{Name, NetError, Query, RecordType};
 use hickory_resolver_hosts::Hosts;
-use shown::{push_answer, push_read};
+use shown::{push_found, push_read};
 use std::alloc::Global;
 use std::hash::{BuildHasher, BuildHasherDefault, FoldHasher};
 use std::rt::{Env, Files};
 use std::{env, fs};
 
-// The moments (seconds) at which files are read, and at which tables are asked.
+// The moment (seconds) at which files are read.
 const READ_AT: u64 = 7;
 
-const ASKED_AT: u64 = 1007;
-
 fn main(rt: HostRuntime) -> anyhow::Result<()> {
+    rt.print(text_of(&rt)?.as_str())?;
+    Ok(())
+}
+
+fn text_of<R: AllocGlobal + Env + Files>(rt: &R) -> anyhow::Result<String> {
     let usual: BuildHasherDefault<FoldHasher> = BuildHasherDefault::new();
-    let text = words_text(&rt, usual)?;
-    rt.print(text.as_str())?;
-    let same: BuildHasherDefault<hashers::OneHash> = BuildHasherDefault::new();
-    if words_text(&rt, same)? == text {
-        println!(rt; "the same where every key has one hash")?;
+    let mut text = words_text(rt, usual)?;
+    push_same(rt, &mut text)?;
+    calls::push_calls(rt.alloc(), &mut text)?;
+    Ok(text)
+}
+
+// Says so where the words come to this text too if every key has one hash.
+fn push_same<R: AllocGlobal + Env + Files>(rt: &R, text: &mut String) -> anyhow::Result<()> {
+    let one: BuildHasherDefault<hashers::OneHash> = BuildHasherDefault::new();
+    if words_text(rt, one)? == *text {
+        text.push_str("the same where every key has one hash\n")?;
     }
-    calls::print_calls(&rt, rt.alloc())
+    Ok(())
 }
 
 // What the words of the arguments come to, over tables whose names are hashed by this.
@@ -36,21 +45,39 @@ fn words_text<R: AllocGlobal + Env + Files, S: BuildHasher + Copy>(
     rt: &R,
     hasher: S,
 ) -> anyhow::Result<String> {
-    let alloc = rt.alloc();
-    let mut text = String::new(alloc);
-    let mut hosts = Hosts::with_hasher(alloc, hasher);
+    let mut text = String::new(rt.alloc());
+    push_words(rt, &mut text, hasher)?;
+    Ok(text)
+}
+
+fn push_words<R: AllocGlobal + Env + Files, S: BuildHasher + Copy>(
+    rt: &R,
+    text: &mut String,
+    hasher: S,
+) -> anyhow::Result<()> {
+    let mut hosts = Hosts::with_hasher(rt.alloc(), hasher);
     for word in env::args(rt)?.skip(1) {
         match word.split_once('/') {
-            Some((name, record_type)) => ask(alloc, &mut text, &hosts, name, record_type)?,
+            Some((name, record_type)) => ask(rt.alloc(), text, &hosts, name, record_type)?,
             None => {
-                hosts = Hosts::with_hasher(alloc, hasher);
-                let bytes = fs::read(rt, word.as_str())?;
-                let read = hosts.read_hosts_bytes(&bytes, READ_AT);
-                push_read(&mut text, word.as_str(), &read)?;
+                hosts = Hosts::with_hasher(rt.alloc(), hasher);
+                read_file(rt, text, &mut hosts, word.as_str())?;
             }
         }
     }
-    Ok(text)
+    Ok(())
+}
+
+fn read_file<R: AllocGlobal + Files, S: BuildHasher>(
+    rt: &R,
+    text: &mut String,
+    hosts: &mut Hosts<S>,
+    file: &str,
+) -> anyhow::Result<()> {
+    let bytes = fs::read(rt, file)?;
+    let read = hosts.read_hosts_bytes(&bytes, READ_AT);
+    push_read(text, file, read)?;
+    Ok(())
 }
 
 fn ask<S: BuildHasher>(
@@ -61,10 +88,10 @@ fn ask<S: BuildHasher>(
     record_type: &str,
 ) -> anyhow::Result<()> {
     write!(text, "{name} {record_type}\n")?;
-    let name = Name::from_ascii(alloc, name)?;
-    let query = Query::query(
-        name,
-        RecordType::from_word(record_type).unwrap_or(RecordType::A),
-    );
-    push_answer(alloc, text, &hosts.lookup_static_host(&query, ASKED_AT)?)
+    push_found(alloc, text, hosts, &question(alloc, name, record_type)?)
+}
+
+fn question(alloc: Global, name: &str, record_type: &str) -> Result<Query, NetError> {
+    let record_type = RecordType::from_word(record_type).unwrap_or(RecordType::A);
+    Ok(Query::query(Name::from_ascii(alloc, name)?, record_type))
 }

@@ -1,28 +1,41 @@
 //! The texts of answers.
-use hickory_proto_core::{RData, Record, ip_text};
-use hickory_resolver_hosts::HostsError;
+use hickory_proto_core::{NetError, Query, RData, Record, ip_text};
+use hickory_resolver_hosts::{Hosts, HostsError};
 use hickory_resolver_lookup::Lookup;
-use std::alloc::Global;
+use std::alloc::{AllocError, Global};
+use std::hash::BuildHasher;
+
+// The moment (seconds) at which tables are asked.
+const ASKED_AT: u64 = 1007;
 
 /// Adds how the reading of a file ended.
 pub fn push_read(
     text: &mut String,
     file: &str,
-    read: &Result<(), HostsError>,
-) -> anyhow::Result<()> {
+    read: Result<(), HostsError>,
+) -> Result<(), AllocError> {
     match read {
-        Ok(()) => write!(text, "{file}: read\n")?,
-        Err(error) => write!(text, "{file}: {error}\n")?,
+        Ok(()) => write!(text, "{file}: read\n"),
+        Err(error) => write!(text, "{file}: {error}\n"),
+    }
+}
+
+/// Adds what a table has for a question.
+pub fn push_found<S: BuildHasher>(
+    alloc: Global,
+    text: &mut String,
+    hosts: &Hosts<S>,
+    query: &Query,
+) -> anyhow::Result<()> {
+    match hosts.lookup_static_host(query, ASKED_AT)? {
+        Some(lookup) => push_lookup(alloc, text, &lookup)?,
+        None => text.push_str("  nothing\n")?,
     }
     Ok(())
 }
 
-/// Adds what a table has for a question: the question of the look-up, its deadline, and its answers.
-pub fn push_answer(alloc: Global, text: &mut String, found: &Option<Lookup>) -> anyhow::Result<()> {
-    let Some(lookup) = found else {
-        text.push_str("  nothing\n")?;
-        return Ok(());
-    };
+// The question of a look-up, its deadline, and its answers.
+fn push_lookup(alloc: Global, text: &mut String, lookup: &Lookup) -> Result<(), NetError> {
     let (query, deadline) = (lookup.query(), lookup.valid_until());
     let (name, class, record_type) = (&query.name, query.query_class, query.query_type);
     write!(text, "  ok {name} {class} {record_type} until {deadline}\n")?;
@@ -32,15 +45,18 @@ pub fn push_answer(alloc: Global, text: &mut String, found: &Option<Lookup>) -> 
     Ok(())
 }
 
-fn push_record(alloc: Global, text: &mut String, answer: &Record) -> anyhow::Result<()> {
+fn push_record(alloc: Global, text: &mut String, answer: &Record) -> Result<(), NetError> {
+    let data = data_text(alloc, &answer.rdata)?;
     let (name, ttl, class) = (&answer.name, answer.ttl, answer.dns_class);
-    match (&answer.rdata, answer.rdata.ip_addr()) {
-        (RData::PTR(target), _) => write!(text, "  answer {name} {ttl} {class} {target}\n")?,
-        (_, Some(address)) => {
-            let address = ip_text(alloc, address)?;
-            write!(text, "  answer {name} {ttl} {class} {address}\n")?;
-        }
-        _ => {}
-    }
+    write!(text, "  answer {name} {ttl} {class} {data}\n")?;
     Ok(())
+}
+
+// The text of a name or an address.
+fn data_text(alloc: Global, rdata: &RData) -> Result<String, NetError> {
+    match (rdata, rdata.ip_addr()) {
+        (RData::PTR(name), _) => Ok(format!(in alloc; "{name}")?),
+        (_, Some(address)) => ip_text(alloc, address),
+        _ => Ok(String::new(alloc)),
+    }
 }
