@@ -49,7 +49,14 @@ fn local_address(query_type: RecordType) -> RData {
 pub fn shown(hit: &Option<Result<Message, NetError>>) -> Option<Kept> {
     match hit {
         Some(Ok(message)) => shown_answer(message),
-        Some(Err(NetError::Dns(DnsError::NoRecordsFound(none)))) => shown_negative(none),
+        Some(Err(error)) => shown_error(error),
+        None => None,
+    }
+}
+
+fn shown_error(error: &NetError) -> Option<Kept> {
+    match error {
+        NetError::Dns(DnsError::NoRecordsFound(none)) => shown_negative(none),
         _ => None,
     }
 }
