@@ -79,7 +79,8 @@ fn push_got(
     let hit = cache.get(query, now);
     let pushed = push_hit(text, &hit);
     drop(hit);
-    pushed
+    pushed?;
+    Ok(())
 }
 
 fn push_kept(text: &mut String, cache: &ResponseCache) -> Result<(), NetError> {
