@@ -140,6 +140,7 @@ fn is_same_for<S: BuildHasher>(
 ) -> bool {
     let hit = cache.get(query, now);
     let cached = shown(&hit);
+    // `drop` costs the prover less than the end of the block.
     drop(hit);
     cached == scanned.get(query, now)
 }
