@@ -103,13 +103,9 @@ fn one(alloc: Global, kind: RecordType, ttl: u32) -> Result<Vec<Record>, NetErro
 
 // One server, with glue of one address.
 fn servers(alloc: Global, ttl: u32) -> Result<Vec<ForwardNSData>, NetError> {
-    let mut servers = Vec::new(alloc);
-    servers.push(server(alloc, ttl)?)?;
-    Ok(servers)
-}
-
-fn server(alloc: Global, ttl: u32) -> Result<ForwardNSData, NetError> {
     let glue = one(alloc, RecordType::A, ttl)?;
     let ns = record(alloc, RecordType::NS, ttl)?;
-    Ok(ForwardNSData { ns, glue })
+    let mut servers = Vec::new(alloc);
+    servers.push(ForwardNSData { ns, glue })?;
+    Ok(servers)
 }

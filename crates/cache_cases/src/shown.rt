@@ -4,34 +4,29 @@ use hickory_proto_core::{
     DnsError, ForwardNSData, Message, NetError, NoRecords, Record, RecordType,
 };
 use hickory_resolver_lookup::{TtlBounds, TtlConfig};
-use std::alloc::Global;
+use std::alloc::{AllocError, Global};
 
 /// Adds what a cache has: the TTLs of an answer or of a negative one.
 pub fn push_hit(
     text: &mut String,
     hit: &Option<Result<Message, NetError>>,
-) -> Result<(), NetError> {
+) -> Result<(), AllocError> {
     match hit {
-        None => push_word(text, ": nothing"),
+        None => text.push_str(": nothing"),
         Some(Ok(message)) => push_message(text, message),
         Some(Err(NetError::Dns(DnsError::NoRecordsFound(none)))) => push_negative(text, none),
-        Some(Err(_)) => push_word(text, ": another error"),
+        Some(Err(_)) => text.push_str(": another error"),
     }
 }
 
-fn push_word(text: &mut String, word: &str) -> Result<(), NetError> {
-    text.push_str(word)?;
-    Ok(())
-}
-
-fn push_message(text: &mut String, message: &Message) -> Result<(), NetError> {
+fn push_message(text: &mut String, message: &Message) -> Result<(), AllocError> {
     text.push_str(":")?;
     push_ttls(text, "answer", &message.answers)?;
     push_ttls(text, "authority", &message.authorities)?;
     push_ttls(text, "additional", &message.additionals)
 }
 
-fn push_ttls(text: &mut String, section: &str, records: &[Record]) -> Result<(), NetError> {
+fn push_ttls(text: &mut String, section: &str, records: &[Record]) -> Result<(), AllocError> {
     for found in records {
         let ttl = found.ttl;
         write!(text, " {section} {ttl}")?;
@@ -39,7 +34,7 @@ fn push_ttls(text: &mut String, section: &str, records: &[Record]) -> Result<(),
     Ok(())
 }
 
-fn push_negative(text: &mut String, none: &NoRecords) -> Result<(), NetError> {
+fn push_negative(text: &mut String, none: &NoRecords) -> Result<(), AllocError> {
     let code = none.response_code;
     write!(text, ": {code}")?;
     if let Some(ttl) = none.negative_ttl {
@@ -48,7 +43,7 @@ fn push_negative(text: &mut String, none: &NoRecords) -> Result<(), NetError> {
     push_parts(text, none)
 }
 
-fn push_parts(text: &mut String, none: &NoRecords) -> Result<(), NetError> {
+fn push_parts(text: &mut String, none: &NoRecords) -> Result<(), AllocError> {
     if let Some(soa) = &none.soa {
         let ttl = soa.ttl;
         write!(text, " soa {ttl}")?;
@@ -62,7 +57,7 @@ fn push_parts(text: &mut String, none: &NoRecords) -> Result<(), NetError> {
     }
 }
 
-fn push_servers(text: &mut String, servers: &[ForwardNSData]) -> Result<(), NetError> {
+fn push_servers(text: &mut String, servers: &[ForwardNSData]) -> Result<(), AllocError> {
     for server in servers {
         let ttl = server.ns.ttl;
         write!(text, " ns {ttl}")?;

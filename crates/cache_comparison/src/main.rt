@@ -4,6 +4,7 @@
 #![tactic(auto)]
 
 mod one_hash;
+mod outcomes;
 mod scanned;
 mod steps;
 
@@ -13,11 +14,11 @@ use one_hash::OneHash;
 
 fn main(rt: HostRuntime) -> anyhow::Result<()> {
     let alloc = rt.alloc();
-    let mut cache = ResponseCache::new(alloc, 8, TtlConfig::default(alloc));
-    let agreeing = steps::agreeing(alloc, &mut cache)?;
-    rt.println(format!(in alloc; "{agreeing} steps agree")?)?;
-    let mut cache = ResponseCache::with_hasher(alloc, 8, TtlConfig::default(alloc), OneHash);
-    let agreeing = steps::agreeing(alloc, &mut cache)?;
-    rt.println(format!(in alloc; "{agreeing} steps agree under one hash")?)?;
+    let cache = ResponseCache::new(alloc, 8, TtlConfig::default(alloc));
+    let agreeing = steps::agreeing(alloc, cache)?;
+    println!(rt; "{agreeing} steps agree")?;
+    let cache = ResponseCache::with_hasher(alloc, 8, TtlConfig::default(alloc), OneHash);
+    let agreeing = steps::agreeing(alloc, cache)?;
+    println!(rt; "{agreeing} steps agree under one hash")?;
     Ok(())
 }

@@ -17,6 +17,18 @@ struct Entry {
     valid_until: u64,
 }
 
+impl Entry {
+    // What is kept, its TTL counted down.
+    fn aged(&self, now: u64) -> Kept {
+        let age = now.saturating_sub(self.original_time);
+        let ttl = u64::from(self.kept.ttl).saturating_sub(age);
+        Kept {
+            is_negative: self.kept.is_negative,
+            ttl: u32::try_from(ttl).unwrap_or(u32::MAX),
+        }
+    }
+}
+
 #[derive(Drop)]
 pub struct Scanned {
     entries: Vec<Entry>,
@@ -76,13 +88,10 @@ impl Scanned {
 
     /// What the question's current entry answers, its TTL counted down.
     pub fn get(&self, query: &Query, now: u64) -> Option<Kept> {
-        let entry = self.current(query, now)?;
-        let age = now.saturating_sub(entry.original_time);
-        let ttl = u64::from(entry.kept.ttl).saturating_sub(age);
-        Some(Kept {
-            ttl: u32::try_from(ttl).unwrap_or(u32::MAX),
-            ..entry.kept
-        })
+        match self.current(query, now) {
+            Some(entry) => Some(entry.aged(now)),
+            None => None,
+        }
     }
 
     fn current(&self, query: &Query, now: u64) -> Option<&Entry> {

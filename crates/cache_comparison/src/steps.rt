@@ -1,19 +1,23 @@
 //! Stores, clamped stores and clears over 12 questions, in both bodies.
+use crate::outcomes::{outcome, shown};
 use crate::scanned::{Kept, Scanned};
-use hickory_proto_core::{
-    DnsError, Message, Name, NetError, NoRecords, OpCode, Query, RData, Record, RecordType,
-    ResponseCode,
-};
+use hickory_proto_core::{Message, Name, NetError, Query, RecordType};
 use hickory_resolver_cache::ResponseCache;
 use std::alloc::Global;
 use std::hash::BuildHasher;
-use std::net::{Ipv4Addr, Ipv6Addr};
 
 /// How many of the first 500 steps leave both bodies with the same answers to each question.
-pub fn agreeing<S: BuildHasher>(
+pub fn agreeing<S: BuildHasher + Drop>(
+    alloc: Global,
+    mut cache: ResponseCache<S>,
+) -> Result<u32, NetError> {
+    agreeing_steps(alloc, &mut cache)
+}
+
+fn agreeing_steps<S: BuildHasher>(
     alloc: Global,
     cache: &mut ResponseCache<S>,
-) -> anyhow::Result<u32> {
+) -> Result<u32, NetError> {
     let mut scanned = Scanned::new(alloc);
     let (mut state, mut now): (u64, u64) = (1, 0);
     for steps in 0..500 {
@@ -31,7 +35,7 @@ pub fn agreeing<S: BuildHasher>(
 }
 
 // One of 6 names, each in two spellings, and one of two types.
-fn asked(alloc: Global, bits: u64) -> anyhow::Result<Query> {
+fn asked(alloc: Global, bits: u64) -> Result<Query, NetError> {
     let texts = ["a", "b", "c", "d", "e", "f", "A", "B", "C", "D", "E", "F"];
     let query_type = if (bits >> 8) % 2 == 0 {
         RecordType::A
@@ -49,30 +53,13 @@ fn kept(bits: u64) -> Kept {
     }
 }
 
-// A negative answer, or one address of the asked family.
-fn outcome(alloc: Global, query: &Query, kept: Kept) -> anyhow::Result<Result<Message, NetError>> {
-    if kept.is_negative {
-        let mut none = NoRecords::new(query.clone()?, ResponseCode::NXDomain);
-        none.negative_ttl = Some(kept.ttl);
-        return Ok(Err(NetError::from(none)));
-    }
-    let rdata = if query.query_type == RecordType::A {
-        RData::A(Ipv4Addr::LOCALHOST)
-    } else {
-        RData::AAAA(Ipv6Addr::LOCALHOST)
-    };
-    let mut message = Message::response(alloc, 0, OpCode::Query);
-    message.add_answer(Record::from_rdata(query.name.clone()?, kept.ttl, rdata))?;
-    Ok(Ok(message))
-}
-
 fn take<S: BuildHasher>(
     alloc: Global,
     cache: &mut ResponseCache<S>,
     scanned: &mut Scanned,
     bits: u64,
     now: u64,
-) -> anyhow::Result<()> {
+) -> Result<(), NetError> {
     let query = asked(alloc, bits >> 16)?;
     match bits % 32 {
         0 => {
@@ -89,7 +76,7 @@ fn take<S: BuildHasher>(
             alloc,
             cache,
             scanned,
-            query,
+            &query,
             (kept(bits >> 32), now, step < 13),
         ),
     }
@@ -100,19 +87,32 @@ fn store<S: BuildHasher>(
     alloc: Global,
     cache: &mut ResponseCache<S>,
     scanned: &mut Scanned,
-    query: Query,
+    query: &Query,
     (kept, now, is_clamped): (Kept, u64, bool),
-) -> anyhow::Result<()> {
-    let stored = outcome(alloc, &query, kept)?;
-    if is_clamped {
-        let limit = scanned.deadline(&query, now);
-        scanned.insert(query.clone()?, kept, now, limit)?;
-        cache.upsert_clamped_ttl(query, stored, now, true)?;
+) -> Result<(), NetError> {
+    let limit = if is_clamped {
+        scanned.deadline(query, now)
     } else {
-        scanned.insert(query.clone()?, kept, now, u64::MAX)?;
-        cache.insert(query, stored, now)?;
+        u64::MAX
+    };
+    scanned.insert(query.clone()?, kept, now, limit)?;
+    let query = query.clone()?;
+    let stored = outcome(alloc, &query, kept)?;
+    put(cache, query, stored, now, is_clamped)
+}
+
+fn put<S: BuildHasher>(
+    cache: &mut ResponseCache<S>,
+    query: Query,
+    stored: Result<Message, NetError>,
+    now: u64,
+    is_clamped: bool,
+) -> Result<(), NetError> {
+    if is_clamped {
+        cache.upsert_clamped_ttl(query, stored, now, true)
+    } else {
+        cache.insert(query, stored, now)
     }
-    Ok(())
 }
 
 fn is_same<S: BuildHasher>(
@@ -120,11 +120,11 @@ fn is_same<S: BuildHasher>(
     cache: &ResponseCache<S>,
     scanned: &Scanned,
     now: u64,
-) -> anyhow::Result<bool> {
+) -> Result<bool, NetError> {
     for bits in 0..6 {
         for kind in [0, 256] {
             let query = asked(alloc, bits + kind)?;
-            if shown(cache.get(&query, now)) != scanned.get(&query, now) {
+            if !is_same_for(cache, scanned, &query, now) {
                 return Ok(false);
             }
         }
@@ -132,20 +132,15 @@ fn is_same<S: BuildHasher>(
     Ok(cache.len() == scanned.len())
 }
 
-// Of a hit, what the other body keeps.
-fn shown(hit: Option<Result<Message, NetError>>) -> Option<Kept> {
-    match hit? {
-        Ok(message) => {
-            let answer = message.answers.first()?;
-            Some(Kept {
-                is_negative: false,
-                ttl: answer.ttl,
-            })
-        }
-        Err(NetError::Dns(DnsError::NoRecordsFound(none))) => Some(Kept {
-            is_negative: true,
-            ttl: none.negative_ttl?,
-        }),
-        Err(_) => None,
-    }
+fn is_same_for<S: BuildHasher>(
+    cache: &ResponseCache<S>,
+    scanned: &Scanned,
+    query: &Query,
+    now: u64,
+) -> bool {
+    let hit = cache.get(query, now);
+    let cached = shown(&hit);
+    // `drop` costs the prover less than the end of the block.
+    drop(hit);
+    cached == scanned.get(query, now)
 }

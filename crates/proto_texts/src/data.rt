@@ -9,16 +9,19 @@ pub fn show_all(rt: &impl Print, alloc: Global) -> anyhow::Result<()> {
     show_name(rt, name(alloc, "WWW.a")?)?;
     show_addresses(rt)?;
     show_targets(rt, alloc)?;
-    show(rt, soa_data(alloc)?)?;
-    show(rt, service(alloc)?)?;
-    show(rt, exchange(alloc)?)?;
-    show(rt, strings(alloc)?)?;
-    show(rt, unknown(alloc)?)
+    show_made(rt, soa_data(alloc))?;
+    show_made(rt, service(alloc))?;
+    show_made(rt, exchange(alloc))?;
+    show_made(rt, strings(alloc))?;
+    show_made(rt, unknown(alloc))
+}
+
+fn show_made(rt: &impl Print, data: Result<RData, NetError>) -> anyhow::Result<()> {
+    show(rt, data?)
 }
 
 fn show(rt: &impl Print, data: RData) -> anyhow::Result<()> {
-    copies::show(rt, "own copy", data.clone()?)?;
-    copies::show_both(rt, data)
+    copies::show_three(rt, data.clone(), data)
 }
 
 fn show_name(rt: &impl Print, name: Name) -> anyhow::Result<()> {

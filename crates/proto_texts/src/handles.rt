@@ -2,13 +2,13 @@
 use crate::copies;
 use crate::sample::{answered, question};
 use hickory_proto_core::{
-    DnsHandle, DnsRequest, DnsRequestOptions, DnsResponse, NetError, Outcome, Query, RecordType,
-    Recorded, ScriptHandle, TableHandle, clone_outcome,
+    DnsHandle, DnsRequest, DnsRequestOptions, DnsResponse, NetError, Outcome, RecordType, Recorded,
+    ScriptHandle, TableHandle, clone_outcome,
 };
 use std::alloc::Global;
 
 pub fn show_all(rt: &impl Print, alloc: Global) -> anyhow::Result<()> {
-    show_table(rt, alloc, Recorded::new(alloc, table(alloc)?))?;
+    show_recorded(rt, alloc)?;
     show_script(rt, alloc, script(alloc)?)
 }
 
@@ -21,32 +21,34 @@ fn ask<H: DnsHandle>(alloc: Global, handle: &mut H, text: &str) -> Result<Outcom
 // Two outcomes of equal questions; the last one counts.
 fn table(alloc: Global) -> Result<TableHandle, NetError> {
     let mut outcomes = Vec::new(alloc);
-    add(alloc, &mut outcomes, "a.", Err(NetError::Timeout))?;
-    add(alloc, &mut outcomes, "A.", found(alloc)?)?;
+    outcomes.push((
+        question(alloc, "a.", RecordType::A)?,
+        Err(NetError::Timeout),
+    ))?;
+    outcomes.push((question(alloc, "A.", RecordType::A)?, found(alloc)?))?;
     TableHandle::new(outcomes)
 }
 
 fn found(alloc: Global) -> Result<Outcome, NetError> {
-    clone_outcome(&Ok(DnsResponse::from_message(answered(alloc)?)))
+    let outcome = Ok(DnsResponse::from_message(answered(alloc)?));
+    let copy = clone_outcome(&outcome);
+    // `drop` costs the prover less than the end of the block.
+    drop(outcome);
+    copy
 }
 
-fn add(
-    alloc: Global,
-    outcomes: &mut Vec<(Query, Outcome)>,
-    text: &str,
-    outcome: Outcome,
-) -> Result<(), NetError> {
-    outcomes.push((question(alloc, text, RecordType::A)?, outcome))?;
-    Ok(())
+fn show_recorded(rt: &impl Print, alloc: Global) -> anyhow::Result<()> {
+    let mut handle = Recorded::new(alloc, table(alloc)?);
+    show_table(rt, alloc, &mut handle)
 }
 
 fn show_table(
     rt: &impl Print,
     alloc: Global,
-    mut handle: Recorded<TableHandle>,
+    handle: &mut Recorded<TableHandle>,
 ) -> anyhow::Result<()> {
-    copies::show(rt, "a.", ask(alloc, &mut handle, "a.")?)?;
-    copies::show(rt, "b.", ask(alloc, &mut handle, "b.")?)?;
+    copies::show(rt, "a.", ask(alloc, handle, "a.")?)?;
+    copies::show(rt, "b.", ask(alloc, handle, "b.")?)?;
     for exchange in handle.exchanges() {
         copies::show(rt, "kept", &exchange.outcome)?;
     }

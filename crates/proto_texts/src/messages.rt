@@ -18,23 +18,19 @@ pub fn show_all(rt: &impl Print, alloc: Global) -> anyhow::Result<()> {
 }
 
 fn show_question(rt: &impl Print, query: Query) -> anyhow::Result<()> {
-    copies::show(rt, "own copy", query.clone()?)?;
-    copies::show_both(rt, query)
+    copies::show_three(rt, query.clone(), query)
 }
 
 fn show_record(rt: &impl Print, shown: Record) -> anyhow::Result<()> {
-    copies::show(rt, "own copy", shown.clone()?)?;
-    copies::show_both(rt, shown)
+    copies::show_three(rt, shown.clone(), shown)
 }
 
 fn show_message(rt: &impl Print, message: Message) -> anyhow::Result<()> {
-    copies::show(rt, "own copy", message.clone()?)?;
-    copies::show_both(rt, message)
+    copies::show_three(rt, message.clone(), message)
 }
 
 fn show_response(rt: &impl Print, response: DnsResponse) -> anyhow::Result<()> {
-    copies::show(rt, "own copy", response.clone()?)?;
-    copies::show_both(rt, response)
+    copies::show_three(rt, response.clone(), response)
 }
 
 fn request(alloc: Global) -> Result<DnsRequest, NetError> {

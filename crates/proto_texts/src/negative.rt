@@ -25,24 +25,20 @@ fn no_records(alloc: Global) -> Result<DnsError, NetError> {
 }
 
 fn show_forward(rt: &impl Print, forward: ForwardNSData) -> anyhow::Result<()> {
-    copies::show(rt, "own copy", forward.clone()?)?;
-    copies::show_both(rt, forward)
+    copies::show_three(rt, forward.clone(), forward)
 }
 
 // The negative answer of a response.
 pub fn show_no_records(rt: &impl Print, none: NoRecords) -> anyhow::Result<()> {
-    copies::show(rt, "own copy", none.clone()?)?;
-    copies::show_both(rt, none)
+    copies::show_three(rt, none.clone(), none)
 }
 
 fn show_dns_error(rt: &impl Print, error: DnsError) -> anyhow::Result<()> {
-    copies::show(rt, "own copy", error.clone()?)?;
-    copies::show_both(rt, error)
+    copies::show_three(rt, error.clone(), error)
 }
 
 fn show_error(rt: &impl Print, error: NetError) -> anyhow::Result<()> {
-    copies::show(rt, "own copy", error.clone()?)?;
-    copies::show_both(rt, error)
+    copies::show_three(rt, error.clone(), error)
 }
 
 fn show_errors(rt: &impl Print) -> anyhow::Result<()> {

@@ -8,26 +8,29 @@ use hickory_proto_core::{
 use std::alloc::Global;
 
 pub fn show_all(rt: &impl Print, alloc: Global) -> anyhow::Result<()> {
-    show(rt, "another name", another_name(alloc)?)?;
-    show(rt, "cut short", cut_short(alloc)?)?;
-    show(rt, "enclosing zone", enclosing_zone(alloc)?)?;
-    show(rt, "failure", failure(alloc)?)?;
-    show(rt, "no such name", no_such_name(alloc)?)?;
-    show(rt, "referral", referral(alloc)?)?;
-    show(rt, "nothing", Message::response(alloc, 0, OpCode::Query))
+    show(rt, "another name", another_name(alloc))?;
+    show(rt, "cut short", cut_short(alloc))?;
+    show(rt, "enclosing zone", enclosing_zone(alloc))?;
+    show(rt, "failure", failure(alloc))?;
+    show(rt, "no such name", no_such_name(alloc))?;
+    show(rt, "referral", referral(alloc))?;
+    show(
+        rt,
+        "nothing",
+        Ok(Message::response(alloc, 0, OpCode::Query)),
+    )
 }
 
 // That it is an answer, or its error.
-fn show(rt: &impl Print, label: &str, message: Message) -> anyhow::Result<()> {
-    match DnsError::from_response(DnsResponse::from_message(message)) {
+fn show(rt: &impl Print, label: &str, made: Result<Message, NetError>) -> anyhow::Result<()> {
+    match DnsError::from_response(DnsResponse::from_message(made?)) {
         Ok(_) => Ok(println!(rt; "{label}: an answer")?),
         Err(error) => show_error(rt, label, error),
     }
 }
 
 fn show_error(rt: &impl Print, label: &str, error: NetError) -> anyhow::Result<()> {
-    println!(rt; "{label}: {error}")?;
-    match error.into_no_records() {
+    match copies::labelled(rt, label, error)?.into_no_records() {
         Ok(none) => show_no_records(rt, none),
         Err(error) => copies::show(rt, "error", error),
     }
@@ -35,9 +38,13 @@ fn show_error(rt: &impl Print, label: &str, error: NetError) -> anyhow::Result<(
 
 fn another_name(alloc: Global) -> Result<Message, NetError> {
     let mut message = response(alloc, ResponseCode::NoError, "a.", RecordType::A)?;
-    let strings = RData::TXT(Vec::new(alloc));
-    message.add_answer(Record::from_rdata(name(alloc, "z.")?, 1, strings))?;
+    message.add_answer(no_strings(alloc)?)?;
     Ok(message)
+}
+
+fn no_strings(alloc: Global) -> Result<Record, NetError> {
+    let owner = name(alloc, "z.")?;
+    Ok(Record::from_rdata(owner, 1, RData::TXT(Vec::new(alloc))))
 }
 
 fn cut_short(alloc: Global) -> Result<Message, NetError> {

@@ -15,8 +15,9 @@ pub fn question(alloc: Global, text: &str, record_type: RecordType) -> Result<Qu
 
 // The record of the address 192.0.2.x.
 pub fn address(alloc: Global, owner: &str, last: u8) -> Result<Record, NetError> {
+    let owner = name(alloc, owner)?;
     let rdata = RData::A(Ipv4Addr::new(192, 0, 2, last));
-    Ok(Record::from_rdata(name(alloc, owner)?, 60, rdata))
+    Ok(Record::from_rdata(owner, 60, rdata))
 }
 
 pub fn two_addresses(alloc: Global) -> Result<Vec<Record>, NetError> {
@@ -44,8 +45,9 @@ pub fn soa(alloc: Global, owner: &str) -> Result<Record, NetError> {
 
 // The record by which `a.` names the server `N.a.`.
 pub fn server(alloc: Global) -> Result<Record, NetError> {
-    let rdata = RData::NS(name(alloc, "N.a.")?);
-    Ok(Record::from_rdata(name(alloc, "a.")?, 9, rdata))
+    let owner = name(alloc, "a.")?;
+    let server = name(alloc, "N.a.")?;
+    Ok(Record::from_rdata(owner, 9, RData::NS(server)))
 }
 
 // A response with this code and question, and no record.
