@@ -191,7 +191,9 @@ fn run_request(
     let before = client.handle().exchanges().len();
     let reply = remembered(ask(alloc, table, client, request))?;
     let exchanges = client.handle().exchanges();
-    Ok(push_step(text, request, &exchanges[before..], &reply)?)
+    let added = push_step(text, request, &exchanges[before..], &reply);
+    drop(reply);
+    Ok(added?)
 }
 
 // A reply for which there was memory.
