@@ -3,6 +3,7 @@
 #![tactic(auto)]
 
 mod addresses;
+mod attempted;
 mod names;
 mod zeros;
 
@@ -32,6 +33,7 @@ fn answer(alloc: Global, line: &str) -> anyhow::Result<String> {
         "trim" => names::trim(alloc, first, second),
         "base" => names::base(alloc, first),
         "localhost" => names::localhost(alloc, first),
+        "attempts" => attempted::attempted(alloc, first, second),
         "address" => Ok(addresses::read(alloc, first)?),
         "network" => addresses::network(alloc, first),
         "pointer" => addresses::pointer(alloc, first),

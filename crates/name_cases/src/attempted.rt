@@ -1,0 +1,58 @@
+//! The names that are attempted for a name.
+use hickory_proto_core::{Name, NameError};
+use hickory_resolver_attempts::attempts;
+use std::alloc::Global;
+
+/// The first text is `ndots`, the domain or `-`, and the search domains.
+pub fn attempted(alloc: Global, settings: &str, name: &str) -> anyhow::Result<String> {
+    let words: Vec<&str> = settings.split_whitespace().collect(alloc)?;
+    match words.as_slice() {
+        [ndots, domain, search @ ..] => {
+            let ndots = ndots.parse().unwrap_or(0);
+            found(alloc, ndots, domain, search, name)
+        }
+        _ => Ok(String::from_str(alloc, "no settings")?),
+    }
+}
+
+fn found(
+    alloc: Global,
+    ndots: usize,
+    domain: &str,
+    search: &[&str],
+    name: &str,
+) -> anyhow::Result<String> {
+    let search = names(alloc, search)?;
+    let domain = domain_of(alloc, domain)?;
+    let name = Name::from_ascii(alloc, name)?;
+    shown(
+        alloc,
+        &attempts(alloc, name, ndots, domain.as_ref(), &search)?,
+    )
+}
+
+fn names(alloc: Global, texts: &[&str]) -> anyhow::Result<Vec<Name>> {
+    let mut names = Vec::new(alloc);
+    for text in texts {
+        names.push(Name::from_ascii(alloc, text)?)?;
+    }
+    Ok(names)
+}
+
+fn domain_of(alloc: Global, text: &str) -> Result<Option<Name>, NameError> {
+    match text {
+        "-" => Ok(None),
+        _ => Ok(Some(Name::from_ascii(alloc, text)?)),
+    }
+}
+
+fn shown(alloc: Global, names: &[Name]) -> anyhow::Result<String> {
+    let mut text = String::new(alloc);
+    for name in names {
+        if !text.is_empty() {
+            text.push(' ')?;
+        }
+        write!(text, "{name}")?;
+    }
+    Ok(text)
+}
