@@ -7,8 +7,8 @@ use Rattle.std.specs.Cmp.Lexicographic.{pointwise}
 use Rattle.hickory_proto_core.specs.Name.{NameValue, name_eq, is_zone_of, num_labels_of, appended_name, wire_len, lower_label, localhost}
 use Rattle.hickory_resolver_model.specs.Hosts.{as_fqdn}
 
--- how names are attempted: how many labels a name has at the most that is not attempted as it is first, the
--- domain, and the search list
+-- how names are attempted: a name of more labels than `ndots` is attempted as it is first; the domain; and the
+-- search list
 pub record Search : Type 0 where
   pub ndots : ℕ
   pub domain : Option NameValue
