@@ -1,7 +1,3 @@
-pub mod Steps
-pub mod Special
-pub mod Verdicts
-pub mod Walks
 pub use Rattle.hickory_resolver_model.specs.AliasWalk
 pub use Rattle.hickory_resolver_model.specs.Attempts
 pub use Rattle.hickory_resolver_model.specs.Bounds

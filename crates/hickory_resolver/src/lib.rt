@@ -1,13 +1,10 @@
-//! A stub resolver's core: a cache of what an upstream answered, and a client that asks through it.
+//! A stub resolver's core: names and types are turned into records, by way of an upstream that is handed in.
 #![tactic(auto)]
 
-mod alias_walk;
 pub mod cache;
 pub mod caching_client;
 pub mod hosts;
 pub mod lookup;
-mod special_use;
-mod verdict;
 
 pub use cache::{MAX_TTL, ResponseCache, TtlBounds, TtlConfig};
 pub use caching_client::CachingClient;

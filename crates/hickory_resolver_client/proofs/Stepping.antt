@@ -1,0 +1,155 @@
+-- One hop of a look-up.
+use Rattle.std.proofs.Common.{◌≡◌, ◌<◌, ◌≤◌, ◌∙◌, ℕ, Bool, true, false, cond, [], ◌∷◌, Option, None, Some, Result, Ok, Err, refl, sym, ap, ap₂, subst, inl, inr, arith}
+use Rattle.hickory_proto_core.specs.Messages.{MessageValue}
+use Rattle.hickory_proto_core.specs.Errors.{NoRecordsValue}
+use Rattle.hickory_proto_core.specs.Handles.{OutcomeValue, Step}
+use Rattle.hickory_proto_core.specs.ResponseKind.{Answer, Negative, Failed, kind_of, negative_of}
+use Rattle.hickory_proto_core.specs.codes.response_code.ResponseCode.{ResponseCode as Code}
+use Rattle.hickory_proto_core.specs.declared.dns_request.DnsRequestOptions.{DnsRequestOptions}
+use Rattle.hickory_proto_core.specs.records.net_error.NetError.{NetError}
+use Rattle.hickory_proto_core.specs.records.net_error.NetError.TheVariants.{Message, Timeout, Proto, Dns, NoOutcome, Bounds, OutOfMemory}
+use Rattle.hickory_proto_core.specs.records.net_error.DnsError.TheVariants.{ResponseCode, NoRecordsFound}
+use Rattle.hickory_resolver_model.specs.Cache.{CacheValue, Entry, current, aged_result, IsGot}
+use Rattle.hickory_resolver_model.specs.Lookup.{LookupResult, found_lookup}
+use Rattle.hickory_resolver_model.specs.SpecialUse.{special_use_result}
+use Rattle.hickory_resolver_model.specs.Verdict.{Hop, Verdict, Exists, CnameChain, NoMatch, verdict}
+use Rattle.hickory_resolver_model.specs.Hops.{LookupContext, GoesUpstream, Special, Hit, Asked, verdict_result, verdict_stores, store_of, after_stores, no_match, hit_result}
+use Rattle.hickory_resolver_model.specs.Client.{ClientValue, start_of}
+use Rattle.hickory_resolver_client.specs.Special.{IsUnlessOut, IsSpecialReply}
+use Rattle.hickory_resolver_client.specs.Verdicts.{IsVerdict}
+use Rattle.hickory_resolver_client.specs.Steps.{NeverFailsNegative, SettledAs, IsSettled, IsHopStep}
+use Rattle.hickory_resolver_client.specs.declared.verdict.Verdict as response
+use Rattle.hickory_resolver_client.specs.declared.verdict.Verdict.TheVariants as variant
+use Rattle.hickory_resolver_client.specs.declared.caching_client.HopStep.{HopStep}
+use Rattle.hickory_resolver_client.specs.declared.caching_client.HopStep.TheVariants.{Next, Done}
+
+-- what came back never fails for want of records: that is a negative answer
+response_fails : (a b : Bool) (m : MessageValue) (n k : NoRecordsValue) (code : Code) → (cond a (cond b (Answer m) (Negative n)) (Failed (Dns (ResponseCode code)))) ≡ Failed (Dns (NoRecordsFound k)) → ⊥
+response_fails true true m n k code h = cc
+response_fails true false m n k code h = cc
+response_fails false true m n k code h = cc
+response_fails false false m n k code h = cc
+
+pub never_fails : (outcome : OutcomeValue) → NeverFailsNegative (kind_of outcome)
+never_fails (Ok m) k h = response_fails _ _ m (negative_of m) k m.metadata.response_code h
+never_fails (Err (Message text)) k h = cc
+never_fails (Err Timeout) k h = cc
+never_fails (Err (Proto e)) k h = cc
+never_fails (Err (Dns (ResponseCode code))) k h = cc
+never_fails (Err (Dns (NoRecordsFound n))) k h = cc
+never_fails (Err NoOutcome) k h = cc
+never_fails (Err (Bounds e)) k h = cc
+never_fails (Err OutOfMemory) k h = cc
+
+-- ---- an answer, by its verdict
+
+is_exists : (v : Verdict) (m found : MessageValue) → IsVerdict v m (variant.Exists found) → v ≡ Exists found
+is_exists (Exists n) m found e = ap Exists (sym e)
+is_exists (CnameChain hop) m found e = absurd e
+is_exists NoMatch m found e = absurd e
+
+is_chain : (v : Verdict) (m : MessageValue) (next : Hop) (held : MessageValue) → IsVerdict v m (variant.CnameChain next held) → (v ≡ CnameChain next) × (held ≡ m)
+is_chain (Exists n) m next held e = absurd e
+is_chain (CnameChain hop) m next held e = (ap CnameChain (sym e.0), e.1)
+is_chain NoMatch m next held e = absurd e
+
+is_none : (v : Verdict) (m held : MessageValue) → IsVerdict v m (variant.NoMatch held) → (v ≡ NoMatch) × (held ≡ m)
+is_none (Exists n) m held e = absurd e
+is_none (CnameChain hop) m held e = absurd e
+is_none NoMatch m held e = (refl, e)
+
+module _ (s : LookupContext) (hop : Hop) (depth : ℕ) (m : MessageValue) (keep : Bool) (given : Hop) (held : response.Verdict) (same_option : keep ≡ s.preserve_intermediates) (same_hop : given ≡ hop) (is : IsVerdict (verdict keep given m) m held) where
+  judged : (r : response.Verdict) → held ≡ r → IsVerdict (verdict s.preserve_intermediates hop m) m r
+  judged r e =
+      let P : response.Verdict → Type 0 = λ v. IsVerdict (verdict keep given m) m v in
+      let Q : Verdict → Type 0 = λ v. IsVerdict v m r in
+      subst Q (ap₂ (λ k h. verdict k h m) same_option same_hop) (subst P e is)
+
+  pub settle_exists : (found : MessageValue) → held ≡ variant.Exists found → (result : LookupResult) (after : CacheValue) → SettledAs s (Ok (found_lookup s.cache.config given.query found s.now)) (store_of given.query (Ok found) s.now ∷ []) result after → IsSettled s hop depth (Answer m) (Ok (Done result)) after
+  settle_exists found e result after (inr out) = inr out
+  settle_exists found e result after (inl done) =
+      let v = is_exists _ m found (judged (variant.Exists found) e) in
+      inl (
+        (λ next h. let w : Some (Exists found) ≡ Some (CnameChain next) = sym (ap (λ u. Some u) v) ∙ h in cc),
+        (done.0 ∙ ap (λ h. Ok (found_lookup s.cache.config h.query found s.now)) same_hop ∙ ap (verdict_result s.cache.config hop.query s.now m) (sym v)),
+        (done.1 ∙ ap (λ h. after_stores (store_of h.query (Ok found) s.now ∷ []) s.cache) same_hop ∙ ap (λ u. after_stores (verdict_stores hop.query s.now u) s.cache) (sym v)),
+      )
+
+  pub settle_none : (back : MessageValue) → held ≡ variant.NoMatch back → (result : LookupResult) → IsUnlessOut (Err (no_match given.query back)) result → IsSettled s hop depth (Answer m) (Ok (Done result)) s.cache
+  settle_none back e result (inr out) = inr (out, refl)
+  settle_none back e result (inl done) =
+      let v = is_none _ m back (judged (variant.NoMatch back) e) in
+      inl (
+        (λ next h. let w : Some NoMatch ≡ Some (CnameChain next) = sym (ap (λ u. Some u) v.0) ∙ h in cc),
+        (done ∙ ap₂ (λ h r. Err (no_match h.query r)) same_hop v.1 ∙ ap (verdict_result s.cache.config hop.query s.now m) (sym v.0)),
+        (ap (λ u. after_stores (verdict_stores hop.query s.now u) s.cache) (sym v.0)),
+      )
+
+  pub settle_last : (next : Hop) (back : MessageValue) → held ≡ variant.CnameChain next back → 7 ≤ depth → depth ≤ 7 → (result : LookupResult) → IsUnlessOut (Err (no_match given.query back)) result → IsSettled s hop depth (Answer m) (Ok (Done result)) s.cache
+  settle_last next back e low high result (inr out) = inr (out, refl)
+  settle_last next back e low high result (inl done) =
+      let v = is_chain _ m next back (judged (variant.CnameChain next back) e) in
+      inl (
+        (λ other h. omega arith),
+        (done ∙ ap₂ (λ h r. Err (no_match h.query r)) same_hop v.1 ∙ ap (verdict_result s.cache.config hop.query s.now m) (sym v.0)),
+        (ap (λ u. after_stores (verdict_stores hop.query s.now u) s.cache) (sym v.0)),
+      )
+
+  pub settle_next : (next : Hop) (back : MessageValue) → held ≡ variant.CnameChain next back → depth < 7 → IsSettled s hop depth (Answer m) (Ok (Next given.query next)) s.cache
+  settle_next next back e early =
+      let v = is_chain _ m next back (judged (variant.CnameChain next back) e) in
+      (ap (λ h. h.query) same_hop, ap (λ u. Some u) v.0, early, refl)
+
+-- ---- one hop
+
+pub not_special : (found got : Option LookupResult) → ((r : LookupResult) → got ≡ Some r → ⊥) → IsSpecialReply found got → found ≡ None
+not_special None got none is = refl
+not_special (Some r) got none (inl e) = absurd (none _ e)
+not_special (Some r) got none (inr e) = absurd (none _ e)
+
+pub missed : (found : Option Entry) (now : ℕ) (got : Option OutcomeValue) → ((hit : OutcomeValue) → got ≡ Some hit → ⊥) → IsGot found now got → found ≡ None
+missed None now got none is_got = refl
+missed (Some entry) now got none (inl e) = absurd (none _ e)
+missed (Some entry) now got none (inr e) = absurd (none _ e)
+
+module _ {H : Type 0} (step : Step H) (options : DnsRequestOptions) (now depth : ℕ) (before : ClientValue H) (hop : Hop) where
+  out_unasked : (result : LookupResult) → result ≡ Err OutOfMemory → IsHopStep step options now depth before hop (Ok (Done result)) before
+  out_unasked result e = inr (e, record { cause = inl refl; cache_is = refl; option_is = refl })
+
+  at_special : (found : Option LookupResult) → special_use_result hop.query now ≡ found → (result : LookupResult) → IsSpecialReply found (Some result) → IsHopStep step options now depth before hop (Ok (Done result)) before
+  at_special None is result e = absurd (let h = e in cc)
+  at_special (Some reply) is result (inr e) = out_unasked result (let h = e in cc)
+  at_special (Some reply) is result (inl e) =
+      let same : result ≡ reply = cc in
+      inl (record { last = Special reply; ends = is; led = refl; result_is = same; after_is = refl; option_is = refl })
+
+  pub step_special : (got : Option LookupResult) (result : LookupResult) → got ≡ Some result → IsSpecialReply (special_use_result hop.query now) got → IsHopStep step options now depth before hop (Ok (Done result)) before
+  step_special got result e is =
+      let P : Option LookupResult → Type 0 = λ g. IsSpecialReply (special_use_result hop.query now) g in
+      at_special (special_use_result hop.query now) refl result (subst P e is)
+
+  at_hit : special_use_result hop.query now ≡ None → (found : Option Entry) → current hop.query now before.cache.entries ≡ found → (hit : OutcomeValue) → IsGot found now (Some hit) → (result : LookupResult) → IsUnlessOut (hit_result hop.query now hit) result → IsHopStep step options now depth before hop (Ok (Done result)) before
+  at_hit plain None is hit got result made = absurd (let e = got in cc)
+  at_hit plain (Some entry) is hit got result (inr out) = out_unasked result out
+  at_hit plain (Some entry) is hit (inl got) result (inl made) =
+      let same : hit ≡ aged_result now entry = cc in
+      inl (record { last = Hit entry; ends = (plain, is); led = refl; result_is = made ∙ ap (hit_result hop.query now) same; after_is = refl; option_is = refl })
+  at_hit plain (Some entry) is hit (inr got) result (inl made) =
+      let same : hit ≡ Err OutOfMemory = cc in
+      out_unasked result (made ∙ ap (hit_result hop.query now) same)
+
+  pub step_hit : special_use_result hop.query now ≡ None → (got : Option OutcomeValue) (hit : OutcomeValue) → got ≡ Some hit → IsGot (current hop.query now before.cache.entries) now got → (result : LookupResult) → IsUnlessOut (hit_result hop.query now hit) result → IsHopStep step options now depth before hop (Ok (Done result)) before
+  step_hit plain got hit e is result made =
+      let P : Option OutcomeValue → Type 0 = IsGot (current hop.query now before.cache.entries) now in
+      at_hit plain (current hop.query now before.cache.entries) refl hit (subst P e is) result made
+
+  -- the question was asked, and what came back is settled
+  pub step_asked : GoesUpstream (start_of before now) hop.query → (outcome : OutcomeValue) (after : ClientValue H) → step before.handle (record { query = hop.query; options = options }) outcome after.handle → after.preserve_intermediates ≡ before.preserve_intermediates → (result : Result HopStep NetError) → IsSettled (start_of before now) hop depth (kind_of outcome) result after.cache → IsHopStep step options now depth before hop result after
+  step_asked upstream outcome after sent stays (Ok (Next asked next)) settled =
+      record { asked_is = settled.0; upstream = upstream; outcome = outcome; sent = sent; alias = settled.1; early = settled.2; cache_is = settled.3; option_is = stays }
+  step_asked upstream outcome after sent stays (Ok (Done result)) (inl settled) =
+      inl (record { last = Asked outcome; ends = (upstream, settled.0); led = (after.handle, sent, refl); result_is = settled.1; after_is = settled.2; option_is = stays })
+  step_asked upstream outcome after sent stays (Ok (Done result)) (inr out) =
+      inr (out.0, record { cause = inr (record { query = hop.query; outcome = outcome }, upstream, refl, (after.handle, sent, refl)); cache_is = out.1; option_is = stays })
+  step_asked upstream outcome after sent stays (Err error) out =
+      (out.0, record { cause = inr (record { query = hop.query; outcome = outcome }, upstream, refl, (after.handle, sent, refl)); cache_is = out.1; option_is = stays })

@@ -1,0 +1,4 @@
+pub mod Steps
+pub mod Special
+pub mod Verdicts
+pub mod Walks

@@ -1,0 +1,123 @@
+-- A look-up hop by hop: what one hop comes to, the hops so far, and the stores of the questions that were
+-- passed.
+use Rattle.std.specs.Prelude.{◌≡◌, ◌⊎◌, ◌<◌, ◌≤◌, ℕ, List, [], ◌∷◌, ◌++◌, map, reverse, length, Result, Some, Ok, Err}
+use Rattle.hickory_proto_core.specs.Errors.{NoRecordsValue}
+use Rattle.hickory_proto_core.specs.Handles.{OutcomeValue, Step, Leads}
+use Rattle.hickory_proto_core.specs.ResponseKind.{ResponseKind, Failed, kind_of}
+use Rattle.hickory_proto_core.specs.records.query.Query.{Query}
+use Rattle.hickory_proto_core.specs.declared.dns_request.DnsRequestOptions.{DnsRequestOptions}
+use Rattle.hickory_proto_core.specs.declared.recorded.Exchange.{Exchange}
+use Rattle.hickory_proto_core.specs.records.net_error.NetError.{NetError}
+use Rattle.hickory_proto_core.specs.records.net_error.NetError.TheVariants.{Dns, OutOfMemory}
+use Rattle.hickory_proto_core.specs.records.net_error.DnsError.TheVariants.{NoRecordsFound}
+use Rattle.hickory_resolver_model.specs.Cache.{CacheValue}
+use Rattle.hickory_resolver_model.specs.Lookup.{LookupResult}
+use Rattle.hickory_resolver_model.specs.Verdict.{Hop, first_hop, CnameChain}
+use Rattle.hickory_resolver_model.specs.Hops.{LookupContext, GoesUpstream, FollowsAliases, ChainEnd, IsChainEnd, kind_verdict, kind_result, kind_stores, result_of, asks_of, last_stores, Store, earlier_store, after_stores}
+use Rattle.hickory_resolver_model.specs.Client.{ClientValue, start_of}
+use Rattle.hickory_resolver_client.specs.declared.caching_client.HopStep as code
+use Rattle.hickory_resolver_client.specs.declared.caching_client.HopStep.TheVariants.{Next, Done}
+
+-- a failure is never for want of records
+abbrev pub NeverFailsNegative : ResponseKind → Type 0
+NeverFailsNegative kind = (n : NoRecordsValue) → kind ≡ Failed (Dns (NoRecordsFound n)) → ⊥
+
+-- this result, with these stores made; or out of memory, with nothing stored
+abbrev pub SettledAs : LookupContext → LookupResult → List Store → LookupResult → CacheValue → Type 0
+SettledAs s reply stores result after =
+    ((result ≡ reply) × (after ≡ after_stores stores s.cache))
+    ⊎ ((result ≡ Err OutOfMemory) × (after ≡ s.cache))
+
+-- an alias ends a look-up only at the eighth question
+abbrev pub EndsAt : LookupContext → Hop → ℕ → ResponseKind → Type 0
+EndsAt s hop depth kind = (next : Hop) → kind_verdict s hop kind ≡ Some (CnameChain next) → depth ≡ 7
+
+-- what a hop that was asked comes to, by the kind of what came back
+abbrev pub IsSettled : LookupContext → Hop → ℕ → ResponseKind → Result code.HopStep NetError → CacheValue
+    → Type 0
+IsSettled s hop depth kind (Ok (Next asked next)) after =
+    (asked ≡ hop.query) × (kind_verdict s hop kind ≡ Some (CnameChain next)) × (depth < 7) × (after ≡ s.cache)
+IsSettled s hop depth kind (Ok (Done result)) after =
+    (EndsAt s hop depth kind × (result ≡ kind_result s hop kind)
+    × (after ≡ after_stores (kind_stores s hop kind) s.cache))
+    ⊎ ((result ≡ Err OutOfMemory) × (after ≡ s.cache))
+IsSettled s hop depth kind (Err error) after = (error ≡ OutOfMemory) × (after ≡ s.cache)
+
+-- the question was asked, and an alias came back, which is not the eighth
+pub record GoesOn
+    {H : Type 0} (step : Step H) (options : DnsRequestOptions) (now depth : ℕ) (before : ClientValue H)
+    (hop : Hop) (asked : Query) (next : Hop) (after : ClientValue H)
+    : Type 0 where
+  pub asked_is : asked ≡ hop.query
+  pub upstream : GoesUpstream (start_of before now) hop.query
+  pub outcome : OutcomeValue
+  pub sent : step before.handle (record { query = hop.query; options = options }) outcome after.handle
+  pub alias : kind_verdict (start_of before now) hop (kind_of outcome) ≡ Some (CnameChain next)
+  pub early : depth < 7
+  pub cache_is : after.cache ≡ before.cache
+  pub option_is : after.preserve_intermediates ≡ before.preserve_intermediates
+
+-- the hop is the last, and its own store is made
+pub record IsDone
+    {H : Type 0} (step : Step H) (options : DnsRequestOptions) (now depth : ℕ) (before : ClientValue H)
+    (hop : Hop) (result : LookupResult) (after : ClientValue H)
+    : Type 0 where
+  pub last : ChainEnd
+  pub ends : IsChainEnd (start_of before now) depth hop last
+  pub led : Leads step options before.handle (asks_of hop last) after.handle
+  pub result_is : result ≡ result_of (start_of before now) hop last
+  pub after_is : after.cache ≡ after_stores (last_stores (start_of before now) hop last) before.cache
+  pub option_is : after.preserve_intermediates ≡ before.preserve_intermediates
+
+-- memory ran out, before the question was asked or after it; nothing was stored
+pub record IsOut
+    {H : Type 0} (step : Step H) (options : DnsRequestOptions) (now : ℕ) (before : ClientValue H) (hop : Hop)
+    (after : ClientValue H)
+    : Type 0 where
+  pub cause : (after.handle ≡ before.handle)
+      ⊎ ((x : Exchange) × GoesUpstream (start_of before now) hop.query × (x.query ≡ hop.query)
+      × Leads step options before.handle (x ∷ []) after.handle)
+  pub cache_is : after.cache ≡ before.cache
+  pub option_is : after.preserve_intermediates ≡ before.preserve_intermediates
+
+-- what one hop comes to
+abbrev pub IsHopStep : {H : Type 0} → Step H → DnsRequestOptions → ℕ → ℕ → ClientValue H → Hop
+    → Result code.HopStep NetError → ClientValue H → Type 0
+IsHopStep step options now depth before hop (Ok (Next asked next)) after =
+    GoesOn step options now depth before hop asked next after
+IsHopStep step options now depth before hop (Ok (Done result)) after =
+    IsDone step options now depth before hop result after
+    ⊎ ((result ≡ Err OutOfMemory) × IsOut step options now before hop after)
+IsHopStep step options now depth before hop (Err error) after =
+    (error ≡ OutOfMemory) × IsOut step options now before hop after
+
+-- so many questions were passed, and this hop comes next
+pub record IsWalked
+    {H : Type 0} (step : Step H) (options : DnsRequestOptions) (now count : ℕ) (before : ClientValue H)
+    (question : Query) (passed : List Query) (hop : Hop) (client : ClientValue H)
+    : Type 0 where
+  pub asks : List Exchange
+  pub led : Leads step options before.handle asks client.handle
+  pub follows : FollowsAliases (start_of before now) (first_hop question) asks hop
+  pub questions : map (λ x. x.query) asks ≡ passed
+  pub count_is : length asks ≡ count
+  pub few : count ≤ 7
+  pub cache_is : client.cache ≡ before.cache
+  pub option_is : client.preserve_intermediates ≡ before.preserve_intermediates
+
+-- a result under each question, from the last to the first
+abbrev pub stores_back : LookupResult → ℕ → List Query → List Store
+stores_back result now questions = map (earlier_store result now) (reverse questions)
+
+-- a beginning of the stores was made
+pub record IsBeginning (stores : List Store) (before after : CacheValue) : Type 0 where
+  pub front : List Store
+  pub back : List Store
+  pub parts : front ++ back ≡ stores
+  pub after_is : after ≡ after_stores front before
+
+-- of all the stores these are left, and the cache has the others
+pub record StoredSoFar (rest all : List Store) (before after : CacheValue) : Type 0 where
+  pub front : List Store
+  pub parts : front ++ rest ≡ all
+  pub after_is : after ≡ after_stores front before

@@ -1,0 +1,23 @@
+-- The verdict of the code, which holds the response where it is not accepted.
+use Rattle.std.specs.Prelude.{◌≡◌, Bool, ◌&&◌, ◌||◌, List}
+use Rattle.hickory_proto_core.specs.Records.{RecordValue}
+use Rattle.hickory_proto_core.specs.Messages.{MessageValue}
+use Rattle.hickory_proto_core.specs.records.query.Query.{Query}
+use Rattle.hickory_resolver_model.specs.AliasWalk.{Walk}
+use Rattle.hickory_resolver_model.specs.Verdict.{Hop, Verdict, Exists, CnameChain, NoMatch, is_match, is_intermediate}
+use Rattle.hickory_resolver_client.specs.declared.verdict.Verdict as code
+use Rattle.hickory_resolver_client.specs.declared.verdict.Verdict.TheVariants as variant
+
+abbrev pub hop_of : Query → List RecordValue → Hop
+hop_of query preserved = record { query = query; preserved = preserved }
+
+abbrev pub IsVerdict : Verdict → MessageValue → code.Verdict → Type 0
+IsVerdict (Exists m) response (variant.Exists accepted) = accepted ≡ m
+IsVerdict (CnameChain hop) response (variant.CnameChain next held) = (next ≡ hop) × (held ≡ response)
+IsVerdict NoMatch response (variant.NoMatch held) = held ≡ response
+IsVerdict _ response _ = ⊥
+
+-- a record that is passed on
+abbrev pub is_wanted : Query → Walk → Bool → Bool → RecordValue → Bool
+is_wanted q walk matches intermediates r =
+    (matches && is_match q walk r) || (intermediates && is_intermediate q r)

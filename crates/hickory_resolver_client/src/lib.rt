@@ -1,0 +1,9 @@
+//! A client: a cache of what an upstream answered, over the upstream.
+#![tactic(auto)]
+
+mod alias_walk;
+pub mod caching_client;
+mod special_use;
+mod verdict;
+
+pub use caching_client::CachingClient;
