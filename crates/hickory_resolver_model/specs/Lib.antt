@@ -7,6 +7,7 @@ pub mod Client
 pub mod Hops
 pub mod Hosts
 pub mod Lookup
+pub mod Options
 pub mod Run
 pub mod SpecialUse
 pub mod Verdict
