@@ -1,6 +1,7 @@
 -- What a call of the resolver comes to: look-ups of its questions, one after another, and a reply made of
 -- their results.
 use Rattle.std.specs.Prelude.{◌≡◌, ◌⊎◌, ℕ, Bool, true, false, not, ◌||◌, List, [], ◌∷◌, ◌++◌, map, flat_map, Option, Some, None, Ok, Err, if◌then◌else◌}
+use Rattle.std.specs.Option.{is_some}
 use Rattle.hickory_proto_core.specs.Name.{NameValue}
 use Rattle.hickory_proto_core.specs.Query.{root_query}
 use Rattle.hickory_proto_core.specs.ResponseKind.{is_empty}
@@ -10,7 +11,7 @@ use Rattle.hickory_proto_core.specs.records.query.Query.{Query}
 use Rattle.hickory_proto_core.specs.codes.record_type.RecordType.{RecordType}
 use Rattle.hickory_proto_core.specs.codes.dns_class.DNSClass.TheVariants as class
 use Rattle.hickory_proto_core.specs.declared.recorded.Exchange.{Exchange}
-use Rattle.hickory_proto_core.specs.records.net_error.NetError.TheVariants.{OutOfMemory}
+use Rattle.hickory_proto_core.specs.records.net_error.NetError.TheVariants.{Message, OutOfMemory}
 use Rattle.hickory_resolver_model.specs.Bounds.{day}
 use Rattle.hickory_resolver_model.specs.Cache.{CacheValue, saturating_sum}
 use Rattle.hickory_resolver_model.specs.Lookup.{LookupValue, LookupResult, answers_for_day}
@@ -109,8 +110,8 @@ next_type (Fallback t u) [] = Some t
 next_type (Fallback t u) (r ∷ []) = if has_answers r || is_out_of_memory r then None else Some u
 next_type (Fallback t u) (r ∷ k ∷ rs) = None
 
--- The result of an attempt, by the results of its sub-look-ups: the last one's; where both types are wanted,
--- both as one.
+-- The result of an attempt that is over, by the results of its sub-look-ups: the last one's; where both types
+-- are wanted, both as one.
 abbrev pub attempt_result : Plan → List LookupResult → LookupResult
 attempt_result plan [] = Err OutOfMemory
 attempt_result plan (r ∷ []) = r
@@ -123,12 +124,21 @@ abbrev pub joins_results : Plan → List LookupResult → Bool
 joins_results (Both t u) (r ∷ k ∷ rs) = true
 joins_results plan results = false
 
+-- what an attempt comes to: the results of its sub-look-ups as one; or memory runs out, which is taken for the
+-- question of each sub-look-up and to make two results one
+abbrev pub takes_memory : Plan → List LookupResult → Bool
+takes_memory plan results = is_some (next_type plan results) || joins_results plan results
+
+abbrev pub IsAttemptResult : Plan → List LookupResult → LookupResult → Type 0
+IsAttemptResult plan results result =
+    ((next_type plan results ≡ None) × (result ≡ attempt_result plan results))
+    ⊎ ((takes_memory plan results ≡ true) × (result ≡ Err OutOfMemory))
+
 -- The sub-look-ups of an attempt at a name, each over the cache that the one before it left, after those with
 -- these results.
 abbrev pub AreSubLookups : SubLookupRelation → Bool → NameValue → Plan → CacheValue → List LookupResult
     → List SubLookup → CacheValue → Type 0
-AreSubLookups Answers looked n plan before results [] after =
-    (next_type plan results ≡ None) × (after ≡ before)
+AreSubLookups Answers looked n plan before results [] after = after ≡ before
 AreSubLookups Answers looked n plan before results (p ∷ ps) after =
     (t : RecordType) × (mid : CacheValue) × (next_type plan results ≡ Some t)
     × Answers looked before (question_of n t) p mid
@@ -137,44 +147,50 @@ AreSubLookups Answers looked n plan before results (p ∷ ps) after =
 abbrev pub results_of : List SubLookup → List LookupResult
 results_of parts = map (λ p. p.result) parts
 
--- An attempt at a name: its sub-look-ups, the result made of theirs, and the cache after it.
+-- An attempt at a name: its sub-look-ups, what it comes to by theirs, and the cache after it. Where memory ran
+-- out before a sub-look-up, nothing was asked for that one, and it is none of them.
 pub record IsAttempt
     (Answers : SubLookupRelation) (looked : Bool) (before : CacheValue) (n : NameValue) (plan : Plan)
     (parts : List SubLookup) (result : LookupResult) (after : CacheValue)
     : Type 0 where
   pub are : AreSubLookups Answers looked n plan before [] parts after
-  pub result_is :
-      (result ≡ attempt_result plan (results_of parts))
-      ⊎ ((joins_results plan (results_of parts) ≡ true) × (result ≡ Err OutOfMemory))
+  pub result_is : IsAttemptResult plan (results_of parts) result
 
 -- an attempt after which no other is made
 abbrev pub stops : LookupResult → Bool
 stops r = has_answers r || is_out_of_memory r
 
--- the reply where no attempt has answers: the literal address, if there is one, else the last result
-abbrev pub IsLastReply : Option LookupValue → LookupResult → LookupResult → Type 0
-IsLastReply None last result = result ≡ last
-IsLastReply (Some literal) last result = (result ≡ Ok literal) ⊎ (result ≡ Err OutOfMemory)
+-- the reply where no attempt has answers: the literal address, if there is one, else what came last
+abbrev pub IsLastReply : Option LookupValue → (LookupResult → Type 0) → LookupResult → Type 0
+IsLastReply None IsLast result = IsLast result
+IsLastReply (Some literal) IsLast result = (result ≡ Ok literal) ⊎ (result ≡ Err OutOfMemory)
 
 -- What a call does with each name: the types that are looked up, whether the hosts are looked at for every
--- name or for the first alone, and the literal address that stands in where no attempt has answers.
+-- name or for the first alone, the literal address that stands in where no attempt has answers, and what is
+-- said where there is no name.
 pub record CallPlan : Type 0 where
   pub types : Plan
   pub hosts_for_all : Bool
   pub literal : Option LookupValue
+  pub no_names : List ℕ
+
+-- a message error of this text
+abbrev pub Says : List ℕ → LookupResult → Type 0
+Says text (Err (Message said)) = said.now ≡ text
+Says text _ = ⊥
 
 -- Attempts at these names in order, none after the first that has answers, and the reply of the call. The
 -- flag says whether the hosts are looked at for the first of the names; without a name left the reply is the
--- last resort or the last result.
-abbrev pub AreAttempts : SubLookupRelation → CallPlan → Bool → CacheValue → List NameValue → LookupResult
-    → List SubLookup → LookupResult → CacheValue → Type 0
-AreAttempts Answers plan looked before [] last parts result after =
-    (parts ≡ []) × IsLastReply plan.literal last result × (after ≡ before)
-AreAttempts Answers plan looked before (n ∷ ns) last parts result after =
+-- last resort or what came last: the result of the attempt before, or what is said where there is no name.
+abbrev pub AreAttempts : SubLookupRelation → CallPlan → Bool → CacheValue → List NameValue
+    → (LookupResult → Type 0) → List SubLookup → LookupResult → CacheValue → Type 0
+AreAttempts Answers plan looked before [] IsLast parts result after =
+    (parts ≡ []) × IsLastReply plan.literal IsLast result × (after ≡ before)
+AreAttempts Answers plan looked before (n ∷ ns) IsLast parts result after =
     (front : List SubLookup) × (back : List SubLookup) × (r : LookupResult) × (mid : CacheValue)
     × (parts ≡ front ++ back) × IsAttempt Answers looked before n plan.types front r mid
     × (((stops r ≡ true) × (back ≡ []) × (result ≡ r) × (after ≡ mid))
-    ⊎ ((stops r ≡ false) × AreAttempts Answers plan plan.hosts_for_all mid ns r back result after))
+    ⊎ ((stops r ≡ false) × AreAttempts Answers plan plan.hosts_for_all mid ns (λ x. x ≡ r) back result after))
 
 -- an address as the reply that it is by itself, for a day: owned by this name, under this question
 abbrev pub literal_lookup : Query → NameValue → IpAddr → ℕ → LookupValue

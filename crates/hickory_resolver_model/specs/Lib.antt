@@ -8,6 +8,7 @@ pub mod Hops
 pub mod Hosts
 pub mod Lookup
 pub mod Options
+pub mod Resolver
 pub mod Run
 pub mod SpecialUse
 pub mod Verdict

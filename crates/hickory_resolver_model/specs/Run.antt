@@ -1,6 +1,6 @@
 -- A run: a list of requests, one after another, over one cache; the exchanges of the whole run are cut into
 -- one piece for each.
-use Rattle.std.specs.Prelude.{◌≡◌, ◌⊎◌, ℕ, Bool, nat_le, if◌then◌else◌, true, false, List, [], ◌∷◌, length, map, flat_map, Option, Some, None, Result, Ok, Err}
+use Rattle.std.specs.Prelude.{◌≡◌, ◌⊎◌, ℕ, Bool, nat_le, if◌then◌else◌, true, false, List, [], ◌∷◌, codes, length, map, flat_map, Option, Some, None, Result, Ok, Err}
 use Rattle.hickory_proto_core.specs.Name.{NameValue}
 use Rattle.hickory_proto_core.specs.NameDecided.{IsReading}
 use Rattle.hickory_proto_core.specs.NameGiven.{IsReadAddress}
@@ -14,22 +14,19 @@ use Rattle.hickory_proto_core.specs.names.name_error.NameError.{NameError}
 use Rattle.hickory_proto_core.specs.records.net_error.NetError.{NetError}
 use Rattle.hickory_proto_core.specs.records.net_error.NetError.TheVariants.{OutOfMemory}
 use Rattle.std.specs.declared.net.IpAddr.{IpAddr}
+use Rattle.hickory_resolver_config.specs.Resolver.{ResolverConfigValue, OptionsValue}
+use Rattle.hickory_resolver_config.specs.declared.strategies.LookupIpStrategy.{LookupIpStrategy}
+use Rattle.hickory_resolver_config.specs.declared.strategies.LookupIpStrategy.TheVariants.{Ipv4Only, Ipv6Only, Ipv4AndIpv6, Ipv6AndIpv4, Ipv6thenIpv4, Ipv4thenIpv6}
+use Rattle.hickory_resolver_model.specs.Bounds.{BoundsValue}
 use Rattle.hickory_resolver_model.specs.Cache.{CacheValue, without_query}
 use Rattle.hickory_resolver_model.specs.Lookup.{LookupValue, LookupResult}
 use Rattle.hickory_resolver_model.specs.Hosts.{Host}
 use Rattle.hickory_resolver_model.specs.Attempts.{Search, attempts}
-use Rattle.hickory_resolver_model.specs.Calls.{Setting, Plan, One, Both, Fallback, SubLookup, SubLookupRelation, IsSubLookupFor, CallPlan, AreAttempts, no_name, literal_at_once, literal_at_last, asks_of_sub_lookups, question_of, is_out_of_memory}
+use Rattle.hickory_resolver_model.specs.Options.{search_of, bounds_of, request_options_of}
+use Rattle.hickory_resolver_model.specs.Calls.{Setting, Plan, One, Both, Fallback, SubLookup, SubLookupRelation, IsSubLookupFor, CallPlan, Says, AreAttempts, no_name, literal_at_once, literal_at_last, asks_of_sub_lookups, question_of, is_out_of_memory}
 
 -- which addresses a look-up of addresses asks for
-pub data Strategy : Type 0 where
-  Ipv4Only : Strategy
-  Ipv6Only : Strategy
-  Ipv4AndIpv6 : Strategy
-  Ipv6AndIpv4 : Strategy
-  Ipv6thenIpv4 : Strategy
-  Ipv4thenIpv6 : Strategy
-
-abbrev pub plan_of : Strategy → Plan
+abbrev pub plan_of : LookupIpStrategy → Plan
 plan_of Ipv4Only = One type.A
 plan_of Ipv6Only = One type.AAAA
 plan_of Ipv4AndIpv6 = Both type.A type.AAAA
@@ -37,12 +34,34 @@ plan_of Ipv6AndIpv4 = Both type.AAAA type.A
 plan_of Ipv6thenIpv4 = Fallback type.AAAA type.A
 plan_of Ipv4thenIpv6 = Fallback type.A type.AAAA
 
--- what stays the same in a run
+-- what stays the same in a run: how names are attempted, which addresses are asked for, whether intermediate
+-- records are preserved, how many entries the cache has room for and the bounds on times to live, how each
+-- question is sent, and the table of hosts
 pub record Settings : Type 0 where
   pub search : Search
-  pub strategy : Strategy
+  pub strategy : LookupIpStrategy
   pub preserve_intermediates : Bool
+  pub capacity : ℕ
+  pub bounds : BoundsValue
+  pub requests : DnsRequestOptions
   pub hosts : List Host
+
+-- the settings of a resolver with this configuration, these options and this table of hosts
+abbrev pub settings_of : ResolverConfigValue → OptionsValue → List Host → Settings
+settings_of config options hosts = record {
+  search = search_of config options;
+  strategy = options.ip_strategy;
+  preserve_intermediates = options.preserve_intermediates;
+  capacity = options.cache_size;
+  bounds = bounds_of options;
+  requests = request_options_of options;
+  hosts = hosts;
+}
+
+-- the cache of a new resolver
+abbrev pub first_cache : Settings → CacheValue
+first_cache s =
+    record { capacity = s.capacity; config = record { default = s.bounds; by_type = [] }; entries = [] }
 
 abbrev pub setting_at : Settings → ℕ → Setting
 setting_at s now = record { now = now; preserve_intermediates = s.preserve_intermediates; hosts = s.hosts }
@@ -84,15 +103,28 @@ pub data Call : Type 0 where
   AtOnce : LookupResult → Call
   Attempt : NameValue → CallPlan → Call
 
--- A look-up of a name: the hosts are looked at for the first name that is attempted. What is no name is
--- answered its fault.
+-- the attempts of a look-up of a name: the hosts are looked at for the first one alone
+abbrev pub name_plan : RecordType → CallPlan
+name_plan t = record {
+  types = One t;
+  hosts_for_all = false;
+  literal = None;
+  no_names = codes "can not lookup for no names";
+}
+
+-- A look-up of a name. What is no name is answered its fault.
 abbrev pub name_call : RecordType → Result NameValue NameError → Call
-name_call t (Ok n) = Attempt n (record { types = One t; hosts_for_all = false; literal = None })
+name_call t (Ok n) = Attempt n (name_plan t)
 name_call t (Err fault) = AtOnce (Err (net_error_of fault))
 
 -- the attempts of a look-up of addresses: the hosts are looked at for every name
-abbrev pub address_plan : Strategy → Option LookupValue → CallPlan
-address_plan strategy literal = record { types = plan_of strategy; hosts_for_all = true; literal = literal }
+abbrev pub address_plan : LookupIpStrategy → Option LookupValue → CallPlan
+address_plan strategy literal = record {
+  types = plan_of strategy;
+  hosts_for_all = true;
+  literal = literal;
+  no_names = codes "can not lookup IPs for no names";
+}
 
 -- A look-up of addresses: an address is the reply at once where few dots make a name absolute or it is no
 -- name; else it is the last resort. What is neither an address nor a name is answered its fault.
@@ -109,7 +141,7 @@ abbrev pub IsCall : SubLookupRelation → Settings → CacheValue → Call → L
     → CacheValue → Type 0
 IsCall Answers s before (AtOnce answer) parts reply after = (parts ≡ []) × (reply ≡ answer) × (after ≡ before)
 IsCall Answers s before (Attempt n plan) parts reply after =
-    AreAttempts Answers plan true before (attempts s.search n) (Err OutOfMemory) parts reply after
+    AreAttempts Answers plan true before (attempts s.search n) (Says plan.no_names) parts reply after
 
 -- memory ran out before anything was asked
 abbrev pub IsUnserved : CacheValue → List SubLookup → LookupResult → CacheValue → Type 0
@@ -193,13 +225,11 @@ pub record Run
   pub steps_are : map (λ stage. stage.step) stages ≡ steps
   pub are : AreStages s empty requests stages after
 
--- A run over a handle: the exchanges led the handle, each with these options, and the replies and the cache
--- are those of a run from an empty cache.
+-- A run over a handle: the exchanges led the handle, each with the options of the settings, and the replies
+-- and the cache are those of a run from a new resolver's cache.
 pub record IsRun
-    {H : Type 0} (step : Step H) (options : DnsRequestOptions) (s : Settings) (empty : CacheValue)
-    (handle : H) (requests : List RequestValue) (steps : List StepValue) (exchanges : List Exchange)
-    (handle_after : H) (cache_after : CacheValue)
+    {H : Type 0} (step : Step H) (s : Settings) (handle : H) (requests : List RequestValue)
+    (steps : List StepValue) (exchanges : List Exchange) (handle_after : H) (cache_after : CacheValue)
     : Type 0 where
-  pub starts_empty : empty.entries ≡ []
-  pub led : Leads step options handle exchanges handle_after
-  pub run : Run s empty requests steps exchanges cache_after
+  pub led : Leads step s.requests handle exchanges handle_after
+  pub run : Run s (first_cache s) requests steps exchanges cache_after

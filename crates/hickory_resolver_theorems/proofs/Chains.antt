@@ -21,14 +21,14 @@ chain-append Answers before mid after (p ∷ ps) qs (looked, q, next, is, rest) 
 
 pub chain-subs : (Answers : SubLookupRelation) (looked : Bool) (n : NameValue) (plan : Plan) (before : CacheValue) (results : List LookupResult) (parts : List SubLookup) (after : CacheValue)
     → AreSubLookups Answers looked n plan before results parts after → Chain Answers before parts after
-chain-subs Answers looked n plan before results [] after (over, same) = same
+chain-subs Answers looked n plan before results [] after same = same
 chain-subs Answers looked n plan before results (p ∷ ps) after (t, mid, next, is, rest) =
     (looked, question_of n t, mid, is, chain-subs Answers looked n plan mid (results ++ p.result ∷ []) ps after rest)
 
 chain-none : (Answers : SubLookupRelation) (before : CacheValue) (parts : List SubLookup) (after : CacheValue) → parts ≡ [] → after ≡ before → Chain Answers before parts after
 chain-none Answers before parts after e same = subst (λ ps. Chain Answers before ps after) (sym e) same
 
-pub chain-attempts : (Answers : SubLookupRelation) (plan : CallPlan) (looked : Bool) (before : CacheValue) (names : List NameValue) (last : LookupResult) (parts : List SubLookup) (result : LookupResult) (after : CacheValue)
+pub chain-attempts : (Answers : SubLookupRelation) (plan : CallPlan) (looked : Bool) (before : CacheValue) (names : List NameValue) (last : LookupResult → Type 0) (parts : List SubLookup) (result : LookupResult) (after : CacheValue)
     → AreAttempts Answers plan looked before names last parts result after → Chain Answers before parts after
 chain-attempts Answers plan looked before [] last parts result after (none, is, same) = chain-none Answers before parts after none same
 chain-attempts Answers plan looked before (n ∷ ns) last parts result after (front, back, r, mid, are, attempt, inl (stopped, none, e, same)) =
@@ -36,7 +36,7 @@ chain-attempts Answers plan looked before (n ∷ ns) last parts result after (fr
     (chain-append Answers before mid after front back (chain-subs Answers looked n plan.types before [] front mid attempt.are) (chain-none Answers mid back after none same))
 chain-attempts Answers plan looked before (n ∷ ns) last parts result after (front, back, r, mid, are, attempt, inr (on, rest)) =
     subst (λ ps. Chain Answers before ps after) (sym are)
-    (chain-append Answers before mid after front back (chain-subs Answers looked n plan.types before [] front mid attempt.are) (chain-attempts Answers plan plan.hosts_for_all mid ns r back result after rest))
+    (chain-append Answers before mid after front back (chain-subs Answers looked n plan.types before [] front mid attempt.are) (chain-attempts Answers plan plan.hosts_for_all mid ns (λ x. x ≡ r) back result after rest))
 
 chain-call : (Answers : SubLookupRelation) (s : Settings) (before : CacheValue) (call : Call) (parts : List SubLookup) (reply : LookupResult) (after : CacheValue)
     → IsCall Answers s before call parts reply after → Chain Answers before parts after

@@ -11,7 +11,7 @@ use Rattle.hickory_proto_core.specs.records.net_error.NetError.TheVariants.{OutO
 use Rattle.hickory_resolver_model.specs.Cache.{CacheValue, is_for, without_query}
 use Rattle.hickory_resolver_model.specs.Lookup.{LookupResult}
 use Rattle.hickory_resolver_model.specs.Hosts.{IsStatic}
-use Rattle.hickory_resolver_model.specs.Calls.{Setting, Source, Static, Client, SubLookup, SubLookupRelation, IsSubLookupBy, IsSubLookupFor, start_at, Plan, One, Both, Fallback, question_of, has_answers, is_out_of_memory, both_results, next_type, attempt_result, joins_results, AreSubLookups, results_of, IsAttempt, stops, CallPlan, AreAttempts, asks_of_sub_lookups}
+use Rattle.hickory_resolver_model.specs.Calls.{Setting, Source, Static, Client, SubLookup, SubLookupRelation, IsSubLookupBy, IsSubLookupFor, start_at, Plan, One, Both, Fallback, question_of, has_answers, is_out_of_memory, both_results, next_type, attempt_result, IsAttemptResult, AreSubLookups, results_of, IsAttempt, stops, CallPlan, Says, AreAttempts, asks_of_sub_lookups}
 use Rattle.hickory_resolver_model.specs.Attempts.{attempts}
 use Rattle.hickory_resolver_model.specs.Run.{Settings, setting_at, RequestValue, Lookup, LookupIp, ClearLookup, Clear, StepReply, LookedUp, Cleared, ends_run, drop_each, after_clear, Call, AtOnce, Attempt, name_call, address_call, IsCall, IsServed, StepValue, Stage, IsStage, AreStages, exchanges_of, Run}
 use Rattle.hickory_resolver_theorems.specs.Cacheless.{IsTable, ResolvesTo, IsConsistentWith, AreConsistentWith}
@@ -106,15 +106,15 @@ goes-on (Fallback t v) (x ∷ y ∷ ys) r u h = let clash : None ≡ Some u = h 
 subs-alike : (table : TableValue) (t : Setting) (looked : Bool) (n : NameValue) (plan : Plan) (c before : CacheValue) (results : List LookupResult) (ps : List SubLookup) (after : CacheValue) → Seen table t → AreWhatTheyResolveTo table before
     → AllByRecursion (ResolvesWithinEight table) ps → AreConsistentWith table (asks_of_sub_lookups ps) → AreSubLookups (IsSubLookupFor t) looked n plan before results ps after
     → ((last_is_out ps ≡ true) ⊎ AreSubLookups (CachelessSubLookup table t) looked n plan c results ps c) × AreWhatTheyResolveTo table after
-subs-alike table t looked n plan c before results [] after seen meant has tells (over, same) = (inr (over, refl), subst (AreWhatTheyResolveTo table) (sym same) meant)
-subs-alike table t looked n plan c before results (p ∷ []) after seen meant (each, none) tells (u, mid, next, is, (over, same)) = (by here.0, subst (AreWhatTheyResolveTo table) (sym same) here.1)
+subs-alike table t looked n plan c before results [] after seen meant has tells same = (inr refl, subst (AreWhatTheyResolveTo table) (sym same) meant)
+subs-alike table t looked n plan c before results (p ∷ []) after seen meant (each, none) tells (u, mid, next, is, same) = (by here.0, subst (AreWhatTheyResolveTo table) (sym same) here.1)
   where
     here : PartAlike table t looked c (question_of n u) p mid
     here = part-alike table t looked c before (question_of n u) p mid seen meant each (all-front (IsConsistentWith table) p.asks [] tells) is
 
     by : (is_out_of_memory p.result ≡ true) ⊎ CachelessSubLookup table t looked c (question_of n u) p c → (is_out_of_memory p.result ≡ true) ⊎ AreSubLookups (CachelessSubLookup table t) looked n plan c results (p ∷ []) c
     by (inl out) = inl out
-    by (inr alike) = inr (u, c, next, alike, (over, refl))
+    by (inr alike) = inr (u, c, next, alike, refl)
 subs-alike table t looked n plan c before results (p ∷ q ∷ qs) after seen meant (each, others) tells (u, mid, next, is, (v, m, on, second, rest)) =
     let there = subs-alike table t looked n plan c mid (results ++ p.result ∷ []) (q ∷ qs) after seen here.1 others (all-back (IsConsistentWith table) p.asks (asks_of_sub_lookups (q ∷ qs)) told) (v, m, on, second, rest) in
     (by there.0, there.1)
@@ -157,20 +157,20 @@ attempt-alike table t looked c before n plan parts r after seen meant has tells 
     there = subs-alike table t looked n plan c before [] parts after seen meant has tells attempt.are
 
     by : (last_is_out parts ≡ true) ⊎ AreSubLookups (CachelessSubLookup table t) looked n plan c [] parts c
-        → (r ≡ attempt_result plan (results_of parts)) ⊎ ((joins_results plan (results_of parts) ≡ true) × (r ≡ Err OutOfMemory))
+        → IsAttemptResult plan (results_of parts) r
         → (is_out_of_memory r ≡ true) ⊎ IsAttempt (CachelessSubLookup table t) looked c n plan parts r c
-    by is (inr (joins, out)) = inl (ap is_out_of_memory out)
-    by (inl out) (inl e) = inl (ap is_out_of_memory e ∙ out-result (IsSubLookupFor t) looked n plan before parts after attempt.are out)
-    by (inr is) (inl e) = inr (record { are = is; result_is = inl e })
+    by is (inr (takes, out)) = inl (ap is_out_of_memory out)
+    by (inl out) (inl (over, e)) = inl (ap is_out_of_memory e ∙ out-result (IsSubLookupFor t) looked n plan before parts after attempt.are out)
+    by (inr is) (inl (over, e)) = inr (record { are = is; result_is = inl (over, e) })
 
 -- ---- attempts
 
-attempts-alike : (table : TableValue) (t : Setting) (plan : CallPlan) (looked : Bool) (c before : CacheValue) (names : List NameValue) (last : LookupResult) (parts : List SubLookup) (r : LookupResult) (after : CacheValue) → Seen table t → AreWhatTheyResolveTo table before
+attempts-alike : (table : TableValue) (t : Setting) (plan : CallPlan) (looked : Bool) (c before : CacheValue) (names : List NameValue) (last : LookupResult → Type 0) (parts : List SubLookup) (r : LookupResult) (after : CacheValue) → Seen table t → AreWhatTheyResolveTo table before
     → AllByRecursion (ResolvesWithinEight table) parts → AreConsistentWith table (asks_of_sub_lookups parts) → AreAttempts (IsSubLookupFor t) plan looked before names last parts r after
     → ((is_out_of_memory r ≡ true) ⊎ AreAttempts (CachelessSubLookup table t) plan looked c names last parts r c) × AreWhatTheyResolveTo table after
 attempts-alike table t plan looked c before [] last parts r after seen meant has tells (none, fallback, same) = (inr (none, fallback, refl), subst (AreWhatTheyResolveTo table) (sym same) meant)
 attempts-alike table t plan looked c before (n ∷ ns) last parts r after seen meant has tells (front, back, result, mid, are, attempt, goes) =
-    by first.0 goes (λ rest. attempts-alike table t plan plan.hosts_for_all c mid ns result back r after seen first.1 (all-back (ResolvesWithinEight table) front back each) (all-back (IsConsistentWith table) (asks_of_sub_lookups front) (asks_of_sub_lookups back) told) rest)
+    by first.0 goes (λ rest. attempts-alike table t plan plan.hosts_for_all c mid ns (λ x. x ≡ result) back r after seen first.1 (all-back (ResolvesWithinEight table) front back each) (all-back (IsConsistentWith table) (asks_of_sub_lookups front) (asks_of_sub_lookups back) told) rest)
   where
     each : AllByRecursion (ResolvesWithinEight table) (front ++ back)
     each = subst (AllByRecursion (ResolvesWithinEight table)) are has
@@ -181,14 +181,14 @@ attempts-alike table t plan looked c before (n ∷ ns) last parts r after seen m
     first : ((is_out_of_memory result ≡ true) ⊎ IsAttempt (CachelessSubLookup table t) looked c n plan.types front result c) × AreWhatTheyResolveTo table mid
     first = attempt-alike table t looked c before n plan.types front result mid seen meant (all-front (ResolvesWithinEight table) front back each) (all-front (IsConsistentWith table) (asks_of_sub_lookups front) (asks_of_sub_lookups back) told) attempt
 
-    on_with : IsAttempt (CachelessSubLookup table t) looked c n plan.types front result c → stops result ≡ false → (is_out_of_memory r ≡ true) ⊎ AreAttempts (CachelessSubLookup table t) plan plan.hosts_for_all c ns result back r c
+    on_with : IsAttempt (CachelessSubLookup table t) looked c n plan.types front result c → stops result ≡ false → (is_out_of_memory r ≡ true) ⊎ AreAttempts (CachelessSubLookup table t) plan plan.hosts_for_all c ns (λ x. x ≡ result) back r c
         → (is_out_of_memory r ≡ true) ⊎ AreAttempts (CachelessSubLookup table t) plan looked c (n ∷ ns) last parts r c
     on_with is live (inl out) = inl out
     on_with is live (inr rest) = inr (front, back, result, c, are, is, inr (live, rest))
 
     by : (is_out_of_memory result ≡ true) ⊎ IsAttempt (CachelessSubLookup table t) looked c n plan.types front result c
-        → ((stops result ≡ true) × (back ≡ []) × (r ≡ result) × (after ≡ mid)) ⊎ ((stops result ≡ false) × AreAttempts (IsSubLookupFor t) plan plan.hosts_for_all mid ns result back r after)
-        → (AreAttempts (IsSubLookupFor t) plan plan.hosts_for_all mid ns result back r after → ((is_out_of_memory r ≡ true) ⊎ AreAttempts (CachelessSubLookup table t) plan plan.hosts_for_all c ns result back r c) × AreWhatTheyResolveTo table after)
+        → ((stops result ≡ true) × (back ≡ []) × (r ≡ result) × (after ≡ mid)) ⊎ ((stops result ≡ false) × AreAttempts (IsSubLookupFor t) plan plan.hosts_for_all mid ns (λ x. x ≡ result) back r after)
+        → (AreAttempts (IsSubLookupFor t) plan plan.hosts_for_all mid ns (λ x. x ≡ result) back r after → ((is_out_of_memory r ≡ true) ⊎ AreAttempts (CachelessSubLookup table t) plan plan.hosts_for_all c ns (λ x. x ≡ result) back r c) × AreWhatTheyResolveTo table after)
         → ((is_out_of_memory r ≡ true) ⊎ AreAttempts (CachelessSubLookup table t) plan looked c (n ∷ ns) last parts r c) × AreWhatTheyResolveTo table after
     by (inl out) (inl (stopped, none, e, same)) rest = (inl (ap is_out_of_memory e ∙ out), subst (AreWhatTheyResolveTo table) (sym same) first.1)
     by (inr is) (inl (stopped, none, e, same)) rest = (inr (front, back, result, c, are, is, inl (stopped, none, e, refl)), subst (AreWhatTheyResolveTo table) (sym same) first.1)
@@ -206,7 +206,7 @@ call-alike : (table : TableValue) (s : Settings) (c before : CacheValue) (now : 
     → ((is_out_of_memory reply ≡ true) ⊎ IsCall (CachelessSubLookup table (setting_at s now)) s c call parts reply c) × AreWhatTheyResolveTo table after
 call-alike table s c before now (AtOnce answer) parts reply after seen meant has tells (none, e, same) = (inr (none, e, refl), subst (AreWhatTheyResolveTo table) (sym same) meant)
 call-alike table s c before now (Attempt n plan) parts reply after seen meant has tells tries =
-    attempts-alike table (setting_at s now) plan true c before (attempts s.search n) (Err OutOfMemory) parts reply after seen meant has tells tries
+    attempts-alike table (setting_at s now) plan true c before (attempts s.search n) (Says plan.no_names) parts reply after seen meant has tells tries
 
 name-alike : (table : TableValue) (s : Settings) (c before : CacheValue) (text : List ℕ) (u : RecordType) (now : ℕ) (parts : List SubLookup) (reply : LookupResult) (after : CacheValue) → Seen table (setting_at s now) → AreWhatTheyResolveTo table before → AllByRecursion (ResolvesWithinEight table) parts → AreConsistentWith table (asks_of_sub_lookups parts)
     → IsServed (λ at. IsSubLookupFor (setting_at s at)) s before (Lookup text u now) parts (LookedUp reply) after → ServedAlike table s c (Lookup text u now) (LookedUp reply) after

@@ -1,7 +1,7 @@
 -- What holds of the names that are attempted.
 use Rattle.std.specs.Prelude.{◌≡◌, Bool, true, false, ◌||◌, List, [], ◌∷◌, ◌++◌, reverse}
 use Rattle.std.specs.List.{list_any}
-use Rattle.std.proofs.Common.{refl, ap, ◌∙◌, cond}
+use Rattle.std.proofs.Common.{refl, sym, ap, ◌∙◌, cond}
 use Rattle.hickory_proto_core.specs.Name.{NameValue, name_eq}
 use Rattle.hickory_resolver_model.specs.Hosts.{as_fqdn}
 use Rattle.hickory_resolver_model.specs.Attempts.{Search, attempts, keep_last, joined_names, raw_first, is_onion_address}
@@ -79,3 +79,31 @@ attempts_apart s n =
         (keep_last (joined_names s n ++ as_fqdn n ∷ []))))
     whole true = tt
     whole false = below (raw_first s n)
+
+keep_last-some : (ns : List NameValue) → keep_last ns ≡ [] → ns ≡ []
+keep_last-some [] h = refl
+keep_last-some (n ∷ ns) h = at (list_any (name_eq n) ns) refl (keep_last-some ns) h
+  where
+    at : (b : Bool) → list_any (name_eq n) ns ≡ b → (keep_last ns ≡ [] → ns ≡ [])
+        → cond b (keep_last ns) (n ∷ keep_last ns) ≡ [] → n ∷ ns ≡ []
+    at true e rest none = let clash : false ≡ true = sym (ap (list_any (name_eq n)) (rest none)) ∙ e in cc
+    at false e rest none = let clash : n ∷ keep_last ns ≡ [] = none in cc
+
+behind-some : (ns : List NameValue) (n : NameValue) → ns ++ n ∷ [] ≡ [] → ⊥
+behind-some [] n h = cc
+behind-some (m ∷ ms) n h = cc
+
+-- there is an attempt at every name
+pub some_attempt : (s : Search) (n : NameValue) → attempts s n ≡ [] → ⊥
+some_attempt s n = whole (n.fqdn || is_onion_address (reverse n.labels))
+  where
+    below : (b : Bool) → cond b (as_fqdn n ∷ keep_last (joined_names s n))
+        (keep_last (joined_names s n ++ as_fqdn n ∷ [])) ≡ [] → ⊥
+    below true h = let clash : as_fqdn n ∷ keep_last (joined_names s n) ≡ [] = h in cc
+    below false h =
+        behind-some (joined_names s n) (as_fqdn n) (keep_last-some (joined_names s n ++ as_fqdn n ∷ []) h)
+
+    whole : (b : Bool) → cond b (n ∷ []) (cond (raw_first s n) (as_fqdn n ∷ keep_last (joined_names s n))
+        (keep_last (joined_names s n ++ as_fqdn n ∷ []))) ≡ [] → ⊥
+    whole true h = let clash : n ∷ [] ≡ [] = h in cc
+    whole false h = below (raw_first s n) h

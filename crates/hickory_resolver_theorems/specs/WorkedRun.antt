@@ -10,7 +10,9 @@ use Rattle.hickory_resolver_model.specs.Lookup.{LookupValue}
 use Rattle.hickory_resolver_model.specs.Hops.{LookupContext, Hit, Asked, IsReply}
 use Rattle.hickory_resolver_model.specs.Hosts.{IsStatic}
 use Rattle.hickory_resolver_model.specs.Calls.{Client, SubLookup, IsSubLookupFor}
-use Rattle.hickory_resolver_model.specs.Run.{Ipv4Only, Settings, setting_at, RequestValue, Lookup, LookedUp, IsServed, StepValue, Stage, Run}
+use Rattle.hickory_resolver_config.specs.declared.strategies.LookupIpStrategy.TheVariants.{Ipv4Only}
+use Rattle.hickory_resolver_model.specs.Bounds.{no_bounds}
+use Rattle.hickory_resolver_model.specs.Run.{Settings, setting_at, RequestValue, Lookup, LookedUp, IsServed, StepValue, Stage, Run}
 use Rattle.hickory_resolver_model.specs.Client.{empty_cache}
 use Rattle.hickory_resolver_theorems.specs.Worked.{below, name, asks_a, rr, address, response, exchange, first}
 
@@ -27,7 +29,16 @@ spells_a = record {
 }
 
 abbrev pub settings : Settings
-settings = record { search = below None []; strategy = Ipv4Only; preserve_intermediates = false; hosts = [] }
+settings = record {
+  search = below None [];
+  strategy = Ipv4Only;
+  preserve_intermediates = false;
+  capacity = 8;
+  bounds = no_bounds;
+  requests =
+      record { recursion_desired = true; use_edns = true; edns_payload_len = 1232; case_randomization = false };
+  hosts = [];
+}
 
 abbrev pub requests : List RequestValue
 requests = Lookup (codes "a.") type.A 0 ∷ Lookup (codes "a.") type.A 4 ∷ []
@@ -129,9 +140,9 @@ first_served =
                 reply = asked_reply;
               },
             ),
-            (refl, refl),
+            refl,
           );
-          result_is = inl refl;
+          result_is = inl (refl, refl);
         },
         inl (refl, refl, refl, refl),
       ),
@@ -161,9 +172,9 @@ second_served =
                 reply = hit_reply;
               },
             ),
-            (refl, refl),
+            refl,
           );
-          result_is = inl refl;
+          result_is = inl (refl, refl);
         },
         inl (refl, refl, refl, refl),
       ),

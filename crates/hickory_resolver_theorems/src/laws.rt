@@ -1,11 +1,11 @@
 //! Laws of the definitions.
-ghost use Rattle.std.specs.Prelude.{List, length, ◌≤◌};
+ghost use Rattle.std.specs.Prelude.{◌≡◌, List, [], length, ◌≤◌};
 ghost use Rattle.hickory_proto_core.specs.Name.{NameValue};
 ghost use Rattle.hickory_proto_core.specs.Records.{RecordValue};
 ghost use Rattle.hickory_proto_core.specs.Recorded.{RecordedAs};
 ghost use Rattle.hickory_proto_core.specs.records.query.Query.{Query};
 ghost use Rattle.hickory_proto_core.specs.declared.recorded.Exchange.{Exchange};
-ghost use Rattle.hickory_resolver_model.specs.Attempts.{Search};
+ghost use Rattle.hickory_resolver_model.specs.Attempts.{Search, attempts};
 ghost use Rattle.hickory_resolver_theorems.specs.AttemptLaws.{AreAttemptsApart};
 ghost use Rattle.hickory_resolver_model.specs.Cache.{CacheValue, IsCache};
 ghost use Rattle.hickory_resolver_model.specs.Hops.{LookupContext, IsReply};
@@ -24,6 +24,11 @@ pub fn one_walk()
 /// attempted alone.
 pub fn attempts_apart()
     ensures { (s : Search) (n : NameValue) → AreAttemptsApart s n }
+{}
+
+/// There is an attempt at every name.
+pub fn some_attempt()
+    ensures { (s : Search) (n : NameValue) → attempts s n ≡ [] → ⊥ }
 {}
 
 /// A look-up that is what the hops say makes eight exchanges at most.

@@ -1,0 +1,76 @@
+-- A resolver: a client, a table of hosts, and what it is configured with; and what a look-up by it does.
+use Rattle.std.specs.Prelude.{◌≡◌, ◌⊎◌, ℕ, Bool, List, [], reverse}
+use Rattle.hickory_proto_core.specs.Name.{NameValue}
+use Rattle.hickory_proto_core.specs.Handles.{Step, Leads}
+use Rattle.hickory_proto_core.specs.declared.dns_request.DnsRequestOptions.{DnsRequestOptions}
+use Rattle.hickory_resolver_config.specs.Resolver.{ResolverConfigValue, OptionsValue}
+use Rattle.hickory_resolver_model.specs.Lookup.{LookupResult}
+use Rattle.hickory_resolver_model.specs.Hosts.{Host}
+use Rattle.hickory_resolver_model.specs.Client.{ClientValue}
+use Rattle.hickory_resolver_model.specs.Calls.{Setting, SubLookup, CallPlan, IsSubLookupFor, Says, AreAttempts, asks_of_sub_lookups}
+use Rattle.hickory_resolver_model.specs.Run.{Settings, settings_of, setting_at, first_cache, Call, IsCall, IsUnserved}
+
+-- where a call of a client starts, over a table of hosts
+abbrev pub setting_of : {H : Type 0} → ClientValue H → List Host → ℕ → Setting
+setting_of client hosts now =
+    record { now = now; preserve_intermediates = client.preserve_intermediates; hosts = hosts }
+
+-- A client looks these names up: the exchanges of the sub-look-ups led its handle, each with these options;
+-- the reply and the cache after it are those of the attempts at the names. The flag says whether the hosts are
+-- looked at for the first name.
+pub record LooksUp
+    {H : Type 0} (step : Step H) (options : DnsRequestOptions) (hosts : List Host) (now : ℕ) (plan : CallPlan)
+    (looked : Bool) (names : List NameValue) (before : ClientValue H) (result : LookupResult)
+    (after : ClientValue H)
+    : Type 0 where
+  pub parts : List SubLookup
+  pub led : Leads step options before.handle (asks_of_sub_lookups parts) after.handle
+  pub are : AreAttempts
+      (IsSubLookupFor
+      (setting_of before hosts now)) plan looked before.cache names
+      (Says plan.no_names) parts result after.cache
+  pub option_stays : after.preserve_intermediates ≡ before.preserve_intermediates
+
+-- what a caller sees of a resolver
+pub record ResolverValue (H : Type 0) : Type 0 where
+  pub client : ClientValue H
+  pub hosts : List Host
+  pub config : ResolverConfigValue
+  pub options : OptionsValue
+
+-- what a resolver is set to. Whether intermediate records are preserved its client knows
+abbrev pub settings : {H : Type 0} → ResolverValue H → Settings
+settings r =
+    record (settings_of r.config r.options r.hosts) {
+      preserve_intermediates = r.client.preserve_intermediates;
+    }
+
+-- a new resolver has an empty cache and an empty table of hosts
+abbrev pub new_resolver : {H : Type 0} → ResolverConfigValue → OptionsValue → H → ResolverValue H
+new_resolver config options handle = record {
+  client =
+      record {
+        cache = first_cache (settings_of config options []);
+        handle = handle;
+        preserve_intermediates = options.preserve_intermediates;
+      };
+  hosts = [];
+  config = config;
+  options = options;
+}
+
+-- A resolver answers a call: the exchanges of the call's sub-look-ups led its handle, each with its options;
+-- the reply and the cache after it are those of the call. All else stays.
+pub record Answers
+    {H : Type 0} (step : Step H) (now : ℕ) (call : Call) (before : ResolverValue H) (result : LookupResult)
+    (after : ResolverValue H)
+    : Type 0 where
+  pub parts : List SubLookup
+  pub led : Leads step (settings before).requests before.client.handle (asks_of_sub_lookups parts)
+      after.client.handle
+  pub is :
+      IsCall (IsSubLookupFor (setting_at (settings before) now)) (settings before) before.client.cache call
+      parts result after.client.cache
+      ⊎ IsUnserved before.client.cache parts result after.client.cache
+  pub option_stays : after.client.preserve_intermediates ≡ before.client.preserve_intermediates
+  pub others_stay : after ≡ record before { client = after.client }
