@@ -4,9 +4,11 @@ ghost use Rattle.std.specs.Result.{result_map_both};
 ghost use Rattle.hickory_proto_core.specs.Codes.{type_code};
 ghost use Rattle.hickory_proto_core.specs.ResponseKind.{record_type_code};
 ghost use Rattle.hickory_resolver_model.specs.Bounds.{ConfigValue, SetsBounds, all_agree, bounds_for, positive_bounds, negative_bounds, clamped_message, clamped_record, clamped_records, positive_lifetime, negative_lifetime, no_bounds, least_ttl, living_records};
+ghost use Rattle.hickory_resolver_model.specs.Options.{bounds_of, config_or_fault};
 
 use crate::ttl_bounds::{TtlBounds, clamp, clamp_ttl};
-use hickory_proto_core::{Message, NetError, NoRecords, Query, Record, RecordType};
+use hickory_proto_core::{BoundsError, Message, NetError, NoRecords, Query, Record, RecordType};
+use hickory_resolver_config::ResolverOpts;
 use std::alloc::Global;
 use std::collections::BTreeMap;
 use std::marker::Model;
@@ -46,6 +48,20 @@ impl TtlConfig {
             default: bounds,
             by_type: BTreeMap::new(alloc),
         }
+    }
+
+    /// The bounds that the options say, for every type. Bounds whose least is above their greatest are
+    /// refused, those of positive answers first. Takes no memory.
+    pub fn from_opts(alloc: Global, options: &ResolverOpts) -> Result<TtlConfig, BoundsError>
+        ensures { result ≡ config_or_fault (bounds_of options.now) }
+    {
+        let bounds = TtlBounds::new(
+            options.positive_min_ttl,
+            options.negative_min_ttl,
+            options.positive_max_ttl,
+            options.negative_max_ttl,
+        )?;
+        Ok(TtlConfig::from(alloc, bounds))
     }
 
     /// Puts these bounds in place of all others for one type, and hands itself back, so that calls chain.

@@ -1,9 +1,11 @@
 -- What the options and the configuration of a resolver say for the definitions.
-use Rattle.std.specs.Prelude.{[]}
+use Rattle.std.specs.Prelude.{[], Result, Ok, Err}
+use Rattle.std.specs.Option.{option_map_or}
 use Rattle.hickory_proto_core.specs.declared.dns_request.DnsRequestOptions.{DnsRequestOptions}
 use Rattle.hickory_resolver_config.specs.Resolver.{ResolverConfigValue, OptionsValue}
 use Rattle.hickory_resolver_model.specs.Attempts.{Search}
-use Rattle.hickory_resolver_model.specs.Bounds.{BoundsValue}
+use Rattle.hickory_proto_core.specs.records.bounds_error.BoundsError.{BoundsError}
+use Rattle.hickory_resolver_model.specs.Bounds.{BoundsValue, ConfigValue, bounds_fault}
 
 -- how names are attempted
 abbrev pub search_of : ResolverConfigValue → OptionsValue → Search
@@ -18,6 +20,11 @@ bounds_of options = record {
   positive_max = options.positive_max_ttl;
   negative_max = options.negative_max_ttl;
 }
+
+-- the same bounds for every type, or their fault
+abbrev pub config_or_fault : BoundsValue → Result ConfigValue BoundsError
+config_or_fault bounds =
+    option_map_or Err (bounds_fault bounds) (Ok (record { default = bounds; by_type = [] }))
 
 -- how each question is sent
 abbrev pub request_options_of : OptionsValue → DnsRequestOptions
