@@ -1,3 +1,4 @@
+pub mod Attempting
 pub use Rattle.hickory_resolver_model.specs.AliasWalk
 pub use Rattle.hickory_resolver_model.specs.Attempts
 pub use Rattle.hickory_resolver_model.specs.Bounds
@@ -7,6 +8,8 @@ pub use Rattle.hickory_resolver_model.specs.Client
 pub use Rattle.hickory_resolver_model.specs.Hops
 pub use Rattle.hickory_resolver_model.specs.Hosts
 pub use Rattle.hickory_resolver_model.specs.Lookup
+pub use Rattle.hickory_resolver_model.specs.Options
+pub use Rattle.hickory_resolver_model.specs.Resolver
 pub use Rattle.hickory_resolver_model.specs.Run
 pub use Rattle.hickory_resolver_model.specs.SpecialUse
 pub use Rattle.hickory_resolver_model.specs.Verdict

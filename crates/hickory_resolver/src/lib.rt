@@ -3,10 +3,22 @@
 
 pub mod cache;
 pub mod caching_client;
+pub mod config;
 pub mod hosts;
 pub mod lookup;
+pub mod lookup_future;
+pub mod resolver;
+pub mod resolver_builder;
 
 pub use cache::{MAX_TTL, ResponseCache, TtlBounds, TtlConfig};
 pub use caching_client::CachingClient;
+pub use config::{
+    ConnectionConfig, LookupIpStrategy, NameServerConfig, OpportunisticEncryption,
+    OpportunisticEncryptionConfig, ProtocolConfig, ResolveHosts, ResolverConfig, ResolverOpts,
+    ServerGroup, ServerGroupIter, ServerOrderingStrategy, cloudflare, google, quad9,
+};
 pub use hosts::{Hosts, HostsError, Watched};
 pub use lookup::Lookup;
+pub use lookup_future::LookupFuture;
+pub use resolver::Resolver;
+pub use resolver_builder::ResolverBuilder;

@@ -1,14 +1,21 @@
 -- A resolver: a client, a table of hosts, and what it is configured with; and what a look-up by it does.
-use Rattle.std.specs.Prelude.{◌≡◌, ◌⊎◌, ℕ, Bool, List, [], reverse}
+use Rattle.std.specs.Prelude.{◌≡◌, ◌⊎◌, ℕ, Bool, List, [], Result, Ok, Err}
+use Rattle.std.specs.Option.{option_map_or}
 use Rattle.hickory_proto_core.specs.Name.{NameValue}
 use Rattle.hickory_proto_core.specs.Handles.{Step, Leads}
+use Rattle.hickory_proto_core.specs.codes.record_type.RecordType.{RecordType}
+use Rattle.hickory_proto_core.specs.names.name_error.NameError.{NameError}
+use Rattle.hickory_proto_core.specs.records.net_error.NetError.{NetError}
+use Rattle.hickory_proto_core.specs.records.net_error.NetError.TheVariants.{Bounds}
 use Rattle.hickory_proto_core.specs.declared.dns_request.DnsRequestOptions.{DnsRequestOptions}
 use Rattle.hickory_resolver_config.specs.Resolver.{ResolverConfigValue, OptionsValue}
+use Rattle.hickory_resolver_model.specs.Bounds.{bounds_fault}
+use Rattle.hickory_resolver_model.specs.Options.{bounds_of}
 use Rattle.hickory_resolver_model.specs.Lookup.{LookupResult}
 use Rattle.hickory_resolver_model.specs.Hosts.{Host}
 use Rattle.hickory_resolver_model.specs.Client.{ClientValue}
 use Rattle.hickory_resolver_model.specs.Calls.{Setting, SubLookup, CallPlan, IsSubLookupFor, Says, AreAttempts, asks_of_sub_lookups}
-use Rattle.hickory_resolver_model.specs.Run.{Settings, settings_of, setting_at, first_cache, Call, IsCall, IsUnserved}
+use Rattle.hickory_resolver_model.specs.Run.{Settings, settings_of, setting_at, first_cache, Call, IsCall, IsUnserved, name_call, after_clear}
 
 -- where a call of a client starts, over a table of hosts
 abbrev pub setting_of : {H : Type 0} → ClientValue H → List Host → ℕ → Setting
@@ -61,7 +68,7 @@ new_resolver config options handle = record {
 
 -- A resolver answers a call: the exchanges of the call's sub-look-ups led its handle, each with its options;
 -- the reply and the cache after it are those of the call. All else stays.
-pub record Answers
+pub record AnswersCall
     {H : Type 0} (step : Step H) (now : ℕ) (call : Call) (before : ResolverValue H) (result : LookupResult)
     (after : ResolverValue H)
     : Type 0 where
@@ -74,3 +81,27 @@ pub record Answers
       ⊎ IsUnserved before.client.cache parts result after.client.cache
   pub option_stays : after.client.preserve_intermediates ≡ before.client.preserve_intermediates
   pub others_stay : after ≡ record before { client = after.client }
+
+-- what is given for a name is looked up: it gives a name, or its fault
+abbrev pub AnswersName : {H : Type 0} → Step H → (Result NameValue NameError → Type 0) → RecordType → ℕ
+    → ResolverValue H → LookupResult → ResolverValue H → Type 0
+AnswersName step Gives t now before result after =
+    (name : Result NameValue NameError) × Gives name × AnswersCall step now (name_call t name) before result after
+
+-- the resolver without what its cache had for the attempts at a name
+abbrev pub after_clear_lookup : {H : Type 0} → RecordType → Result NameValue NameError → ResolverValue H
+    → ResolverValue H
+after_clear_lookup t name r =
+    record r { client = record r.client { cache = after_clear (settings r) t name r.client.cache } }
+
+-- what a builder of a resolver was given
+pub record BuilderValue (H : Type 0) : Type 0 where
+  pub config : ResolverConfigValue
+  pub options : OptionsValue
+  pub handle : H
+
+-- the resolver that is built, or the fault of its bounds
+abbrev pub built : {H : Type 0} → BuilderValue H → Result (ResolverValue H) NetError
+built b =
+    option_map_or (λ fault. Err (Bounds fault)) (bounds_fault (bounds_of b.options))
+    (Ok (new_resolver b.config b.options b.handle))

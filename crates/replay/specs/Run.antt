@@ -1,25 +1,21 @@
 -- A run of a script over a table of hosts: its requests one after the other, and the text of their blocks.
-use Rattle.std.specs.Prelude.{◌≡◌, ◌⊎◌, ℕ, true, false, List, [], ◌∷◌, ◌++◌, map, Option, None, Some, Result, Ok, Err}
+use Rattle.std.specs.Prelude.{◌≡◌, ◌⊎◌, ℕ, true, false, List, [], ◌∷◌, ◌++◌, map, Result, Ok, Err}
 use Rattle.std.specs.Str.Lines.{lines}
-use Rattle.hickory_proto_core.specs.Name.{NameValue}
 use Rattle.hickory_proto_core.specs.NameDecided.{text_name}
 use Rattle.hickory_proto_core.specs.Handles.{OutcomeValue, RecordedValue, ScriptStep}
-use Rattle.hickory_proto_core.specs.NetErrors.{net_error_of}
 use Rattle.hickory_proto_core.specs.Recorded.{RecordedStep}
 use Rattle.hickory_proto_core.specs.records.query.Query.{Query}
-use Rattle.hickory_proto_core.specs.declared.dns_request.DnsRequestOptions.{DnsRequestOptions}
-use Rattle.hickory_proto_core.specs.names.name_error.NameError.{NameError}
 use Rattle.hickory_proto_core.specs.records.net_error.NetError.TheVariants.{OutOfMemory}
 use Rattle.hickory_proto_core.specs.declared.recorded.Exchange.{Exchange}
-use Rattle.hickory_resolver_model.specs.Client.{ClientValue, IsLookup, empty_cache}
+use Rattle.hickory_resolver_config.specs.Resolver.{ResolverConfigValue}
 use Rattle.hickory_resolver.specs.Reading.{IsBytesRead}
 use Rattle.hickory_resolver.specs.hosts.hosts_error.HostsError.{HostsError}
 use Rattle.hickory_resolver.specs.hosts.hosts_error.HostsError.TheVariants as hosts_error
-use Rattle.hickory_resolver_model.specs.Lookup.{LookupResult, LookupValue}
-use Rattle.hickory_resolver_model.specs.Hosts.{Host, IsStatic, as_fqdn}
-use Rattle.hickory_resolver_model.specs.Calls.{question_of, is_out_of_memory}
-use Rattle.hickory_resolver_model.specs.Run.{RequestValue, Lookup, LookupIp, ClearLookup, Clear, moment_of}
-use Rattle.hickory_proto_core.specs.codes.record_type.RecordType.{RecordType}
+use Rattle.hickory_resolver_model.specs.Lookup.{LookupResult}
+use Rattle.hickory_resolver_model.specs.Hosts.{Host}
+use Rattle.hickory_resolver_model.specs.Calls.{is_out_of_memory}
+use Rattle.hickory_resolver_model.specs.Resolver.{ResolverValue, AnswersCall, new_resolver}
+use Rattle.hickory_resolver_model.specs.Run.{RequestValue, Lookup, LookupIp, ClearLookup, Clear, moment_of, name_call}
 use Rattle.replay_script.specs.Script.{AreRead, ScriptValue, script_of}
 use Rattle.replay.specs.Output.{step_text}
 use Rattle.replay_script.specs.declared.fault.ScriptFault.TheVariants as fault
@@ -29,91 +25,70 @@ use Rattle.replay_script.specs.declared.line.Line.{Line}
 use Rattle.replay.specs.declared.run.ReplayError.{ReplayError}
 use Rattle.replay.specs.declared.run.ReplayError.TheVariants.{Script, Hosts, Memory}
 
--- a client over the outcomes of a script that keeps what it asks
-abbrev pub ScriptClient : Type 0
-ScriptClient = ClientValue (RecordedValue (List OutcomeValue))
+-- a resolver over the outcomes of a script that keeps what it asks
+abbrev pub ScriptResolver : Type 0
+ScriptResolver = ResolverValue (RecordedValue (List OutcomeValue))
+
+-- what a script configures
+abbrev pub script_config : ScriptValue → ResolverConfigValue
+script_config script = record { domain = script.domain; search = script.search; name_servers = [] }
 
 -- before the first request nothing is kept
-abbrev pub first_client : List OutcomeValue → ScriptClient
-first_client outcomes = record {
-  cache = empty_cache 8192;
-  handle = record { handle = outcomes; exchanges = [] };
-  preserve_intermediates = true;
-}
+abbrev pub first_handle : ScriptValue → RecordedValue (List OutcomeValue)
+first_handle script = record { handle = map (λ o. o.1) script.outcomes; exchanges = [] }
 
--- how each question is sent
-abbrev pub request_options : DnsRequestOptions
-request_options =
-    record { recursion_desired = true; use_edns = true; edns_payload_len = 1232; case_randomization = false }
+abbrev pub first_resolver : ScriptValue → List Host → ScriptResolver
+first_resolver script table =
+    record (new_resolver (script_config script) script.options (first_handle script)) { hosts = table }
 
--- the reply to a question: what the table has, and the client is not asked; or what the client answers
-abbrev pub IsReplied : Option LookupValue → ScriptClient → Query → ℕ → LookupResult → ScriptClient → Type 0
-IsReplied (Some found) before question now reply after = (reply ≡ Ok found) × (after ≡ before)
-IsReplied None before question now reply after =
-    IsLookup (RecordedStep ScriptStep) request_options now before question reply after
-
--- a question is looked up in the table, and where that has nothing for it, by the client
-abbrev pub IsLookedUp : List Host → ScriptClient → Query → ℕ → LookupResult → ScriptClient → Type 0
-IsLookedUp table before question now reply after =
-    (found : Option LookupValue) × IsStatic question now table found
-    × IsReplied found before question now reply after
-
--- a name is looked up at a moment. What is no name is not, and changes nothing
-abbrev pub IsNameAsked : List Host → ScriptClient → RecordType → ℕ → Result NameValue NameError → LookupResult
-    → ScriptClient → Type 0
-IsNameAsked table before t now (Ok name) reply after =
-    IsLookedUp table before (question_of (as_fqdn name) t) now reply after
-IsNameAsked table before t now (Err error) reply after = (reply ≡ Err (net_error_of error)) × (after ≡ before)
-
--- a script asks look-ups of names
-abbrev pub IsAsked : List Host → ScriptClient → RequestValue → LookupResult → ScriptClient → Type 0
-IsAsked table before (Lookup text t now) reply after = IsNameAsked table before t now (text_name text) reply after
-IsAsked table before (LookupIp host now) reply after = ⊥
-IsAsked table before (ClearLookup text t now) reply after = ⊥
-IsAsked table before (Clear now) reply after = ⊥
+-- A script asks look-ups of names, each of the text as it is written.
+abbrev pub IsAsked : ScriptResolver → RequestValue → LookupResult → ScriptResolver → Type 0
+IsAsked before (Lookup text t now) reply after =
+    AnswersCall (RecordedStep ScriptStep) now (name_call t (text_name text)) before reply after
+IsAsked before (LookupIp host now) reply after = ⊥
+IsAsked before (ClearLookup text t now) reply after = ⊥
+IsAsked before (Clear now) reply after = ⊥
 
 -- a request, the questions that were sent for it, and the reply, for which there was memory
 pub record IsStep
-    (table : List Host) (before : ScriptClient) (request : RequestValue) (sent : List Query)
-    (reply : LookupResult) (after : ScriptClient)
+    (before : ScriptResolver) (request : RequestValue) (sent : List Query) (reply : LookupResult)
+    (after : ScriptResolver)
     : Type 0 where
   pub kept : List Exchange
-  pub asked : IsAsked table before request reply after
-  pub exchanges_are : after.handle.exchanges ≡ before.handle.exchanges ++ kept
+  pub asked : IsAsked before request reply after
+  pub exchanges_are : after.client.handle.exchanges ≡ before.client.handle.exchanges ++ kept
   pub sent_are : sent ≡ map (λ x. x.query) kept
   pub remembered : is_out_of_memory reply ≡ false
 
--- what a request is answered. What the client kept goes on what it had kept
+-- what a request is answered. What the resolver kept goes on what it had kept
 pub record IsAnswered
-    (table : List Host) (before : ScriptClient) (request : RequestValue) (reply : LookupResult)
-    (after : ScriptClient)
+    (before : ScriptResolver) (request : RequestValue) (reply : LookupResult) (after : ScriptResolver)
     : Type 0 where
   pub kept : List Exchange
-  pub asked : IsAsked table before request reply after
-  pub exchanges_are : after.handle.exchanges ≡ before.handle.exchanges ++ kept
+  pub asked : IsAsked before request reply after
+  pub exchanges_are : after.client.handle.exchanges ≡ before.client.handle.exchanges ++ kept
 
-abbrev pub Answers : List Host → ScriptClient → RequestValue → LookupResult → ScriptClient → Type 0
-Answers table before request reply after =
-    IsAnswered table before request reply after ⊎ (reply ≡ Err OutOfMemory)
+abbrev pub Answers : ScriptResolver → RequestValue → LookupResult → ScriptResolver → Type 0
+Answers before request reply after = IsAnswered before request reply after ⊎ (reply ≡ Err OutOfMemory)
 
 -- the block of a request is added to a text
 pub record AddsStep
-    (table : List Host) (before : ScriptClient) (old : List ℕ) (request : RequestValue)
-    (after : ScriptClient) (new : List ℕ)
+    (before : ScriptResolver) (old : List ℕ) (request : RequestValue) (after : ScriptResolver)
+    (new : List ℕ)
     : Type 0 where
   pub sent : List Query
   pub reply : LookupResult
-  pub is_step : IsStep table before request sent reply after
+  pub is_step : IsStep before request sent reply after
   pub added : new ≡ old ++ step_text request sent reply
 
 -- the requests one after the other, and the text of their blocks
-abbrev pub RunTo : List Host → ScriptClient → List RequestValue → List ℕ → ScriptClient → Type 0
-RunTo table before [] text after = (text ≡ []) × (after ≡ before)
-RunTo table before (request ∷ requests) text after =
-    (sent : List Query) × (reply : LookupResult) × (between : ScriptClient) × (rest : List ℕ)
-    × IsStep table before request sent reply between
+abbrev pub RunTo : ScriptResolver → List RequestValue → List ℕ → ScriptResolver → Type 0
+RunTo before [] text after = (text ≡ []) × (after ≡ before)
+RunTo before (request ∷ requests) text after =
+    (sent : List Query) × (reply : LookupResult) × (between : ScriptResolver) × (rest : List ℕ)
+    × IsStep before request sent reply between
     × (text ≡ step_text request sent reply ++ rest)
-    × RunTo table between requests rest after
+    × RunTo between requests rest after
 
 -- the moment of the first request, or 0
 abbrev pub first_moment : List RequestValue → ℕ
@@ -136,8 +111,8 @@ IsNoTable now hosts error = (error ≡ Memory) ⊎ IsBroken now hosts error
 -- the text of a run of a script over what a file of hosts says
 abbrev pub IsScriptRun : ScriptValue → List ℕ → List ℕ → Type 0
 IsScriptRun script hosts text =
-    (table : List Host) × (after : ScriptClient) × IsTable (first_moment script.requests) hosts table
-    × RunTo table (first_client (map (λ o. o.1) script.outcomes)) script.requests text after
+    (table : List Host) × (after : ScriptResolver) × IsTable (first_moment script.requests) hosts table
+    × RunTo (first_resolver script table) script.requests text after
 
 -- the text of a run of what the lines of the script say
 pub record IsReplayed (script hosts text : List ℕ) : Type 0 where

@@ -1,31 +1,20 @@
 //! Runs a script.
-ghost use Rattle.std.specs.Prelude.{◌≡◌, ◌⊎◌, Err, IfErr, IfOk, IsOkUnless, MatchResult, OnOk, false, map, string_bytes};
-ghost use Rattle.hickory_proto_core.specs.records.net_error.NetError.TheVariants.{OutOfMemory};
-ghost use Rattle.replay.specs.Run.{AddsStep, Answers, IsLookedUp, IsNoTable, IsRefused, IsReplayed, IsScriptRun, IsTable, RunTo, first_client, first_moment};
+ghost use Rattle.std.specs.Prelude.{◌≡◌, None, IfErr, IfOk, IsOkUnless, MatchResult, OnOk, false, map, [], string_bytes};
+ghost use Rattle.hickory_resolver_model.specs.Bounds.{bounds_fault};
 ghost use Rattle.hickory_resolver_model.specs.Calls.{is_out_of_memory};
+ghost use Rattle.hickory_resolver_model.specs.Options.{bounds_of};
+ghost use Rattle.hickory_resolver_model.specs.Resolver.{new_resolver};
+ghost use Rattle.replay.specs.Run.{AddsStep, Answers, IsNoTable, IsRefused, IsReplayed, IsScriptRun, IsTable, RunTo, ScriptResolver, first_moment, first_resolver};
 
 use crate::output::push_step;
 use hickory_proto_core::dns_handle::Outcome;
-use hickory_proto_core::{
-    DnsRequestOptions, Name, NameError, NetError, Query, Recorded, ScriptHandle,
-};
-use hickory_resolver::{CachingClient, Hosts, HostsError, Lookup};
+use hickory_proto_core::{Exchange, NetError, Query, Recorded, ScriptHandle};
+use hickory_resolver::{Hosts, HostsError, Lookup, Resolver, ResolverConfig, ResolverOpts};
 use replay_script::{Request, Script, ScriptError, ScriptFault, read_script};
 use std::alloc::{AllocError, Global};
 use thiserror::Error;
 
-/// How many entries the cache holds.
-pub const CACHE_SIZE: u64 = 8192;
-
-/// How each question is sent.
-pub const OPTIONS: DnsRequestOptions = DnsRequestOptions {
-    recursion_desired: true,
-    use_edns: true,
-    edns_payload_len: 1232,
-    case_randomization: false,
-};
-
-type Client = CachingClient<Recorded<ScriptHandle>>;
+type ScriptedResolver = Resolver<Recorded<ScriptHandle>>;
 
 /// Why a script has no text.
 #[derive(Clone, Copy, Debug, PartialEq, Eq, Error)]
@@ -106,13 +95,33 @@ pub fn replay_text(alloc: Global, script: &[u8], hosts: &[u8]) -> Result<String,
 }
 
 fn run_script(alloc: Global, script: Script, hosts: &[u8]) -> Result<String, ReplayError>
+    requires { bounds_fault (bounds_of script.options) ≡ None }
     ensures ok { IfOk result (λ text. IsScriptRun script hosts.now (string_bytes text)) }
     ensures err { IfErr result (IsNoTable (first_moment script.requests) hosts.now) }
 {
-    let Script { outcomes, requests } = script;
-    let table = read_table(alloc, hosts, first_moment(&requests))?;
-    let mut client = first_client(alloc, outcomes)?;
-    run_requests(alloc, &table, &mut client, &requests)
+    let table = read_table(alloc, hosts, first_moment(&script.requests))?;
+    run_over(alloc, script, table)
+}
+
+// Runs a script over a table of hosts.
+fn run_over(alloc: Global, script: Script, table: Hosts) -> Result<String, ReplayError>
+    requires { bounds_fault (bounds_of script.options) ≡ None }
+    ensures ok { IfOk result (λ text. (after : ScriptResolver)
+        × RunTo (first_resolver script table) script.requests (string_bytes text) after) }
+    ensures err { IsOkUnless result ReplayError.Memory }
+{
+    let Script {
+        options,
+        domain,
+        search,
+        outcomes,
+        requests,
+    } = script;
+    let config = ResolverConfig::from_parts(domain, search, Vec::new(alloc));
+    let handle = first_handle(alloc, outcomes)?;
+    let mut resolver = first_resolver(config, options, handle);
+    resolver.set_hosts(table);
+    run_requests(alloc, &mut resolver, &requests)
 }
 
 // The moment of the first request, or 0.
@@ -136,14 +145,35 @@ fn read_table(alloc: Global, hosts: &[u8], now: u64) -> Result<Hosts, ReplayErro
     }
 }
 
-// A client of these outcomes, before its first request.
-fn first_client(alloc: Global, outcomes: Vec<(Query, Outcome)>) -> Result<Client, ReplayError>
-    ensures ok { IfOk result (λ client. client ≡ first_client (map (λ o. o.1) outcomes.items)) }
+// A resolver before its first request. Its options have bounds that are in order.
+fn first_resolver(
+    config: ResolverConfig,
+    options: ResolverOpts,
+    handle: Recorded<ScriptHandle>,
+) -> ScriptedResolver
+    requires { bounds_fault (bounds_of options) ≡ None }
+    ensures { result ≡ new_resolver config options handle }
+{
+    let builder = Resolver::builder_with_config(config, handle).with_options(options);
+    match builder.build() {
+        Ok(resolver) => resolver,
+        Err(_) => unreachable!(),
+    }
+}
+
+// A handle that answers these outcomes, and has kept nothing so far.
+fn first_handle(
+    alloc: Global,
+    outcomes: Vec<(Query, Outcome)>,
+) -> Result<Recorded<ScriptHandle>, ReplayError>
+    ensures ok { IfOk result (λ h. h ≡ record {
+      handle = map (λ o. o.1) outcomes.items;
+      exchanges = [];
+    }) }
     ensures err { IsOkUnless result ReplayError.Memory }
 {
     let outcomes = without_questions(alloc, outcomes)?;
-    let handle = Recorded::new(alloc, ScriptHandle::new(outcomes));
-    Ok(CachingClient::new(alloc, CACHE_SIZE, handle, true))
+    Ok(Recorded::new(alloc, ScriptHandle::new(outcomes)))
 }
 
 // The outcomes without the questions of their lines: they come in order, whatever is asked.
@@ -161,39 +191,41 @@ fn without_questions(
 
 fn run_requests(
     alloc: Global,
-    table: &Hosts,
-    client: &mut Client,
+    resolver: &mut ScriptedResolver,
     requests: &[Request],
 ) -> Result<String, ReplayError>
-    ensures ok { IfOk result (λ text. RunTo table.now client.old requests.now (string_bytes text) client.new) }
+    ensures ok { IfOk result (λ text. RunTo resolver.old requests.now (string_bytes text) resolver.new) }
     ensures err { IsOkUnless result ReplayError.Memory }
 {
     let mut text = String::new(alloc);
     for request in requests {
-        run_request(alloc, table, client, &mut text, request)?;
+        run_request(resolver, &mut text, request)?;
     }
     Ok(text)
 }
 
 // Answers a request, and adds its block.
 fn run_request(
-    alloc: Global,
-    table: &Hosts,
-    client: &mut Client,
+    resolver: &mut ScriptedResolver,
     text: &mut String,
     request: &Request,
 ) -> Result<(), ReplayError>
     ensures ok { OnOk result
-        (AddsStep table.now client.old (string_bytes text.old) request.entry.now client.new
-        (string_bytes text.new)) }
+        (AddsStep resolver.old (string_bytes text.old) request.entry.now resolver.new (string_bytes text.new)) }
     ensures err { IsOkUnless result ReplayError.Memory }
 {
-    let before = client.handle().exchanges().len();
-    let reply = remembered(ask(alloc, table, client, request))?;
-    let exchanges = client.handle().exchanges();
-    let added = push_step(text, request, &exchanges[before..], &reply);
+    let before = exchanges(resolver).len();
+    let reply = remembered(ask(resolver, request))?;
+    let added = push_step(text, request, &exchanges(resolver)[before..], &reply);
     drop(reply);
     Ok(added?)
+}
+
+// What was asked so far, with what came back.
+fn exchanges(resolver: &ScriptedResolver) -> &[Exchange]
+    ensures { result.now ≡ resolver.now.client.handle.exchanges }
+{
+    resolver.client().handle().exchanges()
 }
 
 // A reply for which there was memory.
@@ -213,32 +245,9 @@ fn is_out_of_memory(reply: &Result<Lookup, NetError>) -> bool
     matches!(reply, Err(NetError::OutOfMemory))
 }
 
-// The answer to a request. Where its text is no name, nothing is looked up.
-fn ask(
-    alloc: Global,
-    table: &Hosts,
-    client: &mut Client,
-    request: &Request,
-) -> Result<Lookup, NetError>
-    ensures { Answers table.now client.old request.entry.now result client.new }
+// The answer to a request, of its text as it is written.
+fn ask(resolver: &mut ScriptedResolver, request: &Request) -> Result<Lookup, NetError>
+    ensures { Answers resolver.old request.entry.now result resolver.new }
 {
-    let mut name = Name::from_ascii(alloc, request.name.as_str())?;
-    name.set_fqdn(true);
-    let question = Query::query(name, request.record_type);
-    look_up(table, client, question, request.now)
-}
-
-// What the table has for a question, or where it has nothing, the answer of the client.
-fn look_up(
-    table: &Hosts,
-    client: &mut Client,
-    question: Query,
-    now: u64,
-) -> Result<Lookup, NetError>
-    ensures { IsLookedUp table.now client.old question now result client.new ⊎ (result ≡ Err OutOfMemory) }
-{
-    match table.lookup_static_host(&question, now)? {
-        Some(found) => Ok(found),
-        None => client.lookup(question, OPTIONS, now),
-    }
+    resolver.lookup(request.name.as_str(), request.record_type, request.now)
 }

@@ -1,0 +1,38 @@
+-- A call that a resolver answers.
+use Rattle.std.proofs.Common.{◌≡◌, ◌∙◌, ℕ, true, List, [], Err, reverse, refl, sym, ap, subst, inl, inr}
+use Rattle.hickory_proto_core.specs.Name.{NameValue}
+use Rattle.hickory_proto_core.specs.Handles.{Step}
+use Rattle.hickory_proto_core.specs.NetErrors.{net_error_of}
+use Rattle.hickory_proto_core.specs.names.name_error.NameError.{NameError}
+use Rattle.hickory_proto_core.specs.codes.record_type.RecordType.{RecordType}
+use Rattle.hickory_proto_core.specs.declared.dns_request.DnsRequestOptions.{DnsRequestOptions}
+use Rattle.hickory_proto_core.specs.records.net_error.NetError.TheVariants.{OutOfMemory}
+use Rattle.hickory_resolver_model.specs.Attempts.{attempts}
+use Rattle.hickory_resolver_model.specs.Lookup.{LookupResult}
+use Rattle.hickory_resolver_model.specs.Hosts.{Host}
+use Rattle.hickory_resolver_model.specs.Client.{ClientValue}
+use Rattle.hickory_resolver_model.specs.Resolver.{ResolverValue, LooksUp, AnswersCall, settings}
+use Rattle.hickory_resolver_model.specs.Run.{Call, Attempt, name_plan, name_call}
+
+module _ {H : Type 0} (step : Step H) (now : ℕ) (before : ResolverValue H) where
+  -- memory ran out before anything was asked
+  pub call_unserved : (call : Call) (result : LookupResult) → result ≡ Err OutOfMemory → AnswersCall step now call before result before
+  call_unserved call result out = record { parts = []; led = refl; is = inr (refl, out, refl); option_stays = refl; others_stay = refl }
+
+  -- what is no name
+  pub call_fault : (t : RecordType) (fault : NameError) (result : LookupResult) → result ≡ Err (net_error_of fault) → AnswersCall step now (name_call t (Err fault)) before result before
+  call_fault t fault result is = record { parts = []; led = refl; is = inl (refl, is, refl); option_stays = refl; others_stay = refl }
+
+  -- the names that are attempted were looked up
+  pub call_looked_up : (t : RecordType) (n : NameValue) (options : DnsRequestOptions) (hosts : List Host) (names : List NameValue) (client after_client : ClientValue H) (result : LookupResult) (after : ResolverValue H)
+      → options ≡ (settings before).requests → hosts ≡ before.hosts → client ≡ before.client → names ≡ attempts (settings before).search n
+      → LooksUp step options hosts now (name_plan t) true names client result after_client → after ≡ record before { client = after_client }
+      → AnswersCall step now (Attempt n (name_plan t)) before result after
+  call_looked_up t n options hosts names client after_client result after options_are hosts_are client_is names_are looked_up after_is =
+      let O : DnsRequestOptions → Type 0 = λ o. LooksUp step o hosts now (name_plan t) true names client result after_client in
+      let P : List Host → Type 0 = λ hs. LooksUp step (settings before).requests hs now (name_plan t) true names client result after_client in
+      let C : ClientValue H → Type 0 = λ c. LooksUp step (settings before).requests before.hosts now (name_plan t) true names c result after_client in
+      let N : List NameValue → Type 0 = λ ns. LooksUp step (settings before).requests before.hosts now (name_plan t) true ns before.client result after_client in
+      let l = subst N names_are (subst C client_is (subst P hosts_are (subst O options_are looked_up))) in
+      let A : ResolverValue H → Type 0 = λ r. AnswersCall step now (Attempt n (name_plan t)) before result r in
+      subst A (sym after_is) (record { parts = l.parts; led = l.led; is = inl l.are; option_stays = l.option_stays; others_stay = refl })

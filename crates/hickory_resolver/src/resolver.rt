@@ -1,0 +1,299 @@
+//! The resolver: names and types are turned into records.
+ghost use Rattle.std.specs.Prelude.{◌≡◌, [], IfOk, OnOk, OnErr, IsOkUnless, Ok, Result};
+ghost use Rattle.hickory_proto_core.specs.Name.{NameValue};
+ghost use Rattle.hickory_proto_core.specs.codes.record_type.RecordType.TheVariants as type;
+ghost use Rattle.hickory_proto_core.specs.names.name_error.NameError.{NameError};
+ghost use Rattle.hickory_resolver_config.specs.Resolver.{default_options};
+ghost use Rattle.hickory_resolver_model.specs.Attempts.{attempts};
+ghost use Rattle.hickory_resolver_model.specs.Options.{request_options_of};
+ghost use Rattle.hickory_resolver_model.specs.Resolver.{AnswersCall, AnswersName, after_clear_lookup, settings};
+ghost use Rattle.hickory_resolver_model.specs.Run.{Attempt, drop_each, name_plan};
+
+use crate::caching_client::CachingClient;
+use crate::config::{ResolverConfig, ResolverOpts};
+use crate::hosts::Hosts;
+use crate::lookup::Lookup;
+use crate::lookup_future::LookupFuture;
+use crate::resolver_builder::ResolverBuilder;
+use hickory_proto_core::{
+    DnsHandle, DnsRequestOptions, IntoName, Name, NameError, NetError, Query, RecordType,
+};
+use hickory_resolver_attempts::attempts;
+use std::alloc::Global;
+use std::fmt;
+use std::hash::{BuildHasher, BuildHasherDefault, FoldHasher};
+use std::marker::Model;
+
+/// A resolver: it answers what a table of hosts has, what its cache has, and else what the upstream answers.
+#[derive(Drop)]
+pub struct Resolver<H: DnsHandle, S: BuildHasher = BuildHasherDefault<FoldHasher>> {
+    config: ResolverConfig,
+    options: ResolverOpts,
+    client: CachingClient<H, S>,
+    hosts: Hosts<S>,
+}
+
+impl<H: DnsHandle, S: BuildHasher> Model for Resolver<H, S> {
+    ghost use Rattle.hickory_resolver_model.specs.Resolver.{ResolverValue};
+
+    ghost Value = { ResolverValue H };
+
+    ghost view = { λ r. record {
+      client = r.client;
+      hosts = r.hosts;
+      config = r.config;
+      options = r.options;
+    } };
+}
+
+impl<H: DnsHandle> Resolver<H> {
+    /// A builder with this configuration and the default options, over this upstream. Takes no memory.
+    pub fn builder_with_config(config: ResolverConfig, handle: H) -> ResolverBuilder<H>
+        ensures { result ≡ record { config = config; options = default_options; handle = handle } }
+    {
+        ResolverBuilder::new(config, handle)
+    }
+}
+
+impl<H: DnsHandle, S: BuildHasher> Resolver<H, S> {
+    pub(crate) fn new(
+        config: ResolverConfig,
+        options: ResolverOpts,
+        client: CachingClient<H, S>,
+        hosts: Hosts<S>,
+    ) -> Resolver<H, S>
+        ensures { result ≡ record { client = client; hosts = hosts; config = config; options = options } }
+    {
+        Resolver {
+            config,
+            options,
+            client,
+            hosts,
+        }
+    }
+
+    /// The options that it was built with.
+    pub fn options(&self) -> &ResolverOpts
+        ensures { result.now ≡ self.now.options }
+    {
+        &self.options
+    }
+
+    /// The client that asks the upstream, with its cache.
+    pub fn client(&self) -> &CachingClient<H, S>
+        ensures { result.now ≡ self.now.client }
+    {
+        &self.client
+    }
+
+    /// Looks up records of a type for a name, at a moment (seconds). The names that are attempted for it are
+    /// those of the domain and the search list (RFC 1535, section 6), each as the one before has no answers.
+    /// The table of hosts is asked for the first of them alone, before the cache and the upstream. What is no
+    /// name is answered its fault, and nothing is asked.
+    pub fn lookup<N: IntoName>(
+        &mut self,
+        name: N,
+        record_type: RecordType,
+        now: u64,
+    ) -> Result<Lookup, NetError>
+        ensures { AnswersName H.step (N.into_name_gives name) record_type now self.old result self.new }
+    {
+        let name = name.into_name(self.alloc())?;
+        self.lookup_name(name, record_type, now)
+    }
+
+    /// The names of an address: a look-up of PTR records.
+    pub fn reverse_lookup<N: IntoName>(&mut self, query: N, now: u64) -> Result<Lookup, NetError>
+        ensures { AnswersName H.step (N.into_name_gives query) type.PTR now self.old result self.new }
+    {
+        self.lookup(query, RecordType::PTR, now)
+    }
+
+    /// A look-up of A records.
+    pub fn ipv4_lookup<N: IntoName>(&mut self, query: N, now: u64) -> Result<Lookup, NetError>
+        ensures { AnswersName H.step (N.into_name_gives query) type.A now self.old result self.new }
+    {
+        self.lookup(query, RecordType::A, now)
+    }
+
+    /// A look-up of AAAA records.
+    pub fn ipv6_lookup<N: IntoName>(&mut self, query: N, now: u64) -> Result<Lookup, NetError>
+        ensures { AnswersName H.step (N.into_name_gives query) type.AAAA now self.old result self.new }
+    {
+        self.lookup(query, RecordType::AAAA, now)
+    }
+
+    /// A look-up of MX records.
+    pub fn mx_lookup<N: IntoName>(&mut self, query: N, now: u64) -> Result<Lookup, NetError>
+        ensures { AnswersName H.step (N.into_name_gives query) type.MX now self.old result self.new }
+    {
+        self.lookup(query, RecordType::MX, now)
+    }
+
+    /// A look-up of NS records.
+    pub fn ns_lookup<N: IntoName>(&mut self, query: N, now: u64) -> Result<Lookup, NetError>
+        ensures { AnswersName H.step (N.into_name_gives query) type.NS now self.old result self.new }
+    {
+        self.lookup(query, RecordType::NS, now)
+    }
+
+    /// A look-up of SMIMEA records.
+    pub fn smimea_lookup<N: IntoName>(&mut self, query: N, now: u64) -> Result<Lookup, NetError>
+        ensures { AnswersName H.step (N.into_name_gives query) type.SMIMEA now self.old result self.new }
+    {
+        self.lookup(query, RecordType::SMIMEA, now)
+    }
+
+    /// A look-up of SOA records.
+    pub fn soa_lookup<N: IntoName>(&mut self, query: N, now: u64) -> Result<Lookup, NetError>
+        ensures { AnswersName H.step (N.into_name_gives query) type.SOA now self.old result self.new }
+    {
+        self.lookup(query, RecordType::SOA, now)
+    }
+
+    /// A look-up of SRV records.
+    pub fn srv_lookup<N: IntoName>(&mut self, query: N, now: u64) -> Result<Lookup, NetError>
+        ensures { AnswersName H.step (N.into_name_gives query) type.SRV now self.old result self.new }
+    {
+        self.lookup(query, RecordType::SRV, now)
+    }
+
+    /// A look-up of TLSA records.
+    pub fn tlsa_lookup<N: IntoName>(&mut self, query: N, now: u64) -> Result<Lookup, NetError>
+        ensures { AnswersName H.step (N.into_name_gives query) type.TLSA now self.old result self.new }
+    {
+        self.lookup(query, RecordType::TLSA, now)
+    }
+
+    /// A look-up of TXT records.
+    pub fn txt_lookup<N: IntoName>(&mut self, query: N, now: u64) -> Result<Lookup, NetError>
+        ensures { AnswersName H.step (N.into_name_gives query) type.TXT now self.old result self.new }
+    {
+        self.lookup(query, RecordType::TXT, now)
+    }
+
+    /// A look-up of CERT records.
+    pub fn cert_lookup<N: IntoName>(&mut self, query: N, now: u64) -> Result<Lookup, NetError>
+        ensures { AnswersName H.step (N.into_name_gives query) type.CERT now self.old result self.new }
+    {
+        self.lookup(query, RecordType::CERT, now)
+    }
+
+    /// Drops from the cache what it has for the names that are attempted for this one, of this type. What is no
+    /// name clears nothing. A refused call changes nothing.
+    pub fn clear_lookup_cache<N: IntoName>(
+        &mut self,
+        name: N,
+        record_type: RecordType,
+    ) -> Result<(), NetError>
+        ensures ok { OnOk result ((given : Result NameValue NameError) × N.into_name_gives name given
+            × (self.new ≡ after_clear_lookup record_type given self.old)) }
+        ensures unchanged { OnErr result (self.new ≡ self.old) }
+        ensures err { IsOkUnless result NetError.OutOfMemory }
+    {
+        match name.into_name(self.alloc()) {
+            Ok(name) => self.clear_name(name, record_type),
+            Err(NameError::OutOfMemory) => Err(NetError::OutOfMemory),
+            Err(_) => Ok(()),
+        }
+    }
+
+    /// Empties the cache. Takes no memory.
+    pub fn clear_cache(&mut self)
+        ensures { self.new ≡ record self.old {
+          client = record self.old.client { cache = record self.old.client.cache { entries = [] } };
+        } }
+    {
+        self.client.clear_cache();
+    }
+
+    // Looks up a name that was read.
+    fn lookup_name(
+        &mut self,
+        name: Name,
+        record_type: RecordType,
+        now: u64,
+    ) -> Result<Lookup, NetError>
+        ensures { AnswersCall H.step now (Attempt name (name_plan record_type)) self.old result self.new }
+    {
+        let mut names = self.attempts(name)?;
+        names.reverse();
+        let options = self.request_options();
+        LookupFuture::lookup_with_hosts(
+            names,
+            record_type,
+            options,
+            &mut self.client,
+            &self.hosts,
+            now,
+        )
+    }
+
+    // Drops what the cache has for the attempts at a name.
+    fn clear_name(&mut self, name: Name, record_type: RecordType) -> Result<(), NetError>
+        ensures ok { OnOk result (self.new ≡ after_clear_lookup record_type (Ok name) self.old) }
+        ensures unchanged { OnErr result (self.new ≡ self.old) }
+        ensures err { IsOkUnless result NetError.OutOfMemory }
+    {
+        let names = self.attempts(name)?;
+        clear_each(&mut self.client, names, record_type);
+        Ok(())
+    }
+
+    // The names that are attempted for a name.
+    fn attempts(&self, name: Name) -> Result<Vec<Name>, NetError>
+        ensures ok { IfOk result (λ names. names.items ≡ attempts (settings self.now).search name) }
+        ensures err { IsOkUnless result NetError.OutOfMemory }
+    {
+        let (domain, search) = (self.config.domain(), self.config.search());
+        attempts(self.alloc(), name, self.options.ndots, domain, search)
+    }
+
+    // How each question is sent.
+    fn request_options(&self) -> DnsRequestOptions
+        ensures { result ≡ request_options_of self.now.options }
+    {
+        DnsRequestOptions {
+            recursion_desired: self.options.recursion_desired,
+            use_edns: self.options.edns0,
+            edns_payload_len: self.options.edns_payload_len,
+            case_randomization: self.options.case_randomization,
+        }
+    }
+
+    fn alloc(&self) -> Global {
+        *self.config.search.allocator()
+    }
+}
+
+impl<H: DnsHandle, S: BuildHasher + Drop> Resolver<H, S> {
+    /// Puts this table of hosts in place of the one before.
+    pub fn set_hosts(&mut self, hosts: Hosts<S>)
+        ensures { self.new ≡ record self.old { hosts = hosts } }
+    {
+        self.hosts = hosts;
+    }
+}
+
+impl<H: DnsHandle, S: BuildHasher> fmt::Debug for Resolver<H, S> {
+    ghost use Rattle.std.specs.Prelude.{Some, codes};
+
+    ghost debug_output = { λ _. Some (codes "Resolver") };
+
+    fn fmt<W: fmt::Write>(&self, f: &mut fmt::Formatter<W>) -> fmt::Result {
+        f.write_str("Resolver")
+    }
+}
+
+// Drops what the cache of a client has for each of these names.
+fn clear_each<H: DnsHandle, S: BuildHasher>(
+    client: &mut CachingClient<H, S>,
+    names: Vec<Name>,
+    record_type: RecordType,
+)
+    ensures { client.new ≡ record client.old { cache = drop_each record_type names.items client.old.cache } }
+{
+    for name in names {
+        client.clear_cache_query(&Query::query(name, record_type));
+    }
+}

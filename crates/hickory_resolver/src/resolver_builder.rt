@@ -1,0 +1,120 @@
+//! What a resolver is built from.
+ghost use Rattle.std.specs.Prelude.{◌≡◌};
+ghost use Rattle.hickory_resolver_config.specs.Resolver.{default_options};
+ghost use Rattle.hickory_resolver_model.specs.Resolver.{built};
+
+use crate::cache::{ResponseCache, TtlConfig};
+use crate::caching_client::CachingClient;
+use crate::config::{OpportunisticEncryption, ResolverConfig, ResolverOpts};
+use crate::hosts::Hosts;
+use crate::resolver::Resolver;
+use hickory_proto_core::{DnsHandle, NetError};
+use std::hash::{BuildHasher, BuildHasherDefault, FoldHasher};
+use std::marker::Model;
+
+/// What a resolver is built from: its configuration, its options, and the upstream.
+#[derive(Drop)]
+pub struct ResolverBuilder<H: DnsHandle, S: BuildHasher = BuildHasherDefault<FoldHasher>> {
+    config: ResolverConfig,
+    options: ResolverOpts,
+    handle: H,
+    cache_hasher: S,
+    hosts_hasher: S,
+}
+
+impl<H: DnsHandle, S: BuildHasher> Model for ResolverBuilder<H, S> {
+    ghost use Rattle.hickory_resolver_model.specs.Resolver.{BuilderValue};
+
+    ghost Value = { BuilderValue H };
+
+    ghost view = { λ b. record { config = b.config; options = b.options; handle = b.handle } };
+}
+
+impl<H: DnsHandle> ResolverBuilder<H> {
+    /// The configuration with the default options, and the default hashers. Takes no memory.
+    pub(crate) fn new(config: ResolverConfig, handle: H) -> ResolverBuilder<H>
+        ensures { result ≡ record { config = config; options = default_options; handle = handle } }
+    {
+        let options = ResolverOpts::default(*config.search.allocator());
+        ResolverBuilder {
+            config,
+            options,
+            handle,
+            cache_hasher: BuildHasherDefault::new(),
+            hosts_hasher: BuildHasherDefault::new(),
+        }
+    }
+}
+
+impl<H: DnsHandle + Drop, S: BuildHasher + Drop> ResolverBuilder<H, S> {
+    /// Puts these options in place of those before.
+    pub fn with_options(self, options: ResolverOpts) -> ResolverBuilder<H, S>
+        ensures { result ≡ record self { options = options } }
+    {
+        ResolverBuilder { options, ..self }
+    }
+
+    /// The options, to be changed.
+    pub fn options_mut(&mut self) -> &mut ResolverOpts
+    {
+        &mut self.options
+    }
+
+    /// Whether servers are asked over encrypted transports where they can be. No effect: the upstream that is
+    /// handed in decides how it asks.
+    pub fn with_opportunistic_encryption(
+        self,
+        _opportunistic_encryption: OpportunisticEncryption,
+    ) -> ResolverBuilder<H, S>
+        ensures { result ≡ self }
+    {
+        self
+    }
+
+    /// Names of questions in the cache are hashed by the first of these, and those of the empty table of hosts
+    /// by the second: hashers of random state where the names come from strangers.
+    pub fn with_hasher<T: BuildHasher>(
+        self,
+        cache_hasher: T,
+        hosts_hasher: T,
+    ) -> ResolverBuilder<H, T>
+        ensures { result ≡ record { config = self.config; options = self.options; handle = self.handle } }
+    {
+        let ResolverBuilder {
+            config,
+            options,
+            handle,
+            ..
+        } = self;
+        ResolverBuilder {
+            config,
+            options,
+            handle,
+            cache_hasher,
+            hosts_hasher,
+        }
+    }
+
+    /// The resolver, with an empty cache and an empty table of hosts. Options whose bounds on times to live are
+    /// reversed are refused, those of positive answers first, and nothing is made. Takes no memory.
+    pub fn build(self) -> Result<Resolver<H, S>, NetError>
+        ensures { result ≡ built self }
+    {
+        let ResolverBuilder {
+            config,
+            options,
+            handle,
+            cache_hasher,
+            hosts_hasher,
+        } = self;
+        let alloc = *config.search.allocator();
+        let bounds = match TtlConfig::from_opts(alloc, &options) {
+            Ok(bounds) => bounds,
+            Err(error) => return Err(NetError::Bounds(error)),
+        };
+        let cache = ResponseCache::with_hasher(alloc, options.cache_size, bounds, cache_hasher);
+        let client = CachingClient::with_cache(cache, handle, options.preserve_intermediates);
+        let hosts = Hosts::with_hasher(alloc, hosts_hasher);
+        Ok(Resolver::new(config, options, client, hosts))
+    }
+}
