@@ -109,7 +109,7 @@ fn run_script(alloc: Global, script: Script, hosts: &[u8]) -> Result<String, Rep
     ensures ok { IfOk result (λ text. IsScriptRun script hosts.now (string_bytes text)) }
     ensures err { IfErr result (IsNoTable (first_moment script.requests) hosts.now) }
 {
-    let Script { outcomes, requests } = script;
+    let Script { outcomes, requests, .. } = script;
     let table = read_table(alloc, hosts, first_moment(&requests))?;
     let mut client = first_client(alloc, outcomes)?;
     run_requests(alloc, &table, &mut client, &requests)
