@@ -1,11 +1,11 @@
 -- Lines with a wrong number of fields.
 use Rattle.std.proofs.Common.{◌≡◌, ◌≢◌, ◌<◌, ℕ, List, [], ◌∷◌, length, Bor, Err, refl, arith}
 use Rattle.hickory_proto_core.specs.Records.{DataValue}
-use Rattle.replay_script.specs.RecordData.{IsAddressData, target_of, mx_of, srv_of, soa_of}
+use Rattle.replay_script.specs.RecordData.{IsAddressData, mx_of, srv_of, soa_of}
 use Rattle.replay_script.specs.RecordLine.{IsRecord}
 use Rattle.replay_script.specs.ReplyLine.{reply_of}
 use Rattle.replay_script.specs.Request.{request_of, lookup_of}
-use Rattle.replay_script.specs.Words.{texts}
+use Rattle.replay_script.specs.Words.{only_name, texts}
 use Rattle.replay_script.specs.declared.fault.ScriptFault.TheVariants.{FieldCount}
 
 pub reply_short : (fs : List (Bor (List ℕ))) → length fs < 3 → Err FieldCount ≡ reply_of (texts fs)
@@ -37,10 +37,10 @@ address_other IsAddress [] other = refl
 address_other IsAddress (a ∷ []) other = absurd (other (omega arith))
 address_other IsAddress (a ∷ b ∷ fs) other = refl
 
-pub target_other : (fs : List (Bor (List ℕ))) → length fs ≢ 1 → Err FieldCount ≡ target_of (texts fs)
-target_other [] other = refl
-target_other (a ∷ []) other = absurd (other (omega arith))
-target_other (a ∷ b ∷ fs) other = refl
+pub only_name_other : (fs : List (Bor (List ℕ))) → length fs ≢ 1 → Err FieldCount ≡ only_name (texts fs)
+only_name_other [] other = refl
+only_name_other (a ∷ []) other = absurd (other (omega arith))
+only_name_other (a ∷ b ∷ fs) other = refl
 
 pub mx_other : (fs : List (Bor (List ℕ))) → length fs ≢ 2 → Err FieldCount ≡ mx_of (texts fs)
 mx_other [] other = refl

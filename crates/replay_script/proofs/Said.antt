@@ -9,13 +9,16 @@ use Rattle.hickory_proto_core.specs.records.query.Query.{Query}
 use Rattle.hickory_resolver_model.specs.Run.{RequestValue, moment_of}
 use Rattle.replay_script.specs.RecordLine.{with_record}
 use Rattle.replay_script.specs.ReplyLine.{opened_response}
-use Rattle.replay_script.specs.Script.{with_records, outcomes_of, requests_of, has_reply, latest_from}
+use Rattle.replay_script.specs.Script.{with_records, outcomes_of, requests_of, settings_of, has_reply, latest_from}
 use Rattle.replay_script.specs.Reader.{ReaderValue, Keeps, opened, answered}
+use Rattle.replay_script.specs.Setting.{configured, with_setting}
 use Rattle.replay_script.specs.declared.line.Line.{Line}
-use Rattle.replay_script.specs.declared.line.Line.TheVariants.{Blank, Reply, Record, Request}
+use Rattle.replay_script.specs.declared.line.Line.TheVariants.{Blank, Configuration, Record, Reply, Request}
 use Rattle.replay_script.specs.declared.record_line.Section.{Section}
 use Rattle.replay_script.specs.declared.reply_line.ReplyHead.{ReplyHead}
 use Rattle.replay_script.specs.declared.script.OpenReply.{OpenReply}
+use Rattle.replay_script.specs.declared.setting.Setting.{Setting}
+use Rattle.replay_script.proofs.Settings.{configured-push}
 
 -- a line that is no record leaves the records of the reply before it as they are
 AddsNothing : Line → Type 0
@@ -28,6 +31,7 @@ with_records-push m (Blank ∷ said) x none = with_records-push m said x none
 with_records-push m (Reply head ∷ said) x none = refl
 with_records-push m (Record section found ∷ said) x none = with_records-push (with_record section found m) said x none
 with_records-push m (Request request ∷ said) x none = with_records-push m said x none
+with_records-push m (Configuration setting ∷ said) x none = with_records-push m said x none
 
 outcomes_of-push : (said : List Line) (x : Line) → AddsNothing x → outcomes_of (said ++ x ∷ []) ≡ outcomes_of said ++ outcomes_of (x ∷ [])
 outcomes_of-push [] x none = refl
@@ -37,6 +41,7 @@ outcomes_of-push (Reply head ∷ said) x none =
     ∙ ap (λ os. (head.query, Ok (with_records (opened_response head) said)) ∷ os) (outcomes_of-push said x none)
 outcomes_of-push (Record section found ∷ said) x none = outcomes_of-push said x none
 outcomes_of-push (Request request ∷ said) x none = outcomes_of-push said x none
+outcomes_of-push (Configuration setting ∷ said) x none = outcomes_of-push said x none
 
 requests_of-push : (said : List Line) (x : Line) → requests_of (said ++ x ∷ []) ≡ requests_of said ++ requests_of (x ∷ [])
 requests_of-push [] x = refl
@@ -44,6 +49,7 @@ requests_of-push (Blank ∷ said) x = requests_of-push said x
 requests_of-push (Reply head ∷ said) x = requests_of-push said x
 requests_of-push (Record section found ∷ said) x = requests_of-push said x
 requests_of-push (Request request ∷ said) x = ap (λ rs. request ∷ rs) (requests_of-push said x)
+requests_of-push (Configuration setting ∷ said) x = requests_of-push said x
 
 has_reply-push : (said : List Line) (x : Line) → has_reply (said ++ x ∷ []) ≡ has_reply said || has_reply (x ∷ [])
 has_reply-push [] x = refl
@@ -51,6 +57,7 @@ has_reply-push (Blank ∷ said) x = has_reply-push said x
 has_reply-push (Reply head ∷ said) x = refl
 has_reply-push (Record section found ∷ said) x = has_reply-push said x
 has_reply-push (Request request ∷ said) x = has_reply-push said x
+has_reply-push (Configuration setting ∷ said) x = has_reply-push said x
 
 latest_from-push : (moment : ℕ) (said : List Line) (x : Line) → latest_from moment (said ++ x ∷ []) ≡ latest_from (latest_from moment said) (x ∷ [])
 latest_from-push moment [] x = refl
@@ -58,6 +65,15 @@ latest_from-push moment (Blank ∷ said) x = latest_from-push moment said x
 latest_from-push moment (Reply head ∷ said) x = latest_from-push moment said x
 latest_from-push moment (Record section found ∷ said) x = latest_from-push moment said x
 latest_from-push moment (Request request ∷ said) x = latest_from-push (moment_of request) said x
+latest_from-push moment (Configuration setting ∷ said) x = latest_from-push moment said x
+
+settings_of-push : (said : List Line) (x : Line) → settings_of (said ++ x ∷ []) ≡ settings_of said ++ settings_of (x ∷ [])
+settings_of-push [] x = refl
+settings_of-push (Blank ∷ said) x = settings_of-push said x
+settings_of-push (Reply head ∷ said) x = settings_of-push said x
+settings_of-push (Record section found ∷ said) x = settings_of-push said x
+settings_of-push (Request request ∷ said) x = settings_of-push said x
+settings_of-push (Configuration setting ∷ said) x = ap (λ ss. setting ∷ ss) (settings_of-push said x)
 
 -- a record goes to the last of some outcomes
 put_record : Section → RecordValue → List (Query × OutcomeValue) → List (Query × OutcomeValue)
@@ -84,6 +100,7 @@ unanswered section found (Blank ∷ said) none = let r = unanswered section foun
 unanswered section found (Reply head ∷ said) none = absurd (let e = none in cc)
 unanswered section found (Record other more ∷ said) none = let r = unanswered section found said none in record { outcomes_are = r.outcomes_are; still = r.still; added = λ m. r.added (with_record other more m) }
 unanswered section found (Request request ∷ said) none = let r = unanswered section found said none in record { outcomes_are = r.outcomes_are; still = r.still; added = r.added }
+unanswered section found (Configuration setting ∷ said) none = let r = unanswered section found said none in record { outcomes_are = r.outcomes_are; still = r.still; added = r.added }
 
 record IsReplied (said : List Line) : Type 0 where
   query : Query
@@ -97,6 +114,7 @@ replied (Blank ∷ said) some = let r = replied said some in record { query = r.
 replied (Reply head ∷ said) some = record { query = head.query; outcome = Ok (with_records (opened_response head) said); others = outcomes_of said; outcomes_are = refl }
 replied (Record section found ∷ said) some = let r = replied said some in record { query = r.query; outcome = r.outcome; others = r.others; outcomes_are = r.outcomes_are }
 replied (Request request ∷ said) some = let r = replied said some in record { query = r.query; outcome = r.outcome; others = r.others; outcomes_are = r.outcomes_are }
+replied (Configuration setting ∷ said) some = let r = replied said some in record { query = r.query; outcome = r.outcome; others = r.others; outcomes_are = r.outcomes_are }
 
 with_records-behind : (m : MessageValue) (section : Section) (found : RecordValue) (said : List Line) → has_reply said ≡ true → with_records m (said ++ Record section found ∷ []) ≡ with_records m said
 with_records-behind m section found [] some = absurd (let e = some in cc)
@@ -104,6 +122,7 @@ with_records-behind m section found (Blank ∷ said) some = with_records-behind 
 with_records-behind m section found (Reply head ∷ said) some = refl
 with_records-behind m section found (Record other more ∷ said) some = with_records-behind (with_record other more m) section found said some
 with_records-behind m section found (Request request ∷ said) some = with_records-behind m section found said some
+with_records-behind m section found (Configuration setting ∷ said) some = with_records-behind m section found said some
 
 behind_reply : (b : Bool) (section : Section) (found : RecordValue) (head : ReplyHead) (said : List Line) → has_reply said ≡ b → outcomes_of (said ++ Record section found ∷ []) ≡ put_record section found (outcomes_of said)
     → outcomes_of (Reply head ∷ said ++ Record section found ∷ []) ≡ put_record section found (outcomes_of (Reply head ∷ said))
@@ -127,6 +146,7 @@ outcomes_of-record section found (Blank ∷ said) = outcomes_of-record section f
 outcomes_of-record section found (Reply head ∷ said) = behind_reply (has_reply said) section found head said refl (outcomes_of-record section found said)
 outcomes_of-record section found (Record other more ∷ said) = outcomes_of-record section found said
 outcomes_of-record section found (Request request ∷ said) = outcomes_of-record section found said
+outcomes_of-record section found (Configuration setting ∷ said) = outcomes_of-record section found said
 
 or_false : (b : Bool) → b || false ≡ b
 or_false true = refl
@@ -144,6 +164,10 @@ none_reply : (head : ReplyHead) → AddsNothing (Reply head)
 unfolding AddsNothing
 none_reply head = λ m. refl
 
+none_configuration : (setting : Setting) → AddsNothing (Configuration setting)
+unfolding AddsNothing
+none_configuration setting = λ m. refl
+
 none_request : (request : RequestValue) → AddsNothing (Request request)
 unfolding AddsNothing
 none_request request = λ m. refl
@@ -154,6 +178,7 @@ keeps-blank reader said k = record {
   requests_are = k.requests_are ∙ sym (append-nil _) ∙ sym (requests_of-push said Blank);
   reply_is = k.reply_is ∙ sym (or_false _) ∙ sym (has_reply-push said Blank);
   latest_is = k.latest_is ∙ sym (latest_from-push 0 said Blank);
+  configuration_is = k.configuration_is ∙ ap configured (sym (append-nil _) ∙ sym (settings_of-push said Blank));
 }
 
 pub keeps-reply : (reader : ReaderValue) (said : List Line) (head : ReplyHead) → Keeps reader said
@@ -163,6 +188,7 @@ keeps-reply reader said head k = record {
   requests_are = k.requests_are ∙ sym (append-nil _) ∙ sym (requests_of-push said (Reply head));
   reply_is = sym (or_true _) ∙ sym (has_reply-push said (Reply head));
   latest_is = k.latest_is ∙ sym (latest_from-push 0 said (Reply head));
+  configuration_is = k.configuration_is ∙ ap configured (sym (append-nil _) ∙ sym (settings_of-push said (Reply head)));
 }
 
 pub keeps-record : (reader : ReaderValue) (said : List Line) (reply : OpenReply) (section : Section) (found : RecordValue) → reader.open_reply ≡ Some reply → Keeps reader said
@@ -174,6 +200,7 @@ keeps-record reader said reply section found is k =
       requests_are = k.requests_are ∙ sym (append-nil _) ∙ sym (requests_of-push said (Record section found));
       reply_is = ap is_some (sym is) ∙ k.reply_is ∙ sym (or_false _) ∙ sym (has_reply-push said (Record section found));
       latest_is = k.latest_is ∙ sym (latest_from-push 0 said (Record section found));
+      configuration_is = k.configuration_is ∙ ap configured (sym (append-nil _) ∙ sym (settings_of-push said (Record section found)));
     }
 
 pub keeps-request : (reader : ReaderValue) (said : List Line) (request : RequestValue) → Keeps reader said
@@ -183,4 +210,15 @@ keeps-request reader said request k = record {
   requests_are = ap (λ rs. rs ++ request ∷ []) k.requests_are ∙ sym (requests_of-push said (Request request));
   reply_is = k.reply_is ∙ sym (or_false _) ∙ sym (has_reply-push said (Request request));
   latest_is = sym (latest_from-push 0 said (Request request));
+  configuration_is = k.configuration_is ∙ ap configured (sym (append-nil _) ∙ sym (settings_of-push said (Request request)));
+}
+
+pub keeps-configuration : (reader : ReaderValue) (said : List Line) (setting : Setting) → Keeps reader said
+    → Keeps (record reader { configuration = with_setting setting reader.configuration }) (said ++ Configuration setting ∷ [])
+keeps-configuration reader said setting k = record {
+  outcomes_are = k.outcomes_are ∙ sym (append-nil _) ∙ sym (outcomes_of-push said (Configuration setting) (none_configuration setting));
+  requests_are = k.requests_are ∙ sym (append-nil _) ∙ sym (requests_of-push said (Configuration setting));
+  reply_is = k.reply_is ∙ sym (or_false _) ∙ sym (has_reply-push said (Configuration setting));
+  latest_is = k.latest_is ∙ sym (latest_from-push 0 said (Configuration setting));
+  configuration_is = ap (with_setting setting) k.configuration_is ∙ sym (configured-push (settings_of said) setting) ∙ ap configured (sym (settings_of-push said (Configuration setting)));
 }

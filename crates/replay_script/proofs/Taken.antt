@@ -8,14 +8,16 @@ use Rattle.replay_script.specs.Line.{IsRead, is_record}
 use Rattle.replay_script.specs.ReplyLine.{opened_response}
 use Rattle.replay_script.specs.Script.{has_reply, latest_from}
 use Rattle.replay_script.specs.Reader.{ReaderValue, Keeps, IsTaken, IsAnswered, opened, answered}
+use Rattle.replay_script.specs.Setting.{with_setting}
 use Rattle.replay_script.specs.declared.fault.ScriptFault.{ScriptFault}
 use Rattle.replay_script.specs.declared.fault.ScriptFault.TheVariants.{NoReply, MomentBack, OutOfMemory}
 use Rattle.replay_script.specs.declared.line.Line.{Line}
-use Rattle.replay_script.specs.declared.line.Line.TheVariants.{Reply, Record, Request}
+use Rattle.replay_script.specs.declared.line.Line.TheVariants.{Configuration, Record, Reply, Request}
 use Rattle.replay_script.specs.declared.record_line.Section.{Section}
 use Rattle.replay_script.specs.declared.reply_line.ReplyHead.{ReplyHead}
 use Rattle.replay_script.specs.declared.script.OpenReply.{OpenReply}
-use Rattle.replay_script.proofs.Said.{keeps-reply, keeps-record, keeps-request}
+use Rattle.replay_script.specs.declared.setting.Setting.{Setting}
+use Rattle.replay_script.proofs.Said.{keeps-configuration, keeps-record, keeps-reply, keeps-request}
 
 -- what was read
 pub read_as : (b : Bool) (reader : ReaderValue) (said : List Line) (line : List ℕ) (l more : Line) → b ≡ is_some reader.open_reply → Keeps reader said → l ≡ more
@@ -65,3 +67,11 @@ taken-request before after said line request (Err fault) k read ok order (inr (b
     let same = k.latest_is in
     let early : nat_lt (moment_of request) (latest_from 0 said) ≡ true = grind (arith, nat_tests) in
     inr (Ok (Request request), read, rw early (ap Err (sym back)))
+
+pub taken-configuration : (before after : ReaderValue) (said : List Line) (line : List ℕ) (setting : Setting) (result : Result (Unit {0}) ScriptFault) → Keeps before said → IsRead (has_reply said) line (Ok (Configuration setting))
+    → OnOk result (after ≡ record before { configuration = with_setting setting before.configuration })
+    → IsOkUnless result OutOfMemory → IsTaken said line result after
+taken-configuration before after said line setting (Ok u) k read ok err =
+    let P : ReaderValue → Type 0 = λ r. Keeps r (said ++ Configuration setting ∷ []) in
+    (Configuration setting, read, refl, subst P (sym ok) (keeps-configuration before said setting k))
+taken-configuration before after said line setting (Err fault) k read ok err = inl err

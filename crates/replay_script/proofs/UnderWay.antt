@@ -7,6 +7,7 @@ use Rattle.std.specs.Option.{is_some}
 use Rattle.std.specs.Str.Lines.{lines, lines_of_parts}
 use Rattle.replay_script.specs.Script.{AreRead}
 use Rattle.replay_script.specs.Reader.{ReaderValue, Keeps, opened}
+use Rattle.replay_script.specs.Setting.{configured}
 use Rattle.replay_script.specs.declared.fault.ScriptError.{ScriptError}
 use Rattle.replay_script.specs.declared.line.Line.{Line}
 
@@ -30,7 +31,7 @@ parts_le (x ∷ y ∷ more) = let rest = parts_le (y ∷ more) in omega arith
 lines_le : (bs : List ℕ) → length (lines bs) ≤ length bs + 1
 lines_le bs = omega (arith, parts_le (slice_split (λ b. b == 10) bs), length-slice_split (λ b. b == 10) bs, count_by-le-length (λ b. b == 10) bs)
 
-pub begun : (reader : ReaderValue) (script : List ℕ) → reader ≡ record { closed = []; open_reply = None; requests = []; latest = 0 } → UnderWay reader 0 script (lines script)
+pub begun : (reader : ReaderValue) (script : List ℕ) → reader ≡ record { closed = []; open_reply = None; requests = []; latest = 0; configuration = configured [] } → UnderWay reader 0 script (lines script)
 begun reader script new = record {
   said = [];
   kept = record {
@@ -38,6 +39,7 @@ begun reader script new = record {
     requests_are = ap (λ r. r.requests) new;
     reply_is = ap (λ r. is_some r.open_reply) new;
     latest_is = ap (λ r. r.latest) new;
+    configuration_is = ap (λ r. r.configuration) new;
   };
   count = refl;
   room = omega (arith, lines_le script);

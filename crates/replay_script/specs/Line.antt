@@ -7,6 +7,7 @@ use Rattle.replay_script.specs.Fields.{fields, is_skipped, is_allowed}
 use Rattle.replay_script.specs.RecordLine.{IsRecord}
 use Rattle.replay_script.specs.ReplyLine.{reply_of}
 use Rattle.replay_script.specs.Request.{request_of}
+use Rattle.replay_script.specs.Setting.{setting_of}
 use Rattle.replay_script.specs.Words.{◌>>=◌}
 use Rattle.replay_script.specs.declared.fault.ScriptFault.{ScriptFault}
 use Rattle.replay_script.specs.declared.fault.ScriptFault.TheVariants.{BadByte, NoReply, UnknownDirective}
@@ -16,12 +17,14 @@ use Rattle.replay_script.specs.declared.line.Line.{Line}
 use Rattle.replay_script.specs.declared.line.Line.TheVariants as line
 use Rattle.replay_script.specs.declared.record_line.Section.{Section}
 use Rattle.replay_script.specs.declared.record_line.Section.TheVariants.{Additional, Answer, Authority}
+use Rattle.replay_script.specs.declared.setting.SettingKind.TheVariants as kind
 
 abbrev pub is_record : Line → Bool
 is_record line.Blank = false
 is_record (line.Reply head) = false
 is_record (line.Record section found) = true
 is_record (line.Request request) = false
+is_record (line.Configuration setting) = false
 
 -- a record of a section needs a reply that it can belong to
 abbrev pub IsRecordLine : Bool → Section → List (List ℕ) → Result Line ScriptFault → Type 0
@@ -38,7 +41,10 @@ directive_named word =
     if is_text (codes "answer") word then Some (directive.Record Answer) else (
     if is_text (codes "authority") word then Some (directive.Record Authority) else (
     if is_text (codes "additional") word then Some (directive.Record Additional) else (
-    if is_text (codes "at") word then Some directive.Request else None))))
+    if is_text (codes "at") word then Some directive.Request else (
+    if is_text (codes "option") word then Some (directive.Configuration kind.Option) else (
+    if is_text (codes "domain") word then Some (directive.Configuration kind.Domain) else (
+    if is_text (codes "search") word then Some (directive.Configuration kind.Search) else None)))))))
 
 -- what the fields behind a directive say
 abbrev pub IsDirected : Bool → Option Directive → List (List ℕ) → Result Line ScriptFault → Type 0
@@ -49,6 +55,8 @@ IsDirected has_reply (Some (directive.Record section)) fields result =
     IsRecordLine has_reply section fields result
 IsDirected has_reply (Some directive.Request) fields result =
     result ≡ (request_of fields >>= (λ request. Ok (line.Request request)))
+IsDirected has_reply (Some (directive.Configuration kind)) fields result =
+    result ≡ (setting_of kind fields >>= (λ setting. Ok (line.Configuration setting)))
 
 -- the first field is the directive
 abbrev pub IsSaid : Bool → List (List ℕ) → Result Line ScriptFault → Type 0

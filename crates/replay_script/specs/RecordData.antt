@@ -4,12 +4,11 @@ use Rattle.std.specs.Net.Addr.{ipv4_octets, ipv6_segments}
 use Rattle.std.specs.Net.Grammar.{IsIpv4Text, IsIpv6Text}
 use Rattle.std.specs.declared.net.Ipv4Addr.{Ipv4Addr}
 use Rattle.std.specs.declared.net.Ipv6Addr.{Ipv6Addr}
-use Rattle.hickory_proto_core.specs.Name.{NameValue}
 use Rattle.hickory_proto_core.specs.Records.{DataValue, a_data, aaaa_data, cname_data, data_of, mx_data, ns_data, ptr_data, soa_data, srv_data}
 use Rattle.hickory_proto_core.specs.records.record_data.RData.{RData}
 use Rattle.hickory_proto_core.specs.codes.record_type.RecordType.{RecordType}
 use Rattle.hickory_proto_core.specs.codes.record_type.RecordType.TheVariants as type
-use Rattle.replay_script.specs.Words.{◌>>=◌, name_field, number_field}
+use Rattle.replay_script.specs.Words.{◌>>=◌, name_field, number_field, only_name}
 use Rattle.replay_script.specs.declared.fault.ScriptFault.{ScriptFault}
 use Rattle.replay_script.specs.declared.record_data.ZoneTimes.{ZoneTimes}
 use Rattle.replay_script.specs.declared.fault.ScriptFault.TheVariants.{BadAddress, FieldCount, UnknownWord}
@@ -34,12 +33,6 @@ IsAddressData IsAddress (text ∷ []) result =
     MatchResult result (λ rdata. IsAddress text rdata)
     (λ fault. (fault ≡ BadAddress) × ((rdata : DataValue) → ¬ IsAddress text rdata))
 IsAddressData IsAddress (text ∷ more ∷ others) result = result ≡ Err FieldCount
-
--- NAME
-abbrev pub target_of : List (List ℕ) → Result NameValue ScriptFault
-target_of [] = Err FieldCount
-target_of (name ∷ []) = name_field name
-target_of (name ∷ more ∷ others) = Err FieldCount
 
 -- PREFERENCE NAME
 abbrev pub mx_of : List (List ℕ) → Result DataValue ScriptFault
@@ -90,9 +83,9 @@ soa_of fields = Err FieldCount
 abbrev pub IsData : RecordType → List (List ℕ) → Result DataValue ScriptFault → Type 0
 IsData type.A fields result = IsAddressData IsIpv4Data fields result
 IsData type.AAAA fields result = IsAddressData IsIpv6Data fields result
-IsData type.CNAME fields result = result ≡ (target_of fields >>= (λ n. Ok (cname_data n)))
-IsData type.NS fields result = result ≡ (target_of fields >>= (λ n. Ok (ns_data n)))
-IsData type.PTR fields result = result ≡ (target_of fields >>= (λ n. Ok (ptr_data n)))
+IsData type.CNAME fields result = result ≡ (only_name fields >>= (λ n. Ok (cname_data n)))
+IsData type.NS fields result = result ≡ (only_name fields >>= (λ n. Ok (ns_data n)))
+IsData type.PTR fields result = result ≡ (only_name fields >>= (λ n. Ok (ptr_data n)))
 IsData type.MX fields result = result ≡ mx_of fields
 IsData type.SRV fields result = result ≡ srv_of fields
 IsData type.SOA fields result = result ≡ soa_of fields

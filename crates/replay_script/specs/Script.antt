@@ -1,23 +1,34 @@
--- A script by its whole lines: what they say together, and the fault of the earliest line that has one.
-use Rattle.std.specs.Prelude.{◌≡◌, ◌⊎◌, ◌+◌, ℕ, Bool, true, false, nat_lt, List, [], ◌∷◌, ◌++◌, length, Result, Ok, Err, MatchResult, if◌then◌else◌}
+-- A script by its whole lines: what they say together, and the fault of the earliest line that has one, or
+-- else of the bounds on times to live that they set.
+use Rattle.std.specs.Prelude.{◌≡◌, ◌⊎◌, ◌+◌, ℕ, Bool, true, false, nat_lt, List, [], ◌∷◌, ◌++◌, length, Option, None, IsSome, Result, Ok, Err, MatchResult, if◌then◌else◌}
 use Rattle.std.specs.Str.Lines.{lines}
 use Rattle.hickory_proto_core.specs.Handles.{OutcomeValue}
 use Rattle.hickory_proto_core.specs.Messages.{MessageValue}
+use Rattle.hickory_proto_core.specs.Name.{NameValue}
 use Rattle.hickory_proto_core.specs.records.query.Query.{Query}
+use Rattle.hickory_resolver_config.specs.Resolver.{OptionsValue, default_options}
+use Rattle.hickory_resolver_model.specs.Bounds.{bounds_fault}
+use Rattle.hickory_resolver_model.specs.Options.{bounds_of}
 use Rattle.hickory_resolver_model.specs.Run.{RequestValue, moment_of}
 use Rattle.replay_script.specs.Line.{IsRead}
 use Rattle.replay_script.specs.RecordLine.{with_record}
 use Rattle.replay_script.specs.ReplyLine.{opened_response}
+use Rattle.replay_script.specs.Setting.{domain_from, options_from, search_in}
 use Rattle.replay_script.specs.declared.fault.ScriptFault.{ScriptFault}
-use Rattle.replay_script.specs.declared.fault.ScriptFault.TheVariants.{MomentBack, OutOfMemory}
+use Rattle.replay_script.specs.declared.fault.ScriptFault.TheVariants.{MomentBack, OutOfMemory, ReversedBounds}
 use Rattle.replay_script.specs.declared.fault.ScriptError.{ScriptError}
 use Rattle.replay_script.specs.declared.line.Line.{Line}
-use Rattle.replay_script.specs.declared.line.Line.TheVariants.{Blank, Reply, Record, Request}
+use Rattle.replay_script.specs.declared.line.Line.TheVariants.{Blank, Configuration, Record, Reply, Request}
+use Rattle.replay_script.specs.declared.setting.Setting.{Setting}
 
--- a script: what the upstream answers, each beside the question of its line, and the requests
+-- a script: what the upstream answers, each beside the question of its line; the requests; and what the
+-- resolver is configured with
 pub record ScriptValue : Type 0 where
   pub outcomes : List (Query × OutcomeValue)
   pub requests : List RequestValue
+  pub options : OptionsValue
+  pub domain : Option NameValue
+  pub search : List NameValue
 
 -- a response gets the records of the lines behind it, up to the next response
 abbrev pub with_records : MessageValue → List Line → MessageValue
@@ -26,6 +37,7 @@ with_records response (Blank ∷ said) = with_records response said
 with_records response (Reply head ∷ said) = response
 with_records response (Record section found ∷ said) = with_records (with_record section found response) said
 with_records response (Request request ∷ said) = with_records response said
+with_records response (Configuration setting ∷ said) = with_records response said
 
 abbrev pub outcomes_of : List Line → List (Query × OutcomeValue)
 outcomes_of [] = []
@@ -33,6 +45,7 @@ outcomes_of (Blank ∷ said) = outcomes_of said
 outcomes_of (Reply head ∷ said) = (head.query, Ok (with_records (opened_response head) said)) ∷ outcomes_of said
 outcomes_of (Record section found ∷ said) = outcomes_of said
 outcomes_of (Request request ∷ said) = outcomes_of said
+outcomes_of (Configuration setting ∷ said) = outcomes_of said
 
 abbrev pub requests_of : List Line → List RequestValue
 requests_of [] = []
@@ -40,9 +53,36 @@ requests_of (Blank ∷ said) = requests_of said
 requests_of (Reply head ∷ said) = requests_of said
 requests_of (Record section found ∷ said) = requests_of said
 requests_of (Request request ∷ said) = request ∷ requests_of said
+requests_of (Configuration setting ∷ said) = requests_of said
+
+-- what is set, in order
+abbrev pub settings_of : List Line → List Setting
+settings_of [] = []
+settings_of (Blank ∷ said) = settings_of said
+settings_of (Reply head ∷ said) = settings_of said
+settings_of (Record section found ∷ said) = settings_of said
+settings_of (Request request ∷ said) = settings_of said
+settings_of (Configuration setting ∷ said) = setting ∷ settings_of said
+
+-- the last line of an option counts, and where there is none its default
+abbrev pub options_of : List Line → OptionsValue
+options_of said = options_from default_options (settings_of said)
+
+-- the last domain counts
+abbrev pub domain_of : List Line → Option NameValue
+domain_of said = domain_from None (settings_of said)
+
+abbrev pub search_of : List Line → List NameValue
+search_of said = search_in (settings_of said)
 
 abbrev pub script_of : List Line → ScriptValue
-script_of said = record { outcomes = outcomes_of said; requests = requests_of said }
+script_of said = record {
+  outcomes = outcomes_of said;
+  requests = requests_of said;
+  options = options_of said;
+  domain = domain_of said;
+  search = search_of said;
+}
 
 -- whether there is a reply that one more record could belong to
 abbrev pub has_reply : List Line → Bool
@@ -51,6 +91,7 @@ has_reply (Blank ∷ said) = has_reply said
 has_reply (Reply head ∷ said) = true
 has_reply (Record section found ∷ said) = has_reply said
 has_reply (Request request ∷ said) = has_reply said
+has_reply (Configuration setting ∷ said) = has_reply said
 
 -- the moment of the last request, where there is one, and else this one
 abbrev pub latest_from : ℕ → List Line → ℕ
@@ -59,6 +100,7 @@ latest_from moment (Blank ∷ said) = latest_from moment said
 latest_from moment (Reply head ∷ said) = latest_from moment said
 latest_from moment (Record section found ∷ said) = latest_from moment said
 latest_from moment (Request request ∷ said) = latest_from (moment_of request) said
+latest_from moment (Configuration setting ∷ said) = latest_from moment said
 
 -- a request is refused that is earlier than the one before it
 abbrev pub in_order : ℕ → Result Line ScriptFault → Result Line ScriptFault
@@ -67,6 +109,7 @@ in_order moment (Ok (Reply head)) = Ok (Reply head)
 in_order moment (Ok (Record section found)) = Ok (Record section found)
 in_order moment (Ok (Request request)) =
     if nat_lt (moment_of request) moment then Err MomentBack else Ok (Request request)
+in_order moment (Ok (Configuration setting)) = Ok (Configuration setting)
 in_order moment (Err fault) = Err fault
 
 -- the lines behind those that said this: what all of them say, or the first fault and the number of its line
@@ -78,9 +121,25 @@ AreRead said (line ∷ others) result =
     (λ more. AreRead (said ++ more ∷ []) others result)
     (λ fault. result ≡ Err (record { line = length said + 1; fault = fault }))
 
--- a script is read whole, or the first line with a fault is found, or no memory is left
+-- each line is read, and no bounds on times to live are reversed
+abbrev pub IsWhole : List ℕ → List Line → Type 0
+IsWhole script said =
+    AreRead [] (lines script) (Ok said) × (bounds_fault (bounds_of (options_of said)) ≡ None)
+
+-- each line is read, and bounds on times to live are reversed
+abbrev pub IsReversed : List ℕ → List Line → Type 0
+IsReversed script said =
+    AreRead [] (lines script) (Ok said) × IsSome (bounds_fault (bounds_of (options_of said)))
+
+-- the fault of the first line with one, or else reversed bounds, which have no line
+abbrev pub IsFault : List ℕ → ScriptError → Type 0
+IsFault script error =
+    AreRead [] (lines script) (Err error)
+    ⊎ ((said : List Line) × IsReversed script said × (error ≡ record { line = 0; fault = ReversedBounds }))
+
+-- a script is read whole, or its fault is found, or no memory is left
 abbrev pub IsScript : List ℕ → Result ScriptValue ScriptError → Type 0
 IsScript script result =
     MatchResult result
-    (λ read. (said : List Line) × AreRead [] (lines script) (Ok said) × (read ≡ script_of said))
-    (λ error. AreRead [] (lines script) (Err error) ⊎ (error ≡ record { line = 0; fault = OutOfMemory }))
+    (λ read. (said : List Line) × IsWhole script said × (read ≡ script_of said))
+    (λ error. IsFault script error ⊎ (error ≡ record { line = 0; fault = OutOfMemory }))

@@ -1,5 +1,5 @@
 -- Fields as names and numbers, and the first fault among several.
-use Rattle.std.specs.Prelude.{◌^◌, ℕ, true, List, map, Result, Ok, Err}
+use Rattle.std.specs.Prelude.{◌^◌, ℕ, true, List, [], ◌∷◌, map, Result, Ok, Err}
 use Rattle.std.specs.Borrow.{Bor}
 use Rattle.std.specs.Option.{ok_or}
 use Rattle.hickory_proto_core.specs.Name.{NameValue}
@@ -8,7 +8,7 @@ use Rattle.hickory_proto_core.specs.Codes.{decimal_below}
 use Rattle.hickory_proto_core.specs.names.name_error.NameError.{NameError}
 use Rattle.replay_script.specs.Faults.{name_fault}
 use Rattle.replay_script.specs.declared.fault.ScriptFault.{ScriptFault}
-use Rattle.replay_script.specs.declared.fault.ScriptFault.TheVariants.{BadNumber}
+use Rattle.replay_script.specs.declared.fault.ScriptFault.TheVariants.{BadNumber, FieldCount}
 
 -- the first fault, or what comes of the value
 infixl 10 ◌>>=◌
@@ -27,6 +27,12 @@ full_name (Err error) = Err (name_fault error)
 
 abbrev pub name_field : List ℕ → Result NameValue ScriptFault
 name_field text = full_name (text_name text)
+
+-- NAME
+abbrev pub only_name : List (List ℕ) → Result NameValue ScriptFault
+only_name [] = Err FieldCount
+only_name (name ∷ []) = name_field name
+only_name (name ∷ more ∷ others) = Err FieldCount
 
 -- a number of so many bits
 abbrev pub number_field : ℕ → List ℕ → Result ℕ ScriptFault

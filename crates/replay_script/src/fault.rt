@@ -36,13 +36,16 @@ pub enum ScriptFault {
     /// A request that is earlier than the one before it.
     #[error("S9 moment goes back")]
     MomentBack,
+    /// A least bound on times to live above the greatest one.
+    #[error("S11 reversed bounds")]
+    ReversedBounds,
     /// No memory was left.
     #[error("out of memory")]
     OutOfMemory,
 }
 
-/// The first fault of a script, and the number of its line, counted from 1. Out of memory has no line:
-/// its number is 0.
+/// The first fault of a script, and the number of its line, counted from 1. Out of memory has no line, nor
+/// have bounds that are reversed once every line is read: their number is 0.
 #[derive(Clone, Copy, Debug, PartialEq, Eq)]
 pub struct ScriptError {
     pub line: usize,

@@ -1,20 +1,25 @@
-//! Scripts of a replay: what an upstream answers, and what is asked of the resolver.
+//! Scripts of a replay: what an upstream answers, what is asked of the resolver, and how it is configured.
 #![tactic(auto)]
 
+pub mod configuration;
 pub mod fault;
 pub mod fields;
 pub mod line;
 pub mod numbers;
+pub mod option_line;
 pub mod record_data;
 pub mod record_line;
 pub mod reply_line;
 pub mod request;
 pub mod script;
+pub mod setting;
 pub mod words;
 
 pub use fault::{ScriptError, ScriptFault};
 pub use line::Line;
+pub use option_line::OptionLine;
 pub use record_line::Section;
 pub use reply_line::ReplyHead;
 pub use request::Request;
 pub use script::{Script, read_script};
+pub use setting::Setting;

@@ -10,6 +10,7 @@ use crate::fields::{Fields, is_allowed, is_skipped};
 use crate::record_line::{Section, read_record};
 use crate::reply_line::{ReplyHead, read_reply};
 use crate::request::{Request, read_request};
+use crate::setting::{Setting, SettingKind, read_setting};
 use hickory_proto_core::Record;
 use std::alloc::{AllocError, Global};
 use std::str;
@@ -25,6 +26,8 @@ pub enum Line {
     Record(Section, Record),
     /// A request.
     Request(Request),
+    /// A part of the configuration.
+    Configuration(Setting),
 }
 
 /// Reads a line, which may be a record only where there is a reply that it can belong to.
@@ -82,6 +85,7 @@ enum Directive {
     Reply,
     Record(Section),
     Request,
+    Configuration(SettingKind),
 }
 
 impl Directive {
@@ -95,6 +99,9 @@ impl Directive {
             "authority" => Some(Directive::Record(Section::Authority)),
             "additional" => Some(Directive::Record(Section::Additional)),
             "at" => Some(Directive::Request),
+            "option" => Some(Directive::Configuration(SettingKind::Option)),
+            "domain" => Some(Directive::Configuration(SettingKind::Domain)),
+            "search" => Some(Directive::Configuration(SettingKind::Search)),
             _ => None,
         }
     }
@@ -114,6 +121,9 @@ fn read_directed(
         Some(Directive::Reply) => Ok(Line::Reply(read_reply(alloc, fields)?)),
         Some(Directive::Record(section)) => read_record_line(alloc, has_reply, section, fields),
         Some(Directive::Request) => Ok(Line::Request(read_request(alloc, fields)?)),
+        Some(Directive::Configuration(kind)) => {
+            Ok(Line::Configuration(read_setting(alloc, kind, fields)?))
+        }
         None => Err(ScriptFault::UnknownDirective),
     }
 }

@@ -1,12 +1,12 @@
 //! The data of the records in a script.
 ghost use Rattle.std.specs.Prelude.{◌≡◌, ◌⊎◌, Err, MatchResult};
 ghost use Rattle.hickory_proto_core.specs.Records.{DataValue, data_of};
-ghost use Rattle.replay_script.specs.RecordData.{IsAddressData, IsData, IsIpv4Data, IsIpv6Data, mx_of, read_as_value, service_of, soa_of, srv_of, target_of, times_of, zone_of};
+ghost use Rattle.replay_script.specs.RecordData.{IsAddressData, IsData, IsIpv4Data, IsIpv6Data, mx_of, read_as_value, service_of, soa_of, srv_of, times_of, zone_of};
 ghost use Rattle.replay_script.specs.Words.{texts};
 
 use crate::fault::ScriptFault;
-use crate::words::{number16, number32, read_name};
-use hickory_proto_core::{Name, RData, RecordType};
+use crate::words::{number16, number32, read_name, read_only_name};
+use hickory_proto_core::{RData, RecordType};
 use std::alloc::Global;
 use std::net::{Ipv4Addr, Ipv6Addr};
 
@@ -22,9 +22,9 @@ pub fn read_data(
     match record_type {
         RecordType::A => read_ipv4_field(fields),
         RecordType::AAAA => read_ipv6_field(fields),
-        RecordType::CNAME => Ok(RData::CNAME(read_target(alloc, fields)?)),
-        RecordType::NS => Ok(RData::NS(read_target(alloc, fields)?)),
-        RecordType::PTR => Ok(RData::PTR(read_target(alloc, fields)?)),
+        RecordType::CNAME => Ok(RData::CNAME(read_only_name(alloc, fields)?)),
+        RecordType::NS => Ok(RData::NS(read_only_name(alloc, fields)?)),
+        RecordType::PTR => Ok(RData::PTR(read_only_name(alloc, fields)?)),
         RecordType::MX => read_mx(alloc, fields),
         RecordType::SRV => read_srv(alloc, fields),
         RecordType::SOA => read_soa(alloc, fields),
@@ -68,16 +68,6 @@ fn read_ipv6(text: &str) -> Result<RData, ScriptFault>
         Ok(address) => Ok(RData::AAAA(address)),
         Err(_) => Err(ScriptFault::BadAddress),
     }
-}
-
-// NAME
-fn read_target(alloc: Global, fields: &[&str]) -> Result<Name, ScriptFault>
-    ensures { (result ≡ target_of (texts fields.now)) ⊎ (result ≡ Err ScriptFault.OutOfMemory) }
-{
-    let [name] = fields else {
-        return Err(ScriptFault::FieldCount);
-    };
-    read_name(alloc, name)
 }
 
 // PREFERENCE NAME

@@ -1,28 +1,36 @@
 //! Scripts: what an upstream answers, and what is asked of the resolver.
 ghost use Rattle.std.specs.Prelude.{◌≡◌, ◌⊎◌, ◌≤◌, ◌<◌, ◌++◌, ◌∷◌, List, [], None, Some, IfOk, IfErr, OnOk, IsOkUnless, Ok, IsErr};
-ghost use Rattle.replay_script.specs.Reader.{IsAnswered, IsTaken, Keeps, opened};
+ghost use Rattle.replay_script.specs.Reader.{IsAnswered, IsFinished, IsTaken, Keeps, finished, opened};
 ghost use Rattle.hickory_resolver_model.specs.Run.{moment_of};
 ghost use Rattle.replay_script.specs.ReplyLine.{opened_response};
 ghost use Rattle.replay_script.specs.Script.{IsScript};
+ghost use Rattle.replay_script.specs.Setting.{configured, with_setting};
 ghost use Rattle.replay_script.specs.declared.line.Line.{Line};
 
+use crate::configuration::Configuration;
 use crate::fault::{ScriptError, ScriptFault};
 use crate::fields::ScriptLines;
 use crate::line::{Line, read_line};
 use crate::record_line::Section;
 use crate::reply_line::ReplyHead;
 use crate::request::Request;
+use crate::setting::Setting;
 use hickory_proto_core::dns_handle::Outcome;
-use hickory_proto_core::{DnsResponse, Message, NetError, OpCode, Query, Record};
+use hickory_proto_core::{DnsResponse, Message, Name, NetError, OpCode, Query, Record};
+use hickory_resolver_config::ResolverOpts;
 use std::alloc::Global;
 use std::marker::Model;
 
-/// What a script says: what the upstream answers, in order, each beside the question of its line; and
-/// the requests, in order.
+/// What a script says: what the upstream answers, in order, each beside the question of its line; the
+/// requests, in order; and the options, the domain and the search list of the resolver.
 #[derive(Drop)]
 pub struct Script {
     pub outcomes: Vec<(Query, Outcome)>,
     pub requests: Vec<Request>,
+    /// The options, with the defaults where no line sets them.
+    pub options: ResolverOpts,
+    pub domain: Option<Name>,
+    pub search: Vec<Name>,
 }
 
 impl Model for Script {
@@ -30,10 +38,17 @@ impl Model for Script {
 
     ghost Value = { ScriptValue };
 
-    ghost view = { λ s. record { outcomes = s.outcomes.items; requests = s.requests.items } };
+    ghost view = { λ s. record {
+      outcomes = s.outcomes.items;
+      requests = s.requests.items;
+      options = s.options;
+      domain = s.domain;
+      search = s.search.items;
+    } };
 }
 
-/// Reads a script, or finds the first line with a fault.
+/// Reads a script, or finds the first line with a fault. Where no line has one, bounds on times to live
+/// whose least is above their greatest are refused.
 pub fn read_script(alloc: Global, script: &[u8]) -> Result<Script, ScriptError>
     ensures { IsScript script.now result }
 {
@@ -54,7 +69,7 @@ pub fn read_script(alloc: Global, script: &[u8]) -> Result<Script, ScriptError>
     }
     match reader.finish() {
         Ok(script) => Ok(script),
-        Err(_) => Err(ScriptError::out_of_memory()),
+        Err(fault) => Err(ScriptError { line: 0, fault }),
     }
 }
 
@@ -88,6 +103,7 @@ struct Reader {
     open_reply: Option<OpenReply>,
     requests: Vec<Request>,
     latest: u64,
+    configuration: Configuration,
 }
 
 impl Model for Reader {
@@ -100,12 +116,19 @@ impl Model for Reader {
       open_reply = r.open_reply;
       requests = r.requests.items;
       latest = r.latest;
+      configuration = r.configuration;
     } };
 }
 
 impl Reader {
     fn new(alloc: Global) -> Reader
-        ensures { result ≡ record { closed = []; open_reply = None; requests = []; latest = 0 } }
+        ensures { result ≡ record {
+          closed = [];
+          open_reply = None;
+          requests = [];
+          latest = 0;
+          configuration = configured [];
+        } }
     {
         Reader {
             alloc,
@@ -113,6 +136,7 @@ impl Reader {
             open_reply: None,
             requests: Vec::new(alloc),
             latest: 0,
+            configuration: Configuration::default(alloc),
         }
     }
 
@@ -126,6 +150,7 @@ impl Reader {
             Line::Reply(head) => self.add_reply(head),
             Line::Record(section, found) => self.add_record(section, found),
             Line::Request(request) => self.add_request(request),
+            Line::Configuration(setting) => self.add_setting(setting),
         }
     }
 
@@ -172,6 +197,14 @@ impl Reader {
         Ok(())
     }
 
+    fn add_setting(&mut self, setting: Setting) -> Result<(), ScriptFault>
+        ensures ok { OnOk result (self.new
+            ≡ record self.old { configuration = with_setting setting self.old.configuration }) }
+        ensures err { IsOkUnless result ScriptFault.OutOfMemory }
+    {
+        self.configuration.set(setting)
+    }
+
     // The open reply is one more outcome.
     fn close(&mut self) -> Result<(), ScriptFault>
         ensures ok { OnOk result (self.new
@@ -189,17 +222,30 @@ impl Reader {
     }
 
     fn finish(self) -> Result<Script, ScriptFault>
-        ensures { IfOk result (λ s. s ≡ record {
-          outcomes = self.closed ++ opened self.open_reply;
-          requests = self.requests;
-        }) }
+        ensures { IsFinished self result }
     {
         let mut reader = self;
+        reader.configuration.check_bounds(reader.alloc)?;
         reader.close()?;
-        Ok(Script {
-            outcomes: reader.closed,
-            requests: reader.requests,
-        })
+        Ok(reader.into_script())
+    }
+
+    // What is kept, without the open reply.
+    fn into_script(self) -> Script
+        ensures { result ≡ finished self.closed self }
+    {
+        let Configuration {
+            options,
+            domain,
+            search,
+        } = self.configuration;
+        Script {
+            outcomes: self.closed,
+            requests: self.requests,
+            options,
+            domain,
+            search,
+        }
     }
 }
 
