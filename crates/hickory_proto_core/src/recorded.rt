@@ -67,8 +67,13 @@ impl<H: DnsHandle> DnsHandle for Recorded<H> {
         self.exchanges.reserve(1)?;
         let outcome = self.handle.send(request);
         let copied = clone_outcome(&outcome);
-        self.exchanges.push(Exchange { query, outcome })?;
-        copied?
+        match self.exchanges.push(Exchange { query, outcome }) {
+            Ok(()) => copied?,
+            Err(refused) => {
+                drop(copied);
+                Err(NetError::from(refused))
+            }
+        }
     }
 }
 

@@ -236,8 +236,8 @@ impl Clone for ForwardNSData {
 
     fn clone(&self) -> Result<ForwardNSData, AllocError> {
         Ok(ForwardNSData {
-            ns: Clone::clone(&self.ns)?,
             glue: self.glue.clone()?,
+            ns: Clone::clone(&self.ns)?,
         })
     }
 }
