@@ -97,6 +97,6 @@ fn insert_new<S: BuildHasher>(
     let key = name.clone()?;
     let mut host = HostLookups::empty();
     host.add(alloc, name, record_type, lookup, now)?;
-    names.insert(key, host)?;
+    drop(names.insert(key, host)?);
     Ok(())
 }
