@@ -63,12 +63,17 @@ impl<H: DnsHandle> DnsHandle for Recorded<H> {
     ghost step = { RecordedStep H.step };
 
     fn send(&mut self, request: &DnsRequest) -> Result<DnsResponse, NetError> {
-        let query = request.query.clone()?;
         self.exchanges.reserve(1)?;
+        let query = request.query.clone()?;
         let outcome = self.handle.send(request);
         let copied = clone_outcome(&outcome);
-        self.exchanges.push(Exchange { query, outcome })?;
-        copied?
+        match self.exchanges.push(Exchange { query, outcome }) {
+            Ok(()) => copied?,
+            Err(refused) => {
+                drop(copied);
+                Err(NetError::from(refused))
+            }
+        }
     }
 }
 

@@ -137,12 +137,12 @@ impl Clone for NoRecords {
 
     fn clone(&self) -> Result<NoRecords, AllocError> {
         Ok(NoRecords {
+            ns: self.ns.as_ref().cloned()?,
+            authorities: self.authorities.as_ref().cloned()?,
             query: Clone::clone(&self.query)?,
             soa: self.soa.as_ref().cloned()?,
-            ns: self.ns.as_ref().cloned()?,
             negative_ttl: self.negative_ttl,
             response_code: self.response_code,
-            authorities: self.authorities.as_ref().cloned()?,
         })
     }
 }
@@ -236,8 +236,8 @@ impl Clone for ForwardNSData {
 
     fn clone(&self) -> Result<ForwardNSData, AllocError> {
         Ok(ForwardNSData {
-            ns: Clone::clone(&self.ns)?,
             glue: self.glue.clone()?,
+            ns: Clone::clone(&self.ns)?,
         })
     }
 }

@@ -32,10 +32,10 @@ pub fn attempts(
         return alone(alloc, name);
     }
     let joined = joined_names(alloc, &name, domain, search)?;
-    if is_first(&name, ndots) {
-        before(alloc, name, &joined)
+    if is_raw_first(&name, ndots) {
+        with_raw_first(alloc, name, &joined)
     } else {
-        behind(alloc, name, joined)
+        with_raw_last(alloc, name, joined)
     }
 }
 
@@ -57,7 +57,7 @@ fn is_onion(label: &[u8]) -> bool
 }
 
 // Whether a name is attempted as it is before it is searched.
-fn is_first(name: &Name, ndots: usize) -> bool
+fn is_raw_first(name: &Name, ndots: usize) -> bool
     ensures { result ≡ nat_lt ndots (num_labels_of name.now.labels) || is_zone_of localhost name.now }
 {
     ndots < usize::from(name.num_labels()) || name.is_localhost()
@@ -73,7 +73,7 @@ fn alone(alloc: Global, name: Name) -> Result<Vec<Name>, NetError>
 }
 
 // The name, fully qualified, and then those that it was joined to.
-fn before(alloc: Global, name: Name, joined: &[Name]) -> Result<Vec<Name>, NetError>
+fn with_raw_first(alloc: Global, name: Name, joined: &[Name]) -> Result<Vec<Name>, NetError>
     ensures ok { IfOk result (λ names. names.items ≡ record name { fqdn = true } ∷ keep_last joined.now) }
     ensures err { IsOkUnless result NetError.OutOfMemory }
 {
@@ -85,7 +85,7 @@ fn before(alloc: Global, name: Name, joined: &[Name]) -> Result<Vec<Name>, NetEr
 }
 
 // Those that the name was joined to, and then the name, fully qualified.
-fn behind(alloc: Global, name: Name, joined: Vec<Name>) -> Result<Vec<Name>, NetError>
+fn with_raw_last(alloc: Global, name: Name, joined: Vec<Name>) -> Result<Vec<Name>, NetError>
     ensures ok { IfOk result (λ names. names.items ≡ keep_last (joined.items ++ record name { fqdn = true } ∷ [])) }
     ensures err { IsOkUnless result NetError.OutOfMemory }
 {

@@ -183,7 +183,10 @@ impl<H: DnsHandle, S: BuildHasher> CachingClient<H, S> {
                     hop = next;
                 }
                 HopStep::Done(result) => {
-                    store_back(&mut self.cache, passed, &result, now)?;
+                    if let Err(error) = store_back(&mut self.cache, passed, &result, now) {
+                        drop(result);
+                        return Err(error);
+                    }
                     return result;
                 }
             }
@@ -293,8 +296,13 @@ impl<H: DnsHandle, S: BuildHasher> CachingClient<H, S> {
             (store_of query (Err (Dns (NoRecordsFound none))) now ∷ []) result self.new.cache }
         ensures stays { KeepsHandle self.old self.new }
     {
-        insert_negative(&mut self.cache, query, &none, now)?;
-        Err(NetError::from(none))
+        match insert_negative(&mut self.cache, query, &none, now) {
+            Ok(()) => Err(NetError::from(none)),
+            Err(error) => {
+                drop(none);
+                Err(error)
+            }
+        }
     }
 }
 
@@ -401,10 +409,14 @@ fn lookup_of_hit(query: Query, hit: Result<Message, NetError>, now: u64) -> Resu
 fn no_match(query: Query, response: &DnsResponse) -> Result<Lookup, NetError>
     ensures { IsUnlessOut (Err (no_match query response.now)) result }
 {
-    let soa = soa_of(response)?;
-    let mut none = NoRecords::new(query, response.message().metadata.response_code);
-    none.soa = soa;
-    none.negative_ttl = response.negative_ttl();
+    let none = NoRecords {
+        soa: soa_of(response)?,
+        query,
+        ns: None,
+        negative_ttl: response.negative_ttl(),
+        response_code: response.message().metadata.response_code,
+        authorities: None,
+    };
     Err(NetError::from(none))
 }
 

@@ -46,7 +46,8 @@ impl From<NetError> for HostsError {
     ghost from_gives = { λ _ error. error ≡ OutOfMemory };
 
     /// The only fault of a call that takes memory alone.
-    fn from(_: NetError) -> HostsError {
+    fn from(error: NetError) -> HostsError {
+        drop(error);
         HostsError::OutOfMemory
     }
 }

@@ -48,8 +48,9 @@ fn records_at<S: BuildHasher>(
     let mut records = Vec::new(*names.allocator());
     for place in places {
         if let Some((name, _)) = names.get_index(*place) {
+            let owner = owner.clone()?;
             let target = RData::PTR(name.clone()?);
-            records.push(Record::from_rdata(owner.clone()?, MAX_TTL, target))?;
+            records.push(Record::from_rdata(owner, MAX_TTL, target))?;
         }
     }
     Ok(records)

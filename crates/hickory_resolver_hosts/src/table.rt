@@ -96,7 +96,10 @@ fn insert_new<S: BuildHasher>(
     let alloc = *names.allocator();
     let key = name.clone()?;
     let mut host = HostLookups::empty();
-    host.add(alloc, name, record_type, lookup, now)?;
-    names.insert(key, host)?;
+    if let Err(error) = host.add(alloc, name, record_type, lookup, now) {
+        drop(host);
+        return Err(HostsError::from(error));
+    }
+    drop(names.insert(key, host)?);
     Ok(())
 }

@@ -10,4 +10,4 @@ pub returns-clause-ok : goal.returns-clause-ok
 returns-clause-ok g c =
     ap hosts_of (c.in_ok-insert.ensures.entries ∙ ap (λ k. insert_entry name_eq c.args.names.now.entries k c.add.new.self) c.in_ok-key.ensures.ok)
     ∙ put_behind (with_lookup c.args.name c.args.record_type c.args.lookup c.args.now) c.args.name c.args.names.now.entries c.add.new.self c.requires
-    (c.in_ok-add.ensures.ok c.args.name ∙ ap (with_lookup c.args.name c.args.record_type c.args.lookup c.args.now) (empty_host c.args.name c.empty-host.result c.empty-host.ensures.a c.empty-host.ensures.aaaa))
+    (c.in_default.ensures.ok c.args.name ∙ ap (with_lookup c.args.name c.args.record_type c.args.lookup c.args.now) (empty_host c.args.name c.empty-host.result c.empty-host.ensures.a c.empty-host.ensures.aaaa))

@@ -21,9 +21,9 @@ loop-depth-preserved g c =
 pub returns-in-Done : goal.returns-in-Done
 returns-in-Done g c =
     let h = rw (c.in-Done.is, ← c.self-in-loop-depth.view_is) at c.in_ok-asked.ensures in
-    walk_done g.H.DnsHandle.step c.args.options c.args.now _ _ c.args.query _ _ _ c.loop-depth.invariant c.in-Done.result _ h _ c.in_ok-store_back-in-Done.ensures.ok
+    walk_done g.H.DnsHandle.step c.args.options c.args.now _ _ c.args.query _ _ _ c.loop-depth.invariant c.in-Done.result _ h _ c.in_default.ensures.ok
 
-pub returns-in_err-store_back-in-Done : goal.returns-in_err-store_back-in-Done
-returns-in_err-store_back-in-Done g c =
+pub returns-in-Err : goal.returns-in-Err
+returns-in-Err g c =
     let h = rw (c.in-Done.is, ← c.self-in-loop-depth.view_is) at c.in_ok-asked.ensures in
-    walk_done_cut g.H.DnsHandle.step c.args.options c.args.now _ _ c.args.query _ _ _ c.loop-depth.invariant c.in-Done.result _ h _ (search rules) _ c.in_err-store_back-in-Done.ensures.err
+    walk_done_cut g.H.DnsHandle.step c.args.options c.args.now _ _ c.args.query _ _ _ c.loop-depth.invariant c.in-Done.result _ h _ (search rules) _ c.in-Err.ensures.err
