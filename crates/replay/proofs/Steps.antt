@@ -3,23 +3,24 @@ use Rattle.std.proofs.Common.{◌≡◌, ◌∙◌, ◌⊎◌, ℕ, true, false,
 use Rattle.std.proofs.lemmas.List.{append-nil}
 use Rattle.hickory_proto_core.specs.Name.{NameValue}
 use Rattle.hickory_proto_core.specs.NameDecided.{text_name}
-use Rattle.hickory_proto_core.specs.Handles.{ScriptStep}
+use Rattle.hickory_proto_core.specs.Handles.{OutcomeValue, RecordedValue, ScriptStep}
 use Rattle.hickory_proto_core.specs.Recorded.{RecordedStep, recorded_leads}
 use Rattle.hickory_proto_core.specs.names.name_error.NameError.{NameError}
 use Rattle.hickory_proto_core.specs.names.name_error.NameError.TheVariants as name_error
 use Rattle.hickory_proto_core.specs.codes.record_type.RecordType.{RecordType}
 use Rattle.hickory_proto_core.specs.declared.recorded.Exchange.{Exchange}
 use Rattle.hickory_proto_core.specs.records.net_error.NetError.TheVariants.{OutOfMemory}
+use Rattle.hickory_resolver_config.specs.Resolver.{ResolverConfigValue, OptionsValue}
 use Rattle.hickory_resolver.specs.Reading.{IsBytesRead}
 use Rattle.hickory_resolver.specs.hosts.hosts_error.HostsError.{HostsError}
 use Rattle.hickory_resolver.specs.hosts.hosts_error.HostsError.TheVariants as hosts_error
 use Rattle.hickory_resolver_model.specs.Lookup.{LookupResult}
 use Rattle.hickory_resolver_model.specs.Hosts.{Host}
 use Rattle.hickory_resolver_model.specs.Calls.{SubLookup, IsSubLookupFor, asks_of_sub_lookups, is_out_of_memory}
-use Rattle.hickory_resolver_model.specs.Resolver.{AnswersCall, settings}
+use Rattle.hickory_resolver_model.specs.Resolver.{AnswersCall, new_resolver, settings}
 use Rattle.hickory_resolver_model.specs.Run.{RequestValue, Lookup, IsCall, IsUnserved, name_call, setting_at}
 use Rattle.replay_script.specs.Script.{ScriptValue}
-use Rattle.replay.specs.Run.{ScriptResolver, IsAsked, Answers, AddsStep, RunTo, IsTable, IsNoTable, IsScriptRun, first_resolver, first_moment, hosts_fault}
+use Rattle.replay.specs.Run.{ScriptResolver, script_config, first_handle, IsAsked, Answers, AddsStep, RunTo, IsTable, IsNoTable, IsScriptRun, first_resolver, first_moment, hosts_fault}
 use Rattle.replay.specs.declared.run.ReplayError.{ReplayError}
 use Rattle.replay.specs.Output.{step_text}
 
@@ -82,16 +83,31 @@ run_ended first all text resolver runs =
     let P : List ℕ → Type 0 = λ t. RunTo first all t resolver in
     subst P (append-nil text) (runs.on [] resolver (refl, refl))
 
--- a run from the first resolver
-pub run_of : {Z E : Type 0} (script : ScriptValue) (hosts : List ℕ) (table : List Host) (resolver after : ScriptResolver) (now : ℕ) (requests : List RequestValue) (result : Result (String Z) E)
-    → resolver ≡ first_resolver script table → requests ≡ script.requests → now ≡ first_moment script.requests → IsTable now hosts table
-    → IfOk result (λ text. RunTo resolver requests (string_bytes text) after) → IfOk result (λ text. IsScriptRun script hosts (string_bytes text))
-run_of script hosts table resolver after now requests (Ok text) resolver_is requests_are now_is read run =
+-- a resolver before its first request
+pub first_is : (script : ScriptValue) (table : List Host) (config : ResolverConfigValue) (options : OptionsValue) (handle : RecordedValue (List OutcomeValue)) (made resolver : ScriptResolver)
+    → config ≡ script_config script → options ≡ script.options → handle ≡ first_handle script → made ≡ new_resolver config options handle → resolver ≡ record made { hosts = table }
+    → resolver ≡ first_resolver script table
+first_is script table config options handle made resolver config_is options_are handle_is made_is resolver_is =
+    let with_table : ScriptResolver → ScriptResolver = λ r. record r { hosts = table } in
+    resolver_is ∙ ap with_table made_is ∙ (λ i. with_table (new_resolver (config_is i) (options_are i) (handle_is i)))
+
+-- a run from the first resolver, and over what the hosts say
+pub run_over : {Z E : Type 0} (script : ScriptValue) (table : List Host) (resolver after : ScriptResolver) (requests : List RequestValue) (result : Result (String Z) E)
+    → resolver ≡ first_resolver script table → requests ≡ script.requests → IfOk result (λ text. RunTo resolver requests (string_bytes text) after)
+    → IfOk result (λ text. (last : ScriptResolver) × RunTo (first_resolver script table) script.requests (string_bytes text) last)
+run_over script table resolver after requests (Ok text) resolver_is requests_are run =
     let P : ScriptResolver → Type 0 = λ r. RunTo r requests (string_bytes text) after in
     let Q : List RequestValue → Type 0 = λ rs. RunTo (first_resolver script table) rs (string_bytes text) after in
+    (after, subst Q requests_are (subst P resolver_is run))
+run_over script table resolver after requests (Err error) resolver_is requests_are run = tt
+
+pub run_of : {Z E : Type 0} (script : ScriptValue) (hosts : List ℕ) (table : List Host) (now : ℕ) (result : Result (String Z) E)
+    → now ≡ first_moment script.requests → IsTable now hosts table → IfOk result (λ text. (after : ScriptResolver) × RunTo (first_resolver script table) script.requests (string_bytes text) after)
+    → IfOk result (λ text. IsScriptRun script hosts (string_bytes text))
+run_of script hosts table now (Ok text) now_is read (after, run) =
     let N : ℕ → Type 0 = λ n. IsTable n hosts table in
-    (table, after, subst N now_is read, subst Q requests_are (subst P resolver_is run))
-run_of script hosts table resolver after now requests (Err error) resolver_is requests_are now_is read run = tt
+    (table, after, subst N now_is read, run)
+run_of script hosts table now (Err error) now_is read run = tt
 
 -- why there is no table
 fault_of : (now : ℕ) (hosts : List ℕ) (fault : HostsError) (table : List Host) → IsBytesRead now hosts [] (Err fault) table → IsNoTable now hosts (hosts_fault fault)

@@ -1,6 +1,5 @@
 -- A run of a script over a table of hosts: its requests one after the other, and the text of their blocks.
 use Rattle.std.specs.Prelude.{◌≡◌, ◌⊎◌, ℕ, true, false, List, [], ◌∷◌, ◌++◌, map, Result, Ok, Err}
-use Rattle.std.specs.Str.Lines.{lines}
 use Rattle.hickory_proto_core.specs.NameDecided.{text_name}
 use Rattle.hickory_proto_core.specs.Handles.{OutcomeValue, RecordedValue, ScriptStep}
 use Rattle.hickory_proto_core.specs.Recorded.{RecordedStep}
@@ -16,7 +15,7 @@ use Rattle.hickory_resolver_model.specs.Hosts.{Host}
 use Rattle.hickory_resolver_model.specs.Calls.{is_out_of_memory}
 use Rattle.hickory_resolver_model.specs.Resolver.{ResolverValue, AnswersCall, new_resolver}
 use Rattle.hickory_resolver_model.specs.Run.{RequestValue, Lookup, LookupIp, ClearLookup, Clear, moment_of, name_call}
-use Rattle.replay_script.specs.Script.{AreRead, ScriptValue, script_of}
+use Rattle.replay_script.specs.Script.{IsFault, IsWhole, ScriptValue, script_of}
 use Rattle.replay.specs.Output.{step_text}
 use Rattle.replay_script.specs.declared.fault.ScriptFault.TheVariants as fault
 use Rattle.replay_script.specs.declared.fault.ScriptFault.{ScriptFault}
@@ -117,7 +116,7 @@ IsScriptRun script hosts text =
 -- the text of a run of what the lines of the script say
 pub record IsReplayed (script hosts text : List ℕ) : Type 0 where
   pub said : List Line
-  pub read : AreRead [] (lines script) (Ok said)
+  pub read : IsWhole script said
   pub run : IsScriptRun (script_of said) hosts text
 
 -- a script that cannot be read, or out of memory
@@ -130,13 +129,12 @@ replay_error_of error = replay_fault error.fault error
 
 abbrev pub IsScriptFault : List ℕ → ReplayError → Type 0
 IsScriptFault script error =
-    (e : ScriptError) × AreRead [] (lines script) (Err e) × (error ≡ replay_error_of e)
+    (e : ScriptError) × IsFault script e × (error ≡ replay_error_of e)
 
 -- hosts that cannot be read, over a script without a fault
 abbrev pub IsHostsFault : List ℕ → List ℕ → ReplayError → Type 0
 IsHostsFault script hosts error =
-    (said : List Line) × AreRead [] (lines script) (Ok said)
-    × IsBroken (first_moment (script_of said).requests) hosts error
+    (said : List Line) × IsWhole script said × IsBroken (first_moment (script_of said).requests) hosts error
 
 -- why there is no text: the script's first fault, else that of the hosts; or no memory is left
 abbrev pub IsRefused : List ℕ → List ℕ → ReplayError → Type 0
