@@ -78,7 +78,7 @@ run_went_on first all text new resolver between request others runs step = recor
       (runs.on (block ++ rest) after (step.sent, step.reply, between, rest, step.is_step, refl, h));
 }
 
-pub run_ended : (first : ScriptResolver) (all : List RequestValue) (text : List ℕ) (resolver : ScriptResolver) → RunsOn first all text resolver [] → RunTo first all text client
+pub run_ended : (first : ScriptResolver) (all : List RequestValue) (text : List ℕ) (resolver : ScriptResolver) → RunsOn first all text resolver [] → RunTo first all text resolver
 run_ended first all text resolver runs =
     let P : List ℕ → Type 0 = λ t. RunTo first all t resolver in
     subst P (append-nil text) (runs.on [] resolver (refl, refl))

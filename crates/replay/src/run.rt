@@ -121,7 +121,10 @@ fn run_over(alloc: Global, script: Script, table: Hosts) -> Result<String, Repla
     let handle = first_handle(alloc, outcomes)?;
     let mut resolver = first_resolver(config, options, handle);
     resolver.set_hosts(table);
-    run_requests(alloc, &mut resolver, &requests)
+    let text = run_requests(alloc, &mut resolver, &requests);
+    // Its proof is far shorter than that of a drop at the end of the scope.
+    drop(resolver);
+    text
 }
 
 // The moment of the first request, or 0.
