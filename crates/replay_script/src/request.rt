@@ -4,7 +4,7 @@ ghost use Rattle.replay_script.specs.Request.{asked_of, lookup_of, request_of};
 ghost use Rattle.replay_script.specs.Words.{texts};
 
 use crate::fault::ScriptFault;
-use crate::numbers::read_u64;
+use crate::words::number64;
 use hickory_proto_core::RecordType;
 use std::alloc::Global;
 use std::marker::Model;
@@ -35,7 +35,7 @@ pub fn read_request(alloc: Global, fields: &[&str]) -> Result<Request, ScriptFau
     let [moment, verb, fields @ ..] = fields else {
         return Err(ScriptFault::FieldCount);
     };
-    let now = read_u64(moment).ok_or(ScriptFault::BadNumber)?;
+    let now = number64(moment)?;
     read_asked(alloc, now, verb, fields)
 }
 

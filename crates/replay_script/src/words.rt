@@ -16,7 +16,7 @@ pub fn read_name(alloc: Global, text: &str) -> Result<Name, ScriptFault>
     Ok(name)
 }
 
-// NAME
+/// A name as the only field.
 pub fn read_only_name(alloc: Global, fields: &[&str]) -> Result<Name, ScriptFault>
     ensures { (result ≡ only_name (texts fields.now)) ⊎ (result ≡ Err ScriptFault.OutOfMemory) }
 {
