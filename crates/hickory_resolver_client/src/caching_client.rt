@@ -281,8 +281,13 @@ impl<H: DnsHandle, S: BuildHasher> CachingClient<H, S> {
         ensures stays { KeepsHandle self.old self.new }
     {
         let lookup = found_lookup(self.cache.ttl_config(), &query, &message, now)?;
-        self.cache.insert(query, Ok(message), now)?;
-        Ok(lookup)
+        match self.cache.insert(query, Ok(message), now) {
+            Ok(()) => Ok(lookup),
+            Err(error) => {
+                drop(lookup);
+                Err(error)
+            }
+        }
     }
 
     // A negative answer, kept.

@@ -100,7 +100,13 @@ fn loopback_result(alloc: Global, query: &Query, now: u64) -> Result<Lookup, Net
     ensures { IsUnlessOut (loopback_result query.now now) result }
 {
     match loopback_data(alloc, query.query_type)? {
-        Some(rdata) => Lookup::from_rdata(alloc, query.clone()?, rdata, now),
+        Some(rdata) => match query.clone() {
+            Ok(asked) => Lookup::from_rdata(alloc, asked, rdata, now),
+            Err(error) => {
+                drop(rdata);
+                Err(error)
+            }
+        },
         None => no_records(query, ResponseCode::NoError),
     }
 }

@@ -1,7 +1,7 @@
 //! The table of hosts.
 ghost use Rattle.std.specs.Prelude.{◌≡◌, ◌⊎◌, [], find, option_and_then, IfOk, OnOk, OnErr, IsOkUnless};
 ghost use Rattle.hickory_proto_core.specs.Codes.{type_code};
-ghost use Rattle.hickory_resolver_model.specs.Hosts.{family, insert_host, is_host, as_fqdn, IsStatic};
+ghost use Rattle.hickory_resolver_model.specs.Hosts.{family, insert_host, is_host, as_fqdn, pointer_lookup, IsStatic};
 ghost use Rattle.hickory_resolver_hosts.specs.Table.{HasPointers};
 
 use crate::host::HostLookups;
@@ -9,7 +9,7 @@ use crate::hosts_error::HostsError;
 use crate::owners::Owners;
 use crate::pointers::pointer_records;
 use crate::table::insert_indexed;
-use hickory_proto_core::{Name, NetError, Query, RecordType};
+use hickory_proto_core::{Name, NetError, Query, Record, RecordType};
 use hickory_resolver_lookup::Lookup;
 use indexmap::IndexMap;
 use std::alloc::Global;
@@ -126,11 +126,23 @@ impl<S: BuildHasher> Hosts<S> {
             return Ok(None);
         };
         let records = pointer_records(&self.names, &self.owners, &owner, net.addr())?;
-        if records.is_empty() {
-            return Ok(None);
-        }
-        Ok(Some(Lookup::new_with_max_ttl(query.clone()?, records, now)?))
+        pointer_lookup(query, records, now)
     }
+}
+
+// The look-up of a question, given the records that answer it, where there are some.
+fn pointer_lookup(
+    query: &Query,
+    records: Vec<Record>,
+    now: u64,
+) -> Result<Option<Lookup>, NetError>
+    ensures ok { IfOk result (λ found. found ≡ pointer_lookup query.now records.items now) }
+    ensures err { IsOkUnless result NetError.OutOfMemory }
+{
+    if records.is_empty() {
+        return Ok(None);
+    }
+    Ok(Some(Lookup::new_with_max_ttl(query.clone()?, records, now)?))
 }
 
 // The name, fully qualified.

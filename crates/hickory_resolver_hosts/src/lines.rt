@@ -1,5 +1,5 @@
 //! What the lines of a file of hosts say.
-ghost use Rattle.std.specs.Prelude.{◌≡◌, ◌≢◌, ◌==◌, map, IfOk, MatchOption, MatchResult};
+ghost use Rattle.std.specs.Prelude.{◌≡◌, ◌≢◌, ◌==◌, map, IfOk, OnOk, OnErr, IsOkUnless, MatchOption, MatchResult};
 ghost use Rattle.std.specs.List.{before_first};
 ghost use Rattle.std.specs.Str.{chars};
 ghost use Rattle.hickory_proto_core.specs.Records.{DataValue, data_of_address};
@@ -149,10 +149,10 @@ fn insert_pair<S: BuildHasher>(
     address: IpAddr,
     now: u64,
 ) -> Result<(), HostsError>
-    ensures { MatchResult result
-        (λ _. hosts.new ≡ insert_host name (address_type (data_of_address address))
-        (one_address (as_fqdn name) (data_of_address address) now) now hosts.old)
-        (λ error. (error ≡ HostsError.OutOfMemory) × (hosts.new ≡ hosts.old)) }
+    ensures ok { OnOk result (hosts.new ≡ insert_host name (address_type (data_of_address address))
+        (one_address (as_fqdn name) (data_of_address address) now) now hosts.old) }
+    ensures unchanged { OnErr result (hosts.new ≡ hosts.old) }
+    ensures err { IsOkUnless result HostsError.OutOfMemory }
 {
     let record_type = address_type(address);
     let mut owner = name.clone()?;

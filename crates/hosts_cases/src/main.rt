@@ -45,27 +45,39 @@ fn words_text<R: AllocGlobal + Env + Files, S: BuildHasher + Copy>(
     rt: &R,
     hasher: S,
 ) -> anyhow::Result<String> {
+    let mut hosts = Hosts::with_hasher(rt.alloc(), hasher);
     let mut text = String::new(rt.alloc());
-    push_words(rt, &mut text, hasher)?;
+    push_words(rt, &mut text, &mut hosts, hasher)?;
     Ok(text)
 }
 
 fn push_words<R: AllocGlobal + Env + Files, S: BuildHasher + Copy>(
     rt: &R,
     text: &mut String,
+    hosts: &mut Hosts<S>,
     hasher: S,
 ) -> anyhow::Result<()> {
-    let mut hosts = Hosts::with_hasher(rt.alloc(), hasher);
     for word in env::args(rt)?.skip(1) {
-        match word.split_once('/') {
-            Some((name, record_type)) => ask(rt.alloc(), text, &hosts, name, record_type)?,
-            None => {
-                hosts = Hosts::with_hasher(rt.alloc(), hasher);
-                read_file(rt, text, &mut hosts, word.as_str())?;
-            }
-        }
+        push_word(rt, text, hosts, hasher, word.as_str())?;
     }
     Ok(())
+}
+
+// Asks the table, or puts the one of a file in its place.
+fn push_word<R: AllocGlobal + Files, S: BuildHasher + Copy>(
+    rt: &R,
+    text: &mut String,
+    hosts: &mut Hosts<S>,
+    hasher: S,
+    word: &str,
+) -> anyhow::Result<()> {
+    match word.split_once('/') {
+        Some((name, record_type)) => ask(rt.alloc(), text, hosts, name, record_type),
+        None => {
+            *hosts = Hosts::with_hasher(rt.alloc(), hasher);
+            read_file(rt, text, hosts, word)
+        }
+    }
 }
 
 fn read_file<R: AllocGlobal + Files, S: BuildHasher>(
