@@ -1,10 +1,10 @@
 -- The names of an address by their places, in the order of the table.
-use Rattle.std.proofs.Common.{◌≡◌, ◌⊎◌, ℕ, ◌<◌, ◌≤◌, ◌+◌, ◌-◌, zero, suc, nat_lt, Bool, true, false, cond, ◌||◌, ◌==◌, List, [], ◌∷◌, ◌++◌, length, map, filter, slice_get, Option, None, Some, Result, Ok, Err, IfOk, refl, sym, ap, ap₂, subst, ◌∙◌, append_assoc, true≢false, arith}
+use Rattle.std.proofs.Common.{◌≡◌, ℕ, ◌<◌, ◌≤◌, ◌+◌, ◌-◌, suc, Bool, true, false, cond, ◌||◌, ◌==◌, List, [], ◌∷◌, ◌++◌, length, map, filter, slice_get, Option, None, Some, Result, Ok, Err, IfOk, refl, sym, ap, ap₂, subst, ◌∙◌, append_assoc, true≢false, arith}
 use Rattle.std.specs.Bool.{⊤}
 use Rattle.std.specs.List.{list_any, filter_map, cons_option, AllByRecursion}
 use Rattle.std.specs.List.Sorted.{IsStrictlySortedBy}
 use Rattle.std.specs.Option.{option_map, option_map_or}
-use Rattle.std.specs.Ordering.{is_eq, nat_cmp}
+use Rattle.std.specs.Ordering.{nat_cmp}
 use Rattle.std.specs.Cmp.{unsigned_ties}
 use Rattle.std.specs.declared.cmp.Ordering.TheVariants.{Less}
 use Rattle.std.specs.declared.net.IpAddr.{IpAddr}
@@ -17,13 +17,12 @@ use Rattle.std.proofs.lemmas.Bool.Decides.{nat_tests}
 use Rattle.std.proofs.lemmas.Option.{slice_get-map}
 use Rattle.hickory_proto_core.specs.Name.{NameValue}
 use Rattle.hickory_proto_core.specs.Records.{RecordValue, data_of_address}
-use Rattle.hickory_proto_core.specs.codes.dns_class.DNSClass.TheVariants as class
 use Rattle.hickory_proto_core.specs.Arpa.{IsArpaNameOf}
 use Rattle.hickory_proto_core.specs.names.ip.IpNet.{IpNet}
 use Rattle.hickory_proto_core.specs.records.query.Query.{Query}
 use Rattle.hickory_resolver_model.specs.Lookup.{LookupValue, answers_for_day}
 use Rattle.hickory_resolver_model.specs.Hosts.{Host, has_address, as_fqdn, pointer_lookup, pointers}
-use Rattle.hickory_resolver_hosts.specs.Index.{OwnerPlaces, address_cmp, is_owner}
+use Rattle.hickory_resolver_hosts.specs.Index.{OwnerPlaces, address_cmp}
 use Rattle.hickory_resolver_hosts.specs.Table.{host_at, hosts_of, has_address_at, no_lookups, pointer_at, pointer_to, HasPointers, IsIndexed}
 use Rattle.hickory_resolver_hosts.specs.declared.host.HostLookups.{HostLookups}
 

@@ -1,4 +1,3 @@
-use Rattle.std.proofs.Common.{refl}
 use Rattle.hickory_resolver_hosts.specs.Table.{hosts_of, pointer_at}
 use Rattle.hickory_resolver_hosts.proofs.InOrder.{turn_some, turn_none, pointed, not_pointed}
 use Rattle.hickory_resolver_hosts.proofs.pointers.records_at.Goals as goal
