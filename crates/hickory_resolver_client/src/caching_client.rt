@@ -281,13 +281,8 @@ impl<H: DnsHandle, S: BuildHasher> CachingClient<H, S> {
         ensures stays { KeepsHandle self.old self.new }
     {
         let lookup = found_lookup(self.cache.ttl_config(), &query, &message, now)?;
-        match self.cache.insert(query, Ok(message), now) {
-            Ok(()) => Ok(lookup),
-            Err(error) => {
-                drop(lookup);
-                Err(error)
-            }
-        }
+        self.cache.insert(query, Ok(message), now)?;
+        Ok(lookup)
     }
 
     // A negative answer, kept.

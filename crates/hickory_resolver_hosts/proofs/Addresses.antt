@@ -1,5 +1,5 @@
 -- Which addresses records give, and the index after they are told to it.
-use Rattle.std.proofs.Common.{◌≡◌, ℕ, ◌<◌, ◌+◌, Bool, true, false, cond, not, ◌||◌, ◌&&◌, ◌==◌, List, [], ◌∷◌, ◌++◌, zero, suc, Result, Ok, Err, OnOk, OnErr, is_err, length, take, get_or, Option, None, Some, refl, sym, ap, ap₂, ◌∙◌}
+use Rattle.std.proofs.Common.{◌≡◌, ℕ, ◌<◌, ◌+◌, Bool, true, false, not, ◌||◌, ◌&&◌, ◌==◌, List, [], ◌∷◌, ◌++◌, zero, suc, Result, Ok, Err, OnOk, OnErr, is_err, length, take, get_or, None, Some, refl, sym, ap, ap₂, ◌∙◌}
 use Rattle.std.proofs.lemmas.Cmp.{nat_list_eq_equiv}
 use Rattle.std.specs.List.{list_any}
 use Rattle.std.specs.declared.net.IpAddr.{IpAddr}
@@ -8,7 +8,7 @@ use Rattle.std.specs.Net.Addr.{ipv4_octets, ipv6_segments}
 use Rattle.std.proofs.lemmas.Map.Text.{is_eq-slice_cmp}
 use Rattle.std.proofs.lemmas.List.Folds.{list_any_more, list_any-append}
 use Rattle.std.proofs.lemmas.Bool.{eqb-true}
-use Rattle.hickory_proto_core.specs.Records.{RecordValue, DataValue, data_eq, data_of, data_of_address, address_of}
+use Rattle.hickory_proto_core.specs.Records.{RecordValue, data_eq, data_of, data_of_address, address_of}
 use Rattle.hickory_proto_core.specs.records.record_data.RData.{RData}
 use Rattle.hickory_proto_core.specs.records.record_data.RData.TheVariants.{A, AAAA, CNAME, NS, PTR, SOA, SRV, MX, TXT, Unknown}
 use Rattle.hickory_proto_core.specs.codes.record_type.RecordType.{RecordType}

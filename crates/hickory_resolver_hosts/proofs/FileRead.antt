@@ -1,5 +1,5 @@
 -- The lines of a file that are read one after the other.
-use Rattle.std.proofs.Common.{◌≡◌, ◌⊎◌, ℕ, ◌<◌, ◌+◌, zero, suc, Bool, true, false, cond, List, [], ◌∷◌, ◌++◌, length, map, take, drop, get_or, Option, None, Some, Result, Ok, Err, IsErrAnd, ◌≤◌, refl, sym, ap, ap₂, subst, ◌∙◌, inl, inr, append_assoc, true≢false, add-one, arith}
+use Rattle.std.proofs.Common.{◌≡◌, ℕ, ◌<◌, ◌+◌, zero, suc, Bool, true, false, cond, List, [], ◌∷◌, ◌++◌, length, map, take, drop, get_or, Option, None, Some, Result, Ok, Err, IsErrAnd, ◌≤◌, refl, sym, ap, ap₂, subst, ◌∙◌, inl, inr, append_assoc, true≢false, add-one, arith}
 use Rattle.std.specs.List.{slice_split, onto_first}
 use Rattle.std.specs.Str.{IsUtf8}
 use Rattle.std.specs.Borrow.{Bor}

@@ -1,10 +1,10 @@
 -- The names of an address by their places, in the order of the table.
-use Rattle.std.proofs.Common.{◌≡◌, ◌⊎◌, ℕ, ◌<◌, ◌≤◌, ◌+◌, ◌-◌, zero, suc, nat_lt, Bool, true, false, cond, ◌||◌, ◌==◌, List, [], ◌∷◌, ◌++◌, length, map, filter, slice_get, Option, None, Some, Result, Ok, Err, IfOk, refl, sym, ap, ap₂, subst, ◌∙◌, append_assoc, true≢false, arith}
+use Rattle.std.proofs.Common.{◌≡◌, ℕ, ◌<◌, ◌≤◌, ◌+◌, ◌-◌, suc, Bool, true, false, cond, ◌||◌, ◌==◌, List, [], ◌∷◌, ◌++◌, length, map, filter, slice_get, Option, None, Some, Result, Ok, Err, IfOk, refl, sym, ap, ap₂, subst, ◌∙◌, append_assoc, true≢false, arith}
 use Rattle.std.specs.Bool.{⊤}
 use Rattle.std.specs.List.{list_any, filter_map, cons_option, AllByRecursion}
 use Rattle.std.specs.List.Sorted.{IsStrictlySortedBy}
 use Rattle.std.specs.Option.{option_map, option_map_or}
-use Rattle.std.specs.Ordering.{is_eq, nat_cmp}
+use Rattle.std.specs.Ordering.{nat_cmp}
 use Rattle.std.specs.Cmp.{unsigned_ties}
 use Rattle.std.specs.declared.cmp.Ordering.TheVariants.{Less}
 use Rattle.std.specs.declared.net.IpAddr.{IpAddr}
@@ -16,15 +16,14 @@ use Rattle.std.proofs.lemmas.Bool.{eqb-true, eq-eqb}
 use Rattle.std.proofs.lemmas.Bool.Decides.{nat_tests}
 use Rattle.std.proofs.lemmas.Option.{slice_get-map}
 use Rattle.hickory_proto_core.specs.Name.{NameValue}
-use Rattle.hickory_proto_core.specs.Records.{RecordValue, data_of_address, ptr_data}
-use Rattle.hickory_proto_core.specs.codes.dns_class.DNSClass.TheVariants as class
+use Rattle.hickory_proto_core.specs.Records.{RecordValue, data_of_address}
 use Rattle.hickory_proto_core.specs.Arpa.{IsArpaNameOf}
 use Rattle.hickory_proto_core.specs.names.ip.IpNet.{IpNet}
 use Rattle.hickory_proto_core.specs.records.query.Query.{Query}
 use Rattle.hickory_resolver_model.specs.Lookup.{LookupValue, answers_for_day}
 use Rattle.hickory_resolver_model.specs.Hosts.{Host, has_address, as_fqdn, pointer_lookup, pointers}
-use Rattle.hickory_resolver_hosts.specs.Index.{OwnerPlaces, address_cmp, is_owner}
-use Rattle.hickory_resolver_hosts.specs.Table.{host_at, hosts_of, has_address_at, pointer_at, pointer_to, HasPointers, IsIndexed}
+use Rattle.hickory_resolver_hosts.specs.Index.{OwnerPlaces, address_cmp}
+use Rattle.hickory_resolver_hosts.specs.Table.{host_at, hosts_of, has_address_at, no_lookups, pointer_at, pointer_to, HasPointers, IsIndexed}
 use Rattle.hickory_resolver_hosts.specs.declared.host.HostLookups.{HostLookups}
 
 -- a turn of the loop over places
@@ -38,11 +37,11 @@ pub turn_none : {X Y : Type 0} (g : X → Option Y) (rs all : List Y) (s t : Lis
 turn_none g rs all s t x left none before =
     ap (λ o. rs ++ cons_option o (filter_map g t)) (sym none) ∙ ap (λ v. rs ++ filter_map g v) (sym left) ∙ before
 
-pub pointed : (owner n o m : NameValue) (h : HostLookups) (es : List (NameValue × HostLookups)) (i : ℕ) (r : RecordValue) → Some (n, h) ≡ slice_get es i
-    → r ≡ record { name = o; dns_class = class.IN; ttl = 86400; rdata = ptr_data m } → o ≡ owner → m ≡ n → pointer_at owner (hosts_of es) i ≡ Some r
-pointed owner n o m h es i r at is owner_is name_is =
+pub pointed : (owner n : NameValue) (h : HostLookups) (es : List (NameValue × HostLookups)) (i : ℕ) (r : RecordValue) → Some (n, h) ≡ slice_get es i
+    → r ≡ pointer_to owner (no_lookups n) → pointer_at owner (hosts_of es) i ≡ Some r
+pointed owner n h es i r at is =
     ap (option_map (pointer_to owner)) (slice_get-map (λ e. host_at e.0 e.1) es i ∙ ap (option_map (λ e. host_at e.0 e.1)) (sym at))
-    ∙ ap₂ (λ x y. Some (record { name = x; dns_class = class.IN; ttl = 86400; rdata = ptr_data y })) (sym owner_is) (sym name_is) ∙ ap Some (sym is)
+    ∙ ap Some (sym is)
 
 pub not_pointed : (owner : NameValue) (es : List (NameValue × HostLookups)) (i : ℕ) → None ≡ slice_get es i → pointer_at owner (hosts_of es) i ≡ None
 not_pointed owner es i at = ap (option_map (pointer_to owner)) (slice_get-map (λ e. host_at e.0 e.1) es i ∙ ap (option_map (λ e. host_at e.0 e.1)) (sym at))

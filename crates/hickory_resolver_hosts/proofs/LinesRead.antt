@@ -1,13 +1,12 @@
 -- Pairs of names and addresses, put in one after the other.
-use Rattle.std.proofs.Common.{◌≡◌, ◌⊎◌, ◌↔◌, MatchOption, ℕ, ◌<◌, ◌≤◌, ◌+◌, zero, suc, Bool, true, false, cond, ◌&&◌, nat_lt, List, [], ◌∷◌, ◌++◌, length, map, take, get_or, Option, None, Some, Result, Ok, Err, refl, sym, ap, ap₂, subst, ◌∙◌, inl, inr, append_assoc, true≢false, add-one, IsTrue, codes, decimal, arith}
-use Rattle.std.specs.Bool.{⊤}
+use Rattle.std.proofs.Common.{◌≡◌, ◌↔◌, MatchOption, ℕ, ◌<◌, ◌+◌, zero, suc, Bool, true, false, ◌&&◌, nat_lt, List, [], ◌∷◌, ◌++◌, length, take, get_or, Option, None, Some, Result, Ok, Err, refl, sym, ap, ap₂, subst, ◌∙◌, inl, inr, true≢false, add-one, codes, decimal, arith}
 use Rattle.std.specs.List.{list_all}
 use Rattle.std.specs.Option.{option_to_list}
-use Rattle.std.specs.Char.{is_ascii, digit_value, to_ascii_lowercase}
+use Rattle.std.specs.Char.{is_ascii, digit_value}
 use Rattle.std.specs.Str.{chars, IsUtf8}
 use Rattle.std.specs.Str.Parse.{AllDigits}
 use Rattle.std.specs.Borrow.{Bor}
-use Rattle.std.specs.Net.Grammar.{IsDotted, IsGroup, IsGroupsAfter, IsElided}
+use Rattle.std.specs.Net.Grammar.{IsDotted, IsGroupsAfter}
 use Rattle.std.specs.declared.net.IpAddr.{IpAddr}
 use Rattle.std.specs.declared.net.IpAddr.TheVariants.{V4, V6}
 use Rattle.std.proofs.lemmas.Fmt.{IsAscii-decimal}

@@ -1,6 +1,5 @@
 -- A table that gets a look-up: the names in their places, the hosts, and the index.
-use Rattle.std.proofs.Common.{◌≡◌, ℕ, ◌<◌, ◌≤◌, ◌+◌, zero, suc, nat_lt, Bool, true, false, cond, not, ◌||◌, ◌&&◌, ◌==◌, List, [], ◌∷◌, ◌++◌, length, map, position, find, option_and_then, slice_get, Option, None, Some, refl, sym, ap, ap₂, subst, ◌∙◌, add-one, arith, if◌then◌else◌}
-use Rattle.std.specs.Cmp.{IsEquivalence}
+use Rattle.std.proofs.Common.{◌≡◌, ℕ, ◌<◌, ◌≤◌, ◌+◌, zero, suc, nat_lt, Bool, true, false, cond, not, ◌||◌, ◌&&◌, ◌==◌, List, [], ◌∷◌, ◌++◌, length, map, position, find, option_and_then, slice_get, Option, None, Some, refl, sym, ap, ap₂, ◌∙◌, arith, if◌then◌else◌}
 use Rattle.std.specs.Bool.{beq}
 use Rattle.std.specs.List.{list_any, position_or_len, prefix_len, IsDistinct, AllByRecursion}
 use Rattle.std.specs.Map.{keys_of, values_of, lookup}
@@ -21,7 +20,7 @@ use Rattle.hickory_proto_core.specs.codes.record_type.RecordType.{RecordType}
 use Rattle.hickory_resolver_model.specs.Lookup.{LookupValue}
 use Rattle.hickory_resolver_model.specs.Hosts.{Host, address_type, append, family, has_address, has_answer, insert_host, is_host, as_fqdn, no_addresses, with_lookup}
 use Rattle.hickory_resolver_hosts.specs.Index.{OwnerPlaces, is_owner, is_among}
-use Rattle.hickory_resolver_hosts.specs.Table.{host_at, hosts_of, no_lookups, place_in, put_host, has_address_at, IsIndexed, is_given, gives, is_of_family}
+use Rattle.hickory_resolver_hosts.specs.Table.{host_at, hosts_of, no_lookups, place_in, put_host, has_address_at, IsIndexed, is_given}
 use Rattle.hickory_resolver_hosts.specs.declared.host.HostLookups.{HostLookups}
 use Rattle.hickory_resolver_hosts.proofs.Addresses.{and_false}
 

@@ -1,10 +1,10 @@
 -- Characters and bytes of the fields of a line.
-use Rattle.std.proofs.Common.{◌≡◌, ◌⊎◌, ℕ, ◌<◌, ◌≤◌, ◌+◌, zero, suc, Bool, true, false, cond, not, ◌&&◌, ◌==◌, nat_lt, List, [], ◌∷◌, ◌++◌, length, map, filter, take, drop, get_or, Option, None, Some, Result, Ok, Err, refl, sym, ap, ap₂, subst, ◌∙◌, inl, inr, append_assoc, true≢false, length-append, arith}
-use Rattle.std.specs.Bool.{⊤, MatchBool}
-use Rattle.std.specs.List.{list_all, before_first, position_or_len, prefix_len}
-use Rattle.std.specs.Char.{is_ascii, to_ascii_lowercase, is_whitespace, is_not_whitespace, encode_utf8, IsScalar}
+use Rattle.std.proofs.Common.{◌≡◌, ◌⊎◌, ℕ, ◌<◌, ◌≤◌, ◌+◌, zero, suc, Bool, true, false, cond, not, ◌&&◌, ◌==◌, List, [], ◌∷◌, ◌++◌, length, map, filter, take, drop, refl, sym, ap, ap₂, subst, ◌∙◌, inl, inr, append_assoc, true≢false, length-append, arith}
+use Rattle.std.specs.Bool.{MatchBool}
+use Rattle.std.specs.List.{list_all, before_first, prefix_len}
+use Rattle.std.specs.Char.{is_ascii, to_ascii_lowercase, is_whitespace, is_not_whitespace, encode_utf8}
 use Rattle.std.specs.Str.{chars, all_scalars, encode_utf8_all, EmptyOrStartsWithPassing, IsAscii, IsNotAscii, IsUtf8, NoCharPasses, NonePass}
-use Rattle.std.proofs.lemmas.Str.{chars-encodes, encode_same, encodes-IsAscii, encodes-append, len_utf8_bounds, length-encode}
+use Rattle.std.proofs.lemmas.Str.{chars-encodes, encode_same, encodes-IsAscii, len_utf8_bounds, length-encode}
 use Rattle.std.proofs.lemmas.Str.Ascii.{IsAscii-cons, IsAscii-nil}
 use Rattle.std.proofs.lemmas.Bool.{ltb-true, and_parts}
 use Rattle.std.proofs.lemmas.Bool.Decides.{nat_tests}

@@ -131,11 +131,7 @@ impl<S: BuildHasher> Hosts<S> {
 }
 
 // The look-up of a question, given the records that answer it, where there are some.
-fn pointer_lookup(
-    query: &Query,
-    records: Vec<Record>,
-    now: u64,
-) -> Result<Option<Lookup>, NetError>
+fn pointer_lookup(query: &Query, records: Vec<Record>, now: u64) -> Result<Option<Lookup>, NetError>
     ensures ok { IfOk result (λ found. found ≡ pointer_lookup query.now records.items now) }
     ensures err { IsOkUnless result NetError.OutOfMemory }
 {

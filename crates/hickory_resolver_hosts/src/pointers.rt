@@ -5,7 +5,7 @@ ghost use Rattle.std.specs.BTreeSet.{IsOrdered};
 ghost use Rattle.std.specs.Ordering.{nat_cmp};
 ghost use Rattle.hickory_proto_core.specs.Records.{data_of_address};
 ghost use Rattle.hickory_resolver_model.specs.Hosts.{has_address, pointers};
-ghost use Rattle.hickory_resolver_hosts.specs.Table.{hosts_of, pointer_at, IsIndexed};
+ghost use Rattle.hickory_resolver_hosts.specs.Table.{hosts_of, no_lookups, pointer_at, pointer_to, IsIndexed};
 
 use crate::host::HostLookups;
 use crate::owners::Owners;
@@ -48,10 +48,17 @@ fn records_at<S: BuildHasher>(
     let mut records = Vec::new(*names.allocator());
     for place in places {
         if let Some((name, _)) = names.get_index(*place) {
-            let owner = owner.clone()?;
-            let target = RData::PTR(name.clone()?);
-            records.push(Record::from_rdata(owner, MAX_TTL, target))?;
+            records.push(pointer_record(owner, name)?)?;
         }
     }
     Ok(records)
+}
+
+// The PTR record of an owner for a day that gives this name.
+fn pointer_record(owner: &Name, name: &Name) -> Result<Record, NetError>
+    ensures ok { IfOk result (λ r. r ≡ pointer_to owner.now (no_lookups name.now)) }
+    ensures err { IsOkUnless result NetError.OutOfMemory }
+{
+    let owner = owner.clone()?;
+    Ok(Record::from_rdata(owner, MAX_TTL, RData::PTR(name.clone()?)))
 }

@@ -1,4 +1,3 @@
-use Rattle.std.proofs.Common.{◌≡◌, Option, None, Some, refl, true, false, true≢false}
 use Rattle.hickory_resolver_hosts.proofs.LinesRead.{address_read}
 use Rattle.hickory_resolver_hosts.proofs.lines.address_of.Goals as goal
 

@@ -1,4 +1,4 @@
-use Rattle.std.proofs.Common.{Err, List, [], map, refl, ap, ◌∙◌, subst, arith}
+use Rattle.std.proofs.Common.{Err, [], map, refl, ap, ◌∙◌, subst}
 use Rattle.hickory_resolver_model.specs.Hosts.{file_lines}
 use Rattle.hickory_resolver_hosts.specs.Reading.{AreLinesRead, IsBytesRead}
 use Rattle.hickory_resolver_hosts.specs.declared.hosts_error.HostsError.TheVariants.{OutOfMemory}

@@ -1,4 +1,4 @@
-use Rattle.std.proofs.Common.{◌≡◌, true, false, not, ◌&&◌, sym, ap, ◌∙◌, rules, arith}
+use Rattle.std.proofs.Common.{◌≡◌, true, not, ◌&&◌, sym, ◌∙◌, rules, arith}
 use Rattle.hickory_resolver_hosts.specs.Index.{is_owner}
 use Rattle.hickory_resolver_hosts.specs.Table.{is_of_family}
 use Rattle.hickory_resolver_hosts.proofs.Addresses.{new_if, and_true}

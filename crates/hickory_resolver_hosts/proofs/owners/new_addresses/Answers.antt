@@ -1,7 +1,5 @@
-use Rattle.std.proofs.Common.{◌≡◌, not, ◌&&◌, take, ap, sym, ◌∙◌, false, Option, None, Some}
-use Rattle.std.specs.Option.{option_map_or}
-use Rattle.hickory_resolver_hosts.specs.Index.{is_among, is_owner, same_address}
-use Rattle.hickory_resolver_hosts.specs.Table.{gives}
+use Rattle.std.proofs.Common.{ap, ◌∙◌}
+use Rattle.hickory_resolver_hosts.specs.Index.{is_among}
 use Rattle.hickory_resolver_hosts.proofs.Addresses.{found_more, found_same}
 use Rattle.hickory_resolver_hosts.proofs.owners.new_addresses.Goals.{in-Some+in_ok-push, in_default}
 use Rattle.hickory_resolver_hosts.proofs.owners.new_addresses.Goals as goal

@@ -1,4 +1,4 @@
-use Rattle.std.proofs.Common.{sym, ap, subst, is_some}
+use Rattle.std.proofs.Common.{sym, ap, is_some}
 use Rattle.hickory_resolver_hosts.proofs.Index.{owner_removed, owner_none, contains_removed}
 use Rattle.hickory_resolver_hosts.proofs.owners.remove_owner.Goals as goal
 

@@ -1,4 +1,4 @@
-use Rattle.std.proofs.Common.{◌<◌, ◌||◌, false, List, [], length, take, sym, ap, ◌∙◌, subst, arith}
+use Rattle.std.proofs.Common.{◌<◌, ◌||◌, false, length, take, sym, ap, ◌∙◌, subst, arith}
 use Rattle.std.specs.Io.KnownBytes.{Consumes}
 use Rattle.hickory_resolver_hosts.proofs.Whole.{consumes_nothing, consumes_more, consumed_all}
 use Rattle.hickory_resolver_hosts.proofs.reading.read_whole.Goals as goal

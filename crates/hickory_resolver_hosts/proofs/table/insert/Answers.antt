@@ -1,4 +1,4 @@
-use Rattle.std.proofs.Common.{ap, sym, ◌∙◌, true≢false}
+use Rattle.std.proofs.Common.{sym, true≢false}
 use Rattle.hickory_resolver_model.specs.Hosts.{with_lookup}
 use Rattle.hickory_resolver_hosts.proofs.Index.{on_err}
 use Rattle.hickory_resolver_hosts.proofs.Places.{put_at_place, same_at_place, place_past}

@@ -1,4 +1,4 @@
-use Rattle.std.proofs.Common.{◌≡◌, ◌||◌, ◌&&◌, ◌==◌, not, ap, sym, ◌∙◌}
+use Rattle.std.proofs.Common.{◌||◌, ◌&&◌, ◌==◌, not, ap, sym, ◌∙◌}
 use Rattle.hickory_proto_core.specs.Records.{data_of_address}
 use Rattle.hickory_resolver_hosts.specs.Index.{is_among, is_owner}
 use Rattle.hickory_resolver_hosts.specs.Table.{has_address_at, is_given}

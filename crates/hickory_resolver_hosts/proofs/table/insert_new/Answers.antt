@@ -1,8 +1,8 @@
-use Rattle.std.proofs.Common.{ap, ap₂, sym, ◌∙◌}
+use Rattle.std.proofs.Common.{ap, ◌∙◌}
 use Rattle.hickory_resolver_model.specs.Hosts.{with_lookup}
 use Rattle.indexmap.specs.IndexMap.{insert_entry}
 use Rattle.hickory_proto_core.specs.Name.{name_eq}
-use Rattle.hickory_resolver_hosts.specs.Table.{host_at, hosts_of}
+use Rattle.hickory_resolver_hosts.specs.Table.{hosts_of}
 use Rattle.hickory_resolver_hosts.proofs.Places.{put_behind, empty_host}
 use Rattle.hickory_resolver_hosts.proofs.table.insert_new.Goals as goal
 
