@@ -1,0 +1,100 @@
+//! Configurations of known servers, and search lists.
+use crate::upstream::searching;
+use hickory_proto_core::{Name, NetError};
+use hickory_resolver::{
+    ConnectionConfig, NameServerConfig, ProtocolConfig, ResolverConfig, cloudflare, google, quad9,
+};
+use std::alloc::{AllocError, Global};
+
+/// Adds the servers of each group, and what a search list comes to.
+pub fn push_configuration(alloc: Global, text: &mut String) -> Result<(), NetError> {
+    text.push_str("# configuration\ndns.google\n")?;
+    push_config(text, google_over_tls(alloc)?)?;
+    text.push_str("cloudflare-dns.com\n")?;
+    push_config(text, cloudflare_over_https(alloc)?)?;
+    text.push_str("dns.quad9.net\n")?;
+    push_config(text, plain_quad9(alloc)?)?;
+    push_searches(alloc, text)
+}
+
+fn google_over_tls(alloc: Global) -> Result<ResolverConfig, NetError> {
+    let group = google(alloc)?;
+    let config = ResolverConfig::tls(&group);
+    drop(group);
+    config
+}
+
+fn cloudflare_over_https(alloc: Global) -> Result<ResolverConfig, NetError> {
+    let group = cloudflare(alloc)?;
+    let config = ResolverConfig::https(&group);
+    drop(group);
+    config
+}
+
+fn plain_quad9(alloc: Global) -> Result<ResolverConfig, NetError> {
+    let group = quad9(alloc)?;
+    let config = ResolverConfig::udp_and_tcp(&group);
+    drop(group);
+    config
+}
+
+fn push_config(text: &mut String, config: ResolverConfig) -> Result<(), AllocError> {
+    let pushed = push_servers(text, config.name_servers());
+    drop(config);
+    pushed
+}
+
+fn push_servers(text: &mut String, servers: &[NameServerConfig]) -> Result<(), AllocError> {
+    for server in servers {
+        let ip = server.ip;
+        write!(text, "  {ip}")?;
+        push_connections(text, &server.connections)?;
+    }
+    Ok(())
+}
+
+fn push_connections(text: &mut String, connections: &[ConnectionConfig]) -> Result<(), AllocError> {
+    for connection in connections {
+        let (port, protocol) = (connection.port, connection.protocol.to_protocol());
+        write!(text, " port {port} {protocol:?}")?;
+        push_names(text, &connection.protocol)?;
+    }
+    text.push_str("\n")
+}
+
+// The name of the server, and the path.
+fn push_names(text: &mut String, protocol: &ProtocolConfig) -> Result<(), AllocError> {
+    match protocol {
+        ProtocolConfig::Tls { server_name } => write!(text, " {server_name}"),
+        ProtocolConfig::Https { server_name, path } => write!(text, " {server_name} {path}"),
+        _ => Ok(()),
+    }
+}
+
+// A search list, and what a domain makes of it.
+fn push_searches(alloc: Global, text: &mut String) -> Result<(), NetError> {
+    let mut config = searching(alloc, &[])?;
+    let pushed = push_set(alloc, text, &mut config);
+    drop(config);
+    pushed
+}
+
+fn push_set(alloc: Global, text: &mut String, config: &mut ResolverConfig) -> Result<(), NetError> {
+    config.add_search(Name::from_ascii(alloc, "b.")?)?;
+    config.add_search(Name::from_ascii(alloc, "c.")?)?;
+    push_search(text, config)?;
+    config.set_domain(Name::from_ascii(alloc, "d.")?)?;
+    push_search(text, config)?;
+    Ok(())
+}
+
+fn push_search(text: &mut String, config: &ResolverConfig) -> Result<(), AllocError> {
+    match config.domain() {
+        Some(domain) => write!(text, "domain {domain} search")?,
+        None => text.push_str("search")?,
+    }
+    for name in config.search() {
+        write!(text, " {name}")?;
+    }
+    text.push_str("\n")
+}
