@@ -1,5 +1,5 @@
 //! The resolver: names and types are turned into records.
-ghost use Rattle.std.specs.Prelude.{◌≡◌, [], IfOk, OnOk, OnErr, IsOkUnless, Ok, Result};
+ghost use Rattle.std.specs.Prelude.{◌≡◌, ◌≢◌, [], IfOk, OnOk, OnErr, IsOkUnless, Err, Ok, Result};
 ghost use Rattle.hickory_proto_core.specs.Name.{NameValue};
 ghost use Rattle.hickory_proto_core.specs.codes.record_type.RecordType.TheVariants as type;
 ghost use Rattle.hickory_proto_core.specs.names.name_error.NameError.{NameError};
@@ -88,8 +88,9 @@ impl<H: DnsHandle, S: BuildHasher> Resolver<H, S> {
 
     /// Looks up records of a type for a name, at a moment (seconds). The names that are attempted for it are
     /// those of the domain and the search list (RFC 1535, section 6), each as the one before has no answers.
-    /// The table of hosts is asked for the first of them alone, before the cache and the upstream. What is no
-    /// name is answered its fault, and nothing is asked.
+    /// The first result with answers is the reply; where none has any, it is the result of the last attempt. The
+    /// table of hosts is asked for the first name alone, before the cache and the upstream. A text that is no
+    /// name gets its fault as the answer, and nothing is asked.
     pub fn lookup<N: IntoName>(
         &mut self,
         name: N,
@@ -102,7 +103,7 @@ impl<H: DnsHandle, S: BuildHasher> Resolver<H, S> {
         self.lookup_name(name, record_type, now)
     }
 
-    /// The names of an address: a look-up of PTR records.
+    /// A look-up of PTR records: of an address, the names that it has. A text is read as a name.
     pub fn reverse_lookup<N: IntoName>(&mut self, query: N, now: u64) -> Result<Lookup, NetError>
         ensures { AnswersName H.step (N.into_name_gives query) type.PTR now self.old result self.new }
     {
@@ -187,6 +188,7 @@ impl<H: DnsHandle, S: BuildHasher> Resolver<H, S> {
         record_type: RecordType,
     ) -> Result<(), NetError>
         ensures ok { OnOk result ((given : Result NameValue NameError) × N.into_name_gives name given
+            × (given ≢ Err NameError.OutOfMemory)
             × (self.new ≡ after_clear_lookup record_type given self.old)) }
         ensures unchanged { OnErr result (self.new ≡ self.old) }
         ensures err { IsOkUnless result NetError.OutOfMemory }

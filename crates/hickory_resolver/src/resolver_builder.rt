@@ -46,7 +46,11 @@ impl<H: DnsHandle> ResolverBuilder<H> {
     }
 }
 
-impl<H: DnsHandle + Drop, S: BuildHasher + Drop> ResolverBuilder<H, S> {
+impl<H: DnsHandle, S: BuildHasher> ResolverBuilder<H, S> {
+    ghost use Rattle.std.specs.Borrow.{Lends, sem};
+    ghost use Rattle.hickory_resolver_config.specs.contracts.resolver_opts.ResolverOpts.{the_row as options_row};
+    ghost use Rattle.hickory_resolver.specs.contracts.resolver_builder.ResolverBuilder.{the_row};
+
     /// Puts these options in place of those before.
     pub fn with_options(self, options: ResolverOpts) -> ResolverBuilder<H, S>
         ensures { result ≡ record self { options = options } }
@@ -56,6 +60,9 @@ impl<H: DnsHandle + Drop, S: BuildHasher + Drop> ResolverBuilder<H, S> {
 
     /// The options, to be changed.
     pub fn options_mut(&mut self) -> &mut ResolverOpts
+        ensures* lends { sem 𝓛 (Lends (the_row H.row S.row S.Hasher.row H.DnsHandle S.BuildHasher S.Hasher.Hasher)
+            options_row self.entry result (λ o. record self.old { options = o })) }
+        ensures value { result.now ≡ self.old.options }
     {
         &mut self.options
     }
@@ -70,7 +77,9 @@ impl<H: DnsHandle + Drop, S: BuildHasher + Drop> ResolverBuilder<H, S> {
     {
         self
     }
+}
 
+impl<H: DnsHandle, S: BuildHasher + Drop> ResolverBuilder<H, S> {
     /// Names of questions in the cache are hashed by the first of these, and those of the empty table of hosts
     /// by the second: hashers of random state where the names come from strangers.
     pub fn with_hasher<T: BuildHasher>(
@@ -94,7 +103,9 @@ impl<H: DnsHandle + Drop, S: BuildHasher + Drop> ResolverBuilder<H, S> {
             hosts_hasher,
         }
     }
+}
 
+impl<H: DnsHandle + Drop, S: BuildHasher + Drop> ResolverBuilder<H, S> {
     /// The resolver, with an empty cache and an empty table of hosts. Options whose bounds on times to live are
     /// reversed are refused, those of positive answers first, and nothing is made. Takes no memory.
     pub fn build(self) -> Result<Resolver<H, S>, NetError>

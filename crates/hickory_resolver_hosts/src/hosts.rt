@@ -18,7 +18,7 @@ use std::hash::{BuildHasher, BuildHasherDefault, FoldHasher};
 use std::marker::Model;
 
 /// Names with their addresses, in the order in which they were first seen (RFC 952; RFC 1123, section
-/// 6.1.3.1). A name finds its addresses, and an address its names, without a walk over the table.
+/// 6.1.3.8). A name finds its addresses, and an address its names, without a walk over the table.
 #[derive(Drop)]
 pub struct Hosts<S: BuildHasher = BuildHasherDefault<FoldHasher>> {
     names: IndexMap<Name, HostLookups, S>,

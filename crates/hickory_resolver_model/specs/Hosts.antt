@@ -1,5 +1,5 @@
 -- The table of hosts: names in the order in which they were first seen, each with its IPv4 and IPv6 addresses
--- (RFC 952; RFC 1123, section 6.1.3.1), and the files that it is read from.
+-- (RFC 952; RFC 1123, section 6.1.3.8), and the files that it is read from.
 use Rattle.std.specs.Prelude.{◌≡◌, ◌⊎◌, ℕ, Bool, true, false, not, IsTrue, ◌||◌, ◌==◌, nat_eq, drop, List, [], ◌∷◌, ◌++◌, map, filter, find, min, option_and_then, Option, Some, None, if◌then◌else◌}
 use Rattle.std.specs.List.{list_any, before_first, list_all, starts_with}
 use Rattle.std.specs.Option.{option_map_or}

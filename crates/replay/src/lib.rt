@@ -1,5 +1,4 @@
-//! Replays a script against a caching client: runs its requests in order, and makes the text that tells
-//! what happened.
+//! Replays a script against a resolver: runs its requests in order, and makes the text that tells what happened.
 #![tactic(auto)]
 
 pub mod output;

@@ -1,4 +1,4 @@
-//! Runs a script against a table of hosts and a caching client, and prints what happened.
+//! Runs a script against a table of hosts and a resolver, and prints what happened.
 #![tactic(auto)]
 
 use replay::{ReplayError, replay_text};
