@@ -1,20 +1,16 @@
 //! Look-ups of several names, one after another.
-use crate::shown::push_reply;
-use crate::upstream::{Upstream, names_of, upstream_of};
+use crate::upstream::{Upstream, names_of, push_since, upstream_of};
 use hickory_proto_core::{DnsRequestOptions, NetError, RecordType};
 use hickory_resolver::{CachingClient, Hosts, Lookup, LookupFuture};
 use std::alloc::{AllocError, Global};
 
 /// Adds what they send, and the replies.
 pub fn push_in_turn(alloc: Global, text: &mut String) -> Result<(), NetError> {
-    text.push_str("# names in turn\nc. b. a.\n")?;
-    push_names(alloc, text, &["c.", "b.", "a."])?;
-    text.push_str("no names\n")?;
-    push_names(alloc, text, &[])?;
-    text.push_str("b. a. where b is a host\n")?;
-    push_with_hosts(alloc, text, b"10.0.0.2 b\n")?;
-    text.push_str("b. a. where a is a host\n")?;
-    push_with_hosts(alloc, text, b"10.0.0.1 a\n")
+    text.push_str("# names in turn\n")?;
+    push_names(alloc, text, "c. b. a.", &["c.", "b.", "a."])?;
+    push_names(alloc, text, "no names", &[])?;
+    push_with_hosts(alloc, text, "b. a. where b is a host", b"10.0.0.2 b\n")?;
+    push_with_hosts(alloc, text, "b. a. where a is a host", b"10.0.0.1 a\n")
 }
 
 /// A table of what a file of hosts says.
@@ -26,18 +22,28 @@ pub fn hosts_of(alloc: Global, file: &[u8]) -> Result<Hosts, NetError> {
     }
 }
 
-fn push_names(alloc: Global, text: &mut String, names: &[&str]) -> Result<(), NetError> {
+fn push_names(
+    alloc: Global,
+    text: &mut String,
+    what: &str,
+    names: &[&str],
+) -> Result<(), NetError> {
+    write!(text, "{what}\n")?;
     let mut client = client_of(alloc)?;
     let reply = looked_up(alloc, &mut client, names);
-    let pushed = push_asked(text, client, reply);
-    Ok(pushed?)
+    Ok(push_asked(text, client, reply)?)
 }
 
-fn push_with_hosts(alloc: Global, text: &mut String, file: &[u8]) -> Result<(), NetError> {
+fn push_with_hosts(
+    alloc: Global,
+    text: &mut String,
+    what: &str,
+    file: &[u8],
+) -> Result<(), NetError> {
+    write!(text, "{what}\n")?;
     let mut client = client_of(alloc)?;
     let reply = looked_up_with_hosts(alloc, &mut client, file);
-    let pushed = push_asked(text, client, reply);
-    Ok(pushed?)
+    Ok(push_asked(text, client, reply)?)
 }
 
 fn client_of(alloc: Global) -> Result<CachingClient<Upstream>, NetError> {
@@ -87,8 +93,7 @@ fn push_asked(
     client: CachingClient<Upstream>,
     reply: Result<Lookup, NetError>,
 ) -> Result<(), AllocError> {
-    let pushed = push_reply(text, client.handle().exchanges(), &reply);
-    drop(reply);
+    let pushed = push_since(text, &client, 0, reply);
     drop(client);
     pushed
 }

@@ -33,6 +33,10 @@ fn push_cases(alloc: Global, text: &mut String) -> Result<(), NetError> {
     given::push_given(alloc, text)?;
     bounds::push_bounds(alloc, text)?;
     options::push_options(alloc, text)?;
+    push_other_cases(alloc, text)
+}
+
+fn push_other_cases(alloc: Global, text: &mut String) -> Result<(), NetError> {
     in_turn::push_in_turn(alloc, text)?;
     clears::push_clears(alloc, text)?;
     hosts::push_hosts(alloc, text)?;

@@ -89,12 +89,17 @@ fn push_set(alloc: Global, text: &mut String, config: &mut ResolverConfig) -> Re
 }
 
 fn push_search(text: &mut String, config: &ResolverConfig) -> Result<(), AllocError> {
-    match config.domain() {
-        Some(domain) => write!(text, "domain {domain} search")?,
-        None => text.push_str("search")?,
-    }
+    push_domain(text, config.domain())?;
+    text.push_str("search")?;
     for name in config.search() {
         write!(text, " {name}")?;
     }
     text.push_str("\n")
+}
+
+fn push_domain(text: &mut String, domain: Option<&Name>) -> Result<(), AllocError> {
+    match domain {
+        Some(domain) => write!(text, "domain {domain} "),
+        None => Ok(()),
+    }
 }

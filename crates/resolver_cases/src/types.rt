@@ -1,34 +1,54 @@
 //! The look-ups of one type each.
 use crate::shown::push_sent;
 use crate::upstream::{Upstream, resolver_of};
-use hickory_proto_core::NetError;
-use hickory_resolver::Resolver;
+use hickory_proto_core::{NetError, RecordType};
+use hickory_resolver::{Lookup, Resolver};
 use std::alloc::Global;
+
+// The types of the calls, in their order.
+const TYPES: [RecordType; 11] = [
+    RecordType::A,
+    RecordType::AAAA,
+    RecordType::MX,
+    RecordType::NS,
+    RecordType::SMIMEA,
+    RecordType::SOA,
+    RecordType::SRV,
+    RecordType::TLSA,
+    RecordType::TXT,
+    RecordType::CERT,
+    RecordType::PTR,
+];
 
 /// Adds the question that each look-up sends.
 pub fn push_types(alloc: Global, text: &mut String) -> Result<(), NetError> {
     text.push_str("# each look-up of a type\n")?;
-    let mut resolver = resolver_of(alloc)?;
-    ask_first(&mut resolver);
-    ask_others(&mut resolver);
+    let mut resolver = resolver_of(alloc, &[])?;
+    ask_each(&mut resolver);
     let pushed = push_sent(text, "", resolver.client().handle().exchanges());
     drop(resolver);
     Ok(pushed?)
 }
 
-fn ask_first(resolver: &mut Resolver<Upstream>) {
-    drop(resolver.ipv4_lookup("a.", 0));
-    drop(resolver.ipv6_lookup("a.", 0));
-    drop(resolver.mx_lookup("a.", 0));
-    drop(resolver.ns_lookup("a.", 0));
-    drop(resolver.smimea_lookup("a.", 0));
+fn ask_each(resolver: &mut Resolver<Upstream>) {
+    for record_type in TYPES {
+        drop(ask(resolver, record_type));
+    }
 }
 
-fn ask_others(resolver: &mut Resolver<Upstream>) {
-    drop(resolver.soa_lookup("a.", 0));
-    drop(resolver.srv_lookup("a.", 0));
-    drop(resolver.tlsa_lookup("a.", 0));
-    drop(resolver.txt_lookup("a.", 0));
-    drop(resolver.cert_lookup("a.", 0));
-    drop(resolver.reverse_lookup("a.", 0));
+// The look-up of a type by its own call.
+fn ask(resolver: &mut Resolver<Upstream>, record_type: RecordType) -> Result<Lookup, NetError> {
+    match record_type {
+        RecordType::A => resolver.ipv4_lookup("a.", 0),
+        RecordType::AAAA => resolver.ipv6_lookup("a.", 0),
+        RecordType::MX => resolver.mx_lookup("a.", 0),
+        RecordType::NS => resolver.ns_lookup("a.", 0),
+        RecordType::SMIMEA => resolver.smimea_lookup("a.", 0),
+        RecordType::SOA => resolver.soa_lookup("a.", 0),
+        RecordType::SRV => resolver.srv_lookup("a.", 0),
+        RecordType::TLSA => resolver.tlsa_lookup("a.", 0),
+        RecordType::TXT => resolver.txt_lookup("a.", 0),
+        RecordType::CERT => resolver.cert_lookup("a.", 0),
+        _ => resolver.reverse_lookup("a.", 0),
+    }
 }

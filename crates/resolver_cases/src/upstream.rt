@@ -4,7 +4,7 @@ use hickory_proto_core::dns_handle::Outcome;
 use hickory_proto_core::{
     IntoName, Name, NameError, NetError, Query, RecordType, Recorded, TableHandle,
 };
-use hickory_resolver::{CachingClient, Resolver, ResolverBuilder, ResolverConfig};
+use hickory_resolver::{CachingClient, Lookup, Resolver, ResolverBuilder, ResolverConfig};
 use std::alloc::{AllocError, Global};
 use std::hash::BuildHasher;
 
@@ -16,15 +16,28 @@ pub fn upstream_of(alloc: Global, outcomes: Vec<(Query, Outcome)>) -> Result<Ups
     Ok(Recorded::new(alloc, table))
 }
 
-/// A builder over an upstream that has no answers.
-pub fn builder_of(alloc: Global) -> Result<ResolverBuilder<Upstream>, NetError> {
-    let upstream = upstream_of(alloc, Vec::new(alloc))?;
-    Ok(Resolver::builder_with_config(ResolverConfig::default(alloc), upstream))
+/// A builder with this search list over the upstream that answers so.
+pub fn builder_of(
+    alloc: Global,
+    search: &[&str],
+    outcomes: Vec<(Query, Outcome)>,
+) -> Result<ResolverBuilder<Upstream>, NetError> {
+    let upstream = upstream_of(alloc, outcomes)?;
+    match searching(alloc, search) {
+        Ok(config) => Ok(Resolver::builder_with_config(config, upstream)),
+        Err(error) => {
+            drop(upstream);
+            Err(error)
+        }
+    }
 }
 
-/// A resolver over an upstream that has no answers.
-pub fn resolver_of(alloc: Global) -> Result<Resolver<Upstream>, NetError> {
-    builder_of(alloc)?.build()
+/// A resolver with this search list over an upstream that has no answers.
+pub fn resolver_of(alloc: Global, search: &[&str]) -> Result<Resolver<Upstream>, NetError> {
+    match builder_of(alloc, search, Vec::new(alloc)) {
+        Ok(builder) => builder.build(),
+        Err(error) => Err(error),
+    }
 }
 
 /// A configuration with this search list.
@@ -50,12 +63,17 @@ pub fn push_lookup<N: IntoName, S: BuildHasher>(
 ) -> Result<(), AllocError> {
     let before = sent_by(resolver.client());
     let reply = resolver.lookup(name, record_type, 7);
-    let sent = resolver
-        .client()
-        .handle()
-        .exchanges()
-        .get(before..)
-        .unwrap_or(&[]);
+    push_since(text, resolver.client(), before, reply)
+}
+
+/// Adds what a client has sent since it had sent so many questions, and the reply.
+pub fn push_since<S: BuildHasher>(
+    text: &mut String,
+    client: &CachingClient<Upstream, S>,
+    before: usize,
+    reply: Result<Lookup, NetError>,
+) -> Result<(), AllocError> {
+    let sent = client.handle().exchanges().get(before..).unwrap_or(&[]);
     let pushed = push_reply(text, sent, &reply);
     // Its proof is far shorter than that of a drop at the end of the scope.
     drop(reply);
