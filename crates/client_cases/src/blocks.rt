@@ -22,7 +22,11 @@ fn push_block(
 ) -> Result<(), NetError> {
     let (head, script) = block.split_once('\n').unwrap_or((block, ""));
     write!(text, "# {head}\n")?;
-    let Script { outcomes, requests, .. } = script_of(alloc, script)?;
+    let Script {
+        outcomes,
+        requests,
+        ..
+    } = script_of(alloc, script)?;
     begin(alloc, text, client, head, outcomes)?;
     push_requests(alloc, text, client, &requests)
 }

@@ -17,7 +17,11 @@ at 0 lookup n7. A
 
 pub fn push_table(alloc: Global, text: &mut String) -> Result<(), NetError> {
     text.push_str("# a table of a hundred thousand names\n")?;
-    let Script { outcomes, requests, .. } = script_of(alloc, SCRIPT)?;
+    let Script {
+        outcomes,
+        requests,
+        ..
+    } = script_of(alloc, SCRIPT)?;
     let table = table_of(alloc, outcomes)?;
     let mut client = CachingClient::new(alloc, 8, table, false);
     push_requests(alloc, text, &mut client, &requests)
