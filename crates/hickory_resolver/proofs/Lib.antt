@@ -1,2 +1,3 @@
 pub mod Attempting
 pub mod Answering
+pub mod Serving

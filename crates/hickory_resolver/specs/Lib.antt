@@ -1,4 +1,7 @@
 pub mod Attempting
+pub mod Requests
+pub mod Serving
+pub mod Transcripts
 pub use Rattle.hickory_resolver_model.specs.AliasWalk
 pub use Rattle.hickory_resolver_model.specs.Attempts
 pub use Rattle.hickory_resolver_model.specs.Bounds

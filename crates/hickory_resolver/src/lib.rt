@@ -7,8 +7,13 @@ pub mod config;
 pub mod hosts;
 pub mod lookup;
 pub mod lookup_future;
+mod recording;
+pub mod request;
 pub mod resolver;
 pub mod resolver_builder;
+pub mod runs;
+mod serve;
+pub mod transcript;
 
 pub use cache::{MAX_TTL, ResponseCache, TtlBounds, TtlConfig};
 pub use caching_client::CachingClient;
@@ -20,5 +25,8 @@ pub use config::{
 pub use hosts::{Hosts, HostsError, Watched};
 pub use lookup::Lookup;
 pub use lookup_future::LookupFuture;
+pub use request::Request;
 pub use resolver::Resolver;
 pub use resolver_builder::ResolverBuilder;
+pub use runs::{run, run_with_hasher};
+pub use transcript::{Reply, Step, Transcript};
