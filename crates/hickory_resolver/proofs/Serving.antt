@@ -15,6 +15,10 @@ use Rattle.hickory_proto_core.specs.records.net_error.NetError.{NetError}
 use Rattle.hickory_proto_core.specs.records.net_error.NetError.TheVariants.{OutOfMemory}
 use Rattle.hickory_proto_core.specs.declared.recorded.Exchange.{Exchange}
 use Rattle.hickory_resolver_config.specs.Resolver.{ResolverConfigValue, OptionsValue}
+use Rattle.std.specs.Option.{option_map_or}
+use Rattle.hickory_proto_core.specs.records.bounds_error.BoundsError.{BoundsError}
+use Rattle.hickory_resolver_model.specs.Bounds.{BoundsValue, ConfigValue, bounds_fault}
+use Rattle.hickory_resolver_model.specs.Options.{config_or_fault}
 use Rattle.hickory_resolver_model.specs.Cache.{CacheValue}
 use Rattle.hickory_resolver_model.specs.Hosts.{Host}
 use Rattle.hickory_resolver_model.specs.Lookup.{LookupResult}
@@ -290,3 +294,13 @@ module _ {H : Type 0} (law : KeepsRequest) (step : Step H) (config : ResolverCon
   resolver_is =
       let as_built : Bool → ResolverValue (RecordedValue H) = λ b. record first { client = record resolver.client { preserve_intermediates = b } } in
       served.others_stay ∙ ap as_built served.option_stays
+
+-- ---- the bounds of the options
+
+-- bounds that were taken are in order
+pub bounds_taken : (b : BoundsValue) (config : ConfigValue) → config_or_fault b ≡ Ok config → (bounds_fault b ≡ None) × (config ≡ record { default = b; by_type = [] })
+bounds_taken b config is = by (bounds_fault b) refl is
+  where
+    by : (fault : Option BoundsError) → bounds_fault b ≡ fault → option_map_or Err fault (Ok (record { default = b; by_type = [] })) ≡ Ok config → (bounds_fault b ≡ None) × (config ≡ record { default = b; by_type = [] })
+    by None e h = (e, let same : record { default = b; by_type = [] } ≡ config = cc in sym same)
+    by (Some fault) e h = absurd cc
