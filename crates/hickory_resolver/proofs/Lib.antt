@@ -1,2 +1,3 @@
 pub mod Attempting
+pub mod Families
 pub mod Answering

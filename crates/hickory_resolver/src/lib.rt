@@ -5,8 +5,11 @@ pub mod cache;
 pub mod caching_client;
 pub mod config;
 pub mod hosts;
+mod literals;
 pub mod lookup;
 pub mod lookup_future;
+pub mod lookup_ip;
+pub mod lookup_ip_future;
 pub mod resolver;
 pub mod resolver_builder;
 
@@ -20,5 +23,7 @@ pub use config::{
 pub use hosts::{Hosts, HostsError, Watched};
 pub use lookup::Lookup;
 pub use lookup_future::LookupFuture;
+pub use lookup_ip::{LookupIp, LookupIpIntoIter, LookupIpIter};
+pub use lookup_ip_future::LookupIpFuture;
 pub use resolver::Resolver;
 pub use resolver_builder::ResolverBuilder;
