@@ -48,7 +48,7 @@ module _ {H : Type 0} (step : Step H) (options : DnsRequestOptions) (hosts : Lis
 
 -- ---- attempts after a result
 
-asks-append : (ps qs : List SubLookup) → asks_of_sub_lookups (ps ++ qs) ≡ asks_of_sub_lookups ps ++ asks_of_sub_lookups qs
+pub asks-append : (ps qs : List SubLookup) → asks_of_sub_lookups (ps ++ qs) ≡ asks_of_sub_lookups ps ++ asks_of_sub_lookups qs
 asks-append ps qs = flat_map-append (λ p. p.asks) ps qs
 
 -- since this result these attempts were made, this one was the last, and these names are left

@@ -1,16 +1,16 @@
 -- An attempt of two types, made of attempts of one; and the last resort behind the attempts.
-use Rattle.std.proofs.Common.{◌≡◌, ◌⊎◌, ◌×◌, ℕ, Bool, true, false, ◌||◌, List, [], ◌∷◌, ◌++◌, Option, Some, None, Err, refl, sym, ap, ◌∙◌, subst, inl, inr}
+use Rattle.std.proofs.Common.{◌≡◌, ◌⊎◌, ℕ, Bool, true, false, ◌||◌, List, [], ◌∷◌, ◌++◌, Option, Some, None, Ok, Err, refl, sym, ap, ◌∙◌, subst, inl, inr, if◌then◌else◌}
 use Rattle.std.proofs.lemmas.List.{append-nil}
 use Rattle.hickory_proto_core.specs.Name.{NameValue}
 use Rattle.hickory_proto_core.specs.Handles.{Step, Leads, Leads-append}
 use Rattle.hickory_proto_core.specs.codes.record_type.RecordType.{RecordType}
 use Rattle.hickory_proto_core.specs.declared.dns_request.DnsRequestOptions.{DnsRequestOptions}
-use Rattle.hickory_proto_core.specs.records.net_error.NetError.TheVariants.{Message, OutOfMemory}
+use Rattle.hickory_proto_core.specs.records.net_error.NetError.TheVariants.{Message, Timeout, Proto, Dns, NoOutcome, Bounds, OutOfMemory}
 use Rattle.hickory_resolver_model.specs.Cache.{CacheValue}
 use Rattle.hickory_resolver_model.specs.Lookup.{LookupValue, LookupResult}
 use Rattle.hickory_resolver_model.specs.Hosts.{Host}
 use Rattle.hickory_resolver_model.specs.Client.{ClientValue}
-use Rattle.hickory_resolver_model.specs.Calls.{Setting, Plan, One, SubLookup, SubLookupRelation, IsSubLookupFor, CallPlan, Says, IsAttempt, AreAttempts, IsLastReply, IsAttemptResult, question_of, next_type, joins_results, takes_memory, is_out_of_memory, stops, asks_of_sub_lookups}
+use Rattle.hickory_resolver_model.specs.Calls.{Setting, Plan, One, Both, SubLookup, SubLookupRelation, IsSubLookupFor, CallPlan, Says, IsAttempt, AreSubLookups, AreAttempts, IsLastReply, IsAttemptResult, question_of, next_type, joins_results, takes_memory, both_results, has_answers, is_out_of_memory, stops, asks_of_sub_lookups}
 use Rattle.hickory_resolver_model.specs.Resolver.{setting_of, LooksUp}
 use Rattle.hickory_resolver_model.specs.Run.{address_plan}
 use Rattle.std.specs.Option.{is_some}
@@ -47,7 +47,10 @@ part_or_refused A looked before n t (p ∷ []) result after a = by a.are a.resul
         let here : A looked before (question_of n t) p mid = subst (λ v. A looked before (question_of n v) p mid) t_is answered in
         inl (record { part = p; parts_are = refl; result_is = is; answered = subst (λ c. A looked before (question_of n t) p c) (sym ends) here })
     by are (inr (takes, out)) = let clash : false ≡ true = takes in cc
-part_or_refused A looked before n t (p ∷ q ∷ ps) result after (record { are = (u, mid, same, answered, (v, rest, over, others)); result_is = result_is }) = let clash : None ≡ Some v = over in cc
+part_or_refused A looked before n t (p ∷ q ∷ ps) result after a = by a.are
+  where
+    by : AreSubLookups A looked n (One t) before [] (p ∷ q ∷ ps) after → IsPart A looked before n t (p ∷ q ∷ ps) result after ⊎ IsRefused before (p ∷ q ∷ ps) result after
+    by (u, mid, same, answered, (v, next, over, second, others)) = let clash : None ≡ Some v = over in cc
 
 module _ (A : SubLookupRelation) (looked : Bool) (n : NameValue) (plan : Plan) (t : RecordType) (begins : next_type plan [] ≡ Some t) where
   takes-at-first : takes_memory plan [] ≡ true
@@ -117,10 +120,41 @@ module _ {H : Type 0} (step : Step H) (options : DnsRequestOptions) (hosts : Lis
       here : IsAttempt (IsSubLookupFor (setting_of before hosts now)) looked mid.cache n (One u) b.parts k after.cache
       here = subst (λ setting. IsAttempt (IsSubLookupFor setting) looked mid.cache n (One u) b.parts k after.cache) same b.is
 
+-- a result after which another type is asked is not out of memory
+pub live_is_not_out : (r : LookupResult) → stops r ≡ false → is_out_of_memory r ≡ false
+live_is_not_out r live = right (has_answers r) (is_out_of_memory r) live
+  where
+    right : (a b : Bool) → a || b ≡ false → b ≡ false
+    right false b e = e
+    right true b e = let clash : true ≡ false = e in cc
+
+-- two results were made one
+module _ (t u : RecordType) (r k result : LookupResult) (made : (result ≡ (if is_out_of_memory k then k else both_results r k)) ⊎ (result ≡ Err OutOfMemory)) where
+  pub joined_is : IsAttemptResult (Both t u) (r ∷ k ∷ []) result
+  joined_is = by made
+    where
+      by : (result ≡ (if is_out_of_memory k then k else both_results r k)) ⊎ (result ≡ Err OutOfMemory) → IsAttemptResult (Both t u) (r ∷ k ∷ []) result
+      by (inl whole) = inl (refl, whole)
+      by (inr out) = inr (refl, out)
+
+  pub joined_out : k ≡ Err OutOfMemory → result ≡ Err OutOfMemory
+  joined_out second_out = by made
+    where
+      by : (result ≡ (if is_out_of_memory k then k else both_results r k)) ⊎ (result ≡ Err OutOfMemory) → result ≡ Err OutOfMemory
+      by (inl whole) = whole ∙ ap (λ x. if is_out_of_memory x then x else both_results r x) second_out
+      by (inr out) = out
+
 -- ---- the last resort
 
 said_goes_on : (text : List ℕ) (x : LookupResult) → Says text x → stops x ≡ false
+said_goes_on text (Ok l) says = elim says [ ]
 said_goes_on text (Err (Message said)) says = refl
+said_goes_on text (Err Timeout) says = elim says [ ]
+said_goes_on text (Err (Proto fault)) says = elim says [ ]
+said_goes_on text (Err (Dns fault)) says = elim says [ ]
+said_goes_on text (Err NoOutcome) says = elim says [ ]
+said_goes_on text (Err (Bounds fault)) says = elim says [ ]
+said_goes_on text (Err OutOfMemory) says = elim says [ ]
 
 module _ (A : SubLookupRelation) (strategy : LookupIpStrategy) (literal : Option LookupValue) (reply result : LookupResult) (final : IsReplyOrLastResort literal reply result) where
   last_reply : (o : Option LookupValue) (IsLast : LookupResult → Type 0) → IsLast reply → IsLastReply o (λ x. x ≡ reply) result → IsLastReply o IsLast result

@@ -152,13 +152,13 @@ fn attempt_then<H: DnsHandle, S: BuildHasher, T: BuildHasher>(
     ensures { Attempts H.step options hosts.now now (Fallback first_type second_type) true name client.old
         result client.new }
 {
-    let again = name.clone()?;
+    let second_name = name.clone()?;
     let first = attempt_with_hosts(name, first_type, options, client, hosts, now);
     if stops(&first) {
         return first;
     }
     drop(first);
-    attempt_with_hosts(again, second_type, options, client, hosts, now)
+    attempt_with_hosts(second_name, second_type, options, client, hosts, now)
 }
 
 // Two results as one: both joined, the one that there is, or the first error. Out of memory comes before all.

@@ -13,7 +13,7 @@ ghost use Rattle.hickory_resolver_model.specs.Resolver.{AnswersCall, AnswersHost
 ghost use Rattle.hickory_resolver_model.specs.Run.{Attempt, address_call, address_plan, drop_each, name_plan};
 
 use crate::caching_client::CachingClient;
-use crate::config::{ResolverConfig, ResolverOpts};
+use crate::config::{LookupIpStrategy, ResolverConfig, ResolverOpts};
 use crate::hosts::Hosts;
 use crate::literals::literal_at_once;
 use crate::lookup::Lookup;
@@ -122,7 +122,6 @@ impl<H: DnsHandle, S: BuildHasher> Resolver<H, S> {
         let address = host.to_ip();
         match host.into_name(self.alloc()) {
             Ok(name) => self.lookup_host(address, name, now),
-            Err(NameError::OutOfMemory) => Err(NetError::OutOfMemory),
             Err(fault) => self.literal_or_fault(address, fault, now),
         }
     }
@@ -274,19 +273,22 @@ impl<H: DnsHandle, S: BuildHasher> Resolver<H, S> {
         }
     }
 
-    // The answer for a text that is no name: the address that it spells, or its fault.
+    // The answer for a text that is no name: the address that it spells, or its fault. Out of memory says nothing
+    // of the text.
     fn literal_or_fault(
         &self,
         address: Option<IpAddr>,
         fault: NameError,
         now: u64,
     ) -> Result<LookupIp, NetError>
-        ensures { AnswersCall H.step now (address_call (settings self.now) address (Err fault) now) self.now
-            result self.now }
+        ensures { AnswersHost H.step (λ a. a ≡ address) (λ n. n ≡ Err fault) now self.now result self.now }
     {
-        match address {
-            Some(address) => literal_at_once(self.alloc(), Name::new(self.alloc()), address, now),
-            None => Err(NetError::from(fault)),
+        match (fault, address) {
+            (NameError::OutOfMemory, _) => Err(NetError::OutOfMemory),
+            (_, Some(address)) => {
+                literal_at_once(self.alloc(), Name::new(self.alloc()), address, now)
+            }
+            (fault, None) => Err(NetError::from(fault)),
         }
     }
 
@@ -300,11 +302,19 @@ impl<H: DnsHandle, S: BuildHasher> Resolver<H, S> {
         ensures { AnswersCall H.step now (Attempt name (address_plan (settings self.old).strategy
             (option_map (λ rdata. last_resort (data_of rdata) now) finally_ip_addr))) self.old result self.new }
     {
-        let mut names = self.attempts(name)?;
-        names.reverse();
-        let (strategy, options) = (self.options.ip_strategy, self.request_options());
-        let (client, hosts) = (&mut self.client, &self.hosts);
-        LookupIpFuture::lookup(names, strategy, client, options, hosts, finally_ip_addr, now)
+        let mut attempts = self.attempts(name)?;
+        attempts.reverse();
+        let strategy = self.ip_strategy();
+        let options = self.request_options();
+        LookupIpFuture::lookup(
+            attempts,
+            strategy,
+            &mut self.client,
+            options,
+            &self.hosts,
+            finally_ip_addr,
+            now,
+        )
     }
 
     // Drops what the cache has for the attempts at a name.
@@ -337,6 +347,13 @@ impl<H: DnsHandle, S: BuildHasher> Resolver<H, S> {
             edns_payload_len: self.options.edns_payload_len,
             case_randomization: self.options.case_randomization,
         }
+    }
+
+    // Which families are asked for.
+    fn ip_strategy(&self) -> LookupIpStrategy
+        ensures { result ≡ self.now.options.ip_strategy }
+    {
+        self.options.ip_strategy
     }
 
     fn alloc(&self) -> Global {
