@@ -1,3 +1,4 @@
 pub mod Attempting
+pub mod Families
 pub mod Answering
 pub mod Serving

@@ -4,7 +4,7 @@ use Rattle.std.proofs.lemmas.List.{append-nil, map-append}
 use Rattle.std.proofs.lemmas.Grind.{flat_map-append}
 use Rattle.hickory_proto_core.specs.Name.{NameValue}
 use Rattle.hickory_proto_core.specs.NameDecided.{IsReading}
-use Rattle.hickory_proto_core.specs.NameGiven.{IsReadName}
+use Rattle.hickory_proto_core.specs.NameGiven.{IsReadAddress, IsReadName}
 use Rattle.hickory_proto_core.specs.NetErrors.{net_error_of}
 use Rattle.hickory_proto_core.specs.Handles.{Step, Leads, Leads-append, RecordedValue}
 use Rattle.hickory_proto_core.specs.Recorded.{RecordedAs, RecordedStep, IsRecorded, recorded_leads}
@@ -24,8 +24,8 @@ use Rattle.hickory_resolver_model.specs.Hosts.{Host}
 use Rattle.hickory_resolver_model.specs.Lookup.{LookupResult}
 use Rattle.hickory_resolver_model.specs.Calls.{SubLookup, IsSubLookupFor, asks_of_sub_lookups}
 use Rattle.hickory_resolver_model.specs.Client.{ClientValue}
-use Rattle.hickory_resolver_model.specs.Resolver.{ResolverValue, AnswersCall, AnswersName, after_clear_lookup, new_resolver, settings}
-use Rattle.hickory_resolver_model.specs.Run.{Settings, setting_at, RequestValue, Lookup, LookupIp, ClearLookup, Clear, StepReply, LookedUp, Cleared, StepValue, ends_run, after_clear, name_call, IsCall, IsUnserved, IsServed, Stage, IsStage, AreStages, exchanges_of, moment_of, settings_of, IsRun}
+use Rattle.hickory_resolver_model.specs.Resolver.{ResolverValue, AnswersCall, AnswersName, AnswersHost, after_clear_lookup, new_resolver, settings}
+use Rattle.hickory_resolver_model.specs.Run.{Settings, setting_at, RequestValue, Lookup, LookupIp, ClearLookup, Clear, StepReply, LookedUp, Cleared, StepValue, ends_run, after_clear, name_call, address_call, IsCall, IsUnserved, IsServed, Stage, IsStage, AreStages, exchanges_of, moment_of, settings_of, IsRun}
 use Rattle.hickory_resolver_theorems.specs.Keeping.{IsServedOver}
 use Rattle.hickory_resolver.specs.Serving.{Answered, MakesStep, AnswersAll, AnsweredSoFar, Serves, KeptSoFar, ServesAll}
 
@@ -86,6 +86,15 @@ module _ {R : Type 0} (step : Step R) (before : ResolverValue R) where
       answered_unasked (ClearLookup text t now) (Cleared (Ok u)) (after_clear (settings before) t given before.client.cache) after is (refl, (given, read_name text given read live, refl))
   answered_clear_lookup text t now (Err e) after cleared unchanged out =
       answered_unasked (ClearLookup text t now) (Cleared (Err e)) before.client.cache after unchanged (refl, out, refl)
+
+  pub answered_host : (text : List ℕ) (now : ℕ) (reply : LookupResult) (after : ResolverValue R) → AnswersHost step (IsReadAddress text) (IsReadName text) now before reply after → Answered step (LookupIp text now) before (LookedUp reply) after
+  answered_host text now reply after (address, spells, name, given, inl (live, a)) = record { parts = a.parts; led = a.led; served = by a.is; option_stays = a.option_stays; others_stay = a.others_stay }
+    where
+      by : IsCall (IsSubLookupFor (setting_at (settings before) now)) (settings before) before.client.cache (address_call (settings before) address name now) a.parts reply after.client.cache ⊎ IsUnserved before.client.cache a.parts reply after.client.cache
+          → IsServed (λ at. IsSubLookupFor (setting_at (settings before) at)) (settings before) before.client.cache (LookupIp text now) a.parts (LookedUp reply) after.client.cache
+      by (inl is) = inl (record { address = address; name = name }, (spells, read_name text name given live), is)
+      by (inr is) = inr is
+  answered_host text now reply after (address, spells, name, given, inr (out, e, same)) = answered_unasked (LookupIp text now) (LookedUp reply) before.client.cache after same (inr (refl, e, refl))
 
 -- ---- a loop
 

@@ -16,6 +16,12 @@ pub enum Request {
         /// The moment at which it is made, in seconds.
         now: u64,
     },
+    /// A look-up of the addresses of a host.
+    LookupIp {
+        host: String,
+        /// The moment at which it is made, in seconds.
+        now: u64,
+    },
     /// What the cache has for the attempts at a name, of a type, is dropped.
     ClearLookup {
         name: String,
@@ -41,6 +47,7 @@ impl Request {
                 record_type: _,
                 now,
             } => *now,
+            Request::LookupIp { host: _, now } => *now,
             Request::ClearLookup {
                 name: _,
                 record_type: _,

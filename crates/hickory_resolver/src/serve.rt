@@ -14,6 +14,7 @@ use crate::caching_client::CachingClient;
 use crate::config::{ResolverConfig, ResolverOpts};
 use crate::hosts::Hosts;
 use crate::lookup::Lookup;
+use crate::lookup_ip::LookupIp;
 use crate::recording::Recording;
 use crate::request::Request;
 use crate::resolver::Resolver;
@@ -191,6 +192,9 @@ fn reply_to<R: DnsHandle, S: BuildHasher>(
             record_type,
             now,
         } => Reply::Lookup(serve_lookup(resolver, name.as_str(), *record_type, *now)),
+        Request::LookupIp { host, now } => {
+            Reply::LookupIp(serve_lookup_ip(resolver, host.as_str(), *now))
+        }
         Request::ClearLookup {
             name,
             record_type,
@@ -211,6 +215,17 @@ fn serve_lookup<R: DnsHandle, S: BuildHasher>(
         resolver.new }
 {
     resolver.lookup(name, record_type, now)
+}
+
+// A look-up of the addresses of the host that a text spells.
+fn serve_lookup_ip<R: DnsHandle, S: BuildHasher>(
+    resolver: &mut Resolver<R, S>,
+    host: &str,
+    now: u64,
+) -> Result<LookupIp, NetError>
+    ensures { Answered R.step (served.LookupIp host.now now) resolver.old (served.LookedUp result) resolver.new }
+{
+    resolver.lookup_ip(host, now)
 }
 
 // A clear of the name that a text spells.

@@ -4,6 +4,7 @@ ghost use Rattle.hickory_resolver_model.specs.Run.{ends_run};
 ghost use Rattle.hickory_resolver.specs.Requests.{reply_of};
 
 use crate::lookup::Lookup;
+use crate::lookup_ip::LookupIp;
 use crate::recording::kept_by;
 use crate::resolver::Resolver;
 use hickory_proto_core::{DnsHandle, Exchange, NetError, Recorded};
@@ -15,6 +16,8 @@ use std::marker::Model;
 pub enum Reply {
     /// What a look-up of records came to.
     Lookup(Result<Lookup, NetError>),
+    /// What a look-up of addresses came to.
+    LookupIp(Result<LookupIp, NetError>),
     /// Whether a clear was done.
     Cleared(Result<(), NetError>),
 }
@@ -26,6 +29,7 @@ impl Reply {
     {
         match self {
             Reply::Lookup(reply) => matches!(reply, Err(NetError::OutOfMemory)),
+            Reply::LookupIp(reply) => matches!(reply, Err(NetError::OutOfMemory)),
             Reply::Cleared(done) => matches!(done, Err(_)),
         }
     }
