@@ -3,7 +3,9 @@ use crate::scripted::{resolver_over, script_of};
 use crate::shown::push_sent;
 use crate::upstream::{Upstream, names_of, upstream_of};
 use hickory_proto_core::{DnsRequestOptions, NetError, Query, RData};
-use hickory_resolver::{CachingClient, Hosts, LookupIp, LookupIpFuture, LookupIpStrategy, Resolver};
+use hickory_resolver::{
+    CachingClient, Hosts, LookupIp, LookupIpFuture, LookupIpStrategy, Resolver,
+};
 use std::alloc::{AllocError, Global};
 use std::net::Ipv4Addr;
 
@@ -71,7 +73,7 @@ const NAMES: [Case; 6] = [
     Case {
         host: "www",
         hosts: "10.0.0.9 www.x\n",
-        script: "search x.\nfail timeout www.x. AAAA\n",
+        script: "search x.\nreply SERVFAIL www.x. AAAA\n",
     },
     Case {
         host: "www",
@@ -153,7 +155,10 @@ fn push_addresses_of(text: &mut String, addresses: &LookupIp) -> Result<(), Allo
 
 fn push_question(text: &mut String, query: &Query, valid_until: u64) -> Result<(), AllocError> {
     let (name, class, record_type) = (&query.name, query.query_class, query.query_type);
-    write!(text, "  ok {name} {class} {record_type} until {valid_until}\n")
+    write!(
+        text,
+        "  ok {name} {class} {record_type} until {valid_until}\n"
+    )
 }
 
 fn push_no_names(alloc: Global, text: &mut String) -> Result<(), NetError> {
@@ -170,5 +175,13 @@ fn none_looked_up(alloc: Global, finally_ip_addr: Option<RData>) -> Result<Looku
     let mut client = CachingClient::new(alloc, 8, upstream_of(alloc, Vec::new(alloc))?, false);
     let (strategy, options) = (LookupIpStrategy::Ipv4Only, DnsRequestOptions::default());
     let hosts: Hosts = Hosts::default(alloc);
-    LookupIpFuture::lookup(names, strategy, &mut client, options, &hosts, finally_ip_addr, 7)
+    LookupIpFuture::lookup(
+        names,
+        strategy,
+        &mut client,
+        options,
+        &hosts,
+        finally_ip_addr,
+        7,
+    )
 }

@@ -15,11 +15,16 @@ const STRATEGIES: [LookupIpStrategy; 6] = [
 ];
 
 const IPV4: &str = "reply NOERROR . A\nanswer . 60 IN A 127.0.0.1\n";
+
 const NO_IPV4: &str = "reply NOERROR . A noq\n";
-const IPV4_TIMES_OUT: &str = "fail timeout . A\n";
+
+const IPV4_FAILS: &str = "reply SERVFAIL . A\n";
+
 const IPV6: &str = "reply NOERROR . AAAA\nanswer . 60 IN AAAA ::1\n";
+
 const NO_IPV6: &str = "reply NOERROR . AAAA noq\n";
-const IPV6_FAILS: &str = "fail message . AAAA\n";
+
+const IPV6_FAILS: &str = "reply REFUSED . AAAA\n";
 
 /// Adds how many questions they send, and the addresses or the error that they come to.
 pub fn push_strategies(alloc: Global, text: &mut String) -> Result<(), NetError> {
@@ -28,8 +33,8 @@ pub fn push_strategies(alloc: Global, text: &mut String) -> Result<(), NetError>
     push_each(alloc, text, "IPv4, and no IPv6", IPV4, NO_IPV6)?;
     push_each(alloc, text, "IPv4, and IPv6 fails", IPV4, IPV6_FAILS)?;
     push_each(alloc, text, "no IPv4, and IPv6", NO_IPV4, IPV6)?;
-    push_each(alloc, text, "IPv4 times out, and IPv6", IPV4_TIMES_OUT, IPV6)?;
-    push_each(alloc, text, "IPv4 times out, and IPv6 fails", IPV4_TIMES_OUT, IPV6_FAILS)
+    push_each(alloc, text, "IPv4 fails, and IPv6", IPV4_FAILS, IPV6)?;
+    push_each(alloc, text, "both fail", IPV4_FAILS, IPV6_FAILS)
 }
 
 fn push_each(
