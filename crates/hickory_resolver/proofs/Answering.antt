@@ -1,9 +1,8 @@
 -- A call that a resolver answers.
-use Rattle.std.proofs.Common.{◌≡◌, ◌⊎◌, ◌∙◌, ℕ, true, false, nat_le, if◌then◌else◌, List, [], Option, Some, Ok, Err, reverse, refl, sym, ap, subst, inl, inr}
+use Rattle.std.proofs.Common.{◌≡◌, ◌⊎◌, ℕ, true, nat_le, if◌then◌else◌, List, [], Option, Some, Ok, Err, refl, sym, ap, subst, inl, inr}
 use Rattle.hickory_proto_core.specs.Name.{NameValue}
 use Rattle.std.specs.declared.net.IpAddr.{IpAddr}
 use Rattle.hickory_proto_core.specs.Handles.{Step}
-use Rattle.hickory_proto_core.specs.Records.{DataValue, data_of_address}
 use Rattle.hickory_resolver_config.specs.declared.strategies.LookupIpStrategy.{LookupIpStrategy}
 use Rattle.hickory_proto_core.specs.NetErrors.{net_error_of}
 use Rattle.hickory_proto_core.specs.names.name_error.NameError.{NameError}
@@ -14,7 +13,7 @@ use Rattle.hickory_resolver_model.specs.Attempts.{attempts}
 use Rattle.hickory_resolver_model.specs.Lookup.{LookupValue, LookupResult}
 use Rattle.hickory_resolver_model.specs.Hosts.{Host}
 use Rattle.hickory_resolver_model.specs.Client.{ClientValue}
-use Rattle.hickory_resolver_model.specs.Calls.{CallPlan, literal_at_once, literal_at_last, last_resort}
+use Rattle.hickory_resolver_model.specs.Calls.{CallPlan, literal_at_once, literal_at_last}
 use Rattle.hickory_resolver_model.specs.Resolver.{ResolverValue, LooksUp, AnswersCall, settings}
 use Rattle.hickory_resolver_model.specs.Run.{Call, AtOnce, Attempt, address_call, address_plan, name_call}
 
@@ -62,13 +61,3 @@ module _ {H : Type 0} (step : Step H) (now : ℕ) (before : ResolverValue H) whe
   literal_answered address n result few is =
       call_at_once (address_call (settings before) (Some address) (Ok n) now) (Ok (literal_at_once n address now)) result
       (ap (λ b. if b then AtOnce (Ok (literal_at_once n address now)) else Attempt n (address_plan (settings before).strategy (Some (literal_at_last address now)))) few) is
-
-  -- an address that is the last resort
-  pub literal_last : (address : IpAddr) (n : NameValue) (rdata : DataValue) (result : LookupResult) (after : ResolverValue H) → nat_le (settings before).search.ndots 4 ≡ false → rdata ≡ data_of_address address
-      → AnswersCall step now (Attempt n (address_plan (settings before).strategy (Some (last_resort rdata now)))) before result after → AnswersCall step now (address_call (settings before) (Some address) (Ok n) now) before result after
-  literal_last address n rdata result after many data_are answered =
-      let D : DataValue → Type 0 = λ d. AnswersCall step now (Attempt n (address_plan (settings before).strategy (Some (last_resort d now)))) before result after in
-      let C : Call → Type 0 = λ call. AnswersCall step now call before result after in
-      let call_is : address_call (settings before) (Some address) (Ok n) now ≡ Attempt n (address_plan (settings before).strategy (Some (literal_at_last address now))) =
-      ap (λ b. if b then AtOnce (Ok (literal_at_once n address now)) else Attempt n (address_plan (settings before).strategy (Some (literal_at_last address now)))) many in
-      subst C (sym call_is) (subst D data_are answered)

@@ -1,5 +1,5 @@
 -- Attempts of a client, one after another.
-use Rattle.std.proofs.Common.{◌≡◌, ◌⊎◌, ℕ, Bool, true, false, List, [], ◌∷◌, ◌++◌, reverse, flat_map, Some, None, Ok, Err, refl, sym, ap, ◌∙◌, subst, inl, inr, append_assoc}
+use Rattle.std.proofs.Common.{◌≡◌, ◌⊎◌, ℕ, Bool, true, false, List, [], ◌∷◌, ◌++◌, reverse, Some, None, Ok, Err, refl, sym, ap, ◌∙◌, subst, inl, inr, append_assoc}
 use Rattle.std.proofs.lemmas.List.{append-nil, reverse-append}
 use Rattle.std.proofs.lemmas.Grind.{flat_map-append}
 use Rattle.std.specs.Borrow.{Bor}
@@ -7,13 +7,12 @@ use Rattle.hickory_proto_core.specs.Name.{NameValue}
 use Rattle.hickory_proto_core.specs.Handles.{Step, Leads, Leads-append}
 use Rattle.hickory_proto_core.specs.codes.record_type.RecordType.{RecordType}
 use Rattle.hickory_proto_core.specs.declared.dns_request.DnsRequestOptions.{DnsRequestOptions}
-use Rattle.hickory_proto_core.specs.declared.recorded.Exchange.{Exchange}
 use Rattle.hickory_proto_core.specs.records.net_error.NetError.TheVariants.{Message, OutOfMemory}
 use Rattle.hickory_resolver_model.specs.Cache.{CacheValue}
 use Rattle.hickory_resolver_model.specs.Lookup.{LookupValue, LookupResult}
 use Rattle.hickory_resolver_model.specs.Hosts.{Host, IsStatic}
 use Rattle.hickory_resolver_model.specs.Client.{ClientValue, IsLookup}
-use Rattle.hickory_resolver_model.specs.Calls.{Setting, Plan, One, Static, Client, SubLookup, SubLookupRelation, IsSubLookupFor, CallPlan, Says, IsAttempt, AreAttempts, IsLastReply, question_of, takes_memory, stops, asks_of_sub_lookups}
+use Rattle.hickory_resolver_model.specs.Calls.{Plan, One, Static, Client, SubLookup, SubLookupRelation, IsSubLookupFor, CallPlan, Says, IsAttempt, AreAttempts, IsLastReply, question_of, takes_memory, stops, asks_of_sub_lookups}
 use Rattle.hickory_resolver_model.specs.Resolver.{setting_of, LooksUp}
 use Rattle.hickory_resolver.specs.Attempting.{Attempts, AreFurther, GoesOn}
 

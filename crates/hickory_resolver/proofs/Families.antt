@@ -1,6 +1,5 @@
 -- An attempt of two types, made of attempts of one; and the last resort behind the attempts.
 use Rattle.std.proofs.Common.{◌≡◌, ◌⊎◌, ℕ, Bool, true, false, ◌||◌, List, [], ◌∷◌, ◌++◌, Option, Some, None, Ok, Err, refl, sym, ap, ◌∙◌, subst, inl, inr, if◌then◌else◌}
-use Rattle.std.proofs.lemmas.List.{append-nil}
 use Rattle.hickory_proto_core.specs.Name.{NameValue}
 use Rattle.hickory_proto_core.specs.Handles.{Step, Leads, Leads-append}
 use Rattle.hickory_proto_core.specs.codes.record_type.RecordType.{RecordType}
@@ -10,7 +9,7 @@ use Rattle.hickory_resolver_model.specs.Cache.{CacheValue}
 use Rattle.hickory_resolver_model.specs.Lookup.{LookupValue, LookupResult}
 use Rattle.hickory_resolver_model.specs.Hosts.{Host}
 use Rattle.hickory_resolver_model.specs.Client.{ClientValue}
-use Rattle.hickory_resolver_model.specs.Calls.{Setting, Plan, One, Both, SubLookup, SubLookupRelation, IsSubLookupFor, CallPlan, Says, IsAttempt, AreSubLookups, AreAttempts, IsLastReply, IsAttemptResult, question_of, next_type, joins_results, takes_memory, both_results, has_answers, is_out_of_memory, stops, asks_of_sub_lookups}
+use Rattle.hickory_resolver_model.specs.Calls.{Plan, One, Both, SubLookup, SubLookupRelation, IsSubLookupFor, Says, IsAttempt, AreSubLookups, AreAttempts, IsLastReply, IsAttemptResult, question_of, next_type, joins_results, takes_memory, both_results, has_answers, is_out_of_memory, stops, asks_of_sub_lookups}
 use Rattle.hickory_resolver_model.specs.Resolver.{setting_of, LooksUp}
 use Rattle.hickory_resolver_model.specs.Run.{address_plan}
 use Rattle.std.specs.Option.{is_some}

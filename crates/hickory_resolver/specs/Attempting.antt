@@ -7,7 +7,7 @@ use Rattle.hickory_resolver_model.specs.Cache.{CacheValue}
 use Rattle.hickory_resolver_model.specs.Lookup.{LookupValue, LookupResult}
 use Rattle.hickory_resolver_model.specs.Hosts.{Host}
 use Rattle.hickory_resolver_model.specs.Client.{ClientValue}
-use Rattle.hickory_resolver_model.specs.Calls.{Setting, Plan, SubLookup, SubLookupRelation, CallPlan, IsSubLookupFor, IsAttempt, AreAttempts, IsLastReply, stops, asks_of_sub_lookups}
+use Rattle.hickory_resolver_model.specs.Calls.{Plan, SubLookup, SubLookupRelation, CallPlan, IsSubLookupFor, IsAttempt, AreAttempts, IsLastReply, stops, asks_of_sub_lookups}
 use Rattle.hickory_resolver_model.specs.Resolver.{setting_of}
 
 -- a client makes an attempt at a name: the exchanges of its sub-look-ups led the handle

@@ -1,4 +1,4 @@
-use Rattle.std.proofs.Common.{◌≡◌, true, false, Some, None, Err, if◌then◌else◌, inl, refl, subst, sym, ap, ◌∙◌}
+use Rattle.std.proofs.Common.{◌≡◌, true, false, Some, None, if◌then◌else◌, inl, refl, subst, sym, ap, ◌∙◌}
 use Rattle.hickory_proto_core.specs.Name.{NameValue}
 use Rattle.hickory_resolver_model.specs.Calls.{One, Fallback, stops}
 use Rattle.hickory_resolver.specs.Attempting.{Attempts}

@@ -1,4 +1,4 @@
-use Rattle.std.proofs.Common.{rules, refl, ap, ◌∙◌, reverse}
+use Rattle.std.proofs.Common.{rules, ap, ◌∙◌, reverse}
 use Rattle.std.proofs.lemmas.List.{reverse-reverse}
 use Rattle.std.specs.Option.{option_map}
 use Rattle.hickory_proto_core.specs.Records.{data_of}

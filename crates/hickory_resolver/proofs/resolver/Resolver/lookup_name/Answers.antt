@@ -1,4 +1,4 @@
-use Rattle.std.proofs.Common.{rules, refl, ap, ◌∙◌, reverse}
+use Rattle.std.proofs.Common.{rules, ap, ◌∙◌, reverse}
 use Rattle.std.proofs.lemmas.List.{reverse-reverse}
 use Rattle.hickory_resolver_model.specs.Resolver.{ResolverValue}
 use Rattle.hickory_resolver_model.specs.Run.{name_plan}
