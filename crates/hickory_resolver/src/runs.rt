@@ -33,9 +33,9 @@ pub fn run<H: DnsHandle + Drop>(
         t.resolver.client.cache) }
     ensures headline { IfOk result (λ t.
         (run : Run (settings_of config options hosts) (first_cache (settings_of config options hosts))
-            (map request_of requests.now) t.steps t.resolver.client.handle.exchanges t.resolver.client.cache)
+        (map request_of requests.now) t.steps t.resolver.client.handle.exchanges t.resolver.client.cache)
         → Headline (settings_of config options hosts) (first_cache (settings_of config options hosts))
-            (map request_of requests.now) t.steps t.resolver.client.handle.exchanges t.resolver.client.cache run) }
+        (map request_of requests.now) t.steps t.resolver.client.handle.exchanges t.resolver.client.cache run) }
     ensures resolver { IfOk result (λ t. t.resolver ≡ record {
       client = record {
         cache = t.resolver.client.cache;
@@ -49,7 +49,14 @@ pub fn run<H: DnsHandle + Drop>(
     ensures refused { MatchResult result (λ _. bounds_fault (bounds_of options) ≡ None)
         (IsNoRun (bounds_fault (bounds_of options))) }
 {
-    run_with_hasher(config, options, hosts, handle, requests, BuildHasherDefault::new())
+    run_with_hasher(
+        config,
+        options,
+        hosts,
+        handle,
+        requests,
+        BuildHasherDefault::new(),
+    )
 }
 
 /// As `run`; names of questions in the cache are hashed by this hasher, and those of the hosts by their own.
@@ -66,9 +73,9 @@ pub fn run_with_hasher<H: DnsHandle + Drop, S: BuildHasher + Drop>(
         t.resolver.client.cache) }
     ensures headline { IfOk result (λ t.
         (run : Run (settings_of config options hosts) (first_cache (settings_of config options hosts))
-            (map request_of requests.now) t.steps t.resolver.client.handle.exchanges t.resolver.client.cache)
+        (map request_of requests.now) t.steps t.resolver.client.handle.exchanges t.resolver.client.cache)
         → Headline (settings_of config options hosts) (first_cache (settings_of config options hosts))
-            (map request_of requests.now) t.steps t.resolver.client.handle.exchanges t.resolver.client.cache run) }
+        (map request_of requests.now) t.steps t.resolver.client.handle.exchanges t.resolver.client.cache run) }
     ensures resolver { IfOk result (λ t. t.resolver ≡ record {
       client = record {
         cache = t.resolver.client.cache;

@@ -26,6 +26,7 @@ use std::hash::BuildHasher;
 // What is run: it comes to an outcome, or is refused.
 pub trait Runs {
     type Out;
+
     type Fault;
 
     ghost use Rattle.std.specs.Prelude.{List, Result};
@@ -72,13 +73,14 @@ impl<R: DnsHandle + Recording + Drop, S: BuildHasher + Drop> Runs for Start<R, S
     ghost use Rattle.hickory_resolver.specs.Transcripts.{IsNoRun};
 
     type Out = Served<R, S>;
+
     type Fault = NetError;
 
     ghost runs = { λ s requests result. MatchResult result
         (λ o. (bounds_fault (bounds_of s.options) ≡ None)
-            × AnswersAll R.DnsHandle.step R.Recording.kept
-            (record (new_resolver s.config s.options s.handle) { hosts = s.hosts }) (map request_of requests)
-            o.steps.items o.resolver)
+        × AnswersAll R.DnsHandle.step R.Recording.kept
+        (record (new_resolver s.config s.options s.handle) { hosts = s.hosts }) (map request_of requests)
+        o.steps.items o.resolver)
         (IsNoRun (bounds_fault (bounds_of s.options))) };
 
     fn run_all(self, requests: &[Request]) -> Result<Served<R, S>, NetError> {
@@ -180,10 +182,7 @@ fn exchange_count<R: DnsHandle + Recording, S: BuildHasher>(resolver: &Resolver<
 }
 
 // What a request is answered.
-fn reply_to<R: DnsHandle, S: BuildHasher>(
-    resolver: &mut Resolver<R, S>,
-    request: &Request,
-) -> Reply
+fn reply_to<R: DnsHandle, S: BuildHasher>(resolver: &mut Resolver<R, S>, request: &Request) -> Reply
     ensures { Answered R.step (request_of request.now) resolver.old (reply_of result) resolver.new }
 {
     match request {
