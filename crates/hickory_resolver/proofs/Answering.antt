@@ -1,18 +1,21 @@
 -- A call that a resolver answers.
-use Rattle.std.proofs.Common.{◌≡◌, ◌∙◌, ℕ, true, List, [], Err, reverse, refl, sym, ap, subst, inl, inr}
+use Rattle.std.proofs.Common.{◌≡◌, ◌⊎◌, ℕ, true, nat_le, if◌then◌else◌, List, [], Option, Some, Ok, Err, refl, sym, ap, subst, inl, inr}
 use Rattle.hickory_proto_core.specs.Name.{NameValue}
+use Rattle.std.specs.declared.net.IpAddr.{IpAddr}
 use Rattle.hickory_proto_core.specs.Handles.{Step}
+use Rattle.hickory_resolver_config.specs.declared.strategies.LookupIpStrategy.{LookupIpStrategy}
 use Rattle.hickory_proto_core.specs.NetErrors.{net_error_of}
 use Rattle.hickory_proto_core.specs.names.name_error.NameError.{NameError}
 use Rattle.hickory_proto_core.specs.codes.record_type.RecordType.{RecordType}
 use Rattle.hickory_proto_core.specs.declared.dns_request.DnsRequestOptions.{DnsRequestOptions}
 use Rattle.hickory_proto_core.specs.records.net_error.NetError.TheVariants.{OutOfMemory}
 use Rattle.hickory_resolver_model.specs.Attempts.{attempts}
-use Rattle.hickory_resolver_model.specs.Lookup.{LookupResult}
+use Rattle.hickory_resolver_model.specs.Lookup.{LookupValue, LookupResult}
 use Rattle.hickory_resolver_model.specs.Hosts.{Host}
 use Rattle.hickory_resolver_model.specs.Client.{ClientValue}
+use Rattle.hickory_resolver_model.specs.Calls.{CallPlan, literal_at_once, literal_at_last}
 use Rattle.hickory_resolver_model.specs.Resolver.{ResolverValue, LooksUp, AnswersCall, settings}
-use Rattle.hickory_resolver_model.specs.Run.{Call, Attempt, name_plan, name_call}
+use Rattle.hickory_resolver_model.specs.Run.{Call, AtOnce, Attempt, address_call, address_plan, name_call}
 
 module _ {H : Type 0} (step : Step H) (now : ℕ) (before : ResolverValue H) where
   -- memory ran out before anything was asked
@@ -24,15 +27,37 @@ module _ {H : Type 0} (step : Step H) (now : ℕ) (before : ResolverValue H) whe
   call_fault t fault result is = record { parts = []; led = refl; is = inl (refl, is, refl); option_stays = refl; others_stay = refl }
 
   -- the names that are attempted were looked up
-  pub call_looked_up : (t : RecordType) (n : NameValue) (options : DnsRequestOptions) (hosts : List Host) (names : List NameValue) (client after_client : ClientValue H) (result : LookupResult) (after : ResolverValue H)
+  pub call_looked_up : (plan : CallPlan) (n : NameValue) (options : DnsRequestOptions) (hosts : List Host) (names : List NameValue) (client after_client : ClientValue H) (result : LookupResult) (after : ResolverValue H)
       → options ≡ (settings before).requests → hosts ≡ before.hosts → client ≡ before.client → names ≡ attempts (settings before).search n
-      → LooksUp step options hosts now (name_plan t) true names client result after_client → after ≡ record before { client = after_client }
-      → AnswersCall step now (Attempt n (name_plan t)) before result after
-  call_looked_up t n options hosts names client after_client result after options_are hosts_are client_is names_are looked_up after_is =
-      let O : DnsRequestOptions → Type 0 = λ o. LooksUp step o hosts now (name_plan t) true names client result after_client in
-      let P : List Host → Type 0 = λ hs. LooksUp step (settings before).requests hs now (name_plan t) true names client result after_client in
-      let C : ClientValue H → Type 0 = λ c. LooksUp step (settings before).requests before.hosts now (name_plan t) true names c result after_client in
-      let N : List NameValue → Type 0 = λ ns. LooksUp step (settings before).requests before.hosts now (name_plan t) true ns before.client result after_client in
+      → LooksUp step options hosts now plan true names client result after_client → after ≡ record before { client = after_client }
+      → AnswersCall step now (Attempt n plan) before result after
+  call_looked_up plan n options hosts names client after_client result after options_are hosts_are client_is names_are looked_up after_is =
+      let O : DnsRequestOptions → Type 0 = λ o. LooksUp step o hosts now plan true names client result after_client in
+      let P : List Host → Type 0 = λ hs. LooksUp step (settings before).requests hs now plan true names client result after_client in
+      let C : ClientValue H → Type 0 = λ c. LooksUp step (settings before).requests before.hosts now plan true names c result after_client in
+      let N : List NameValue → Type 0 = λ ns. LooksUp step (settings before).requests before.hosts now plan true ns before.client result after_client in
       let l = subst N names_are (subst C client_is (subst P hosts_are (subst O options_are looked_up))) in
-      let A : ResolverValue H → Type 0 = λ r. AnswersCall step now (Attempt n (name_plan t)) before result r in
+      let A : ResolverValue H → Type 0 = λ r. AnswersCall step now (Attempt n plan) before result r in
       subst A (sym after_is) (record { parts = l.parts; led = l.led; is = inl l.are; option_stays = l.option_stays; others_stay = refl })
+
+  -- the answer is given at once, or memory ran out for it
+  pub call_at_once : (call : Call) (answer result : LookupResult) → call ≡ AtOnce answer → (result ≡ answer) ⊎ (result ≡ Err OutOfMemory) → AnswersCall step now call before result before
+  call_at_once call answer result call_is (inl is) =
+      subst (λ x. AnswersCall step now x before result before) (sym call_is) (record { parts = []; led = refl; is = inl (refl, is, refl); option_stays = refl; others_stay = refl })
+  call_at_once call answer result call_is (inr out) = call_unserved call result out
+
+  -- the same of addresses
+  pub call_addresses : (literal : Option LookupValue) (strategy : LookupIpStrategy) (n : NameValue) (options : DnsRequestOptions) (hosts : List Host) (names : List NameValue) (client after_client : ClientValue H) (result : LookupResult) (after : ResolverValue H)
+      → strategy ≡ (settings before).strategy → options ≡ (settings before).requests → hosts ≡ before.hosts → client ≡ before.client → names ≡ attempts (settings before).search n
+      → LooksUp step options hosts now (address_plan strategy literal) true names client result after_client → after ≡ record before { client = after_client }
+      → AnswersCall step now (Attempt n (address_plan (settings before).strategy literal)) before result after
+  call_addresses literal strategy n options hosts names client after_client result after strategy_is options_are hosts_are client_is names_are looked_up after_is =
+      let S : LookupIpStrategy → Type 0 = λ s. LooksUp step options hosts now (address_plan s literal) true names client result after_client in
+      call_looked_up (address_plan (settings before).strategy literal) n options hosts names client after_client result after options_are hosts_are client_is names_are (subst S strategy_is looked_up) after_is
+
+  -- an address that is the reply at once
+  pub literal_answered : (address : IpAddr) (n : NameValue) (result : LookupResult) → nat_le (settings before).search.ndots 4 ≡ true
+      → (result ≡ Ok (literal_at_once n address now)) ⊎ (result ≡ Err OutOfMemory) → AnswersCall step now (address_call (settings before) (Some address) (Ok n) now) before result before
+  literal_answered address n result few is =
+      call_at_once (address_call (settings before) (Some address) (Ok n) now) (Ok (literal_at_once n address now)) result
+      (ap (λ b. if b then AtOnce (Ok (literal_at_once n address now)) else Attempt n (address_plan (settings before).strategy (Some (literal_at_last address now)))) few) is

@@ -1,2 +1,4 @@
 pub mod Attempting
+pub mod Families
 pub mod Answering
+pub mod Serving

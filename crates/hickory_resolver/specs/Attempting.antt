@@ -1,13 +1,13 @@
 -- Attempts of a client one by one: one at a name, and those that follow a result.
-use Rattle.std.specs.Prelude.{◌≡◌, ◌⊎◌, ℕ, Bool, true, false, List, []}
+use Rattle.std.specs.Prelude.{◌≡◌, ◌⊎◌, ℕ, Bool, true, false, List, [], Option}
 use Rattle.hickory_proto_core.specs.Name.{NameValue}
 use Rattle.hickory_proto_core.specs.Handles.{Step, Leads}
 use Rattle.hickory_proto_core.specs.declared.dns_request.DnsRequestOptions.{DnsRequestOptions}
 use Rattle.hickory_resolver_model.specs.Cache.{CacheValue}
-use Rattle.hickory_resolver_model.specs.Lookup.{LookupResult}
+use Rattle.hickory_resolver_model.specs.Lookup.{LookupValue, LookupResult}
 use Rattle.hickory_resolver_model.specs.Hosts.{Host}
 use Rattle.hickory_resolver_model.specs.Client.{ClientValue}
-use Rattle.hickory_resolver_model.specs.Calls.{Setting, Plan, SubLookup, SubLookupRelation, CallPlan, IsSubLookupFor, IsAttempt, AreAttempts, stops, asks_of_sub_lookups}
+use Rattle.hickory_resolver_model.specs.Calls.{Plan, SubLookup, SubLookupRelation, CallPlan, IsSubLookupFor, IsAttempt, AreAttempts, IsLastReply, stops, asks_of_sub_lookups}
 use Rattle.hickory_resolver_model.specs.Resolver.{setting_of}
 
 -- a client makes an attempt at a name: the exchanges of its sub-look-ups led the handle
@@ -42,3 +42,10 @@ pub record GoesOn
       AreFurther (IsSubLookupFor (setting_of before hosts now)) plan before.cache names last parts result
       after.cache
   pub option_stays : after.preserve_intermediates ≡ before.preserve_intermediates
+
+-- the reply of a look-up whose attempts came to this: the last resort, if there is one, stands in where none
+-- has answers
+abbrev pub IsReplyOrLastResort : Option LookupValue → LookupResult → LookupResult → Type 0
+IsReplyOrLastResort literal reply result =
+    ((stops reply ≡ true) × (result ≡ reply))
+    ⊎ ((stops reply ≡ false) × IsLastReply literal (λ x. x ≡ reply) result)

@@ -1,4 +1,7 @@
 pub mod Attempting
+pub mod Requests
+pub mod Serving
+pub mod Transcripts
 pub use Rattle.hickory_resolver_model.specs.AliasWalk
 pub use Rattle.hickory_resolver_model.specs.Attempts
 pub use Rattle.hickory_resolver_model.specs.Bounds
@@ -21,3 +24,4 @@ pub use Rattle.hickory_resolver_theorems.specs.Provenance
 pub use Rattle.hickory_resolver_hosts.specs.Reading
 pub use Rattle.hickory_resolver_watched.specs.Watched
 pub use Rattle.hickory_resolver_hosts.specs.declared as hosts
+pub use Rattle.hickory_resolver_addresses.specs.Addresses

@@ -56,7 +56,7 @@ impl LookupFuture {
 }
 
 // One attempt: what the table of hosts has, or else what the client answers.
-fn attempt_with_hosts<H: DnsHandle, S: BuildHasher, T: BuildHasher>(
+pub(crate) fn attempt_with_hosts<H: DnsHandle, S: BuildHasher, T: BuildHasher>(
     name: Name,
     record_type: RecordType,
     options: DnsRequestOptions,
@@ -99,7 +99,7 @@ fn go_on<H: DnsHandle, S: BuildHasher>(
 }
 
 // Whether no attempt follows this result: it has answers, or memory ran out.
-fn stops(attempt: &Result<Lookup, NetError>) -> bool
+pub(crate) fn stops(attempt: &Result<Lookup, NetError>) -> bool
     ensures { result ≡ stops attempt.now }
 {
     match attempt {

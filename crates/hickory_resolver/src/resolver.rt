@@ -1,28 +1,35 @@
 //! The resolver: names and types are turned into records.
 ghost use Rattle.std.specs.Prelude.{◌≡◌, ◌≢◌, [], IfOk, OnOk, OnErr, IsOkUnless, Err, Ok, Result};
+ghost use Rattle.std.specs.Option.{option_map};
 ghost use Rattle.hickory_proto_core.specs.Name.{NameValue};
+ghost use Rattle.hickory_proto_core.specs.Records.{data_of};
 ghost use Rattle.hickory_proto_core.specs.codes.record_type.RecordType.TheVariants as type;
 ghost use Rattle.hickory_proto_core.specs.names.name_error.NameError.{NameError};
 ghost use Rattle.hickory_resolver_config.specs.Resolver.{default_options};
 ghost use Rattle.hickory_resolver_model.specs.Attempts.{attempts};
+ghost use Rattle.hickory_resolver_model.specs.Calls.{last_resort};
 ghost use Rattle.hickory_resolver_model.specs.Options.{request_options_of};
-ghost use Rattle.hickory_resolver_model.specs.Resolver.{AnswersCall, AnswersName, after_clear_lookup, settings};
-ghost use Rattle.hickory_resolver_model.specs.Run.{Attempt, drop_each, name_plan};
+ghost use Rattle.hickory_resolver_model.specs.Resolver.{AnswersCall, AnswersHost, AnswersName, after_clear_lookup, settings};
+ghost use Rattle.hickory_resolver_model.specs.Run.{Attempt, address_call, address_plan, drop_each, name_plan};
 
 use crate::caching_client::CachingClient;
-use crate::config::{ResolverConfig, ResolverOpts};
+use crate::config::{LookupIpStrategy, ResolverConfig, ResolverOpts};
 use crate::hosts::Hosts;
+use crate::literals::literal_at_once;
 use crate::lookup::Lookup;
 use crate::lookup_future::LookupFuture;
+use crate::lookup_ip::LookupIp;
+use crate::lookup_ip_future::LookupIpFuture;
 use crate::resolver_builder::ResolverBuilder;
 use hickory_proto_core::{
-    DnsHandle, DnsRequestOptions, IntoName, Name, NameError, NetError, Query, RecordType,
+    DnsHandle, DnsRequestOptions, IntoName, Name, NameError, NetError, Query, RData, RecordType,
 };
 use hickory_resolver_attempts::attempts;
 use std::alloc::Global;
 use std::fmt;
 use std::hash::{BuildHasher, BuildHasherDefault, FoldHasher};
 use std::marker::Model;
+use std::net::IpAddr;
 
 /// A resolver: it answers what a table of hosts has, what its cache has, and else what the upstream answers.
 #[derive(Drop)]
@@ -101,6 +108,22 @@ impl<H: DnsHandle, S: BuildHasher> Resolver<H, S> {
     {
         let name = name.into_name(self.alloc())?;
         self.lookup_name(name, record_type, now)
+    }
+
+    /// Looks up the addresses of a host, at a moment (seconds). The names that are attempted for it are those of
+    /// `lookup`, in the same way; the strategy of the options says which families are asked for at each. The
+    /// table of hosts is asked for every name and family, before the cache and the upstream. A text that spells
+    /// an address is answered by it at once, for a day, where `ndots` is 4 at the most or the text is no name;
+    /// else the address is the reply where no name has answers. Any other text that is no name gets its fault as
+    /// the answer, and nothing is asked.
+    pub fn lookup_ip<N: IntoName>(&mut self, host: N, now: u64) -> Result<LookupIp, NetError>
+        ensures { AnswersHost H.step (N.to_ip_gives host) (N.into_name_gives host) now self.old result self.new }
+    {
+        let address = host.to_ip();
+        match host.into_name(self.alloc()) {
+            Ok(name) => self.lookup_host(address, name, now),
+            Err(fault) => self.literal_or_fault(address, fault, now),
+        }
     }
 
     /// A look-up of PTR records: of an address, the names that it has. A text is read as a name.
@@ -231,6 +254,69 @@ impl<H: DnsHandle, S: BuildHasher> Resolver<H, S> {
         )
     }
 
+    // Looks up the addresses of a name that was read, of a text that spells this address.
+    fn lookup_host(
+        &mut self,
+        address: Option<IpAddr>,
+        name: Name,
+        now: u64,
+    ) -> Result<LookupIp, NetError>
+        ensures { AnswersCall H.step now (address_call (settings self.old) address (Ok name) now) self.old result
+            self.new }
+    {
+        match address {
+            Some(address) if self.options.ndots <= 4 => {
+                literal_at_once(self.alloc(), name, address, now)
+            }
+            Some(address) => self.attempt_host(name, Some(RData::from(address)), now),
+            None => self.attempt_host(name, None, now),
+        }
+    }
+
+    // The answer for a text that is no name: the address that it spells, or its fault. Out of memory says nothing
+    // of the text.
+    fn literal_or_fault(
+        &self,
+        address: Option<IpAddr>,
+        fault: NameError,
+        now: u64,
+    ) -> Result<LookupIp, NetError>
+        ensures { AnswersHost H.step (λ a. a ≡ address) (λ n. n ≡ Err fault) now self.now result self.now }
+    {
+        match (fault, address) {
+            (NameError::OutOfMemory, _) => Err(NetError::OutOfMemory),
+            (_, Some(address)) => {
+                literal_at_once(self.alloc(), Name::new(self.alloc()), address, now)
+            }
+            (fault, None) => Err(NetError::from(fault)),
+        }
+    }
+
+    // Attempts a name for addresses, with this last resort.
+    fn attempt_host(
+        &mut self,
+        name: Name,
+        finally_ip_addr: Option<RData>,
+        now: u64,
+    ) -> Result<LookupIp, NetError>
+        ensures { AnswersCall H.step now (Attempt name (address_plan (settings self.old).strategy
+            (option_map (λ rdata. last_resort (data_of rdata) now) finally_ip_addr))) self.old result self.new }
+    {
+        let mut attempts = self.attempts(name)?;
+        attempts.reverse();
+        let strategy = self.ip_strategy();
+        let options = self.request_options();
+        LookupIpFuture::lookup(
+            attempts,
+            strategy,
+            &mut self.client,
+            options,
+            &self.hosts,
+            finally_ip_addr,
+            now,
+        )
+    }
+
     // Drops what the cache has for the attempts at a name.
     fn clear_name(&mut self, name: Name, record_type: RecordType) -> Result<(), NetError>
         ensures ok { OnOk result (self.new ≡ after_clear_lookup record_type (Ok name) self.old) }
@@ -261,6 +347,13 @@ impl<H: DnsHandle, S: BuildHasher> Resolver<H, S> {
             edns_payload_len: self.options.edns_payload_len,
             case_randomization: self.options.case_randomization,
         }
+    }
+
+    // Which families are asked for.
+    fn ip_strategy(&self) -> LookupIpStrategy
+        ensures { result ≡ self.now.options.ip_strategy }
+    {
+        self.options.ip_strategy
     }
 
     fn alloc(&self) -> Global {

@@ -5,7 +5,7 @@ use Rattle.std.specs.Option.{is_some}
 use Rattle.hickory_proto_core.specs.Name.{NameValue}
 use Rattle.hickory_proto_core.specs.Query.{root_query}
 use Rattle.hickory_proto_core.specs.ResponseKind.{is_empty}
-use Rattle.hickory_proto_core.specs.Records.{data_type, data_of_address}
+use Rattle.hickory_proto_core.specs.Records.{DataValue, data_type, data_of_address}
 use Rattle.std.specs.declared.net.IpAddr.{IpAddr}
 use Rattle.hickory_proto_core.specs.records.query.Query.{Query}
 use Rattle.hickory_proto_core.specs.codes.record_type.RecordType.{RecordType}
@@ -192,14 +192,14 @@ AreAttempts Answers plan looked before (n ∷ ns) IsLast parts result after =
     × (((stops r ≡ true) × (back ≡ []) × (result ≡ r) × (after ≡ mid))
     ⊎ ((stops r ≡ false) × AreAttempts Answers plan plan.hosts_for_all mid ns (λ x. x ≡ r) back result after))
 
--- an address as the reply that it is by itself, for a day: owned by this name, under this question
-abbrev pub literal_lookup : Query → NameValue → IpAddr → ℕ → LookupValue
-literal_lookup q owner address now =
+-- record data as the reply that they are by themselves, for a day: owned by this name, under this question
+abbrev pub literal_lookup : Query → NameValue → DataValue → ℕ → LookupValue
+literal_lookup q owner rdata now =
     answers_for_day q (record {
       name = owner;
       dns_class = class.IN;
       ttl = day;
-      rdata = data_of_address address;
+      rdata = rdata;
     } ∷ []) now
 
 -- the relative name without labels
@@ -210,11 +210,15 @@ no_name = record { labels = []; fqdn = false }
 -- question for it
 abbrev pub literal_at_once : NameValue → IpAddr → ℕ → LookupValue
 literal_at_once owner address now =
-    literal_lookup (question_of owner (data_type (data_of_address address))) owner address now
+    literal_lookup (question_of owner (data_type (data_of_address address))) owner (data_of_address address) now
 
--- the address as the last resort: under the question for the root, owned by the name without labels
+-- record data as the last resort: under the question for the root, owned by the name without labels
+abbrev pub last_resort : DataValue → ℕ → LookupValue
+last_resort rdata now = literal_lookup root_query no_name rdata now
+
+-- the address as the last resort
 abbrev pub literal_at_last : IpAddr → ℕ → LookupValue
-literal_at_last address now = literal_lookup root_query no_name address now
+literal_at_last address now = last_resort (data_of_address address) now
 
 -- the exchanges of parts, in order
 abbrev pub asks_of_sub_lookups : List SubLookup → List Exchange

@@ -1,12 +1,14 @@
 -- A resolver: a client, a table of hosts, and what it is configured with; and what a look-up by it does.
-use Rattle.std.specs.Prelude.{◌≡◌, ◌⊎◌, ℕ, Bool, List, [], Result, Ok, Err}
+use Rattle.std.specs.Prelude.{◌≡◌, ◌≢◌, ◌⊎◌, ℕ, Bool, List, [], Option, Result, Ok, Err}
 use Rattle.std.specs.Option.{option_map_or}
+use Rattle.std.specs.declared.net.IpAddr.{IpAddr}
 use Rattle.hickory_proto_core.specs.Name.{NameValue}
 use Rattle.hickory_proto_core.specs.Handles.{Step, Leads}
 use Rattle.hickory_proto_core.specs.codes.record_type.RecordType.{RecordType}
 use Rattle.hickory_proto_core.specs.names.name_error.NameError.{NameError}
+use Rattle.hickory_proto_core.specs.names.name_error.NameError.TheVariants as name_fault
 use Rattle.hickory_proto_core.specs.records.net_error.NetError.{NetError}
-use Rattle.hickory_proto_core.specs.records.net_error.NetError.TheVariants.{Bounds}
+use Rattle.hickory_proto_core.specs.records.net_error.NetError.TheVariants.{Bounds, OutOfMemory}
 use Rattle.hickory_proto_core.specs.declared.dns_request.DnsRequestOptions.{DnsRequestOptions}
 use Rattle.hickory_resolver_config.specs.Resolver.{ResolverConfigValue, OptionsValue}
 use Rattle.hickory_resolver_model.specs.Bounds.{bounds_fault}
@@ -15,7 +17,7 @@ use Rattle.hickory_resolver_model.specs.Lookup.{LookupResult}
 use Rattle.hickory_resolver_model.specs.Hosts.{Host}
 use Rattle.hickory_resolver_model.specs.Client.{ClientValue}
 use Rattle.hickory_resolver_model.specs.Calls.{Setting, SubLookup, CallPlan, IsSubLookupFor, Says, AreAttempts, asks_of_sub_lookups}
-use Rattle.hickory_resolver_model.specs.Run.{Settings, settings_of, setting_at, first_cache, Call, IsCall, IsUnserved, name_call, after_clear}
+use Rattle.hickory_resolver_model.specs.Run.{Settings, settings_of, setting_at, first_cache, Call, IsCall, IsUnserved, name_call, address_call, after_clear}
 
 -- where a call of a client starts, over a table of hosts
 abbrev pub setting_of : {H : Type 0} → ClientValue H → List Host → ℕ → Setting
@@ -87,6 +89,16 @@ abbrev pub AnswersName : {H : Type 0} → Step H → (Result NameValue NameError
     → ResolverValue H → LookupResult → ResolverValue H → Type 0
 AnswersName step Gives t now before result after =
     (name : Result NameValue NameError) × Gives name × AnswersCall step now (name_call t name) before result after
+
+-- What is given for a host is looked up: it spells an address or none, and gives a name, or its fault. Where
+-- memory runs out while the name is read, that is the answer, and nothing is asked.
+abbrev pub AnswersHost : {H : Type 0} → Step H → (Option IpAddr → Type 0)
+    → (Result NameValue NameError → Type 0) → ℕ → ResolverValue H → LookupResult → ResolverValue H → Type 0
+AnswersHost step Spells Gives now before result after =
+    (address : Option IpAddr) × Spells address × (name : Result NameValue NameError) × Gives name
+    × (((name ≢ Err name_fault.OutOfMemory)
+    × AnswersCall step now (address_call (settings before) address name now) before result after)
+    ⊎ ((name ≡ Err name_fault.OutOfMemory) × (result ≡ Err OutOfMemory) × (after ≡ before)))
 
 -- the resolver without what its cache had for the attempts at a name
 abbrev pub after_clear_lookup : {H : Type 0} → RecordType → Result NameValue NameError → ResolverValue H

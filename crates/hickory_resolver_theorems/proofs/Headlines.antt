@@ -16,7 +16,7 @@ use Rattle.hickory_resolver_model.specs.Attempts.{attempts}
 use Rattle.hickory_resolver_model.specs.Run.{Settings, setting_at, RequestValue, Lookup, LookupIp, ClearLookup, Clear, StepReply, LookedUp, Cleared, ends_run, drop_each, after_clear, Call, AtOnce, Attempt, name_call, address_call, IsCall, IsServed, StepValue, Stage, IsStage, AreStages, exchanges_of, Run}
 use Rattle.hickory_resolver_theorems.specs.Cacheless.{IsTable, ResolvesTo, IsConsistentWith, AreConsistentWith}
 use Rattle.hickory_resolver_theorems.specs.WithoutTimes.{without_times}
-use Rattle.hickory_resolver_theorems.specs.Statements.{IsWhatItResolvesTo, AreWhatTheyResolveTo, ResolvesWithinEight, CachelessSubLookup, IsCacheless, IsAsWithoutCache, Headline}
+use Rattle.hickory_resolver_theorems.specs.Statements.{IsWhatItResolvesTo, AreWhatTheyResolveTo, ResolvesWithinEight, CachelessSubLookup, IsCacheless, IsAsWithoutCache, AreAsWithoutCache, Headline}
 use Rattle.hickory_resolver_theorems.proofs.Lists.{all-front, all-back, all-filter}
 use Rattle.hickory_resolver_theorems.proofs.Transparent.{transparent}
 use Rattle.hickory_resolver_theorems.proofs.Runs.{first_clauses}
@@ -264,19 +264,29 @@ stage-alike : (table : TableValue) (s : Settings) (stage : Stage) (after : Cache
 stage-alike table s stage after apart off meant has tells is =
     served-alike table s stage.before stage.before stage.request stage.parts stage.step.reply after apart off meant has (subst (AreConsistentWith table) is.piece_is tells) is.served
 
-stages-alike : (table : TableValue) (s : Settings) (before : CacheValue) (requests : List RequestValue) (stages : List Stage) (after : CacheValue) → IsTable table → s.preserve_intermediates ≡ false → AreWhatTheyResolveTo table before → AreConsistentWith table (exchanges_of stages)
-    → AllByRecursion (λ stage. AllByRecursion (ResolvesWithinEight table) stage.parts) stages → AreStages s before requests stages after → AllByRecursion (IsAsWithoutCache table s) stages
-stages-alike table s before [] [] after apart off meant tells has e = tt
-stages-alike table s before [] (stage ∷ stages) after apart off meant tells has e = absurd e
-stages-alike table s before (request ∷ requests) [] after apart off meant tells has e = absurd e
-stages-alike table s before (request ∷ requests) (stage ∷ stages) after apart off meant tells (own, has) (mid, for, starts, is, inl (ended, none, same)) =
-    let here = stage-alike table s stage mid apart off (subst (AreWhatTheyResolveTo table) (sym starts) meant) own (all-front (IsConsistentWith table) stage.piece (exchanges_of stages) tells) is in
-    (here.0, subst (AllByRecursion (IsAsWithoutCache table s)) (sym none) tt)
-stages-alike table s before (request ∷ requests) (stage ∷ stages) after apart off meant tells (own, has) (mid, for, starts, is, inr (on, rest)) =
-    let here = stage-alike table s stage mid apart off (subst (AreWhatTheyResolveTo table) (sym starts) meant) own (all-front (IsConsistentWith table) stage.piece (exchanges_of stages) tells) is in
-    (here.0, stages-alike table s mid requests stages after apart off here.1 (all-back (IsConsistentWith table) stage.piece (exchanges_of stages) tells) has rest)
+-- a step after these, whatever comes after it
+stage-alike-after : (table : TableValue) (s : Settings) (before : CacheValue) (requests : List RequestValue) (earlier : List Stage) (stage : Stage) (later : List Stage) (after : CacheValue) → IsTable table → s.preserve_intermediates ≡ false → AreWhatTheyResolveTo table before
+    → AreConsistentWith table (exchanges_of (earlier ++ stage ∷ [])) → AllByRecursion (λ x. AllByRecursion (ResolvesWithinEight table) x.parts) (earlier ++ stage ∷ [])
+    → AreStages s before requests (earlier ++ stage ∷ later) after → IsAsWithoutCache table s stage
+stage-alike-after table s before [] [] stage later after apart off meant tells has are = absurd are
+stage-alike-after table s before [] (e ∷ es) stage later after apart off meant tells has are = absurd are
+stage-alike-after table s before (request ∷ requests) [] stage later after apart off meant tells (own, has) (mid, for, starts, is, goes) =
+    (stage-alike table s stage mid apart off (subst (AreWhatTheyResolveTo table) (sym starts) meant) own (all-front (IsConsistentWith table) stage.piece [] tells) is).0
+stage-alike-after table s before (request ∷ requests) (e ∷ es) stage later after apart off meant tells (own, has) (mid, for, starts, is, inl (ended, none, same)) =
+    absurd (nothing es none)
+  where
+    nothing : (xs : List Stage) → xs ++ stage ∷ later ≡ [] → ⊥
+    nothing [] h = let clash : stage ∷ later ≡ [] = h in cc
+    nothing (x ∷ xs) h = let clash : x ∷ (xs ++ stage ∷ later) ≡ [] = h in cc
+stage-alike-after table s before (request ∷ requests) (e ∷ es) stage later after apart off meant tells (own, has) (mid, for, starts, is, inr (on, rest)) =
+    let here = stage-alike table s e mid apart off (subst (AreWhatTheyResolveTo table) (sym starts) meant) own (all-front (IsConsistentWith table) e.piece (exchanges_of (es ++ stage ∷ [])) tells) is in
+    stage-alike-after table s mid requests es stage later after apart off here.1 (all-back (IsConsistentWith table) e.piece (exchanges_of (es ++ stage ∷ [])) tells) has rest
 
-pub headline : (s : Settings) (empty : CacheValue) (requests : List RequestValue) (steps : List StepValue) (exchanges : List Exchange) (after : CacheValue) → Run s empty requests steps exchanges after → Headline s empty requests steps exchanges after
+pub headline : (s : Settings) (empty : CacheValue) (requests : List RequestValue) (steps : List StepValue) (exchanges : List Exchange) (after : CacheValue) (run : Run s empty requests steps exchanges after) → Headline s empty requests steps exchanges after run
 headline s empty requests steps exchanges after run none moments =
     let first = first_clauses s empty requests steps exchanges after none run in
-    (run, first.0, first.1, λ table off apart tells has. stages-alike table s empty requests run.stages after apart off (subst (AllByRecursion (IsWhatItResolvesTo table)) (sym none) tt) tells has run.are)
+    (first.0, first.1, last)
+  where
+    last : AreAsWithoutCache s run.stages
+    last earlier stage later split table off apart tells has =
+        stage-alike-after table s empty requests earlier stage later after apart off (subst (AllByRecursion (IsWhatItResolvesTo table)) (sym none) tt) tells has (subst (λ xs. AreStages s empty requests xs after) split run.are)

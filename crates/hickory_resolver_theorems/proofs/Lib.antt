@@ -4,6 +4,7 @@ pub mod Few
 pub mod Folding
 pub mod Fresh
 pub mod Kept
+pub mod KeptCalls
 pub mod Headlines
 pub mod Lists
 pub mod Meanings

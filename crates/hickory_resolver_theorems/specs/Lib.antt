@@ -2,6 +2,7 @@ pub mod AttemptLaws
 pub mod Cacheless
 pub mod WithoutTimes
 pub mod Covered
+pub mod Keeping
 pub mod Statements
 pub mod Provenance
 pub mod WalkLaws

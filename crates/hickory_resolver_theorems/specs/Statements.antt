@@ -143,15 +143,16 @@ abbrev pub IsAsWithoutCache : TableValue → Settings → Stage → Type 0
 IsAsWithoutCache table s stage =
     (ends_run stage.step.reply ≡ true) ⊎ IsCacheless table s stage.before stage.request stage.step.reply
 
--- Where equal questions get equal outcomes (a table tells every exchange of the run), no chain needs a ninth
--- question (in the whole run) and intermediate records are not preserved, every reply is the cacheless
--- resolver's.
+-- Where equal questions get equal outcomes (a table tells every exchange up to and with a step), no chain
+-- needs a ninth question (in the sub-look-ups up to and with the step) and intermediate records are not
+-- preserved, the reply of the step is the cacheless resolver's, whatever comes after it.
 abbrev pub AreAsWithoutCache : Settings → List Stage → Type 0
 AreAsWithoutCache s stages =
-    (table : TableValue) → s.preserve_intermediates ≡ false → IsTable table
-    → AreConsistentWith table (exchanges_of stages)
-    → AllByRecursion (λ stage. AllByRecursion (ResolvesWithinEight table) stage.parts) stages
-    → AllByRecursion (IsAsWithoutCache table s) stages
+    (earlier : List Stage) (stage : Stage) (later : List Stage) → stages ≡ earlier ++ stage ∷ later
+    → (table : TableValue) → s.preserve_intermediates ≡ false → IsTable table
+    → AreConsistentWith table (exchanges_of (earlier ++ stage ∷ []))
+    → AllByRecursion (λ x. AllByRecursion (ResolvesWithinEight table) x.parts) (earlier ++ stage ∷ [])
+    → IsAsWithoutCache table s stage
 
 -- the moments of steps never go back
 abbrev pub NeverGoBack : ℕ → List StepValue → Type 0
@@ -162,10 +163,11 @@ NeverGoBack now (step ∷ steps) = (now ≤ step.now) × NeverGoBack step.now st
 -- sends at most eight questions; where the asked type's least TTL is zero, no upstream answer record of that
 -- type outlives its received TTL cut at the maximum; and where equal questions get equal outcomes, no chain
 -- needs a ninth question and intermediate records are not preserved, every reply is the cacheless resolver's,
--- TTLs, deadlines and headers aside.
-abbrev pub Headline : Settings → CacheValue → List RequestValue → List StepValue → List Exchange → CacheValue
-    → Type 0
-Headline s empty requests steps exchanges after =
+-- TTLs, deadlines and headers aside. It is said of the stages of the run that is given.
+abbrev pub Headline : (s : Settings) (empty : CacheValue) (requests : List RequestValue)
+    (steps : List StepValue) (exchanges : List Exchange) (after : CacheValue)
+    → Run s empty requests steps exchanges after → Type 0
+Headline s empty requests steps exchanges after run =
     empty.entries ≡ [] → NeverGoBack 0 steps
-    → (run : Run s empty requests steps exchanges after) × AllByRecursion AsksAtMostEight run.stages
-    × NothingOutlives [] run.stages × AreAsWithoutCache s run.stages
+    → AllByRecursion AsksAtMostEight run.stages × NothingOutlives [] run.stages
+    × AreAsWithoutCache s run.stages

@@ -10,7 +10,9 @@ ghost use Rattle.hickory_resolver_theorems.specs.AttemptLaws.{AreAttemptsApart};
 ghost use Rattle.hickory_resolver_model.specs.Cache.{CacheValue, IsCache};
 ghost use Rattle.hickory_resolver_model.specs.Hops.{LookupContext, IsReply};
 ghost use Rattle.hickory_resolver_model.specs.Lookup.{LookupResult};
-ghost use Rattle.hickory_resolver_model.specs.Run.{Settings, RequestValue, StepValue, Run};
+ghost use Rattle.hickory_resolver_model.specs.Calls.{SubLookup, IsSubLookupFor, asks_of_sub_lookups};
+ghost use Rattle.hickory_resolver_model.specs.Run.{Settings, setting_at, RequestValue, StepReply, StepValue, IsServed, Run};
+ghost use Rattle.hickory_resolver_theorems.specs.Keeping.{IsServedOver};
 ghost use Rattle.hickory_resolver_theorems.specs.Statements.{IsFresh, IsTransparent, Headline};
 ghost use Rattle.hickory_resolver_theorems.specs.Provenance.{HasProvenance};
 ghost use Rattle.hickory_resolver_theorems.specs.WalkLaws.{IsOneWalk};
@@ -70,9 +72,18 @@ pub fn a_record_keeps_the_reply()
         → IsReply s question kept result after }
 {}
 
+/// A request that is served over the exchanges that were answered is served over those that a recording handle
+/// kept, each sub-look-up with its own of them.
+pub fn a_record_keeps_the_request()
+    ensures { (s : Settings) (before : CacheValue) (request : RequestValue) (parts : List SubLookup)
+        (reply : StepReply) (after : CacheValue) (kept : List Exchange)
+        → IsServed (λ now. IsSubLookupFor (setting_at s now)) s before request parts reply after
+        → RecordedAs (asks_of_sub_lookups parts) kept → IsServedOver s before request kept reply after }
+{}
+
 /// The headline holds of every run, whatever the requests and whatever came back.
 pub fn headline()
     ensures { (s : Settings) (empty : CacheValue) (requests : List RequestValue) (steps : List StepValue)
-        (exchanges : List Exchange) (after : CacheValue) → Run s empty requests steps exchanges after
-        → Headline s empty requests steps exchanges after }
+        (exchanges : List Exchange) (after : CacheValue) (run : Run s empty requests steps exchanges after)
+        → Headline s empty requests steps exchanges after run }
 {}

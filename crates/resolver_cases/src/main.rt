@@ -2,6 +2,7 @@
 //! resolver, its builder and its configuration have. The output that is wanted stands beside this crate's sources.
 #![tactic(auto)]
 
+mod addresses;
 mod bounds;
 mod clears;
 mod given;
@@ -9,8 +10,11 @@ mod hosts;
 mod in_turn;
 mod one_hash;
 mod options;
+mod scripted;
 mod servers;
 mod shown;
+mod strategies;
+mod transcripts;
 mod types;
 mod upstream;
 
@@ -41,5 +45,8 @@ fn push_other_cases(alloc: Global, text: &mut String) -> Result<(), NetError> {
     clears::push_clears(alloc, text)?;
     hosts::push_hosts(alloc, text)?;
     servers::push_configuration(alloc, text)?;
-    clears::push_clears_of_one_hash(alloc, text)
+    clears::push_clears_of_one_hash(alloc, text)?;
+    addresses::push_addresses(alloc, text)?;
+    strategies::push_strategies(alloc, text)?;
+    transcripts::push_run(alloc, text)
 }

@@ -8,4 +8,4 @@ use Rattle.hickory_resolver.proofs.lookup_future.LookupFuture.lookup.Goals as go
 pub returns : goal.returns
 returns g c =
     let P : NetError → Type 0 = λ e. GoesOn g.H.DnsHandle.step c.args.options [] c.args.now (name_plan c.args.record_type) (reverse c.args.names.items) (Err e) c.args.client.now c.go_on.result c.go_on.new.client in
-    looks_up g.H.DnsHandle.step c.args.options c.args.now c.args.record_type c.args.client.now _ _ _ _ refl (subst P c.from.ensures (c.go_on.ensures []))
+    looks_up g.H.DnsHandle.step c.args.options [] c.args.now c.args.client.now _ _ (name_plan c.args.record_type) refl _ _ refl (subst P c.from.ensures (c.go_on.ensures []))

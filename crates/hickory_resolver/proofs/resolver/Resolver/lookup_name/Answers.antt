@@ -1,6 +1,7 @@
-use Rattle.std.proofs.Common.{rules, refl, ap, ◌∙◌, reverse}
+use Rattle.std.proofs.Common.{rules, ap, ◌∙◌, reverse}
 use Rattle.std.proofs.lemmas.List.{reverse-reverse}
 use Rattle.hickory_resolver_model.specs.Resolver.{ResolverValue}
+use Rattle.hickory_resolver_model.specs.Run.{name_plan}
 use Rattle.hickory_resolver.proofs.Answering.{call_unserved, call_looked_up}
 use Rattle.hickory_resolver.proofs.resolver.Resolver.lookup_name.Goals as goal
 
@@ -10,7 +11,7 @@ returns-in_err-names g c = call_unserved g.H.DnsHandle.step c.args.now c.args.se
 pub returns : goal.returns
 returns g c =
     let with_client : ResolverValue _ → ResolverValue _ = λ r. record r { client = c.lookup_with_hosts.new.client } in
-    call_looked_up g.H.DnsHandle.step c.args.now c.args.self.now c.args.record_type c.args.name _ _ _ _ _ _ _
+    call_looked_up g.H.DnsHandle.step c.args.now c.args.self.now (name_plan c.args.record_type) c.args.name _ _ _ _ _ _ _
     c.request_options-options.ensures
     (ap (λ r. r.hosts) c.self.view_is)
     (ap (λ r. r.client) c.self.view_is)

@@ -1,0 +1,2 @@
+//! What a look-up of addresses gives.
+pub use hickory_resolver_addresses::{LookupIp, LookupIpIntoIter, LookupIpIter};
