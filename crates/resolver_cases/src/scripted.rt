@@ -2,7 +2,7 @@
 use crate::in_turn::hosts_of;
 use crate::upstream::{Upstream, upstream_of};
 use hickory_proto_core::NetError;
-use hickory_resolver::{LookupIpStrategy, Resolver, ResolverConfig};
+use hickory_resolver::{Resolver, ResolverConfig};
 use replay_script::{Script, read_script};
 use std::alloc::Global;
 
@@ -25,17 +25,6 @@ pub fn resolver_over(
     let mut resolver = resolver_without_hosts(alloc, script)?;
     resolver.set_hosts(hosts);
     Ok(resolver)
-}
-
-/// The same with a strategy and without hosts.
-pub fn resolver_by(
-    alloc: Global,
-    script: Script,
-    strategy: LookupIpStrategy,
-) -> Result<Resolver<Upstream>, NetError> {
-    let mut script = script;
-    script.options.ip_strategy = strategy;
-    resolver_without_hosts(alloc, script)
 }
 
 fn resolver_without_hosts(alloc: Global, script: Script) -> Result<Resolver<Upstream>, NetError> {

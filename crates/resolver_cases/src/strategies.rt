@@ -1,5 +1,5 @@
 //! Look-ups of the addresses of the root by each strategy.
-use crate::scripted::{resolver_by, script_of};
+use crate::scripted::{resolver_over, script_of};
 use crate::upstream::{Upstream, sent_by};
 use hickory_proto_core::NetError;
 use hickory_resolver::{LookupIp, LookupIpStrategy, Resolver};
@@ -58,10 +58,10 @@ fn push_by(
     ipv4: &str,
     ipv6: &str,
 ) -> Result<(), NetError> {
-    let mut lines = String::from_str(alloc, ipv4)?;
-    lines.push_str(ipv6)?;
+    let mut lines = String::new(alloc);
+    write!(lines, "option ip_strategy {strategy:?}\n{ipv4}{ipv6}")?;
     let script = script_of(alloc, lines.as_str())?;
-    let mut resolver = resolver_by(alloc, script, strategy)?;
+    let mut resolver = resolver_over(alloc, script, "")?;
     let pushed = push_looked_up(text, &mut resolver, strategy);
     drop(resolver);
     Ok(pushed?)
