@@ -1,5 +1,5 @@
 //! Look-ups of addresses.
-ghost use Rattle.std.specs.Prelude.{◌≡◌, ◌⊎◌, None, Err, true, reverse, if◌then◌else◌};
+ghost use Rattle.std.specs.Prelude.{◌≡◌, ◌⊎◌, None, Ok, Err, true, reverse, if◌then◌else◌};
 ghost use Rattle.std.specs.Option.{option_map};
 ghost use Rattle.hickory_proto_core.specs.Records.{data_of};
 ghost use Rattle.hickory_proto_core.specs.records.net_error.NetError.TheVariants.{OutOfMemory};
@@ -61,10 +61,14 @@ fn or_last_resort(
         (option_map (λ rdata. last_resort (data_of rdata) now) finally_ip_addr) reply result }
 {
     if stops(&reply) {
+        drop(finally_ip_addr);
         return as_addresses(reply);
     }
     match finally_ip_addr {
-        Some(rdata) => last_resort(alloc, rdata, now),
+        Some(rdata) => {
+            drop(reply);
+            last_resort(alloc, rdata, now)
+        }
         None => as_addresses(reply),
     }
 }
@@ -169,13 +173,36 @@ fn joined(
     ensures { (result ≡ (if is_out_of_memory second then second else both_results first second))
         ⊎ (result ≡ Err OutOfMemory) }
 {
-    match (first, second) {
-        (Ok(first), Ok(second)) => first.append(second),
-        (_, Err(NetError::OutOfMemory)) => Err(NetError::OutOfMemory),
-        (Ok(first), Err(_)) => Ok(first),
-        (Err(_), Ok(second)) => Ok(second),
-        (Err(first), Err(_)) => Err(first),
+    match second {
+        Ok(second) => joined_with(first, second),
+        Err(error) => joined_with_error(first, error),
     }
+}
+
+// A result, and a second one that is a look-up.
+fn joined_with(first: Result<Lookup, NetError>, second: Lookup) -> Result<Lookup, NetError>
+    ensures { (result ≡ both_results first (Ok second)) ⊎ (result ≡ Err OutOfMemory) }
+{
+    match first {
+        Ok(first) => first.append(second),
+        Err(error) => {
+            drop(error);
+            Ok(second)
+        }
+    }
+}
+
+// A result, and a second one that is an error: the first stands, unless memory ran out.
+fn joined_with_error(found: Result<Lookup, NetError>, failure: NetError) -> Result<Lookup, NetError>
+    ensures { result
+        ≡ (if is_out_of_memory (Err failure) then Err failure else both_results found (Err failure)) }
+{
+    if matches!(failure, NetError::OutOfMemory) {
+        drop(found);
+        return Err(failure);
+    }
+    drop(failure);
+    found
 }
 
 // Whether memory ran out.
