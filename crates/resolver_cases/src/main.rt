@@ -14,7 +14,6 @@ mod scripted;
 mod servers;
 mod shown;
 mod strategies;
-mod transcripts;
 mod types;
 mod upstream;
 
@@ -47,6 +46,5 @@ fn push_other_cases(alloc: Global, text: &mut String) -> Result<(), NetError> {
     servers::push_configuration(alloc, text)?;
     clears::push_clears_of_one_hash(alloc, text)?;
     addresses::push_addresses(alloc, text)?;
-    strategies::push_strategies(alloc, text)?;
-    transcripts::push_run(alloc, text)
+    strategies::push_strategies(alloc, text)
 }

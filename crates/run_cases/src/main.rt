@@ -1,31 +1,48 @@
-//! A run over an upstream that is a table: what is sent for each request, and what it is answered.
-use crate::scripted::script_of;
-use crate::shown::{push_reply, push_sent};
+//! Prints a run over an upstream that is a table: what is sent for each request, and what it is answered. The output
+//! that is wanted stands beside this crate's sources.
+#![tactic(auto)]
+
+mod shown;
+
 use hickory_proto_core::{Exchange, NetError, RecordType, TableHandle};
-use hickory_resolver::{
-    Hosts, Lookup, LookupIp, Reply, Request, ResolverConfig, Step, Transcript, run,
-};
-use replay_script::Script;
+use hickory_resolver::{Hosts, Reply, Request, ResolverConfig, Step, Transcript, run};
+use replay_script::{Script, read_script};
+use shown::{push_addresses, push_cleared, push_looked_up, push_sent};
 use std::alloc::{AllocError, Global};
 
 // What is set, and what the table answers.
 const SCRIPT: &str =
     "option preserve_intermediates false\noption ip_strategy Ipv4AndIpv6\nreply NOERROR h. A\nanswer h. 20 IN A 192.0.2.3\nreply NXDOMAIN h. AAAA\nauthority . 50 IN SOA m. r. 1 2 3 4 40\nreply SERVFAIL t. A\n";
 
-/// Adds the steps of a run of six requests.
-pub fn push_run(alloc: Global, text: &mut String) -> Result<(), NetError> {
-    text.push_str("# a run\n")?;
-    let requests = requests(alloc)?;
-    let pushed = push_transcript(alloc, text, &requests);
-    drop(requests);
-    pushed
+fn main(rt: HostRuntime) -> anyhow::Result<()> {
+    rt.print(text_of(rt.alloc())?)?;
+    Ok(())
 }
 
-fn push_transcript(alloc: Global, text: &mut String, requests: &[Request]) -> Result<(), NetError> {
-    let transcript = transcript_of(alloc, script_of(alloc, SCRIPT)?, requests)?;
+fn text_of(alloc: Global) -> Result<String, NetError> {
+    let mut text = String::from_str(alloc, "# a run\n")?;
+    let requests = requests(alloc)?;
+    let pushed = push_run(alloc, &mut text, &requests);
+    drop(requests);
+    match pushed {
+        Ok(()) => Ok(text),
+        Err(error) => Err(error),
+    }
+}
+
+fn push_run(alloc: Global, text: &mut String, requests: &[Request]) -> Result<(), NetError> {
+    let script = script_of(alloc)?;
+    let transcript = transcript_of(alloc, script, requests)?;
     let pushed = push_steps(text, transcript.steps(), transcript.exchanges());
-    drop(transcript);
+    drop(transcript.into_resolver());
     Ok(pushed?)
+}
+
+fn script_of(alloc: Global) -> Result<Script, NetError> {
+    match read_script(alloc, SCRIPT.as_bytes()) {
+        Ok(script) => Ok(script),
+        Err(_) => Err(NetError::Message("a script that is not read")),
+    }
 }
 
 fn transcript_of(
@@ -120,41 +137,10 @@ fn push_steps(text: &mut String, steps: &[Step], exchanges: &[Exchange]) -> Resu
 fn push_step(text: &mut String, step: &Step, sent: &[Exchange]) -> Result<(), AllocError> {
     let now = step.now;
     write!(text, "at {now}\n")?;
-    push_sent(text, "  sent ", sent)?;
+    push_sent(text, sent)?;
     match &step.reply {
         Reply::Lookup(reply) => push_looked_up(text, reply),
         Reply::LookupIp(reply) => push_addresses(text, reply),
         Reply::Cleared(done) => push_cleared(text, done),
-    }
-}
-
-fn push_looked_up(text: &mut String, reply: &Result<Lookup, NetError>) -> Result<(), AllocError> {
-    if let Ok(lookup) = reply {
-        let until = lookup.valid_until();
-        write!(text, "  until {until}\n")?;
-    }
-    push_reply(text, &[], reply)
-}
-
-fn push_addresses(text: &mut String, reply: &Result<LookupIp, NetError>) -> Result<(), AllocError> {
-    match reply {
-        Ok(found) => push_found(text, found),
-        Err(error) => write!(text, "  {error}\n"),
-    }
-}
-
-fn push_found(text: &mut String, found: &LookupIp) -> Result<(), AllocError> {
-    let until = found.valid_until();
-    write!(text, "  until {until}\n")?;
-    for address in found.iter() {
-        write!(text, "  address {address}\n")?;
-    }
-    Ok(())
-}
-
-fn push_cleared(text: &mut String, done: &Result<(), NetError>) -> Result<(), AllocError> {
-    match done {
-        Ok(()) => text.push_str("  cleared\n"),
-        Err(error) => write!(text, "  {error}\n"),
     }
 }
