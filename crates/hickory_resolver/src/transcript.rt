@@ -55,6 +55,7 @@ impl Model for Step {
 }
 
 /// What a run came to: a step for each request that was served, in order, and the resolver after the last one.
+/// A caller lets go of the resolver, by `into_resolver`: the prover has no rule yet for a drop of the whole.
 #[derive(Drop)]
 pub struct Transcript<H: DnsHandle, S: BuildHasher = BuildHasherDefault<FoldHasher>> {
     steps: Vec<Step>,
