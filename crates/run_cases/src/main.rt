@@ -11,8 +11,13 @@ use shown::{push_addresses, push_cleared, push_looked_up, push_sent};
 use std::alloc::{AllocError, Global};
 
 // What is set, and what the table answers.
-const SCRIPT: &str =
-    "option preserve_intermediates false\noption ip_strategy Ipv4AndIpv6\nreply NOERROR h. A\nanswer h. 20 IN A 192.0.2.3\nreply NXDOMAIN h. AAAA\nauthority . 50 IN SOA m. r. 1 2 3 4 40\nreply SERVFAIL t. A\n";
+const SCRIPT: &str = "option preserve_intermediates false\n\
+    option ip_strategy Ipv4AndIpv6\n\
+    reply NOERROR h. A\n\
+    answer h. 20 IN A 192.0.2.3\n\
+    reply NXDOMAIN h. AAAA\n\
+    authority . 50 IN SOA m. r. 1 2 3 4 40\n\
+    reply SERVFAIL t. A\n";
 
 fn main(rt: HostRuntime) -> anyhow::Result<()> {
     rt.print(text_of(rt.alloc())?)?;
