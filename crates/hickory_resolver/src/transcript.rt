@@ -40,7 +40,7 @@ impl Reply {
 pub struct Step {
     /// The moment of the request, in seconds.
     pub now: u64,
-    /// How many questions were sent for it, out of memory aside all those of its look-ups.
+    /// How many questions were sent for it: those of its look-ups, as the handle kept them.
     pub exchanges: usize,
     pub reply: Reply,
 }
