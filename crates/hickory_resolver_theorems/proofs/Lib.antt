@@ -1,3 +1,4 @@
+pub mod Answered
 pub mod Chains
 pub mod Covers
 pub mod Few
@@ -8,6 +9,7 @@ pub mod KeptCalls
 pub mod Headlines
 pub mod Lists
 pub mod Meanings
+pub mod OneCacheless
 pub mod Provenances
 pub mod Responses
 pub mod Runs

@@ -17,12 +17,13 @@ use Rattle.hickory_resolver_model.specs.Calls.{Setting, Source, Static, Client, 
 use Rattle.hickory_resolver_model.specs.Run.{Settings, setting_at, RequestValue, Lookup, LookupIp, ClearLookup, Clear, moment_of, StepReply, LookedUp, Cleared, drop_each, after_clear, IsServed, StepValue, Stage, IsStage, AreStages, Run}
 use Rattle.hickory_resolver_model.specs.Attempts.{attempts}
 use Rattle.hickory_resolver_theorems.specs.Covered.{Dated, dated_exchanges, IsCovered, IsLoopback}
-use Rattle.hickory_resolver_theorems.specs.Statements.{IsFreshRecord, IsFreshReply, IsFreshEntry, AreFreshEntries, IsFreshSubLookup, AsksAtMostEight, NothingOutlives}
+use Rattle.hickory_resolver_theorems.specs.Statements.{IsFreshRecord, IsFreshReply, IsFreshEntry, AreFreshEntries, IsFreshSubLookup, AsksAtMostEight, AreFreshAnswers, NothingOutlives}
 use Rattle.hickory_resolver_theorems.proofs.Lists.{all-weaker, all-filter}
 use Rattle.hickory_resolver_theorems.proofs.Covers.{covered-left}
 use Rattle.hickory_resolver_theorems.proofs.Stores.{stores-config, entries-more}
 use Rattle.hickory_resolver_theorems.proofs.Few.{few}
 use Rattle.hickory_resolver_theorems.proofs.Fresh.{fresh}
+use Rattle.hickory_resolver_theorems.proofs.Answered.{fresh-answers}
 use Rattle.hickory_resolver_theorems.proofs.Chains.{Chain, chain-name, chain-addresses}
 
 -- ---- the bounds stay
@@ -157,6 +158,11 @@ good-stage s sources stage after entries is =
       subst (AreFreshEntries after) same good.entries,
     )
 
+-- and so are its answers
+answers : (s : Settings) (sources : List Dated) (stage : Stage) (after : CacheValue) → AllByRecursion (IsFreshSubLookup stage.before.config (sources ++ dated_exchanges stage.step.now stage.piece) stage.step.now) stage.parts → IsStage s stage after
+    → AreFreshAnswers stage.before.config (sources ++ dated_exchanges stage.step.now stage.piece) stage stage.step.reply
+answers s sources stage after fresh is = fresh-answers (λ now. IsSubLookupFor (setting_at s now)) s stage.before.config (sources ++ dated_exchanges stage.step.now stage.piece) stage stage.step.reply after fresh is.served
+
 pub good-stages : (s : Settings) (before : CacheValue) (sources : List Dated) (requests : List RequestValue) (stages : List Stage) (after : CacheValue) → AreFreshEntries before sources → AreStages s before requests stages after
     → AllByRecursion AsksAtMostEight stages × NothingOutlives sources stages
 good-stages s before sources [] [] after entries e = (tt, tt)
@@ -164,11 +170,11 @@ good-stages s before sources [] (stage ∷ stages) after entries e = absurd e
 good-stages s before sources (request ∷ requests) [] after entries e = absurd e
 good-stages s before sources (request ∷ requests) (stage ∷ stages) after entries (mid, for, starts, is, inl (ended, none, same)) =
     let good = good-stage s sources stage mid (subst (λ c. AreFreshEntries c sources) (sym starts) entries) is in
-    ((good.0, subst (AllByRecursion AsksAtMostEight) (sym none) tt), (good.1, subst (NothingOutlives (sources ++ dated_exchanges stage.step.now stage.piece)) (sym none) tt))
+    ((good.0, subst (AllByRecursion AsksAtMostEight) (sym none) tt), (good.1, answers s sources stage mid good.1 is, subst (NothingOutlives (sources ++ dated_exchanges stage.step.now stage.piece)) (sym none) tt))
 good-stages s before sources (request ∷ requests) (stage ∷ stages) after entries (mid, for, starts, is, inr (on, rest)) =
     let good = good-stage s sources stage mid (subst (λ c. AreFreshEntries c sources) (sym starts) entries) is in
     let more = good-stages s mid (sources ++ dated_exchanges stage.step.now stage.piece) requests stages after good.2 rest in
-    ((good.0, more.0), (good.1, more.1))
+    ((good.0, more.0), (good.1, answers s sources stage mid good.1 is, more.1))
 
 -- from a cache without entries
 pub first_clauses : (s : Settings) (empty : CacheValue) (requests : List RequestValue) (steps : List StepValue) (exchanges : List Exchange) (after : CacheValue) → empty.entries ≡ [] → (run : Run s empty requests steps exchanges after)

@@ -1,7 +1,10 @@
 -- The facts that are to stand on the client's look-up and on the run, each by its name.
-use Rattle.std.specs.Prelude.{◌≡◌, ◌⊎◌, ◌≤◌, ℕ, ◌+◌, Bool, true, false, List, [], ◌∷◌, ◌++◌, length, None, Ok, Err}
-use Rattle.std.specs.List.{AllByRecursion}
+use Rattle.std.specs.Prelude.{◌≡◌, ◌⊎◌, ◌≤◌, ℕ, ◌+◌, Bool, true, false, List, [], ◌∷◌, ◌++◌, length, Some, None, Ok, Err}
+use Rattle.std.specs.List.{AllByRecursion, Contains}
+use Rattle.std.specs.declared.net.IpAddr.{IpAddr}
 use Rattle.hickory_proto_core.specs.Codes.{type_code}
+use Rattle.hickory_proto_core.specs.Name.{NameValue}
+use Rattle.hickory_proto_core.specs.NameGiven.{IsReadAddress}
 use Rattle.hickory_proto_core.specs.Records.{RecordValue}
 use Rattle.hickory_proto_core.specs.ResponseKind.{record_type_code}
 use Rattle.hickory_proto_core.specs.Table.{TableValue}
@@ -11,11 +14,11 @@ use Rattle.hickory_proto_core.specs.records.net_error.NetError.TheVariants.{OutO
 use Rattle.hickory_resolver_model.specs.Bounds.{ConfigValue, bounds_for, positive_bounds, greatest_ttl}
 use Rattle.hickory_resolver_model.specs.Cache.{CacheValue, Entry}
 use Rattle.hickory_proto_core.specs.Handles.{OutcomeValue}
-use Rattle.hickory_resolver_model.specs.Lookup.{LookupResult}
+use Rattle.hickory_resolver_model.specs.Lookup.{LookupValue, LookupResult}
 use Rattle.hickory_resolver_model.specs.Hops.{LookupContext}
 use Rattle.hickory_resolver_model.specs.Hosts.{IsStatic}
-use Rattle.hickory_resolver_model.specs.Calls.{SubLookup, SubLookupRelation, Setting, Client, IsStaticSubLookup}
-use Rattle.hickory_resolver_model.specs.Run.{Settings, setting_at, RequestValue, StepValue, StepReply, LookedUp, Cleared, ends_run, IsServed, Stage, exchanges_of, Run}
+use Rattle.hickory_resolver_model.specs.Calls.{SubLookup, SubLookupRelation, Setting, Client, IsStaticSubLookup, is_out_of_memory, literal_at_once, literal_at_last}
+use Rattle.hickory_resolver_model.specs.Run.{Settings, setting_at, RequestValue, LookupIp, StepValue, StepReply, LookedUp, Cleared, ends_run, IsServed, Stage, exchanges_of, Run}
 use Rattle.hickory_resolver_theorems.specs.Cacheless.{IsTable, ResolvesTo, AreConsistentWith}
 use Rattle.hickory_resolver_theorems.specs.WithoutTimes.{WithoutTimes, without_times, stored_without_times}
 use Rattle.hickory_resolver_theorems.specs.Covered.{Dated, dated_exchanges, IsCovered, IsLoopback}
@@ -100,13 +103,44 @@ IsFreshSubLookup config sources now p =
     p.source ≡ Client → HasNoLeast config (type_code p.question.query_type)
     → IsFreshReply config sources (type_code p.question.query_type) now p.result
 
--- no record outlives what an exchange of the same step or of an earlier one brought
+-- An answer of a step's reply, which may be used up to a deadline: a sub-look-up of the step gave it, to be
+-- used as long or longer. Where the client answered that one, and the least TTL of the type that it asked for
+-- is zero, the record does not outlive what was received.
+pub record IsFreshAnswer
+    (config : ConfigValue) (sources : List Dated) (now : ℕ) (parts : List SubLookup) (deadline : ℕ)
+    (r : RecordValue)
+    : Type 0 where
+  pub part : SubLookup
+  pub found : LookupValue
+  pub is_part : Contains parts part
+  pub result_is : part.result ≡ Ok found
+  pub is_answer : Contains found.message.answers r
+  pub usable : deadline ≤ found.valid_until
+  pub fresh : part.source ≡ Client → HasNoLeast config (type_code part.question.query_type)
+      → IsFreshRecord config sources (type_code part.question.query_type) now deadline r
+
+-- the addresses of a text are asked for, and the answer is the address that the text is
+abbrev pub IsLiteral : RequestValue → LookupValue → Type 0
+IsLiteral (LookupIp text now) l =
+    (address : IpAddr) × IsReadAddress text (Some address)
+    × ((l ≡ literal_at_last address now) ⊎ ((owner : NameValue) × (l ≡ literal_at_once owner address now)))
+IsLiteral other l = ⊥
+
+-- a step answers the literal address, or with answers of its sub-look-ups alone
+abbrev pub AreFreshAnswers : ConfigValue → List Dated → Stage → StepReply → Type 0
+AreFreshAnswers config sources stage (LookedUp (Ok l)) =
+    IsLiteral stage.request l
+    ⊎ AllByRecursion (IsFreshAnswer config sources stage.step.now stage.parts l.valid_until) l.message.answers
+AreFreshAnswers config sources stage other = Unit {0}
+
+-- no record outlives what an exchange of the same step or of an earlier one brought, neither in a sub-look-up
+-- nor in what the step answers
 abbrev pub NothingOutlives : List Dated → List Stage → Type 0
 NothingOutlives earlier [] = Unit {0}
 NothingOutlives earlier (stage ∷ stages) =
     let sources = earlier ++ dated_exchanges stage.step.now stage.piece in
     AllByRecursion (IsFreshSubLookup stage.before.config sources stage.step.now) stage.parts
-    × NothingOutlives sources stages
+    × AreFreshAnswers stage.before.config sources stage stage.step.reply × NothingOutlives sources stages
 
 -- a question of the client has a meaning of eight questions at most
 abbrev pub ResolvesWithinEight : TableValue → SubLookup → Type 0
@@ -137,6 +171,14 @@ IsCacheless table s cache request (LookedUp reply) =
     (LookedUp cacheless) cache
     × (without_times reply ≡ without_times cacheless)
 IsCacheless table s cache request (Cleared done) = Unit {0}
+
+-- Two cacheless replies to a request come to the same, out of memory aside.
+abbrev pub IsOneCacheless : TableValue → Settings → CacheValue → RequestValue → Type 0
+IsOneCacheless table s cache request =
+    (parts others : List SubLookup) (a b : LookupResult)
+    → IsServed (λ now. CachelessSubLookup table (setting_at s now)) s cache request parts (LookedUp a) cache
+    → IsServed (λ now. CachelessSubLookup table (setting_at s now)) s cache request others (LookedUp b) cache
+    → is_out_of_memory a ≡ false → is_out_of_memory b ≡ false → without_times a ≡ without_times b
 
 -- the reply of a step is the cacheless resolver's, or out of memory
 abbrev pub IsAsWithoutCache : TableValue → Settings → Stage → Type 0

@@ -3,6 +3,7 @@ ghost use Rattle.std.specs.Prelude.{◌≡◌, List, [], length, ◌≤◌};
 ghost use Rattle.hickory_proto_core.specs.Name.{NameValue};
 ghost use Rattle.hickory_proto_core.specs.Records.{RecordValue};
 ghost use Rattle.hickory_proto_core.specs.Recorded.{RecordedAs};
+ghost use Rattle.hickory_proto_core.specs.Table.{TableValue};
 ghost use Rattle.hickory_proto_core.specs.records.query.Query.{Query};
 ghost use Rattle.hickory_proto_core.specs.declared.recorded.Exchange.{Exchange};
 ghost use Rattle.hickory_resolver_model.specs.Attempts.{Search, attempts};
@@ -13,7 +14,7 @@ ghost use Rattle.hickory_resolver_model.specs.Lookup.{LookupResult};
 ghost use Rattle.hickory_resolver_model.specs.Calls.{SubLookup, IsSubLookupFor, asks_of_sub_lookups};
 ghost use Rattle.hickory_resolver_model.specs.Run.{Settings, setting_at, RequestValue, StepReply, StepValue, IsServed, Run};
 ghost use Rattle.hickory_resolver_theorems.specs.Keeping.{IsServedOver};
-ghost use Rattle.hickory_resolver_theorems.specs.Statements.{IsFresh, IsTransparent, Headline};
+ghost use Rattle.hickory_resolver_theorems.specs.Statements.{IsFresh, IsTransparent, IsOneCacheless, Headline};
 ghost use Rattle.hickory_resolver_theorems.specs.Provenance.{HasProvenance};
 ghost use Rattle.hickory_resolver_theorems.specs.WalkLaws.{IsOneWalk};
 
@@ -79,6 +80,12 @@ pub fn a_record_keeps_the_request()
         (reply : StepReply) (after : CacheValue) (kept : List Exchange)
         → IsServed (λ now. IsSubLookupFor (setting_at s now)) s before request parts reply after
         → RecordedAs (asks_of_sub_lookups parts) kept → IsServedOver s before request kept reply after }
+{}
+
+/// A request has one cacheless reply, times and out of memory aside.
+pub fn one_cacheless_reply()
+    ensures { (table : TableValue) (s : Settings) (cache : CacheValue) (request : RequestValue)
+        → IsOneCacheless table s cache request }
 {}
 
 /// The headline holds of every run, whatever the requests and whatever came back.

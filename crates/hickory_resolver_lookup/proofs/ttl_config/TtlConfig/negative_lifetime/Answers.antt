@@ -1,0 +1,5 @@
+use Rattle.std.proofs.Common.{rules}
+use Rattle.hickory_resolver_lookup.proofs.ttl_config.TtlConfig.negative_lifetime.Goals as goal
+
+pub returns : goal.returns
+returns c = search rules
