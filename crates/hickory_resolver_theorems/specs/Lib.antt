@@ -8,4 +8,5 @@ pub mod Provenance
 pub mod WalkLaws
 pub mod Worked
 pub mod WorkedLoop
+pub mod WorkedRequests
 pub mod WorkedRun

@@ -66,16 +66,16 @@ run_steps =
     record { now = 0; exchanges = 1; reply = LookedUp (Ok (found 10 10)) }
     ∷ record { now = 4; exchanges = 0; reply = LookedUp (Ok (found 6 10)) } ∷ []
 
-abbrev asked : SubLookup
+abbrev pub asked : SubLookup
 asked = record { question = asks_a a; source = Client; asks = run_asks; result = Ok (found 10 10) }
 
 abbrev hit : SubLookup
 hit = record { question = asks_a a; source = Client; asks = []; result = Ok (found 6 10) }
 
-abbrev start : CacheValue → ℕ → LookupContext
+abbrev pub start : CacheValue → ℕ → LookupContext
 start cache now = record { cache = cache; now = now; preserve_intermediates = false }
 
-asked_reply : IsReply (start (empty_cache 8) 0) (asks_a a) run_asks (Ok (found 10 10)) after_run
+pub asked_reply : IsReply (start (empty_cache 8) 0) (asks_a a) run_asks (Ok (found 10 10)) after_run
 asked_reply = inl (record {
   hops =
       record {
@@ -112,7 +112,7 @@ hit_reply = inl (record {
   after_is = refl;
 })
 
-not_static : (now : ℕ) → IsStatic (asks_a a) now [] None
+pub not_static : (now : ℕ) → IsStatic (asks_a a) now [] None
 not_static now = (None, λ asked. (let clash : false ≡ true = asked in cc), refl)
 
 -- each look-up is one attempt of one sub-look-up

@@ -2,6 +2,7 @@
 ghost use Rattle.hickory_resolver_theorems.specs.Worked.{EvictionCases, LifetimeCases, AttemptCases, SpecialCases, AliasCases};
 ghost use Rattle.hickory_resolver_theorems.specs.WorkedLoop.{LoopCases};
 ghost use Rattle.hickory_resolver_theorems.specs.WorkedRun.{RunCases};
+ghost use Rattle.hickory_resolver_theorems.specs.WorkedRequests.{RequestCases};
 
 /// What the definitions say of small caches, bounds, names and messages.
 pub fn worked_cases()
@@ -12,4 +13,5 @@ pub fn worked_cases()
     ensures aliases { AliasCases }
     ensures loops { LoopCases }
     ensures runs { RunCases }
+    ensures requests { RequestCases }
 {}

@@ -1,6 +1,7 @@
 use Rattle.hickory_resolver_theorems.specs.Worked.{eviction_cases, lifetime_cases, attempt_cases, special_cases, alias_cases}
 use Rattle.hickory_resolver_theorems.specs.WorkedLoop.{loop_cases}
 use Rattle.hickory_resolver_theorems.specs.WorkedRun.{run_cases}
+use Rattle.hickory_resolver_theorems.specs.WorkedRequests.{request_cases}
 use Rattle.hickory_resolver_theorems.proofs.worked.worked_cases.Goals as goal
 
 pub returns : goal.returns
@@ -12,4 +13,5 @@ returns c = record {
   aliases = alias_cases;
   loops = loop_cases;
   runs = run_cases;
+  requests = request_cases;
 }
