@@ -1,23 +1,14 @@
-//! Asks calls on names and addresses what the lines of the file `cases` say, and prints each line with the answer
-//! behind it. The gate compares the text with the file `stdout`, which is written by hand.
-#![tactic(auto)]
-
-mod addresses;
-mod attempted;
-mod names;
-mod zeros;
-
+//! Calls on names and addresses that the lines of a file ask for.
+use crate::{addresses, attempted, names, zeros};
 use std::alloc::Global;
-use std::fs;
 
-fn main(rt: HostRuntime) -> anyhow::Result<()> {
-    let alloc = rt.alloc();
-    let cases = fs::read_to_string(&rt, "cases")?;
+/// Prints each line with the answer behind it, and then how many of many IPv6 addresses are printed and read.
+pub fn show_all(rt: &impl Print, alloc: Global, cases: &str) -> anyhow::Result<()> {
     for line in cases.lines() {
         let answer = answer(alloc, line)?;
-        rt.println(format!(in alloc; "{line}\t{answer}")?)?;
+        println!(rt; "{line}\t{answer}")?;
     }
-    rt.println(zeros::counts(alloc)?)?;
+    println!(rt; "{}", zeros::counts(alloc)?)?;
     Ok(())
 }
 
