@@ -1,13 +1,28 @@
-//! Stores, clamped stores and clears over 12 questions, in both bodies.
-use crate::outcomes::{outcome, shown};
+//! 500 steps with the cache and with another body of it, a list that is searched from end to end: stores, clamped
+//! stores and clears over 12 questions.
+use crate::compared::{outcome, shown};
+use crate::one_hash::OneHash;
 use crate::scanned::{Kept, Scanned};
 use hickory_proto_core::{Message, Name, NetError, Query, RecordType};
 use hickory_resolver_cache::ResponseCache;
+use hickory_resolver_lookup::TtlConfig;
 use std::alloc::Global;
 use std::hash::BuildHasher;
 
-/// How many of the first 500 steps leave both bodies with the same answers to each question.
-pub fn agreeing<S: BuildHasher + Drop>(
+/// Adds how many steps leave both with the same answers: once with the hasher of the kit, and once with a hasher that
+/// gives every question the same hash.
+pub fn push_comparison(alloc: Global, text: &mut String) -> Result<(), NetError> {
+    let cache = ResponseCache::new(alloc, 8, TtlConfig::default(alloc));
+    let steps = agreeing(alloc, cache)?;
+    write!(text, "{steps} steps agree\n")?;
+    let cache = ResponseCache::with_hasher(alloc, 8, TtlConfig::default(alloc), OneHash);
+    let steps = agreeing(alloc, cache)?;
+    write!(text, "{steps} steps agree under one hash\n")?;
+    Ok(())
+}
+
+// How many of the first 500 steps leave both bodies with the same answers to each question.
+fn agreeing<S: BuildHasher + Drop>(
     alloc: Global,
     mut cache: ResponseCache<S>,
 ) -> Result<u32, NetError> {
