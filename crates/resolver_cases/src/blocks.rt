@@ -1,5 +1,6 @@
 //! Blocks of the file of cases.
-use crate::requests::{Client, push_kept, push_requests, script_of};
+use crate::requests::{Client, push_kept, push_requests};
+use crate::scripts::script_of;
 use hickory_proto_core::dns_handle::Outcome;
 use hickory_proto_core::{Name, NetError, Query, RecordType, Recorded, ScriptHandle};
 use hickory_resolver::{CachingClient, ResponseCache, TtlBounds, TtlConfig};

@@ -1,8 +1,9 @@
 //! A client over a table of many outcomes, as a test rig hands them in: the last outcome of a question counts,
 //! whatever the case of its name.
-use crate::requests::{ask, script_of};
+use crate::requests::ask;
+use crate::scripts::{add_late, script_of};
 use hickory_proto_core::dns_handle::Outcome;
-use hickory_proto_core::{Name, NetError, Query, RecordType, TableHandle};
+use hickory_proto_core::{NetError, Query, TableHandle};
 use hickory_resolver::CachingClient;
 use replay::output::push_step;
 use replay_script::{Request, Script};
@@ -63,13 +64,8 @@ fn table_of(alloc: Global, said: Vec<(Query, Outcome)>) -> Result<TableHandle, N
 fn timeouts(alloc: Global) -> Result<Vec<(Query, Outcome)>, NetError> {
     let mut outcomes = Vec::new(alloc);
     for number in 0..100_000_u32 {
-        outcomes.push((question(alloc, number)?, Err(NetError::Timeout)))?;
+        let name = format!(in alloc; "n{number}.")?;
+        add_late(alloc, &mut outcomes, &[name.as_str()])?;
     }
     Ok(outcomes)
-}
-
-fn question(alloc: Global, number: u32) -> Result<Query, NetError> {
-    let text = format!(in alloc; "n{number}.")?;
-    let name = Name::from_ascii(alloc, text.as_str())?;
-    Ok(Query::query(name, RecordType::A))
 }
