@@ -42,8 +42,19 @@ fn text_of(alloc: Global, cases: &str) -> Result<String, NetError> {
 
 fn push_cases(alloc: Global, text: &mut String, cases: &str) -> Result<(), NetError> {
     let mut cache = ResponseCache::new(alloc, 0, TtlConfig::default(alloc));
+    let pushed = push_lines(alloc, text, &mut cache, cases);
+    drop(cache);
+    pushed
+}
+
+fn push_lines(
+    alloc: Global,
+    text: &mut String,
+    cache: &mut ResponseCache,
+    cases: &str,
+) -> Result<(), NetError> {
     for line in cases.lines() {
-        push_case(alloc, text, &mut cache, line)?;
+        push_case(alloc, text, cache, line)?;
     }
     Ok(())
 }

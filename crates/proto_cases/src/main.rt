@@ -28,7 +28,7 @@ use std::fs;
 fn main(rt: HostRuntime) -> anyhow::Result<()> {
     let alloc = rt.alloc();
     let cases = fs::read_to_string(&rt, "cases")?;
-    lines::show_all(&rt, alloc, &cases)?;
+    rt.print(lines::text_of(alloc, &cases)?)?;
     show_texts(&rt, alloc)
 }
 

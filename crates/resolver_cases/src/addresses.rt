@@ -1,6 +1,5 @@
 //! Look-ups of the addresses of hosts.
-use crate::in_turn::client_of;
-use crate::scripts::{Upstream, resolver_over, script_of};
+use crate::scripts::{Upstream, client_over, resolver_over, script_of};
 use crate::shown::{push_error, push_found, push_sent};
 use hickory_proto_core::{DnsRequestOptions, NetError, Query, RData};
 use hickory_resolver::{Hosts, LookupIp, LookupIpFuture, LookupIpStrategy, Resolver};
@@ -165,7 +164,7 @@ fn push_no_names(alloc: Global, text: &mut String) -> Result<(), NetError> {
 
 // A look-up of no names, with this last resort.
 fn none_looked_up(alloc: Global, finally_ip_addr: Option<RData>) -> Result<LookupIp, NetError> {
-    let mut client = client_of(alloc)?;
+    let mut client = client_over(alloc, Vec::new(alloc))?;
     let (strategy, options) = (LookupIpStrategy::Ipv4Only, DnsRequestOptions::default());
     let hosts: Hosts = Hosts::default(alloc);
     let reply = LookupIpFuture::lookup(

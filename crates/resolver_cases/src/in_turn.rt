@@ -1,5 +1,5 @@
 //! Look-ups of several names, one after another.
-use crate::scripts::{Upstream, hosts_of, upstream_of};
+use crate::scripts::{Upstream, client_over, hosts_of};
 use crate::shown::push_since;
 use hickory_proto_core::{DnsRequestOptions, Name, NameError, NetError, RecordType};
 use hickory_resolver::{CachingClient, Lookup, LookupFuture};
@@ -26,17 +26,11 @@ fn push_names(
     hosts: Option<&str>,
 ) -> Result<(), NetError> {
     write!(text, "{what}\n")?;
-    let mut client = client_of(alloc)?;
+    let mut client = client_over(alloc, Vec::new(alloc))?;
     let reply = looked_up(alloc, &mut client, names, hosts);
     let pushed = push_since(text, &client, 0, reply);
     drop(client);
     Ok(pushed?)
-}
-
-/// A client over an upstream that has no answers.
-pub fn client_of(alloc: Global) -> Result<CachingClient<Upstream>, NetError> {
-    let upstream = upstream_of(alloc, Vec::new(alloc))?;
-    Ok(CachingClient::new(alloc, 8, upstream, false))
 }
 
 fn looked_up(

@@ -1,8 +1,8 @@
 //! Resolvers over what scripts and files of hosts say.
 use hickory_proto_core::dns_handle::Outcome;
 use hickory_proto_core::{Name, NetError, Query, RecordType, Recorded, TableHandle};
-use hickory_resolver::{Hosts, Resolver, ResolverBuilder, ResolverConfig};
-use replay_script::{Script, read_script};
+use hickory_resolver::{CachingClient, Hosts, Resolver, ResolverBuilder, ResolverConfig};
+use replay_script::{Request, Script, read_script};
 use std::alloc::Global;
 
 /// An upstream that is a table and records what it is asked.
@@ -16,10 +16,30 @@ pub fn script_of(alloc: Global, lines: &str) -> Result<Script, NetError> {
     }
 }
 
+/// The outcomes and the requests of a script.
+pub fn parts_of(
+    alloc: Global,
+    lines: &str,
+) -> Result<(Vec<(Query, Outcome)>, Vec<Request>), NetError> {
+    match script_of(alloc, lines) {
+        Ok(script) => Ok((script.outcomes, script.requests)),
+        Err(error) => Err(error),
+    }
+}
+
 /// The upstream that answers so, and everything else with an error.
 pub fn upstream_of(alloc: Global, outcomes: Vec<(Query, Outcome)>) -> Result<Upstream, NetError> {
     let table = TableHandle::new(outcomes)?;
     Ok(Recorded::new(alloc, table))
+}
+
+/// A client over the upstream that answers so, which preserves no intermediate records.
+pub fn client_over(
+    alloc: Global,
+    outcomes: Vec<(Query, Outcome)>,
+) -> Result<CachingClient<Upstream>, NetError> {
+    let upstream = upstream_of(alloc, outcomes)?;
+    Ok(CachingClient::new(alloc, 8, upstream, false))
 }
 
 /// A builder with the options, the domain and the search list of a script, over an upstream of its outcomes.
@@ -43,16 +63,14 @@ pub fn builder_over(alloc: Global, script: Script) -> Result<ResolverBuilder<Ups
     }
 }
 
-/// Adds that there is no answer in time for the A records of these names.
+/// Adds that there is no answer in time for the A records of a name.
 pub fn add_late(
     alloc: Global,
     outcomes: &mut Vec<(Query, Outcome)>,
-    names: &[&str],
+    name: &str,
 ) -> Result<(), NetError> {
-    for name in names {
-        let query = Query::query(Name::from_ascii(alloc, name)?, RecordType::A);
-        outcomes.push((query, Err(NetError::Timeout)))?;
-    }
+    let query = Query::query(Name::from_ascii(alloc, name)?, RecordType::A);
+    outcomes.push((query, Err(NetError::Timeout)))?;
     Ok(())
 }
 

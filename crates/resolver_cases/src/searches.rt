@@ -1,7 +1,8 @@
 //! Look-ups of `www` through search domains: with a table of hosts, and where the upstream gives no answer in time.
 use crate::scripts::{Upstream, add_late, resolver_over, script_of};
 use crate::shown::push_lookup;
-use hickory_proto_core::{NetError, RecordType};
+use hickory_proto_core::dns_handle::Outcome;
+use hickory_proto_core::{NetError, Query, RecordType};
 use hickory_resolver::Resolver;
 use replay_script::Script;
 use std::alloc::{AllocError, Global};
@@ -78,11 +79,22 @@ fn push_late(alloc: Global, text: &mut String, case: &Case) -> Result<(), NetErr
 
 fn late_script(alloc: Global, case: &Case) -> Result<Script, NetError> {
     let mut script = script_of(alloc, case.script)?;
-    match add_late(alloc, &mut script.outcomes, case.late) {
+    match add_all(alloc, &mut script.outcomes, case.late) {
         Ok(()) => Ok(script),
         Err(error) => {
             drop(script);
             Err(error)
         }
     }
+}
+
+fn add_all(
+    alloc: Global,
+    outcomes: &mut Vec<(Query, Outcome)>,
+    late: &[&str],
+) -> Result<(), NetError> {
+    for name in late {
+        add_late(alloc, outcomes, name)?;
+    }
+    Ok(())
 }
