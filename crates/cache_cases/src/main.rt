@@ -1,5 +1,6 @@
-//! Prints what bounds and caches answer. Each line of the file of cases is printed again with what comes of it;
-//! the output that is wanted stands beside this crate's sources. A line is:
+//! Prints what bounds and caches answer. Each line of the file of cases is printed again with what comes of it; then
+//! come how many steps leave the cache and another body of it alike. The output that is wanted stands beside this
+//! crate's sources. A line is:
 //!
 //! - `# TEXT`, a heading;
 //! - `bounds LEAST NEGATIVE_LEAST GREATEST NEGATIVE_GREATEST`, bounds, where `-` stands for none;
@@ -10,7 +11,11 @@
 //!   in all its parts, `REFUSED`, or `timeout`.
 #![tactic(auto)]
 
+mod compared;
+mod comparison;
+mod one_hash;
 mod outcomes;
+mod scanned;
 mod shown;
 mod steps;
 mod words;
@@ -31,13 +36,25 @@ fn text_of(alloc: Global, cases: &str) -> Result<String, NetError> {
     let mut text = String::new(alloc);
     push_cases(alloc, &mut text, cases)?;
     shown::push_equalities(alloc, &mut text)?;
+    comparison::push_comparison(alloc, &mut text)?;
     Ok(text)
 }
 
 fn push_cases(alloc: Global, text: &mut String, cases: &str) -> Result<(), NetError> {
     let mut cache = ResponseCache::new(alloc, 0, TtlConfig::default(alloc));
+    let pushed = push_lines(alloc, text, &mut cache, cases);
+    drop(cache);
+    pushed
+}
+
+fn push_lines(
+    alloc: Global,
+    text: &mut String,
+    cache: &mut ResponseCache,
+    cases: &str,
+) -> Result<(), NetError> {
     for line in cases.lines() {
-        push_case(alloc, text, &mut cache, line)?;
+        push_case(alloc, text, cache, line)?;
     }
     Ok(())
 }

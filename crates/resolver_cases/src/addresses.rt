@@ -1,11 +1,8 @@
 //! Look-ups of the addresses of hosts.
-use crate::scripted::{resolver_over, script_of};
-use crate::shown::push_sent;
-use crate::upstream::{Upstream, names_of, upstream_of};
+use crate::scripts::{Upstream, client_over, resolver_over, script_of};
+use crate::shown::{push_error, push_found, push_sent};
 use hickory_proto_core::{DnsRequestOptions, NetError, Query, RData};
-use hickory_resolver::{
-    CachingClient, Hosts, LookupIp, LookupIpFuture, LookupIpStrategy, Resolver,
-};
+use hickory_resolver::{Hosts, LookupIp, LookupIpFuture, LookupIpStrategy, Resolver};
 use std::alloc::{AllocError, Global};
 use std::net::Ipv4Addr;
 
@@ -131,26 +128,22 @@ fn push_looked_up(
 }
 
 fn push_reply(text: &mut String, reply: Result<LookupIp, NetError>) -> Result<(), AllocError> {
+    let pushed = push_outcome(text, &reply);
+    // Its proof is far shorter than that of a drop at the end of the scope.
+    drop(reply);
+    pushed
+}
+
+fn push_outcome(text: &mut String, reply: &Result<LookupIp, NetError>) -> Result<(), AllocError> {
     match reply {
-        Ok(addresses) => {
-            let pushed = push_addresses_of(text, &addresses);
-            drop(addresses);
-            pushed
-        }
-        Err(error) => {
-            let pushed = write!(text, "  {error}\n");
-            drop(error);
-            pushed
-        }
+        Ok(addresses) => push_addresses_of(text, addresses),
+        Err(error) => push_error(text, error),
     }
 }
 
 fn push_addresses_of(text: &mut String, addresses: &LookupIp) -> Result<(), AllocError> {
     push_question(text, addresses.query(), addresses.valid_until())?;
-    for address in addresses.iter() {
-        write!(text, "  address {address}\n")?;
-    }
-    Ok(())
+    push_found(text, addresses)
 }
 
 fn push_question(text: &mut String, query: &Query, valid_until: u64) -> Result<(), AllocError> {
@@ -171,17 +164,19 @@ fn push_no_names(alloc: Global, text: &mut String) -> Result<(), NetError> {
 
 // A look-up of no names, with this last resort.
 fn none_looked_up(alloc: Global, finally_ip_addr: Option<RData>) -> Result<LookupIp, NetError> {
-    let names = names_of(alloc, &[])?;
-    let mut client = CachingClient::new(alloc, 8, upstream_of(alloc, Vec::new(alloc))?, false);
+    let mut client = client_over(alloc, Vec::new(alloc))?;
     let (strategy, options) = (LookupIpStrategy::Ipv4Only, DnsRequestOptions::default());
     let hosts: Hosts = Hosts::default(alloc);
-    LookupIpFuture::lookup(
-        names,
+    let reply = LookupIpFuture::lookup(
+        Vec::new(alloc),
         strategy,
         &mut client,
         options,
         &hosts,
         finally_ip_addr,
         7,
-    )
+    );
+    drop(hosts);
+    drop(client);
+    reply
 }

@@ -1,7 +1,7 @@
 //! Builders whose bounds on times to live are reversed.
-use crate::upstream::{Upstream, builder_of};
+use crate::scripts::{Upstream, upstream_of};
 use hickory_proto_core::NetError;
-use hickory_resolver::{Resolver, ResolverOpts};
+use hickory_resolver::{Resolver, ResolverConfig, ResolverOpts};
 use std::alloc::{AllocError, Global};
 
 // More than the greatest lifetime where no other is given.
@@ -24,7 +24,8 @@ fn push_built(
     what: &str,
     bounds: [Option<u64>; 3],
 ) -> Result<(), NetError> {
-    let mut builder = builder_of(alloc, &[], Vec::new(alloc))?;
+    let upstream = upstream_of(alloc, Vec::new(alloc))?;
+    let mut builder = Resolver::builder_with_config(ResolverConfig::default(alloc), upstream);
     set_bounds(builder.options_mut(), bounds);
     let built = builder.build();
     let pushed = push_outcome(text, what, &built);

@@ -1,25 +1,21 @@
 //! Look-ups of several names, one after another.
-use crate::upstream::{Upstream, names_of, push_since, upstream_of};
-use hickory_proto_core::{DnsRequestOptions, NetError, RecordType};
-use hickory_resolver::{CachingClient, Hosts, Lookup, LookupFuture};
-use std::alloc::{AllocError, Global};
+use crate::scripts::{Upstream, client_over, hosts_of};
+use crate::shown::push_since;
+use hickory_proto_core::{DnsRequestOptions, Name, NameError, NetError, RecordType};
+use hickory_resolver::{CachingClient, Lookup, LookupFuture};
+use std::alloc::Global;
 
 /// Adds what they send, and the replies.
 pub fn push_in_turn(alloc: Global, text: &mut String) -> Result<(), NetError> {
     text.push_str("# names in turn\n")?;
-    push_names(alloc, text, "c. b. a.", &["c.", "b.", "a."])?;
-    push_names(alloc, text, "no names", &[])?;
-    push_with_hosts(alloc, text, "b. a. where b is a host", b"10.0.0.2 b\n")?;
-    push_with_hosts(alloc, text, "b. a. where a is a host", b"10.0.0.1 a\n")
+    push_names(alloc, text, "c. b. a.", &["c.", "b.", "a."], None)?;
+    push_names(alloc, text, "no names", &[], None)?;
+    push_hosts(alloc, text, "b. a. where b is a host", "10.0.0.2 b\n")?;
+    push_hosts(alloc, text, "b. a. where a is a host", "10.0.0.1 a\n")
 }
 
-/// A table of what a file of hosts says.
-pub fn hosts_of(alloc: Global, file: &[u8]) -> Result<Hosts, NetError> {
-    let mut hosts = Hosts::default(alloc);
-    match hosts.read_hosts_bytes(file, 0) {
-        Ok(()) => Ok(hosts),
-        Err(_) => Err(NetError::Message("a file of hosts that is not read")),
-    }
+fn push_hosts(alloc: Global, text: &mut String, what: &str, file: &str) -> Result<(), NetError> {
+    push_names(alloc, text, what, &["b.", "a."], Some(file))
 }
 
 fn push_names(
@@ -27,73 +23,54 @@ fn push_names(
     text: &mut String,
     what: &str,
     names: &[&str],
+    hosts: Option<&str>,
 ) -> Result<(), NetError> {
     write!(text, "{what}\n")?;
-    let mut client = client_of(alloc)?;
-    let reply = looked_up(alloc, &mut client, names);
-    Ok(push_asked(text, client, reply)?)
-}
-
-fn push_with_hosts(
-    alloc: Global,
-    text: &mut String,
-    what: &str,
-    file: &[u8],
-) -> Result<(), NetError> {
-    write!(text, "{what}\n")?;
-    let mut client = client_of(alloc)?;
-    let reply = looked_up_with_hosts(alloc, &mut client, file);
-    Ok(push_asked(text, client, reply)?)
-}
-
-fn client_of(alloc: Global) -> Result<CachingClient<Upstream>, NetError> {
-    let upstream = upstream_of(alloc, Vec::new(alloc))?;
-    Ok(CachingClient::new(alloc, 8, upstream, false))
+    let mut client = client_over(alloc, Vec::new(alloc))?;
+    let reply = looked_up(alloc, &mut client, names, hosts);
+    let pushed = push_since(text, &client, 0, reply);
+    drop(client);
+    Ok(pushed?)
 }
 
 fn looked_up(
     alloc: Global,
     client: &mut CachingClient<Upstream>,
     names: &[&str],
+    hosts: Option<&str>,
 ) -> Result<Lookup, NetError> {
     let names = names_of(alloc, names)?;
-    LookupFuture::lookup(
-        names,
-        RecordType::A,
-        DnsRequestOptions::default(),
-        client,
-        0,
-    )
+    match hosts {
+        Some(file) => with_hosts(alloc, client, names, file),
+        None => without_hosts(client, names),
+    }
 }
 
-fn looked_up_with_hosts(
+fn without_hosts(
+    client: &mut CachingClient<Upstream>,
+    names: Vec<Name>,
+) -> Result<Lookup, NetError> {
+    let options = DnsRequestOptions::default();
+    LookupFuture::lookup(names, RecordType::A, options, client, 0)
+}
+
+fn with_hosts(
     alloc: Global,
     client: &mut CachingClient<Upstream>,
-    file: &[u8],
+    names: Vec<Name>,
+    file: &str,
 ) -> Result<Lookup, NetError> {
     let hosts = hosts_of(alloc, file)?;
-    let reply = from_hosts(alloc, client, &hosts);
+    let options = DnsRequestOptions::default();
+    let reply = LookupFuture::lookup_with_hosts(names, RecordType::A, options, client, &hosts, 0);
     drop(hosts);
     reply
 }
 
-fn from_hosts(
-    alloc: Global,
-    client: &mut CachingClient<Upstream>,
-    hosts: &Hosts,
-) -> Result<Lookup, NetError> {
-    let names = names_of(alloc, &["b.", "a."])?;
-    let options = DnsRequestOptions::default();
-    LookupFuture::lookup_with_hosts(names, RecordType::A, options, client, hosts, 0)
-}
-
-// All that a client sent, and the reply.
-fn push_asked(
-    text: &mut String,
-    client: CachingClient<Upstream>,
-    reply: Result<Lookup, NetError>,
-) -> Result<(), AllocError> {
-    let pushed = push_since(text, &client, 0, reply);
-    drop(client);
-    pushed
+fn names_of(alloc: Global, texts: &[&str]) -> Result<Vec<Name>, NameError> {
+    let mut names = Vec::new(alloc);
+    for text in texts {
+        names.push(Name::from_ascii(alloc, text)?)?;
+    }
+    Ok(names)
 }

@@ -1,6 +1,8 @@
-//! A resolver whose upstream keeps the options that it was asked with.
-use hickory_proto_core::{DnsHandle, DnsRequest, DnsRequestOptions, DnsResponse, NetError};
-use hickory_resolver::{Resolver, ResolverConfig, ResolverOpts};
+//! A client and resolvers whose upstream keeps the options that it was asked with.
+use hickory_proto_core::{
+    DnsHandle, DnsRequest, DnsRequestOptions, DnsResponse, Name, NetError, Query, RecordType,
+};
+use hickory_resolver::{CachingClient, Resolver, ResolverConfig, ResolverOpts};
 use std::alloc::{AllocError, Global};
 
 // An upstream that has no outcome.
@@ -16,8 +18,48 @@ impl DnsHandle for KeepsOptions {
     }
 }
 
-/// Adds the options that are kept for other options than the default, and for the default.
-pub fn push_options(alloc: Global, text: &mut String) -> Result<(), NetError> {
+/// Adds whether look-ups of a client fail that are given other options than the default, and the default, and
+/// the options that are kept of them.
+pub fn push_of_clients(alloc: Global, text: &mut String) -> Result<(), AllocError> {
+    text.push_str("# options are handed on\n")?;
+    let mut client = CachingClient::new(alloc, 8, KeepsOptions { options: None }, false);
+    let pushed = push_both(alloc, text, &mut client);
+    drop(client);
+    pushed
+}
+
+fn push_both(
+    alloc: Global,
+    text: &mut String,
+    client: &mut CachingClient<KeepsOptions>,
+) -> Result<(), AllocError> {
+    let options = DnsRequestOptions {
+        recursion_desired: false,
+        use_edns: true,
+        edns_payload_len: 4096,
+        case_randomization: true,
+    };
+    push_given(alloc, text, client, options)?;
+    push_given(alloc, text, client, DnsRequestOptions::default())
+}
+
+fn push_given(
+    alloc: Global,
+    text: &mut String,
+    client: &mut CachingClient<KeepsOptions>,
+    given: DnsRequestOptions,
+) -> Result<(), AllocError> {
+    let query = Query::query(Name::root(alloc), RecordType::A);
+    let reply = client.lookup(query, given, 0);
+    let failed = reply.is_err();
+    // Its proof is far shorter than that of a drop at the end of the scope.
+    drop(reply);
+    let kept = client.handle().options;
+    write!(text, "{failed} {kept:?}\n")
+}
+
+/// Adds the options that resolvers hand on: of other options than the default, and of the default.
+pub fn push_of_resolvers(alloc: Global, text: &mut String) -> Result<(), NetError> {
     text.push_str("# options are handed on\n")?;
     push_kept(text, kept(alloc, other_options(alloc))?)?;
     push_kept(text, kept(alloc, ResolverOpts::default(alloc))?)?;

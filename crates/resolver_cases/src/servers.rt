@@ -1,5 +1,4 @@
 //! Configurations of known servers, and search lists.
-use crate::upstream::searching;
 use hickory_proto_core::{Name, NetError};
 use hickory_resolver::{
     ConnectionConfig, NameServerConfig, ProtocolConfig, ResolverConfig, cloudflare, google, quad9,
@@ -73,7 +72,7 @@ fn push_names(text: &mut String, protocol: &ProtocolConfig) -> Result<(), AllocE
 
 // A search list, and what a domain makes of it.
 fn push_searches(alloc: Global, text: &mut String) -> Result<(), NetError> {
-    let mut config = searching(alloc, &[])?;
+    let mut config = ResolverConfig::default(alloc);
     let pushed = push_set(alloc, text, &mut config);
     drop(config);
     pushed

@@ -1,6 +1,6 @@
 //! Look-ups of the addresses of the root by each strategy.
-use crate::scripted::{resolver_over, script_of};
-use crate::upstream::{Upstream, sent_by};
+use crate::scripts::{Upstream, resolver_of};
+use crate::shown::sent_by;
 use hickory_proto_core::NetError;
 use hickory_resolver::{LookupIp, LookupIpStrategy, Resolver};
 use std::alloc::{AllocError, Global};
@@ -60,8 +60,7 @@ fn push_by(
 ) -> Result<(), NetError> {
     let mut lines = String::new(alloc);
     write!(lines, "option ip_strategy {strategy:?}\n{ipv4}{ipv6}")?;
-    let script = script_of(alloc, lines.as_str())?;
-    let mut resolver = resolver_over(alloc, script, "")?;
+    let mut resolver = resolver_of(alloc, lines.as_str())?;
     let pushed = push_looked_up(text, &mut resolver, strategy);
     drop(resolver);
     Ok(pushed?)

@@ -1,6 +1,6 @@
 //! The look-ups of one type each.
+use crate::scripts::{Upstream, resolver_of};
 use crate::shown::push_sent;
-use crate::upstream::{Upstream, resolver_of};
 use hickory_proto_core::{NetError, RecordType};
 use hickory_resolver::{Lookup, Resolver};
 use std::alloc::Global;
@@ -23,7 +23,7 @@ const TYPES: [RecordType; 11] = [
 /// Adds the question that each look-up sends.
 pub fn push_types(alloc: Global, text: &mut String) -> Result<(), NetError> {
     text.push_str("# each look-up of a type\n")?;
-    let mut resolver = resolver_of(alloc, &[])?;
+    let mut resolver = resolver_of(alloc, "")?;
     ask_each(&mut resolver);
     let pushed = push_sent(text, "", resolver.client().handle().exchanges());
     drop(resolver);

@@ -1,28 +1,26 @@
 //! IPv6 addresses with zeros in each of their places.
-use hickory_proto_core::{ip_text, read_ip};
+use crate::addresses::text_of;
+use hickory_proto_core::{NameError, read_ip};
 use std::alloc::{AllocError, Global};
 use std::net::{IpAddr, Ipv6Addr};
 
 /// How many of 256 addresses are printed as RFC 5952 wants and read again, and how many are read from each text that
 /// elides some of their zeros, and from the one that elides none.
-pub fn counts(alloc: Global) -> anyhow::Result<String> {
-    let (mut printed, mut read) = (0, 0);
+pub fn counts(alloc: Global) -> Result<String, NameError> {
+    let (mut printed, mut read) = (0_u16, 0_u16);
     for mask in 0..=255 {
         let groups = masked(mask);
-        if is_printed(alloc, groups)? {
-            printed = u16::saturating_add(printed, 1);
-        }
-        if is_read(alloc, groups)? {
-            read = u16::saturating_add(read, 1);
-        }
+        printed = printed.saturating_add(u16::from(is_printed(alloc, groups)?));
+        read = read.saturating_add(u16::from(is_read(alloc, groups)?));
     }
     Ok(format!(in alloc; "{printed} addresses are printed, {read} are read")?)
 }
 
-fn is_printed(alloc: Global, groups: [u16; 8]) -> anyhow::Result<bool> {
+fn is_printed(alloc: Global, groups: [u16; 8]) -> Result<bool, NameError> {
     let address = IpAddr::V6(Ipv6Addr::from_segments(groups));
-    let text = ip_text(alloc, address)?;
-    Ok(text == wanted(alloc, groups)? && read_ip(&text) == Some(address))
+    let text = text_of(alloc, address)?;
+    let wanted = wanted(alloc, groups)?;
+    Ok(text == wanted && read_ip(&text) == Some(address))
 }
 
 fn is_read(alloc: Global, groups: [u16; 8]) -> Result<bool, AllocError> {

@@ -1,15 +1,26 @@
 //! Blocks of the file of cases.
-use crate::requests::{Client, push_kept, push_requests, script_of};
+use crate::requests::{Client, push_kept, push_requests};
+use crate::scripts::parts_of;
 use hickory_proto_core::dns_handle::Outcome;
 use hickory_proto_core::{Name, NetError, Query, RecordType, Recorded, ScriptHandle};
 use hickory_resolver::{CachingClient, ResponseCache, TtlBounds, TtlConfig};
-use replay_script::Script;
 use std::alloc::Global;
 
 pub fn push_blocks(alloc: Global, text: &mut String, cases: &str) -> Result<(), NetError> {
     let mut client = client_of(alloc, "", Vec::new(alloc))?;
+    let pushed = push_each(alloc, text, &mut client, cases);
+    drop(client);
+    pushed
+}
+
+fn push_each(
+    alloc: Global,
+    text: &mut String,
+    client: &mut Client,
+    cases: &str,
+) -> Result<(), NetError> {
     for block in cases.split("\n\n") {
-        push_block(alloc, text, &mut client, block)?;
+        push_block(alloc, text, client, block)?;
     }
     Ok(())
 }
@@ -22,11 +33,7 @@ fn push_block(
 ) -> Result<(), NetError> {
     let (head, script) = block.split_once('\n').unwrap_or((block, ""));
     write!(text, "# {head}\n")?;
-    let Script {
-        outcomes,
-        requests,
-        ..
-    } = script_of(alloc, script)?;
+    let (outcomes, requests) = parts_of(alloc, script)?;
     begin(alloc, text, client, head, outcomes)?;
     push_requests(alloc, text, client, &requests)
 }
@@ -78,19 +85,11 @@ fn outcomes_of(
     head: &str,
     said: Vec<(Query, Outcome)>,
 ) -> Result<Vec<Outcome>, NetError> {
-    let mut outcomes = Vec::new(alloc);
+    let mut outcomes: Vec<Outcome> = said.into_iter().map(|(_, outcome)| outcome).collect(alloc)?;
     if head.starts_with("late") {
-        outcomes.push(Err(NetError::Timeout))?;
+        outcomes.insert(0, Err(NetError::Timeout))?;
     }
-    add_said(&mut outcomes, said)?;
     Ok(outcomes)
-}
-
-fn add_said(outcomes: &mut Vec<Outcome>, said: Vec<(Query, Outcome)>) -> Result<(), NetError> {
-    for (_, outcome) in said {
-        outcomes.push(outcome)?;
-    }
-    Ok(())
 }
 
 fn cache_of(alloc: Global, head: &str) -> Result<ResponseCache, NetError> {

@@ -1,10 +1,10 @@
 //! The names that are attempted for a name.
-use hickory_proto_core::{Name, NameError};
+use hickory_proto_core::{Name, NameError, NetError};
 use hickory_resolver_attempts::attempts;
 use std::alloc::Global;
 
 /// The first text is `ndots`, the domain or `-`, and the search domains.
-pub fn attempted(alloc: Global, settings: &str, name: &str) -> anyhow::Result<String> {
+pub fn attempted(alloc: Global, settings: &str, name: &str) -> Result<String, NameError> {
     let words: Vec<&str> = settings.split_whitespace().collect(alloc)?;
     match words.as_slice() {
         [ndots, domain, search @ ..] => {
@@ -21,17 +21,15 @@ fn found(
     domain: &str,
     search: &[&str],
     name: &str,
-) -> anyhow::Result<String> {
+) -> Result<String, NameError> {
     let search = names(alloc, search)?;
     let domain = domain_of(alloc, domain)?;
     let name = Name::from_ascii(alloc, name)?;
-    shown(
-        alloc,
-        &attempts(alloc, name, ndots, domain.as_ref(), &search)?,
-    )
+    let names = attempts(alloc, name, ndots, domain.as_ref(), &search);
+    shown(alloc, names)
 }
 
-fn names(alloc: Global, texts: &[&str]) -> anyhow::Result<Vec<Name>> {
+fn names(alloc: Global, texts: &[&str]) -> Result<Vec<Name>, NameError> {
     let mut names = Vec::new(alloc);
     for text in texts {
         names.push(Name::from_ascii(alloc, text)?)?;
@@ -46,7 +44,17 @@ fn domain_of(alloc: Global, text: &str) -> Result<Option<Name>, NameError> {
     }
 }
 
-fn shown(alloc: Global, names: &[Name]) -> anyhow::Result<String> {
+fn shown(alloc: Global, names: Result<Vec<Name>, NetError>) -> Result<String, NameError> {
+    match names {
+        Ok(names) => joined(alloc, &names),
+        Err(error) => {
+            drop(error);
+            Err(NameError::OutOfMemory)
+        }
+    }
+}
+
+fn joined(alloc: Global, names: &[Name]) -> Result<String, NameError> {
     let mut text = String::new(alloc);
     for name in names {
         if !text.is_empty() {

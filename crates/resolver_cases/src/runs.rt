@@ -1,13 +1,11 @@
-//! Prints a run over an upstream that is a table: what is sent for each request, and what it is answered. The output
-//! that is wanted stands beside this crate's sources.
-#![tactic(auto)]
-
-mod shown;
-
+//! A run over an upstream that is a table.
+use crate::scripts::script_of;
+use crate::shown::{push_answers, push_error, push_found, push_sent};
 use hickory_proto_core::{Exchange, NetError, RecordType, TableHandle};
-use hickory_resolver::{Hosts, Reply, Request, ResolverConfig, Step, Transcript, run};
-use replay_script::{Script, read_script};
-use shown::{push_addresses, push_cleared, push_looked_up, push_sent};
+use hickory_resolver::{
+    Hosts, Lookup, LookupIp, Reply, Request, ResolverConfig, Step, Transcript, run,
+};
+use replay_script::Script;
 use std::alloc::{AllocError, Global};
 
 // What is set, and what the table answers.
@@ -19,35 +17,21 @@ const SCRIPT: &str = "option preserve_intermediates false\n\
     authority . 50 IN SOA m. r. 1 2 3 4 40\n\
     reply SERVFAIL t. A\n";
 
-fn main(rt: HostRuntime) -> anyhow::Result<()> {
-    rt.print(text_of(rt.alloc())?)?;
-    Ok(())
-}
-
-fn text_of(alloc: Global) -> Result<String, NetError> {
-    let mut text = String::from_str(alloc, "# a run\n")?;
+/// Adds what is sent for each request, and what it is answered.
+pub fn push_run(alloc: Global, text: &mut String) -> Result<(), NetError> {
+    text.push_str("# a run\n")?;
     let requests = requests(alloc)?;
-    let pushed = push_run(alloc, &mut text, &requests);
+    let pushed = push_requests(alloc, text, &requests);
     drop(requests);
-    match pushed {
-        Ok(()) => Ok(text),
-        Err(error) => Err(error),
-    }
+    pushed
 }
 
-fn push_run(alloc: Global, text: &mut String, requests: &[Request]) -> Result<(), NetError> {
-    let script = script_of(alloc)?;
+fn push_requests(alloc: Global, text: &mut String, requests: &[Request]) -> Result<(), NetError> {
+    let script = script_of(alloc, SCRIPT)?;
     let transcript = transcript_of(alloc, script, requests)?;
     let pushed = push_steps(text, transcript.steps(), transcript.exchanges());
     drop(transcript.into_resolver());
     Ok(pushed?)
-}
-
-fn script_of(alloc: Global) -> Result<Script, NetError> {
-    match read_script(alloc, SCRIPT.as_bytes()) {
-        Ok(script) => Ok(script),
-        Err(_) => Err(NetError::Message("a script that is not read")),
-    }
 }
 
 fn transcript_of(
@@ -142,10 +126,44 @@ fn push_steps(text: &mut String, steps: &[Step], exchanges: &[Exchange]) -> Resu
 fn push_step(text: &mut String, step: &Step, sent: &[Exchange]) -> Result<(), AllocError> {
     let now = step.now;
     write!(text, "at {now}\n")?;
-    push_sent(text, sent)?;
+    push_sent(text, "  sent ", sent)?;
     match &step.reply {
         Reply::Lookup(reply) => push_looked_up(text, reply),
         Reply::LookupIp(reply) => push_addresses(text, reply),
         Reply::Cleared(done) => push_cleared(text, done),
+    }
+}
+
+// What a look-up of records came to.
+fn push_looked_up(text: &mut String, reply: &Result<Lookup, NetError>) -> Result<(), AllocError> {
+    match reply {
+        Ok(lookup) => {
+            push_deadline(text, lookup.valid_until())?;
+            push_answers(text, lookup.answers())
+        }
+        Err(error) => push_error(text, error),
+    }
+}
+
+// What a look-up of addresses came to.
+fn push_addresses(text: &mut String, reply: &Result<LookupIp, NetError>) -> Result<(), AllocError> {
+    match reply {
+        Ok(found) => {
+            push_deadline(text, found.valid_until())?;
+            push_found(text, found)
+        }
+        Err(error) => push_error(text, error),
+    }
+}
+
+fn push_deadline(text: &mut String, until: u64) -> Result<(), AllocError> {
+    write!(text, "  until {until}\n")
+}
+
+// Whether a clear was done.
+fn push_cleared(text: &mut String, done: &Result<(), NetError>) -> Result<(), AllocError> {
+    match done {
+        Ok(()) => text.push_str("  cleared\n"),
+        Err(error) => push_error(text, error),
     }
 }

@@ -4,18 +4,11 @@ use hickory_proto_core::{
 };
 use hickory_resolver::{CachingClient, Lookup};
 use replay::output::push_step;
-use replay_script::{Request, Script, read_script};
+use replay_script::Request;
 use std::alloc::{AllocError, Global};
 
 /// A client over a script's outcomes, with a record of what it sends.
 pub type Client = CachingClient<Recorded<ScriptHandle>>;
-
-pub fn script_of(alloc: Global, script: &str) -> Result<Script, NetError> {
-    match read_script(alloc, script.as_bytes()) {
-        Ok(script) => Ok(script),
-        Err(_) => Err(NetError::Message("a block whose script has a fault")),
-    }
-}
 
 /// Asks a client, and adds what it sends, its reply, and how many entries its cache has then.
 pub fn push_requests(

@@ -1,24 +1,44 @@
-//! Stores, clamped stores and clears over 12 questions, in both bodies.
-use crate::outcomes::{outcome, shown};
+//! 500 steps with the cache and with another body of it, a list that is searched from end to end: stores, clamped
+//! stores and clears over 12 questions.
+use crate::compared::{outcome, shown};
+use crate::one_hash::OneHash;
 use crate::scanned::{Kept, Scanned};
 use hickory_proto_core::{Message, Name, NetError, Query, RecordType};
 use hickory_resolver_cache::ResponseCache;
+use hickory_resolver_lookup::TtlConfig;
 use std::alloc::Global;
 use std::hash::BuildHasher;
 
-/// How many of the first 500 steps leave both bodies with the same answers to each question.
-pub fn agreeing<S: BuildHasher + Drop>(
-    alloc: Global,
-    mut cache: ResponseCache<S>,
-) -> Result<u32, NetError> {
-    agreeing_steps(alloc, &mut cache)
+/// Adds how many steps leave both with the same answers: once with the hasher of the kit, and once with a hasher that
+/// gives every question the same hash.
+pub fn push_comparison(alloc: Global, text: &mut String) -> Result<(), NetError> {
+    let cache = ResponseCache::new(alloc, 8, TtlConfig::default(alloc));
+    push_agreeing(alloc, text, cache, "agree")?;
+    let cache = ResponseCache::with_hasher(alloc, 8, TtlConfig::default(alloc), OneHash);
+    push_agreeing(alloc, text, cache, "agree under one hash")
 }
 
-fn agreeing_steps<S: BuildHasher>(
+fn push_agreeing<S: BuildHasher + Drop>(
+    alloc: Global,
+    text: &mut String,
+    cache: ResponseCache<S>,
+    what: &str,
+) -> Result<(), NetError> {
+    let (mut cache, mut scanned) = (cache, Scanned::new(alloc));
+    let steps = agreeing(alloc, &mut cache, &mut scanned);
+    drop(scanned);
+    drop(cache);
+    let steps = steps?;
+    write!(text, "{steps} steps {what}\n")?;
+    Ok(())
+}
+
+// How many of the first 500 steps leave both bodies with the same answers to each question.
+fn agreeing<S: BuildHasher>(
     alloc: Global,
     cache: &mut ResponseCache<S>,
+    scanned: &mut Scanned,
 ) -> Result<u32, NetError> {
-    let mut scanned = Scanned::new(alloc);
     let (mut state, mut now): (u64, u64) = (1, 0);
     for steps in 0..500 {
         state = state
@@ -26,8 +46,8 @@ fn agreeing_steps<S: BuildHasher>(
             .wrapping_add(1_442_695_040_888_963_407);
         let bits = state ^ (state >> 29);
         now = now.wrapping_add((bits >> 60) % 4);
-        take(alloc, cache, &mut scanned, bits, now)?;
-        if !is_same(alloc, cache, &scanned, now)? {
+        take(alloc, cache, scanned, bits, now)?;
+        if !is_same(alloc, cache, scanned, now)? {
             return Ok(steps);
         }
     }
@@ -72,23 +92,21 @@ fn take<S: BuildHasher>(
             scanned.clear_query(&query);
             Ok(())
         }
-        step => store(
-            alloc,
-            cache,
-            scanned,
-            &query,
-            (kept(bits >> 32), now, step < 13),
-        ),
+        step => {
+            let (kept, is_clamped) = (kept(bits >> 32), step < 13);
+            store_scanned(scanned, &query, kept, now, is_clamped)?;
+            store(alloc, cache, query, kept, now, is_clamped)
+        }
     }
 }
 
 // A store of what is kept from a moment on, clamped or not.
-fn store<S: BuildHasher>(
-    alloc: Global,
-    cache: &mut ResponseCache<S>,
+fn store_scanned(
     scanned: &mut Scanned,
     query: &Query,
-    (kept, now, is_clamped): (Kept, u64, bool),
+    kept: Kept,
+    now: u64,
+    is_clamped: bool,
 ) -> Result<(), NetError> {
     let limit = if is_clamped {
         scanned.deadline(query, now)
@@ -96,7 +114,17 @@ fn store<S: BuildHasher>(
         u64::MAX
     };
     scanned.insert(query.clone()?, kept, now, limit)?;
-    let query = query.clone()?;
+    Ok(())
+}
+
+fn store<S: BuildHasher>(
+    alloc: Global,
+    cache: &mut ResponseCache<S>,
+    query: Query,
+    kept: Kept,
+    now: u64,
+    is_clamped: bool,
+) -> Result<(), NetError> {
     let stored = outcome(alloc, &query, kept)?;
     put(cache, query, stored, now, is_clamped)
 }
@@ -121,12 +149,10 @@ fn is_same<S: BuildHasher>(
     scanned: &Scanned,
     now: u64,
 ) -> Result<bool, NetError> {
-    for bits in 0..6 {
-        for kind in [0, 256] {
-            let query = asked(alloc, bits + kind)?;
-            if !is_same_for(cache, scanned, &query, now) {
-                return Ok(false);
-            }
+    for bits in [0, 1, 2, 3, 4, 5, 256, 257, 258, 259, 260, 261] {
+        let query = asked(alloc, bits)?;
+        if !is_same_for(cache, scanned, &query, now) {
+            return Ok(false);
         }
     }
     Ok(cache.len() == scanned.len())
