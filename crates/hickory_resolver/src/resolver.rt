@@ -15,7 +15,6 @@ ghost use Rattle.hickory_resolver_model.specs.Run.{Attempt, address_call, addres
 use crate::caching_client::CachingClient;
 use crate::config::{LookupIpStrategy, ResolverConfig, ResolverOpts};
 use crate::hosts::Hosts;
-use crate::literals::literal_at_once;
 use crate::lookup::Lookup;
 use crate::lookup_future::LookupFuture;
 use crate::lookup_ip::LookupIp;
@@ -25,6 +24,7 @@ use hickory_proto_core::{
     DnsHandle, DnsRequestOptions, IntoName, Name, NameError, NetError, Query, RData, RecordType,
 };
 use hickory_resolver_attempts::attempts;
+use hickory_resolver_futures::literal_at_once;
 use std::alloc::Global;
 use std::fmt;
 use std::hash::{BuildHasher, BuildHasherDefault, FoldHasher};

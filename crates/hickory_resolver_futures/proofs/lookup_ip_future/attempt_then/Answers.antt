@@ -1,9 +1,9 @@
 use Rattle.std.proofs.Common.{◌≡◌, true, false, Some, None, if◌then◌else◌, inl, refl, subst, sym, ap, ◌∙◌}
 use Rattle.hickory_proto_core.specs.Name.{NameValue}
 use Rattle.hickory_resolver_model.specs.Calls.{One, Fallback, stops}
-use Rattle.hickory_resolver.specs.Attempting.{Attempts}
-use Rattle.hickory_resolver.proofs.Families.{attempt_first, attempt_second, live_is_not_out}
-use Rattle.hickory_resolver.proofs.lookup_ip_future.attempt_then.Goals as goal
+use Rattle.hickory_resolver_futures.specs.Attempting.{Attempts}
+use Rattle.hickory_resolver_futures.proofs.Families.{attempt_first, attempt_second, live_is_not_out}
+use Rattle.hickory_resolver_futures.proofs.lookup_ip_future.attempt_then.Goals as goal
 
 pub returns-then-stops : goal.returns-then-stops
 returns-then-stops g c =

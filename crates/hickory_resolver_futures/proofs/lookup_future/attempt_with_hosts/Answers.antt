@@ -3,8 +3,8 @@ use Rattle.hickory_proto_core.specs.records.query.Query.{Query}
 use Rattle.hickory_resolver_model.specs.Calls.{question_of}
 use Rattle.hickory_resolver_model.specs.Client.{IsLookup}
 use Rattle.hickory_resolver_model.specs.Hosts.{IsStatic}
-use Rattle.hickory_resolver.proofs.Attempting.{attempt_asked, attempt_static}
-use Rattle.hickory_resolver.proofs.lookup_future.attempt_with_hosts.Goals as goal
+use Rattle.hickory_resolver_futures.proofs.Attempting.{attempt_asked, attempt_static}
+use Rattle.hickory_resolver_futures.proofs.lookup_future.attempt_with_hosts.Goals as goal
 
 pub returns-in-Some : goal.returns-in-Some
 returns-in-Some g c =

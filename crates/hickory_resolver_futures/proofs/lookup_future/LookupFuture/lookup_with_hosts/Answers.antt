@@ -1,6 +1,6 @@
 use Rattle.hickory_resolver_model.specs.Run.{name_plan}
-use Rattle.hickory_resolver.proofs.Attempting.{looks_up_first}
-use Rattle.hickory_resolver.proofs.lookup_future.LookupFuture.lookup_with_hosts.Goals as goal
+use Rattle.hickory_resolver_futures.proofs.Attempting.{looks_up_first}
+use Rattle.hickory_resolver_futures.proofs.lookup_future.LookupFuture.lookup_with_hosts.Goals as goal
 
 pub returns : goal.returns
 returns g c =

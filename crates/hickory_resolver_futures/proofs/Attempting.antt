@@ -14,7 +14,7 @@ use Rattle.hickory_resolver_model.specs.Hosts.{Host, IsStatic}
 use Rattle.hickory_resolver_model.specs.Client.{ClientValue, IsLookup}
 use Rattle.hickory_resolver_model.specs.Calls.{Plan, One, Static, Client, SubLookup, SubLookupRelation, IsSubLookupFor, CallPlan, Says, IsAttempt, AreAttempts, IsLastReply, question_of, takes_memory, stops, asks_of_sub_lookups}
 use Rattle.hickory_resolver_model.specs.Resolver.{setting_of, LooksUp}
-use Rattle.hickory_resolver.specs.Attempting.{Attempts, AreFurther, GoesOn}
+use Rattle.hickory_resolver_futures.specs.Attempting.{Attempts, AreFurther, GoesOn}
 
 -- ---- one attempt
 

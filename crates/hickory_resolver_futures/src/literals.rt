@@ -4,16 +4,15 @@ ghost use Rattle.hickory_proto_core.specs.Records.{data_of};
 ghost use Rattle.hickory_proto_core.specs.records.net_error.NetError.TheVariants.{OutOfMemory};
 ghost use Rattle.hickory_resolver_model.specs.Calls.{literal_at_once, last_resort};
 
-use crate::lookup::Lookup;
-use crate::lookup_ip::LookupIp;
 use hickory_proto_core::{Name, NetError, Query, RData, Record};
-use hickory_resolver_lookup::MAX_TTL;
+use hickory_resolver_addresses::LookupIp;
+use hickory_resolver_lookup::{Lookup, MAX_TTL};
 use std::alloc::Global;
 use std::net::IpAddr;
 
 /// The address as the reply at once: owned by this name, under a question for it, for a day from this moment
 /// (seconds).
-pub(crate) fn literal_at_once(
+pub fn literal_at_once(
     alloc: Global,
     owner: Name,
     address: IpAddr,

@@ -1,9 +1,9 @@
 use Rattle.std.proofs.Common.{◌≡◌, true, false, Some, None, if◌then◌else◌, refl, subst, sym, ap, ◌∙◌}
 use Rattle.hickory_proto_core.specs.Name.{NameValue}
 use Rattle.hickory_resolver_model.specs.Calls.{One, Both, is_out_of_memory}
-use Rattle.hickory_resolver.specs.Attempting.{Attempts}
-use Rattle.hickory_resolver.proofs.Families.{attempt_first, attempt_second, joined_is, joined_out}
-use Rattle.hickory_resolver.proofs.lookup_ip_future.attempt_both.Goals as goal
+use Rattle.hickory_resolver_futures.specs.Attempting.{Attempts}
+use Rattle.hickory_resolver_futures.proofs.Families.{attempt_first, attempt_second, joined_is, joined_out}
+use Rattle.hickory_resolver_futures.proofs.lookup_ip_future.attempt_both.Goals as goal
 
 pub returns-then-is_out_of_memory : goal.returns-then-is_out_of_memory
 returns-then-is_out_of_memory g c =
