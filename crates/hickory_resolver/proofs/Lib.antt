@@ -1,4 +1,2 @@
-pub mod Attempting
-pub mod Families
 pub mod Answering
 pub mod Serving

@@ -1,11 +1,10 @@
 -- Requests that are served over a recording handle, and a run of them.
-use Rattle.std.proofs.Common.{◌≡◌, ◌⊎◌, ◌≢◌, ℕ, ◌+◌, ◌-◌, Bool, true, false, List, [], ◌∷◌, ◌++◌, length, map, Option, None, Some, Result, Ok, Err, OnOk, OnErr, IsOkUnless, refl, sym, ap, ◌∙◌, subst, inl, inr, arith, append_assoc, length-append}
+use Rattle.std.proofs.Common.{◌≡◌, ◌⊎◌, ◌≢◌, ℕ, Bool, true, false, List, [], ◌∷◌, ◌++◌, length, map, Result, Ok, Err, OnOk, OnErr, IsOkUnless, refl, sym, ap, ◌∙◌, subst, inl, inr, arith, append_assoc, length-append}
 use Rattle.std.proofs.lemmas.List.{append-nil, map-append}
 use Rattle.std.proofs.lemmas.Grind.{flat_map-append}
 use Rattle.hickory_proto_core.specs.Name.{NameValue}
 use Rattle.hickory_proto_core.specs.NameDecided.{IsReading}
 use Rattle.hickory_proto_core.specs.NameGiven.{IsReadAddress, IsReadName}
-use Rattle.hickory_proto_core.specs.NetErrors.{net_error_of}
 use Rattle.hickory_proto_core.specs.Handles.{Step, Leads, Leads-append, RecordedValue}
 use Rattle.hickory_proto_core.specs.Recorded.{RecordedAs, RecordedStep, IsRecorded, recorded_leads}
 use Rattle.hickory_proto_core.specs.codes.record_type.RecordType.{RecordType}
@@ -15,16 +14,11 @@ use Rattle.hickory_proto_core.specs.records.net_error.NetError.{NetError}
 use Rattle.hickory_proto_core.specs.records.net_error.NetError.TheVariants.{OutOfMemory}
 use Rattle.hickory_proto_core.specs.declared.recorded.Exchange.{Exchange}
 use Rattle.hickory_resolver_config.specs.Resolver.{ResolverConfigValue, OptionsValue}
-use Rattle.std.specs.Option.{option_map_or}
-use Rattle.hickory_proto_core.specs.records.bounds_error.BoundsError.{BoundsError}
-use Rattle.hickory_resolver_model.specs.Bounds.{BoundsValue, ConfigValue, bounds_fault}
-use Rattle.hickory_resolver_model.specs.Options.{config_or_fault}
 use Rattle.hickory_resolver_model.specs.Cache.{CacheValue}
 use Rattle.hickory_resolver_model.specs.Hosts.{Host}
 use Rattle.hickory_resolver_model.specs.Lookup.{LookupResult}
 use Rattle.hickory_resolver_model.specs.Calls.{SubLookup, IsSubLookupFor, asks_of_sub_lookups}
-use Rattle.hickory_resolver_model.specs.Client.{ClientValue}
-use Rattle.hickory_resolver_model.specs.Resolver.{ResolverValue, AnswersCall, AnswersName, AnswersHost, after_clear_lookup, new_resolver, settings}
+use Rattle.hickory_resolver_model.specs.Resolver.{ResolverValue, AnswersName, AnswersHost, after_clear_lookup, new_resolver, settings}
 use Rattle.hickory_resolver_model.specs.Run.{Settings, setting_at, RequestValue, Lookup, LookupIp, ClearLookup, Clear, StepReply, LookedUp, Cleared, StepValue, ends_run, after_clear, name_call, address_call, IsCall, IsUnserved, IsServed, Stage, IsStage, AreStages, exchanges_of, moment_of, settings_of, IsRun}
 use Rattle.hickory_resolver_theorems.specs.Keeping.{IsServedOver}
 use Rattle.hickory_resolver.specs.Serving.{Answered, MakesStep, AnswersAll, AnsweredSoFar, Serves, KeptSoFar, ServesAll}
@@ -303,13 +297,3 @@ module _ {H : Type 0} (law : KeepsRequest) (step : Step H) (config : ResolverCon
   resolver_is =
       let as_built : Bool → ResolverValue (RecordedValue H) = λ b. record first { client = record resolver.client { preserve_intermediates = b } } in
       served.others_stay ∙ ap as_built served.option_stays
-
--- ---- the bounds of the options
-
--- bounds that were taken are in order
-pub bounds_taken : (b : BoundsValue) (config : ConfigValue) → config_or_fault b ≡ Ok config → (bounds_fault b ≡ None) × (config ≡ record { default = b; by_type = [] })
-bounds_taken b config is = by (bounds_fault b) refl is
-  where
-    by : (fault : Option BoundsError) → bounds_fault b ≡ fault → option_map_or Err fault (Ok (record { default = b; by_type = [] })) ≡ Ok config → (bounds_fault b ≡ None) × (config ≡ record { default = b; by_type = [] })
-    by None e h = (e, let same : record { default = b; by_type = [] } ≡ config = cc in sym same)
-    by (Some fault) e h = absurd cc

@@ -1,4 +1,3 @@
-pub mod Attempting
 pub mod Requests
 pub mod Serving
 pub mod Transcripts

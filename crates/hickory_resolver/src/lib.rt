@@ -5,7 +5,6 @@ pub mod cache;
 pub mod caching_client;
 pub mod config;
 pub mod hosts;
-mod literals;
 pub mod lookup;
 pub mod lookup_future;
 pub mod lookup_ip;

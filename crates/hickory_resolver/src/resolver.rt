@@ -1,5 +1,5 @@
 //! The resolver: names and types are turned into records.
-ghost use Rattle.std.specs.Prelude.{◌≡◌, ◌≢◌, [], IfOk, OnOk, OnErr, IsOkUnless, Err, Ok, Result};
+ghost use Rattle.std.specs.Prelude.{◌≡◌, ◌≢◌, ℕ, [], IfOk, OnOk, OnErr, IsOkUnless, Err, Ok, Result};
 ghost use Rattle.std.specs.Option.{option_map};
 ghost use Rattle.hickory_proto_core.specs.Name.{NameValue};
 ghost use Rattle.hickory_proto_core.specs.Records.{data_of};
@@ -7,7 +7,7 @@ ghost use Rattle.hickory_proto_core.specs.codes.record_type.RecordType.TheVarian
 ghost use Rattle.hickory_proto_core.specs.names.name_error.NameError.{NameError};
 ghost use Rattle.hickory_resolver_config.specs.Resolver.{default_options};
 ghost use Rattle.hickory_resolver_model.specs.Attempts.{attempts};
-ghost use Rattle.hickory_resolver_model.specs.Calls.{last_resort};
+ghost use Rattle.hickory_resolver_model.specs.Calls.{last_resort, literal_at_last};
 ghost use Rattle.hickory_resolver_model.specs.Options.{request_options_of};
 ghost use Rattle.hickory_resolver_model.specs.Resolver.{AnswersCall, AnswersHost, AnswersName, after_clear_lookup, settings};
 ghost use Rattle.hickory_resolver_model.specs.Run.{Attempt, address_call, address_plan, drop_each, name_plan};
@@ -15,7 +15,6 @@ ghost use Rattle.hickory_resolver_model.specs.Run.{Attempt, address_call, addres
 use crate::caching_client::CachingClient;
 use crate::config::{LookupIpStrategy, ResolverConfig, ResolverOpts};
 use crate::hosts::Hosts;
-use crate::literals::literal_at_once;
 use crate::lookup::Lookup;
 use crate::lookup_future::LookupFuture;
 use crate::lookup_ip::LookupIp;
@@ -25,6 +24,7 @@ use hickory_proto_core::{
     DnsHandle, DnsRequestOptions, IntoName, Name, NameError, NetError, Query, RData, RecordType,
 };
 use hickory_resolver_attempts::attempts;
+use hickory_resolver_futures::literal_at_once;
 use std::alloc::Global;
 use std::fmt;
 use std::hash::{BuildHasher, BuildHasherDefault, FoldHasher};
@@ -268,7 +268,7 @@ impl<H: DnsHandle, S: BuildHasher> Resolver<H, S> {
             Some(address) if self.options.ndots <= 4 => {
                 literal_at_once(self.alloc(), name, address, now)
             }
-            Some(address) => self.attempt_host(name, Some(RData::from(address)), now),
+            Some(address) => self.attempt_host(name, Some(address), now),
             None => self.attempt_host(name, None, now),
         }
     }
@@ -292,15 +292,15 @@ impl<H: DnsHandle, S: BuildHasher> Resolver<H, S> {
         }
     }
 
-    // Attempts a name for addresses, with this last resort.
+    // Attempts a name for addresses, with this address as the last resort.
     fn attempt_host(
         &mut self,
         name: Name,
-        finally_ip_addr: Option<RData>,
+        address: Option<IpAddr>,
         now: u64,
     ) -> Result<LookupIp, NetError>
         ensures { AnswersCall H.step now (Attempt name (address_plan (settings self.old).strategy
-            (option_map (λ rdata. last_resort (data_of rdata) now) finally_ip_addr))) self.old result self.new }
+            (option_map (λ literal. literal_at_last literal now) address))) self.old result self.new }
     {
         let mut attempts = self.attempts(name)?;
         attempts.reverse();
@@ -312,7 +312,7 @@ impl<H: DnsHandle, S: BuildHasher> Resolver<H, S> {
             &mut self.client,
             options,
             &self.hosts,
-            finally_ip_addr,
+            record_data(address),
             now,
         )
     }
@@ -377,6 +377,17 @@ impl<H: DnsHandle, S: BuildHasher> fmt::Debug for Resolver<H, S> {
 
     fn fmt<W: fmt::Write>(&self, f: &mut fmt::Formatter<W>) -> fmt::Result {
         f.write_str("Resolver")
+    }
+}
+
+// The record data of an address.
+fn record_data(address: Option<IpAddr>) -> Option<RData>
+    ensures { (now : ℕ) → option_map (λ rdata. last_resort (data_of rdata) now) result
+        ≡ option_map (λ literal. literal_at_last literal now) address }
+{
+    match address {
+        Some(address) => Some(RData::from(address)),
+        None => None,
     }
 }
 

@@ -1,13 +1,11 @@
 //! Requests that are served one by one, over a handle that keeps what it sends.
-ghost use Rattle.std.specs.Prelude.{◌≡◌, ◌≤◌, ◌-◌, ℕ, [], IfErr, IfOk, IsOkUnless, Ok, Some, length, map, vec_capacity};
-ghost use Rattle.hickory_proto_core.specs.records.bounds_error.BoundsError.{BoundsError};
-ghost use Rattle.hickory_proto_core.specs.records.net_error.NetError.TheVariants.{Bounds};
+ghost use Rattle.std.specs.Prelude.{◌≡◌, ◌≤◌, ◌-◌, ℕ, [], MatchResult, None, Ok, length, map, vec_capacity};
 ghost use Rattle.hickory_resolver_model.specs.Bounds.{bounds_fault};
 ghost use Rattle.hickory_resolver_model.specs.Options.{bounds_of};
-ghost use Rattle.hickory_resolver_model.specs.Resolver.{new_resolver};
 ghost use Rattle.hickory_resolver_model.specs.Run as served;
 ghost use Rattle.hickory_resolver.specs.Requests.{reply_of, request_of};
 ghost use Rattle.hickory_resolver.specs.Serving.{Answered, AnswersAll, MakesStep};
+ghost use Rattle.hickory_resolver.specs.Transcripts.{IsNoRun};
 
 use crate::cache::{ResponseCache, TtlConfig};
 use crate::caching_client::CachingClient;
@@ -85,21 +83,54 @@ impl<R: DnsHandle + Recording + Drop, S: BuildHasher + Drop> Runs for Start<R, S
 
     fn run_all(self, requests: &[Request]) -> Result<Served<R, S>, NetError> {
         let alloc = *self.config.search.allocator();
-        match first_resolver(self) {
-            Ok(resolver) => serve_all(alloc, resolver, requests),
+        match bounds_and_room(alloc, &self.options, requests) {
+            Ok((bounds, mut steps)) => {
+                let mut resolver = first_resolver(self, bounds);
+                serve_each(&mut resolver, &mut steps, requests);
+                Ok(Served { steps, resolver })
+            }
             Err(error) => Err(error),
         }
     }
 }
 
-// A resolver before its first request.
-fn first_resolver<R: DnsHandle + Drop, S: BuildHasher + Drop>(
+// The bounds that options set, which are found to be in order first, and room for a step for each request.
+fn bounds_and_room(
+    alloc: Global,
+    options: &ResolverOpts,
+    requests: &[Request],
+) -> Result<(TtlConfig, Vec<Step>), NetError>
+    ensures { MatchResult result
+        (λ made. (bounds_fault (bounds_of options.now) ≡ None)
+        × (made.0 ≡ record { default = bounds_of options.now; by_type = [] })
+        × (made.1.items ≡ []) × (length requests.now ≤ vec_capacity made.1))
+        (IsNoRun (bounds_fault (bounds_of options.now))) }
+{
+    let bounds = match TtlConfig::from_opts(alloc, options) {
+        Ok(bounds) => bounds,
+        Err(fault) => return Err(NetError::Bounds(fault)),
+    };
+    match Vec::with_capacity(alloc, requests.len()) {
+        Ok(steps) => Ok((bounds, steps)),
+        Err(_) => Err(NetError::OutOfMemory),
+    }
+}
+
+// A resolver before its first request, with these bounds.
+fn first_resolver<R: DnsHandle, S: BuildHasher>(
     start: Start<R, S>,
-) -> Result<Resolver<R, S>, NetError>
-    ensures ok { IfOk result (λ r. (bounds_fault (bounds_of start.options) ≡ None)
-        × (r ≡ record (new_resolver start.config start.options start.handle) { hosts = start.hosts })) }
-    ensures err { IfErr result (λ error. (fault : BoundsError)
-        × (bounds_fault (bounds_of start.options) ≡ Some fault) × (error ≡ Bounds fault)) }
+    bounds: TtlConfig,
+) -> Resolver<R, S>
+    ensures { result ≡ record {
+      client = record {
+        cache = record { capacity = start.options.cache_size; config = bounds; entries = [] };
+        handle = start.handle;
+        preserve_intermediates = start.options.preserve_intermediates;
+      };
+      hosts = start.hosts;
+      config = start.config;
+      options = start.options;
+    } }
 {
     let Start {
         config,
@@ -109,32 +140,9 @@ fn first_resolver<R: DnsHandle + Drop, S: BuildHasher + Drop>(
         cache_hasher,
     } = start;
     let alloc = *config.search.allocator();
-    let bounds = match TtlConfig::from_opts(alloc, &options) {
-        Ok(bounds) => bounds,
-        Err(fault) => return Err(NetError::Bounds(fault)),
-    };
     let cache = ResponseCache::with_hasher(alloc, options.cache_size, bounds, cache_hasher);
     let client = CachingClient::with_cache(cache, handle, options.preserve_intermediates);
-    Ok(Resolver::new(config, options, client, hosts))
-}
-
-// Serves requests, where there is room for their steps.
-fn serve_all<R: DnsHandle + Recording + Drop, S: BuildHasher + Drop>(
-    alloc: Global,
-    resolver: Resolver<R, S>,
-    requests: &[Request],
-) -> Result<Served<R, S>, NetError>
-    ensures ok { IfOk result (λ o. AnswersAll R.step R.kept resolver (map request_of requests.now)
-        o.steps.items o.resolver) }
-    ensures err { IsOkUnless result NetError.OutOfMemory }
-{
-    let mut resolver = resolver;
-    let mut steps = match Vec::with_capacity(alloc, requests.len()) {
-        Ok(steps) => steps,
-        Err(_) => return Err(NetError::OutOfMemory),
-    };
-    serve_each(&mut resolver, &mut steps, requests);
-    Ok(Served { steps, resolver })
+    Resolver::new(config, options, client, hosts)
 }
 
 // Serves requests in order, up to one that finds no memory. There is room for a step for each.

@@ -1,6 +1,6 @@
 use Rattle.std.proofs.Common.{◌≡◌, ◌∙◌, ◌+◌, false, true, List, [], ◌∷◌, map, drop, sym, ap, arith}
 use Rattle.std.proofs.lemmas.Grind.{common_steps}
-use Rattle.hickory_resolver_model.specs.Run.{RequestValue, StepReply, ends_run}
+use Rattle.hickory_resolver_model.specs.Run.{RequestValue, ends_run}
 use Rattle.hickory_resolver.specs.declared.request.Request.{Request}
 use Rattle.hickory_resolver.specs.Requests.{request_of}
 use Rattle.hickory_resolver.proofs.Serving.{answered_all, answered_last, answered_more}

@@ -1,0 +1,2 @@
+pub mod Attempting
+pub mod Families
