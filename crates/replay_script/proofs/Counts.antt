@@ -1,6 +1,7 @@
 -- Lines with a wrong number of fields.
 use Rattle.std.proofs.Common.{◌≡◌, ◌≢◌, ◌<◌, ℕ, List, [], ◌∷◌, length, Bor, Err, refl, arith}
 use Rattle.hickory_proto_core.specs.Records.{DataValue}
+use Rattle.replay_script.specs.FailLine.{failure_of}
 use Rattle.replay_script.specs.RecordData.{IsAddressData, mx_of, srv_of, soa_of}
 use Rattle.replay_script.specs.RecordLine.{IsRecord}
 use Rattle.replay_script.specs.ReplyLine.{reply_of}
@@ -13,6 +14,14 @@ reply_short [] short = refl
 reply_short (a ∷ []) short = refl
 reply_short (a ∷ b ∷ []) short = refl
 reply_short (a ∷ b ∷ c ∷ fs) short = absurd (omega arith)
+
+pub failure_other : (message : Bor (List ℕ)) (fs : List (Bor (List ℕ))) → length fs ≢ 3 → length fs ≢ 4 → Err FieldCount ≡ failure_of message (texts fs)
+failure_other message [] three four = refl
+failure_other message (a ∷ []) three four = refl
+failure_other message (a ∷ b ∷ []) three four = refl
+failure_other message (a ∷ b ∷ c ∷ []) three four = absurd (three (omega arith))
+failure_other message (a ∷ b ∷ c ∷ d ∷ []) three four = absurd (four (omega arith))
+failure_other message (a ∷ b ∷ c ∷ d ∷ e ∷ fs) three four = refl
 
 pub record_short : (fs : List (Bor (List ℕ))) → length fs < 4 → IsRecord (texts fs) (Err FieldCount)
 record_short [] short = refl

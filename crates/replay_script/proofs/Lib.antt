@@ -3,6 +3,7 @@ pub mod LineLists
 pub mod Counts
 pub mod Allowed
 pub mod Settings
+pub mod Strings
 pub mod Said
 pub mod Taken
 pub mod UnderWay

@@ -1,5 +1,5 @@
 -- What lines say together, when one more line is read.
-use Rattle.std.proofs.Common.{◌≡◌, ◌∙◌, ℕ, Bool, true, false, ◌||◌, List, [], ◌∷◌, ◌++◌, Some, Ok, Err, refl, sym, ap}
+use Rattle.std.proofs.Common.{◌≡◌, ◌∙◌, ℕ, Bool, true, false, List, [], ◌∷◌, ◌++◌, None, Some, Ok, Err, refl, sym, ap}
 use Rattle.std.proofs.lemmas.List.{append-nil}
 use Rattle.std.specs.Option.{is_some}
 use Rattle.hickory_proto_core.specs.Handles.{OutcomeValue}
@@ -7,13 +7,15 @@ use Rattle.hickory_proto_core.specs.Messages.{MessageValue}
 use Rattle.hickory_proto_core.specs.Records.{RecordValue}
 use Rattle.hickory_proto_core.specs.records.query.Query.{Query}
 use Rattle.hickory_resolver_model.specs.Run.{RequestValue, moment_of}
+use Rattle.replay_script.specs.FailLine.{error_of}
 use Rattle.replay_script.specs.RecordLine.{with_record}
 use Rattle.replay_script.specs.ReplyLine.{opened_response}
-use Rattle.replay_script.specs.Script.{with_records, outcomes_of, requests_of, settings_of, has_reply, latest_from}
-use Rattle.replay_script.specs.Reader.{ReaderValue, Keeps, opened, answered}
+use Rattle.replay_script.specs.Script.{with_records, outcomes_of, requests_of, settings_of, reply_from, latest_from}
+use Rattle.replay_script.specs.Reader.{ReaderValue, Keeps, opened, answered, failure_outcome}
 use Rattle.replay_script.specs.Setting.{configured, with_setting}
+use Rattle.replay_script.specs.declared.fail_line.Failure.{Failure}
 use Rattle.replay_script.specs.declared.line.Line.{Line}
-use Rattle.replay_script.specs.declared.line.Line.TheVariants.{Blank, Configuration, Record, Reply, Request}
+use Rattle.replay_script.specs.declared.line.Line.TheVariants.{Blank, Configuration, Fail, Record, Reply, Request}
 use Rattle.replay_script.specs.declared.record_line.Section.{Section}
 use Rattle.replay_script.specs.declared.reply_line.ReplyHead.{ReplyHead}
 use Rattle.replay_script.specs.declared.script.OpenReply.{OpenReply}
@@ -29,6 +31,7 @@ unfolding AddsNothing
 with_records-push m [] x none = none m
 with_records-push m (Blank ∷ said) x none = with_records-push m said x none
 with_records-push m (Reply head ∷ said) x none = refl
+with_records-push m (Fail failure ∷ said) x none = refl
 with_records-push m (Record section found ∷ said) x none = with_records-push (with_record section found m) said x none
 with_records-push m (Request request ∷ said) x none = with_records-push m said x none
 with_records-push m (Configuration setting ∷ said) x none = with_records-push m said x none
@@ -39,6 +42,7 @@ outcomes_of-push (Blank ∷ said) x none = outcomes_of-push said x none
 outcomes_of-push (Reply head ∷ said) x none =
     ap (λ m. (head.query, Ok m) ∷ outcomes_of (said ++ x ∷ [])) (with_records-push (opened_response head) said x none)
     ∙ ap (λ os. (head.query, Ok (with_records (opened_response head) said)) ∷ os) (outcomes_of-push said x none)
+outcomes_of-push (Fail failure ∷ said) x none = ap (λ os. (failure.query, Err (error_of failure.kind)) ∷ os) (outcomes_of-push said x none)
 outcomes_of-push (Record section found ∷ said) x none = outcomes_of-push said x none
 outcomes_of-push (Request request ∷ said) x none = outcomes_of-push said x none
 outcomes_of-push (Configuration setting ∷ said) x none = outcomes_of-push said x none
@@ -47,22 +51,25 @@ requests_of-push : (said : List Line) (x : Line) → requests_of (said ++ x ∷ 
 requests_of-push [] x = refl
 requests_of-push (Blank ∷ said) x = requests_of-push said x
 requests_of-push (Reply head ∷ said) x = requests_of-push said x
+requests_of-push (Fail failure ∷ said) x = requests_of-push said x
 requests_of-push (Record section found ∷ said) x = requests_of-push said x
 requests_of-push (Request request ∷ said) x = ap (λ rs. request ∷ rs) (requests_of-push said x)
 requests_of-push (Configuration setting ∷ said) x = requests_of-push said x
 
-has_reply-push : (said : List Line) (x : Line) → has_reply (said ++ x ∷ []) ≡ has_reply said || has_reply (x ∷ [])
-has_reply-push [] x = refl
-has_reply-push (Blank ∷ said) x = has_reply-push said x
-has_reply-push (Reply head ∷ said) x = refl
-has_reply-push (Record section found ∷ said) x = has_reply-push said x
-has_reply-push (Request request ∷ said) x = has_reply-push said x
-has_reply-push (Configuration setting ∷ said) x = has_reply-push said x
+reply_from-push : (given : Bool) (said : List Line) (x : Line) → reply_from given (said ++ x ∷ []) ≡ reply_from (reply_from given said) (x ∷ [])
+reply_from-push given [] x = refl
+reply_from-push given (Blank ∷ said) x = reply_from-push given said x
+reply_from-push given (Reply head ∷ said) x = reply_from-push true said x
+reply_from-push given (Fail failure ∷ said) x = reply_from-push false said x
+reply_from-push given (Record section found ∷ said) x = reply_from-push given said x
+reply_from-push given (Request request ∷ said) x = reply_from-push given said x
+reply_from-push given (Configuration setting ∷ said) x = reply_from-push given said x
 
 latest_from-push : (moment : ℕ) (said : List Line) (x : Line) → latest_from moment (said ++ x ∷ []) ≡ latest_from (latest_from moment said) (x ∷ [])
 latest_from-push moment [] x = refl
 latest_from-push moment (Blank ∷ said) x = latest_from-push moment said x
 latest_from-push moment (Reply head ∷ said) x = latest_from-push moment said x
+latest_from-push moment (Fail failure ∷ said) x = latest_from-push moment said x
 latest_from-push moment (Record section found ∷ said) x = latest_from-push moment said x
 latest_from-push moment (Request request ∷ said) x = latest_from-push (moment_of request) said x
 latest_from-push moment (Configuration setting ∷ said) x = latest_from-push moment said x
@@ -71,6 +78,7 @@ settings_of-push : (said : List Line) (x : Line) → settings_of (said ++ x ∷ 
 settings_of-push [] x = refl
 settings_of-push (Blank ∷ said) x = settings_of-push said x
 settings_of-push (Reply head ∷ said) x = settings_of-push said x
+settings_of-push (Fail failure ∷ said) x = settings_of-push said x
 settings_of-push (Record section found ∷ said) x = settings_of-push said x
 settings_of-push (Request request ∷ said) x = settings_of-push said x
 settings_of-push (Configuration setting ∷ said) x = ap (λ ss. setting ∷ ss) (settings_of-push said x)
@@ -88,16 +96,28 @@ put_last section found [] query message = refl
 put_last section found (x ∷ []) query message = refl
 put_last section found (x ∷ y ∷ closed) query message = ap (λ os. x ∷ os) (put_last section found (y ∷ closed) query message)
 
--- a record behind no reply, and behind one
+-- whether there is an outcome
+has_outcome : List Line → Bool
+has_outcome [] = false
+has_outcome (Blank ∷ said) = has_outcome said
+has_outcome (Reply head ∷ said) = true
+has_outcome (Fail failure ∷ said) = true
+has_outcome (Record section found ∷ said) = has_outcome said
+has_outcome (Request request ∷ said) = has_outcome said
+has_outcome (Configuration setting ∷ said) = has_outcome said
+
+-- a record behind no outcome, and behind one
 record IsUnanswered (section : Section) (found : RecordValue) (said : List Line) : Type 0 where
   outcomes_are : outcomes_of said ≡ []
   still : outcomes_of (said ++ Record section found ∷ []) ≡ []
   added : (m : MessageValue) → with_records m (said ++ Record section found ∷ []) ≡ with_record section found (with_records m said)
 
-unanswered : (section : Section) (found : RecordValue) (said : List Line) → has_reply said ≡ false → IsUnanswered section found said
+unanswered : (section : Section) (found : RecordValue) (said : List Line) → has_outcome said ≡ false → IsUnanswered section found said
+unfolding has_outcome
 unanswered section found [] none = record { outcomes_are = refl; still = refl; added = λ m. refl }
 unanswered section found (Blank ∷ said) none = let r = unanswered section found said none in record { outcomes_are = r.outcomes_are; still = r.still; added = r.added }
 unanswered section found (Reply head ∷ said) none = absurd (let e = none in cc)
+unanswered section found (Fail failure ∷ said) none = absurd (let e = none in cc)
 unanswered section found (Record other more ∷ said) none = let r = unanswered section found said none in record { outcomes_are = r.outcomes_are; still = r.still; added = λ m. r.added (with_record other more m) }
 unanswered section found (Request request ∷ said) none = let r = unanswered section found said none in record { outcomes_are = r.outcomes_are; still = r.still; added = r.added }
 unanswered section found (Configuration setting ∷ said) none = let r = unanswered section found said none in record { outcomes_are = r.outcomes_are; still = r.still; added = r.added }
@@ -108,25 +128,29 @@ record IsReplied (said : List Line) : Type 0 where
   others : List (Query × OutcomeValue)
   outcomes_are : outcomes_of said ≡ (query, outcome) ∷ others
 
-replied : (said : List Line) → has_reply said ≡ true → IsReplied said
+replied : (said : List Line) → has_outcome said ≡ true → IsReplied said
+unfolding has_outcome
 replied [] some = absurd (let e = some in cc)
 replied (Blank ∷ said) some = let r = replied said some in record { query = r.query; outcome = r.outcome; others = r.others; outcomes_are = r.outcomes_are }
 replied (Reply head ∷ said) some = record { query = head.query; outcome = Ok (with_records (opened_response head) said); others = outcomes_of said; outcomes_are = refl }
+replied (Fail failure ∷ said) some = record { query = failure.query; outcome = Err (error_of failure.kind); others = outcomes_of said; outcomes_are = refl }
 replied (Record section found ∷ said) some = let r = replied said some in record { query = r.query; outcome = r.outcome; others = r.others; outcomes_are = r.outcomes_are }
 replied (Request request ∷ said) some = let r = replied said some in record { query = r.query; outcome = r.outcome; others = r.others; outcomes_are = r.outcomes_are }
 replied (Configuration setting ∷ said) some = let r = replied said some in record { query = r.query; outcome = r.outcome; others = r.others; outcomes_are = r.outcomes_are }
 
-with_records-behind : (m : MessageValue) (section : Section) (found : RecordValue) (said : List Line) → has_reply said ≡ true → with_records m (said ++ Record section found ∷ []) ≡ with_records m said
+with_records-behind : (m : MessageValue) (section : Section) (found : RecordValue) (said : List Line) → has_outcome said ≡ true → with_records m (said ++ Record section found ∷ []) ≡ with_records m said
+unfolding has_outcome
 with_records-behind m section found [] some = absurd (let e = some in cc)
 with_records-behind m section found (Blank ∷ said) some = with_records-behind m section found said some
 with_records-behind m section found (Reply head ∷ said) some = refl
+with_records-behind m section found (Fail failure ∷ said) some = refl
 with_records-behind m section found (Record other more ∷ said) some = with_records-behind (with_record other more m) section found said some
 with_records-behind m section found (Request request ∷ said) some = with_records-behind m section found said some
 with_records-behind m section found (Configuration setting ∷ said) some = with_records-behind m section found said some
 
-behind_reply : (b : Bool) (section : Section) (found : RecordValue) (head : ReplyHead) (said : List Line) → has_reply said ≡ b → outcomes_of (said ++ Record section found ∷ []) ≡ put_record section found (outcomes_of said)
+behind_reply : (b : Bool) (section : Section) (found : RecordValue) (head : ReplyHead) (said : List Line) → has_outcome said ≡ b → outcomes_of (said ++ Record section found ∷ []) ≡ put_record section found (outcomes_of said)
     → outcomes_of (Reply head ∷ said ++ Record section found ∷ []) ≡ put_record section found (outcomes_of (Reply head ∷ said))
-unfolding put_record
+unfolding has_outcome put_record
 behind_reply true section found head said some rest =
     let r = replied said some in
     let first : Query × OutcomeValue = (head.query, Ok (with_records (opened_response head) said)) in
@@ -139,22 +163,28 @@ behind_reply false section found head said none rest =
     ∙ ap (λ m. (head.query, Ok m) ∷ []) (r.added (opened_response head))
     ∙ sym (ap (λ os. put_record section found ((head.query, Ok (with_records (opened_response head) said)) ∷ os)) r.outcomes_are)
 
+behind_failure : (b : Bool) (section : Section) (found : RecordValue) (failure : Failure) (said : List Line) → has_outcome said ≡ b → outcomes_of (said ++ Record section found ∷ []) ≡ put_record section found (outcomes_of said)
+    → outcomes_of (Fail failure ∷ said ++ Record section found ∷ []) ≡ put_record section found (outcomes_of (Fail failure ∷ said))
+unfolding has_outcome put_record
+behind_failure true section found failure said some rest =
+    let r = replied said some in
+    let first : Query × OutcomeValue = (failure.query, Err (error_of failure.kind)) in
+    ap (λ os. first ∷ os) (rest ∙ ap (put_record section found) r.outcomes_are)
+    ∙ sym (ap (λ os. put_record section found (first ∷ os)) r.outcomes_are)
+behind_failure false section found failure said none rest =
+    let r = unanswered section found said none in
+    let first : Query × OutcomeValue = (failure.query, Err (error_of failure.kind)) in
+    ap (λ os. first ∷ os) r.still ∙ sym (ap (λ os. put_record section found (first ∷ os)) r.outcomes_are)
+
 outcomes_of-record : (section : Section) (found : RecordValue) (said : List Line) → outcomes_of (said ++ Record section found ∷ []) ≡ put_record section found (outcomes_of said)
-unfolding put_record
+unfolding has_outcome put_record
 outcomes_of-record section found [] = refl
 outcomes_of-record section found (Blank ∷ said) = outcomes_of-record section found said
-outcomes_of-record section found (Reply head ∷ said) = behind_reply (has_reply said) section found head said refl (outcomes_of-record section found said)
+outcomes_of-record section found (Reply head ∷ said) = behind_reply (has_outcome said) section found head said refl (outcomes_of-record section found said)
+outcomes_of-record section found (Fail failure ∷ said) = behind_failure (has_outcome said) section found failure said refl (outcomes_of-record section found said)
 outcomes_of-record section found (Record other more ∷ said) = outcomes_of-record section found said
 outcomes_of-record section found (Request request ∷ said) = outcomes_of-record section found said
 outcomes_of-record section found (Configuration setting ∷ said) = outcomes_of-record section found said
-
-or_false : (b : Bool) → b || false ≡ b
-or_false true = refl
-or_false false = refl
-
-or_true : (b : Bool) → b || true ≡ true
-or_true true = refl
-or_true false = refl
 
 none_blank : AddsNothing Blank
 unfolding AddsNothing
@@ -163,6 +193,10 @@ none_blank = λ m. refl
 none_reply : (head : ReplyHead) → AddsNothing (Reply head)
 unfolding AddsNothing
 none_reply head = λ m. refl
+
+none_failure : (failure : Failure) → AddsNothing (Fail failure)
+unfolding AddsNothing
+none_failure failure = λ m. refl
 
 none_configuration : (setting : Setting) → AddsNothing (Configuration setting)
 unfolding AddsNothing
@@ -176,7 +210,7 @@ pub keeps-blank : (reader : ReaderValue) (said : List Line) → Keeps reader sai
 keeps-blank reader said k = record {
   outcomes_are = k.outcomes_are ∙ sym (append-nil _) ∙ sym (outcomes_of-push said Blank none_blank);
   requests_are = k.requests_are ∙ sym (append-nil _) ∙ sym (requests_of-push said Blank);
-  reply_is = k.reply_is ∙ sym (or_false _) ∙ sym (has_reply-push said Blank);
+  reply_is = k.reply_is ∙ sym (reply_from-push false said Blank);
   latest_is = k.latest_is ∙ sym (latest_from-push 0 said Blank);
   configuration_is = k.configuration_is ∙ ap configured (sym (append-nil _) ∙ sym (settings_of-push said Blank));
 }
@@ -186,9 +220,19 @@ pub keeps-reply : (reader : ReaderValue) (said : List Line) (head : ReplyHead) �
 keeps-reply reader said head k = record {
   outcomes_are = ap (λ os. os ++ (head.query, Ok (opened_response head)) ∷ []) k.outcomes_are ∙ sym (outcomes_of-push said (Reply head) (none_reply head));
   requests_are = k.requests_are ∙ sym (append-nil _) ∙ sym (requests_of-push said (Reply head));
-  reply_is = sym (or_true _) ∙ sym (has_reply-push said (Reply head));
+  reply_is = sym (reply_from-push false said (Reply head));
   latest_is = k.latest_is ∙ sym (latest_from-push 0 said (Reply head));
   configuration_is = k.configuration_is ∙ ap configured (sym (append-nil _) ∙ sym (settings_of-push said (Reply head)));
+}
+
+pub keeps-failure : (reader : ReaderValue) (said : List Line) (failure : Failure) → Keeps reader said
+    → Keeps (record reader { closed = reader.closed ++ opened reader.open_reply ++ failure_outcome failure ∷ []; open_reply = None }) (said ++ Fail failure ∷ [])
+keeps-failure reader said failure k = record {
+  outcomes_are = append-nil _ ∙ ap (λ os. os ++ failure_outcome failure ∷ []) k.outcomes_are ∙ sym (outcomes_of-push said (Fail failure) (none_failure failure));
+  requests_are = k.requests_are ∙ sym (append-nil _) ∙ sym (requests_of-push said (Fail failure));
+  reply_is = sym (reply_from-push false said (Fail failure));
+  latest_is = k.latest_is ∙ sym (latest_from-push 0 said (Fail failure));
+  configuration_is = k.configuration_is ∙ ap configured (sym (append-nil _) ∙ sym (settings_of-push said (Fail failure)));
 }
 
 pub keeps-record : (reader : ReaderValue) (said : List Line) (reply : OpenReply) (section : Section) (found : RecordValue) → reader.open_reply ≡ Some reply → Keeps reader said
@@ -198,7 +242,7 @@ keeps-record reader said reply section found is k =
     record {
       outcomes_are = sym (put_last section found reader.closed reply.query reply.message) ∙ ap (put_record section found) before ∙ sym (outcomes_of-record section found said);
       requests_are = k.requests_are ∙ sym (append-nil _) ∙ sym (requests_of-push said (Record section found));
-      reply_is = ap is_some (sym is) ∙ k.reply_is ∙ sym (or_false _) ∙ sym (has_reply-push said (Record section found));
+      reply_is = ap is_some (sym is) ∙ k.reply_is ∙ sym (reply_from-push false said (Record section found));
       latest_is = k.latest_is ∙ sym (latest_from-push 0 said (Record section found));
       configuration_is = k.configuration_is ∙ ap configured (sym (append-nil _) ∙ sym (settings_of-push said (Record section found)));
     }
@@ -208,7 +252,7 @@ pub keeps-request : (reader : ReaderValue) (said : List Line) (request : Request
 keeps-request reader said request k = record {
   outcomes_are = k.outcomes_are ∙ sym (append-nil _) ∙ sym (outcomes_of-push said (Request request) (none_request request));
   requests_are = ap (λ rs. rs ++ request ∷ []) k.requests_are ∙ sym (requests_of-push said (Request request));
-  reply_is = k.reply_is ∙ sym (or_false _) ∙ sym (has_reply-push said (Request request));
+  reply_is = k.reply_is ∙ sym (reply_from-push false said (Request request));
   latest_is = sym (latest_from-push 0 said (Request request));
   configuration_is = k.configuration_is ∙ ap configured (sym (append-nil _) ∙ sym (settings_of-push said (Request request)));
 }
@@ -218,7 +262,7 @@ pub keeps-configuration : (reader : ReaderValue) (said : List Line) (setting : S
 keeps-configuration reader said setting k = record {
   outcomes_are = k.outcomes_are ∙ sym (append-nil _) ∙ sym (outcomes_of-push said (Configuration setting) (none_configuration setting));
   requests_are = k.requests_are ∙ sym (append-nil _) ∙ sym (requests_of-push said (Configuration setting));
-  reply_is = k.reply_is ∙ sym (or_false _) ∙ sym (has_reply-push said (Configuration setting));
+  reply_is = k.reply_is ∙ sym (reply_from-push false said (Configuration setting));
   latest_is = k.latest_is ∙ sym (latest_from-push 0 said (Configuration setting));
   configuration_is = ap (with_setting setting) k.configuration_is ∙ sym (configured-push (settings_of said) setting) ∙ ap configured (sym (settings_of-push said (Configuration setting)));
 }

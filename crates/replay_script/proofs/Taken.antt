@@ -7,17 +7,18 @@ use Rattle.hickory_resolver_model.specs.Run.{RequestValue, moment_of}
 use Rattle.replay_script.specs.Line.{IsRead, is_record}
 use Rattle.replay_script.specs.ReplyLine.{opened_response}
 use Rattle.replay_script.specs.Script.{has_reply, latest_from}
-use Rattle.replay_script.specs.Reader.{ReaderValue, Keeps, IsTaken, IsAnswered, opened, answered}
+use Rattle.replay_script.specs.Reader.{ReaderValue, Keeps, IsTaken, IsAnswered, opened, answered, failure_outcome}
 use Rattle.replay_script.specs.Setting.{with_setting}
+use Rattle.replay_script.specs.declared.fail_line.Failure.{Failure}
 use Rattle.replay_script.specs.declared.fault.ScriptFault.{ScriptFault}
 use Rattle.replay_script.specs.declared.fault.ScriptFault.TheVariants.{NoReply, MomentBack, OutOfMemory}
 use Rattle.replay_script.specs.declared.line.Line.{Line}
-use Rattle.replay_script.specs.declared.line.Line.TheVariants.{Configuration, Record, Reply, Request}
+use Rattle.replay_script.specs.declared.line.Line.TheVariants.{Configuration, Fail, Record, Reply, Request}
 use Rattle.replay_script.specs.declared.record_line.Section.{Section}
 use Rattle.replay_script.specs.declared.reply_line.ReplyHead.{ReplyHead}
 use Rattle.replay_script.specs.declared.script.OpenReply.{OpenReply}
 use Rattle.replay_script.specs.declared.setting.Setting.{Setting}
-use Rattle.replay_script.proofs.Said.{keeps-configuration, keeps-record, keeps-reply, keeps-request}
+use Rattle.replay_script.proofs.Said.{keeps-configuration, keeps-failure, keeps-record, keeps-reply, keeps-request}
 
 -- what was read
 pub read_as : (b : Bool) (reader : ReaderValue) (said : List Line) (line : List ℕ) (l more : Line) → b ≡ is_some reader.open_reply → Keeps reader said → l ≡ more
@@ -35,6 +36,14 @@ taken-reply before after said line head (Ok u) k read ok err =
     let P : ReaderValue → Type 0 = λ r. Keeps r (said ++ Reply head ∷ []) in
     (Reply head, read, refl, subst P (sym ok) (keeps-reply before said head k))
 taken-reply before after said line head (Err fault) k read ok err = inl err
+
+pub taken-failure : (before after : ReaderValue) (said : List Line) (line : List ℕ) (failure : Failure) (result : Result (Unit {0}) ScriptFault) → Keeps before said → IsRead (has_reply said) line (Ok (Fail failure))
+    → OnOk result (after ≡ record before { closed = before.closed ++ opened before.open_reply ++ failure_outcome failure ∷ []; open_reply = None })
+    → IsOkUnless result OutOfMemory → IsTaken said line result after
+taken-failure before after said line failure (Ok u) k read ok err =
+    let P : ReaderValue → Type 0 = λ r. Keeps r (said ++ Fail failure ∷ []) in
+    (Fail failure, read, refl, subst P (sym ok) (keeps-failure before said failure k))
+taken-failure before after said line failure (Err fault) k read ok err = inl err
 
 record_by : (o : Option OpenReply) (before after : ReaderValue) (said : List Line) (line : List ℕ) (section : Section) (found : RecordValue) (result : Result (Unit {0}) ScriptFault) → before.open_reply ≡ o → is_some before.open_reply ≡ true → Keeps before said → IsRead (has_reply said) line (Ok (Record section found))
     → MatchOption o (result ≡ Err NoReply) (λ reply. MatchResult result (λ _. after ≡ record before { open_reply = Some (answered section found reply) }) (λ fault. fault ≡ OutOfMemory))

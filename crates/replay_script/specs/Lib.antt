@@ -1,3 +1,4 @@
+pub mod FailLine
 pub mod Faults
 pub mod Fields
 pub mod Line

@@ -7,10 +7,12 @@ use Rattle.hickory_proto_core.specs.Records.{RecordValue}
 use Rattle.hickory_resolver_model.specs.Bounds.{bounds_fault}
 use Rattle.hickory_resolver_model.specs.Options.{bounds_of}
 use Rattle.hickory_resolver_model.specs.Run.{RequestValue}
+use Rattle.replay_script.specs.FailLine.{error_of}
 use Rattle.replay_script.specs.RecordLine.{with_record}
 use Rattle.replay_script.specs.Line.{IsRead}
 use Rattle.replay_script.specs.Script.{ScriptValue, has_reply, in_order, latest_from, outcomes_of, requests_of, settings_of}
 use Rattle.replay_script.specs.Setting.{ConfigurationValue, configured}
+use Rattle.replay_script.specs.declared.fail_line.Failure.{Failure}
 use Rattle.replay_script.specs.declared.fault.ScriptFault.{ScriptFault}
 use Rattle.replay_script.specs.declared.fault.ScriptFault.TheVariants.{NoReply, OutOfMemory, ReversedBounds}
 use Rattle.replay_script.specs.declared.line.Line.{Line}
@@ -30,6 +32,10 @@ pub record ReaderValue : Type 0 where
 abbrev pub opened : Option OpenReply → List (Query × OutcomeValue)
 opened None = []
 opened (Some reply) = (reply.query, Ok reply.message) ∷ []
+
+-- a failure is an outcome to which no record is put
+abbrev pub failure_outcome : Failure → Query × OutcomeValue
+failure_outcome failure = (failure.query, Err (error_of failure.kind))
 
 -- a record is put to the open reply, where there is one
 abbrev pub answered : Section → RecordValue → OpenReply → OpenReply

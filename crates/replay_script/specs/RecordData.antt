@@ -1,17 +1,22 @@
 -- The data of a record in a line: the fields behind its type.
-use Rattle.std.specs.Prelude.{◌≡◌, ℕ, List, [], ◌∷◌, Result, Ok, Err, MatchResult}
+use Rattle.std.specs.Prelude.{◌≡◌, ℕ, List, [], ◌∷◌, codes, Result, Ok, Err, if◌then◌else◌, MatchResult}
 use Rattle.std.specs.Net.Addr.{ipv4_octets, ipv6_segments}
 use Rattle.std.specs.Net.Grammar.{IsIpv4Text, IsIpv6Text}
 use Rattle.std.specs.declared.net.Ipv4Addr.{Ipv4Addr}
 use Rattle.std.specs.declared.net.Ipv6Addr.{Ipv6Addr}
-use Rattle.hickory_proto_core.specs.Records.{DataValue, a_data, aaaa_data, cname_data, data_of, mx_data, ns_data, ptr_data, soa_data, srv_data}
+use Rattle.std.specs.Global.{Vec}
+use Rattle.hex.specs.Hex.{decode_of}
+use Rattle.hex.specs.declared.error.FromHexError.{FromHexError}
+use Rattle.hickory_proto_core.specs.Codes.{is_text, type_code}
+use Rattle.hickory_proto_core.specs.Name.{label_bytes}
+use Rattle.hickory_proto_core.specs.Records.{DataValue, a_data, aaaa_data, cname_data, data_of, mx_data, ns_data, ptr_data, soa_data, srv_data, txt_data, unknown_data}
 use Rattle.hickory_proto_core.specs.records.record_data.RData.{RData}
 use Rattle.hickory_proto_core.specs.codes.record_type.RecordType.{RecordType}
 use Rattle.hickory_proto_core.specs.codes.record_type.RecordType.TheVariants as type
 use Rattle.replay_script.specs.Words.{◌>>=◌, name_field, number_field, only_name}
 use Rattle.replay_script.specs.declared.fault.ScriptFault.{ScriptFault}
 use Rattle.replay_script.specs.declared.record_data.ZoneTimes.{ZoneTimes}
-use Rattle.replay_script.specs.declared.fault.ScriptFault.TheVariants.{BadAddress, FieldCount, UnknownWord}
+use Rattle.replay_script.specs.declared.fault.ScriptFault.TheVariants.{BadAddress, BadHex, FieldCount}
 
 -- what was read, as plain data
 abbrev pub read_as_value : Result RData ScriptFault → Result DataValue ScriptFault
@@ -79,7 +84,42 @@ soa_of (mname ∷ rname ∷ serial ∷ refresh ∷ retry ∷ expire ∷ minimum 
     zone_of mname rname (times_of serial refresh retry expire minimum)
 soa_of fields = Err FieldCount
 
--- The data that the fields write for a type. Other types are not taken.
+-- an even number of hex digits of either case writes a byte for two of them
+abbrev pub hex_bytes : Result (List ℕ) FromHexError → Result (List ℕ) ScriptFault
+hex_bytes (Ok bytes) = Ok bytes
+hex_bytes (Err error) = Err BadHex
+
+-- bytes as hex digits, where `-` stands for no bytes
+abbrev pub hex_field : List ℕ → Result (List ℕ) ScriptFault
+hex_field text = if is_text (codes "-") text then Ok [] else hex_bytes (decode_of text)
+
+abbrev pub bytes_as_value : Result (Vec ℕ) ScriptFault → Result (List ℕ) ScriptFault
+bytes_as_value (Ok bytes) = Ok bytes.items
+bytes_as_value (Err fault) = Err fault
+
+-- the strings of the fields, or the first fault
+abbrev pub strings_of : List (List ℕ) → Result (List (List ℕ)) ScriptFault
+strings_of [] = Ok []
+strings_of (text ∷ fields) = do
+  s ← hex_field text
+  ss ← strings_of fields
+  Ok (s ∷ ss)
+
+abbrev pub strings_as_value : Result (Vec (Vec ℕ)) ScriptFault → Result (List (List ℕ)) ScriptFault
+strings_as_value (Ok strings) = Ok (label_bytes strings.items)
+strings_as_value (Err fault) = Err fault
+
+-- one string or more
+abbrev pub txt_of : List (List ℕ) → Result DataValue ScriptFault
+txt_of [] = Err FieldCount
+txt_of (text ∷ fields) = strings_of (text ∷ fields) >>= (λ ss. Ok (txt_data ss))
+
+-- the bytes of a type without a form of its own, which is kept by its code
+abbrev pub unknown_of : ℕ → List (List ℕ) → Result DataValue ScriptFault
+unknown_of code (text ∷ []) = hex_field text >>= (λ bytes. Ok (unknown_data code bytes))
+unknown_of code fields = Err FieldCount
+
+-- the data that the fields write for a type
 abbrev pub IsData : RecordType → List (List ℕ) → Result DataValue ScriptFault → Type 0
 IsData type.A fields result = IsAddressData IsIpv4Data fields result
 IsData type.AAAA fields result = IsAddressData IsIpv6Data fields result
@@ -89,4 +129,5 @@ IsData type.PTR fields result = result ≡ (only_name fields >>= (λ n. Ok (ptr_
 IsData type.MX fields result = result ≡ mx_of fields
 IsData type.SRV fields result = result ≡ srv_of fields
 IsData type.SOA fields result = result ≡ soa_of fields
-IsData other fields result = result ≡ Err UnknownWord
+IsData type.TXT fields result = result ≡ txt_of fields
+IsData other fields result = result ≡ unknown_of (type_code other) fields

@@ -10,6 +10,7 @@ use Rattle.hickory_resolver_config.specs.Resolver.{OptionsValue, default_options
 use Rattle.hickory_resolver_model.specs.Bounds.{bounds_fault}
 use Rattle.hickory_resolver_model.specs.Options.{bounds_of}
 use Rattle.hickory_resolver_model.specs.Run.{RequestValue, moment_of}
+use Rattle.replay_script.specs.FailLine.{error_of}
 use Rattle.replay_script.specs.Line.{IsRead}
 use Rattle.replay_script.specs.RecordLine.{with_record}
 use Rattle.replay_script.specs.ReplyLine.{opened_response}
@@ -18,7 +19,7 @@ use Rattle.replay_script.specs.declared.fault.ScriptFault.{ScriptFault}
 use Rattle.replay_script.specs.declared.fault.ScriptFault.TheVariants.{MomentBack, OutOfMemory, ReversedBounds}
 use Rattle.replay_script.specs.declared.fault.ScriptError.{ScriptError}
 use Rattle.replay_script.specs.declared.line.Line.{Line}
-use Rattle.replay_script.specs.declared.line.Line.TheVariants.{Blank, Configuration, Record, Reply, Request}
+use Rattle.replay_script.specs.declared.line.Line.TheVariants.{Blank, Configuration, Fail, Record, Reply, Request}
 use Rattle.replay_script.specs.declared.setting.Setting.{Setting}
 
 -- a script: what the upstream answers, each beside the question of its line; the requests; and what the
@@ -30,11 +31,12 @@ pub record ScriptValue : Type 0 where
   pub domain : Option NameValue
   pub search : List NameValue
 
--- a response gets the records of the lines behind it, up to the next response
+-- a response gets the records of the lines behind it, up to the next outcome
 abbrev pub with_records : MessageValue → List Line → MessageValue
 with_records response [] = response
 with_records response (Blank ∷ said) = with_records response said
 with_records response (Reply head ∷ said) = response
+with_records response (Fail failure ∷ said) = response
 with_records response (Record section found ∷ said) = with_records (with_record section found response) said
 with_records response (Request request ∷ said) = with_records response said
 with_records response (Configuration setting ∷ said) = with_records response said
@@ -43,6 +45,7 @@ abbrev pub outcomes_of : List Line → List (Query × OutcomeValue)
 outcomes_of [] = []
 outcomes_of (Blank ∷ said) = outcomes_of said
 outcomes_of (Reply head ∷ said) = (head.query, Ok (with_records (opened_response head) said)) ∷ outcomes_of said
+outcomes_of (Fail failure ∷ said) = (failure.query, Err (error_of failure.kind)) ∷ outcomes_of said
 outcomes_of (Record section found ∷ said) = outcomes_of said
 outcomes_of (Request request ∷ said) = outcomes_of said
 outcomes_of (Configuration setting ∷ said) = outcomes_of said
@@ -51,6 +54,7 @@ abbrev pub requests_of : List Line → List RequestValue
 requests_of [] = []
 requests_of (Blank ∷ said) = requests_of said
 requests_of (Reply head ∷ said) = requests_of said
+requests_of (Fail failure ∷ said) = requests_of said
 requests_of (Record section found ∷ said) = requests_of said
 requests_of (Request request ∷ said) = request ∷ requests_of said
 requests_of (Configuration setting ∷ said) = requests_of said
@@ -60,6 +64,7 @@ abbrev pub settings_of : List Line → List Setting
 settings_of [] = []
 settings_of (Blank ∷ said) = settings_of said
 settings_of (Reply head ∷ said) = settings_of said
+settings_of (Fail failure ∷ said) = settings_of said
 settings_of (Record section found ∷ said) = settings_of said
 settings_of (Request request ∷ said) = settings_of said
 settings_of (Configuration setting ∷ said) = setting ∷ settings_of said
@@ -84,20 +89,25 @@ script_of said = record {
   search = search_of said;
 }
 
--- whether there is a reply that one more record could belong to
+-- whether the last outcome, or where there is none this, is a reply that one more record could belong to
+abbrev pub reply_from : Bool → List Line → Bool
+reply_from given [] = given
+reply_from given (Blank ∷ said) = reply_from given said
+reply_from given (Reply head ∷ said) = reply_from true said
+reply_from given (Fail failure ∷ said) = reply_from false said
+reply_from given (Record section found ∷ said) = reply_from given said
+reply_from given (Request request ∷ said) = reply_from given said
+reply_from given (Configuration setting ∷ said) = reply_from given said
+
 abbrev pub has_reply : List Line → Bool
-has_reply [] = false
-has_reply (Blank ∷ said) = has_reply said
-has_reply (Reply head ∷ said) = true
-has_reply (Record section found ∷ said) = has_reply said
-has_reply (Request request ∷ said) = has_reply said
-has_reply (Configuration setting ∷ said) = has_reply said
+has_reply said = reply_from false said
 
 -- the moment of the last request, where there is one, and else this one
 abbrev pub latest_from : ℕ → List Line → ℕ
 latest_from moment [] = moment
 latest_from moment (Blank ∷ said) = latest_from moment said
 latest_from moment (Reply head ∷ said) = latest_from moment said
+latest_from moment (Fail failure ∷ said) = latest_from moment said
 latest_from moment (Record section found ∷ said) = latest_from moment said
 latest_from moment (Request request ∷ said) = latest_from (moment_of request) said
 latest_from moment (Configuration setting ∷ said) = latest_from moment said
@@ -106,6 +116,7 @@ latest_from moment (Configuration setting ∷ said) = latest_from moment said
 abbrev pub in_order : ℕ → Result Line ScriptFault → Result Line ScriptFault
 in_order moment (Ok Blank) = Ok Blank
 in_order moment (Ok (Reply head)) = Ok (Reply head)
+in_order moment (Ok (Fail failure)) = Ok (Fail failure)
 in_order moment (Ok (Record section found)) = Ok (Record section found)
 in_order moment (Ok (Request request)) =
     if nat_lt (moment_of request) moment then Err MomentBack else Ok (Request request)

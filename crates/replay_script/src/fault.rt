@@ -36,6 +36,9 @@ pub enum ScriptFault {
     /// A request that is earlier than the one before it.
     #[error("S9 moment goes back")]
     MomentBack,
+    /// Data that are not an even number of hex digits.
+    #[error("S10 bad hex")]
+    BadHex,
     /// A least bound on times to live above the greatest one.
     #[error("S11 reversed bounds")]
     ReversedBounds,

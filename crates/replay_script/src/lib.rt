@@ -2,6 +2,7 @@
 #![tactic(auto)]
 
 pub mod configuration;
+pub mod fail_line;
 pub mod fault;
 pub mod fields;
 pub mod line;
@@ -15,6 +16,7 @@ pub mod script;
 pub mod setting;
 pub mod words;
 
+pub use fail_line::{Failure, FailureKind};
 pub use fault::{ScriptError, ScriptFault};
 pub use line::Line;
 pub use option_line::OptionLine;

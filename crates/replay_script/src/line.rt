@@ -2,9 +2,10 @@
 ghost use Rattle.std.specs.Prelude.{◌≡◌, ◌⊎◌, true, false, Err, IfOk, MatchResult};
 ghost use Rattle.std.specs.List.{list_all};
 ghost use Rattle.replay_script.specs.Fields.{fields, is_allowed};
-ghost use Rattle.replay_script.specs.Line.{IsDirected, IsRead, IsRecordLine, IsSaid, directive_named, is_record};
+ghost use Rattle.replay_script.specs.Line.{IsDirected, IsFailureLine, IsRead, IsRecordLine, IsSaid, directive_named, is_record};
 ghost use Rattle.replay_script.specs.Words.{texts};
 
+use crate::fail_line::{Failure, read_failure};
 use crate::fault::ScriptFault;
 use crate::fields::{Fields, is_allowed, is_skipped};
 use crate::record_line::{Section, read_record};
@@ -22,6 +23,8 @@ pub enum Line {
     Blank,
     /// An outcome: a response.
     Reply(ReplyHead),
+    /// An outcome: a failure.
+    Fail(Failure),
     /// One more record in a section of the latest response.
     Record(Section, Record),
     /// A request.
@@ -83,6 +86,7 @@ fn read_fields(alloc: Global, has_reply: bool, fields: &[&str]) -> Result<Line, 
 #[derive(Clone, Copy)]
 enum Directive {
     Reply,
+    Fail,
     Record(Section),
     Request,
     Configuration(SettingKind),
@@ -95,6 +99,7 @@ impl Directive {
     {
         match word {
             "reply" => Some(Directive::Reply),
+            "fail" => Some(Directive::Fail),
             "answer" => Some(Directive::Record(Section::Answer)),
             "authority" => Some(Directive::Record(Section::Authority)),
             "additional" => Some(Directive::Record(Section::Additional)),
@@ -119,6 +124,7 @@ fn read_directed(
 {
     match directive {
         Some(Directive::Reply) => Ok(Line::Reply(read_reply(alloc, fields)?)),
+        Some(Directive::Fail) => read_failure_line(alloc, fields),
         Some(Directive::Record(section)) => read_record_line(alloc, has_reply, section, fields),
         Some(Directive::Request) => Ok(Line::Request(read_request(alloc, fields)?)),
         Some(Directive::Configuration(kind)) => {
@@ -126,6 +132,13 @@ fn read_directed(
         }
         None => Err(ScriptFault::UnknownDirective),
     }
+}
+
+fn read_failure_line(alloc: Global, fields: &[&str]) -> Result<Line, ScriptFault>
+    ensures read { IsFailureLine (texts fields.now) result ⊎ (result ≡ Err ScriptFault.OutOfMemory) }
+    ensures placed { IfOk result (λ l. is_record l ≡ false) }
+{
+    Ok(Line::Fail(read_failure(alloc, fields)?))
 }
 
 fn read_record_line(

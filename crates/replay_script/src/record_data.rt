@@ -1,11 +1,13 @@
 //! The data of the records in a script.
 ghost use Rattle.std.specs.Prelude.{◌≡◌, ◌⊎◌, Err, MatchResult};
 ghost use Rattle.hickory_proto_core.specs.Records.{DataValue, data_of};
-ghost use Rattle.replay_script.specs.RecordData.{IsAddressData, IsData, IsIpv4Data, IsIpv6Data, mx_of, read_as_value, service_of, soa_of, srv_of, times_of, zone_of};
+ghost use Rattle.hickory_proto_core.specs.Name.{label_bytes};
+ghost use Rattle.replay_script.specs.RecordData.{IsAddressData, IsData, IsIpv4Data, IsIpv6Data, bytes_as_value, hex_field, mx_of, read_as_value, service_of, soa_of, srv_of, strings_as_value, strings_of, times_of, txt_of, unknown_of, zone_of};
 ghost use Rattle.replay_script.specs.Words.{texts};
 
 use crate::fault::ScriptFault;
 use crate::words::{number16, number32, read_name, read_only_name};
+use hex::FromHexError;
 use hickory_proto_core::{RData, RecordType};
 use std::alloc::Global;
 use std::net::{Ipv4Addr, Ipv6Addr};
@@ -28,7 +30,8 @@ pub fn read_data(
         RecordType::MX => read_mx(alloc, fields),
         RecordType::SRV => read_srv(alloc, fields),
         RecordType::SOA => read_soa(alloc, fields),
-        _ => Err(ScriptFault::UnknownWord),
+        RecordType::TXT => read_txt(alloc, fields),
+        _ => read_unknown(alloc, record_type.code(), fields),
     }
 }
 
@@ -177,4 +180,52 @@ fn read_times(
         expire: number32(expire)?,
         minimum: number32(minimum)?,
     })
+}
+
+// STRING, and more of them
+fn read_txt(alloc: Global, fields: &[&str]) -> Result<RData, ScriptFault>
+    ensures { (read_as_value result ≡ txt_of (texts fields.now)) ⊎ (result ≡ Err ScriptFault.OutOfMemory) }
+{
+    if fields.is_empty() {
+        return Err(ScriptFault::FieldCount);
+    }
+    Ok(RData::TXT(read_strings(alloc, fields)?))
+}
+
+fn read_strings(alloc: Global, fields: &[&str]) -> Result<Vec<Vec<u8>>, ScriptFault>
+    ensures { (strings_as_value result ≡ strings_of (texts fields.now))
+        ⊎ (result ≡ Err ScriptFault.OutOfMemory) }
+{
+    let mut strings = Vec::new(alloc);
+    for field in fields {
+        let string = read_bytes(alloc, field)?;
+        strings.push(string)?;
+    }
+    Ok(strings)
+}
+
+// The data of a type without a form of its own: BYTES
+fn read_unknown(alloc: Global, code: u16, fields: &[&str]) -> Result<RData, ScriptFault>
+    ensures { (read_as_value result ≡ unknown_of code (texts fields.now))
+        ⊎ (result ≡ Err ScriptFault.OutOfMemory) }
+{
+    let [text] = fields else {
+        return Err(ScriptFault::FieldCount);
+    };
+    let bytes = read_bytes(alloc, text)?;
+    Ok(RData::Unknown { code, bytes })
+}
+
+// The bytes that hex digits write, where `-` stands for no bytes.
+fn read_bytes(alloc: Global, text: &str) -> Result<Vec<u8>, ScriptFault>
+    ensures { (bytes_as_value result ≡ hex_field text.now) ⊎ (result ≡ Err ScriptFault.OutOfMemory) }
+{
+    if *text == *"-" {
+        return Ok(Vec::new(alloc));
+    }
+    match hex::decode(alloc, text) {
+        Ok(bytes) => Ok(bytes),
+        Err(FromHexError::OutOfMemory) => Err(ScriptFault::OutOfMemory),
+        Err(_) => Err(ScriptFault::BadHex),
+    }
 }

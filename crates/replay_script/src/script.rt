@@ -1,6 +1,6 @@
 //! Scripts: what an upstream answers, and what is asked of the resolver.
 ghost use Rattle.std.specs.Prelude.{◌≡◌, ◌⊎◌, ◌≤◌, ◌<◌, ◌++◌, ◌∷◌, List, [], None, Some, IfOk, IfErr, OnOk, IsOkUnless, Ok, IsErr};
-ghost use Rattle.replay_script.specs.Reader.{IsAnswered, IsFinished, IsTaken, Keeps, finished, opened};
+ghost use Rattle.replay_script.specs.Reader.{IsAnswered, IsFinished, IsTaken, Keeps, failure_outcome, finished, opened};
 ghost use Rattle.hickory_resolver_model.specs.Run.{moment_of};
 ghost use Rattle.replay_script.specs.ReplyLine.{opened_response};
 ghost use Rattle.replay_script.specs.Script.{IsScript};
@@ -8,6 +8,7 @@ ghost use Rattle.replay_script.specs.Setting.{configured, with_setting};
 ghost use Rattle.replay_script.specs.declared.line.Line.{Line};
 
 use crate::configuration::Configuration;
+use crate::fail_line::Failure;
 use crate::fault::{ScriptError, ScriptFault};
 use crate::fields::ScriptLines;
 use crate::line::{Line, read_line};
@@ -148,6 +149,7 @@ impl Reader {
         match line {
             Line::Blank => Ok(()),
             Line::Reply(head) => self.add_reply(head),
+            Line::Fail(failure) => self.add_failure(failure),
             Line::Record(section, found) => self.add_record(section, found),
             Line::Request(request) => self.add_request(request),
             Line::Configuration(setting) => self.add_setting(setting),
@@ -168,6 +170,21 @@ impl Reader {
             query: head.query,
             message,
         });
+        Ok(())
+    }
+
+    // No record can belong to a failure.
+    fn add_failure(&mut self, failure: Failure) -> Result<(), ScriptFault>
+        ensures ok { OnOk result (self.new
+            ≡ record self.old {
+              closed = self.old.closed ++ opened self.old.open_reply ++ failure_outcome failure ∷ [];
+              open_reply = None;
+            }) }
+        ensures err { IsOkUnless result ScriptFault.OutOfMemory }
+    {
+        self.close()?;
+        let outcome = Err(failure.kind.error());
+        self.closed.push((failure.query, outcome))?;
         Ok(())
     }
 
