@@ -1,4 +1,4 @@
-use Rattle.std.proofs.Common.{◌≡◌, ◌∙◌, None, [], map, ap, subst}
+use Rattle.std.proofs.Common.{◌≡◌, ◌∙◌, rules, None, [], map, ap, subst}
 use Rattle.hickory_resolver_config.specs.Resolver.{OptionsValue}
 use Rattle.hickory_resolver_model.specs.Bounds.{ConfigValue, bounds_fault}
 use Rattle.hickory_resolver_model.specs.Options.{bounds_of}
@@ -25,3 +25,6 @@ returns-in-Ok g c =
     let bounds_are : c.in-Ok.bounds ≡ record { default = bounds_of start.options; by_type = [] } = c.in-Ok.ensures.1 ∙ (λ i. record { default = bounds_of (options_are i); by_type = [] }) in
     let Q : OptionsValue → Type 0 = λ options. bounds_fault (bounds_of options) ≡ None in
     (subst Q options_are c.in-Ok.ensures.0, subst P (◌∙◌ {b = with_bounds c.in-Ok.bounds} c.first_resolver-resolver.ensures (ap with_bounds bounds_are)) c.serve_each.ensures)
+
+pub returns-in-Err : goal.returns-in-Err
+returns-in-Err g c = search rules
