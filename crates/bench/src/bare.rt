@@ -121,10 +121,20 @@ fn time_look_ups<R: Clock>(
 // The numbers of the first hosts.
 fn numbers(alloc: Global, size: u64) -> Result<IndexMap<Query, u64>, NetError> {
     let mut map = IndexMap::new(alloc);
+    match add_numbers(alloc, &mut map, size) {
+        Ok(()) => Ok(map),
+        Err(error) => {
+            drop(map);
+            Err(error)
+        }
+    }
+}
+
+fn add_numbers(alloc: Global, map: &mut IndexMap<Query, u64>, size: u64) -> Result<(), NetError> {
     for number in 0..size {
         map.insert(question(alloc, number)?, number)?;
     }
-    Ok(map)
+    Ok(())
 }
 
 // Copies of messages.
@@ -167,11 +177,26 @@ fn time_copies<R: Clock>(
 // The answers for the first hosts.
 fn messages(alloc: Global, size: u64) -> Result<Vec<Message>, NetError> {
     let mut messages = Vec::new(alloc);
-    for number in 0..size {
-        let query = question(alloc, number)?;
-        messages.push(answer(alloc, &query, number)?)?;
+    match add_messages(alloc, &mut messages, size) {
+        Ok(()) => Ok(messages),
+        Err(error) => {
+            drop(messages);
+            Err(error)
+        }
     }
-    Ok(messages)
+}
+
+fn add_messages(alloc: Global, messages: &mut Vec<Message>, size: u64) -> Result<(), NetError> {
+    for number in 0..size {
+        messages.push(answered(alloc, number)?)?;
+    }
+    Ok(())
+}
+
+// The answer for a host.
+fn answered(alloc: Global, number: u64) -> Result<Message, NetError> {
+    let query = question(alloc, number)?;
+    answer(alloc, &query, number)
 }
 
 // Turns that come into an order, of which the first then leaves.

@@ -2,13 +2,12 @@
 ghost use Rattle.std.specs.Prelude.{◌<◌};
 
 use crate::measure::{Stopwatch, Subject};
-use crate::samples::{BATCHES, DAY, OPERATIONS, Visits, answer, question};
+use crate::samples::{BATCH, BATCHES, DAY, OPERATIONS, Visits, answer, question};
 use crate::table::{SIZES, print_row};
 use hickory_proto_core::{Message, NetError, Query};
 use hickory_resolver_cache::ResponseCache;
 use hickory_resolver_lookup::TtlConfig;
 use std::alloc::Global;
-use std::mem;
 use std::rt::Clock;
 
 // Nanoseconds an operation at one size.
@@ -71,10 +70,20 @@ fn figures_of<R: Clock>(
 // A cache that is full, with an answer for each of the first hosts.
 fn filled(alloc: Global, size: u64) -> Result<ResponseCache, NetError> {
     let mut cache = ResponseCache::new(alloc, size, TtlConfig::default(alloc));
-    for number in 0..size {
-        store(alloc, &mut cache, number)?;
+    match fill(alloc, &mut cache, size) {
+        Ok(()) => Ok(cache),
+        Err(error) => {
+            drop(cache);
+            Err(error)
+        }
     }
-    Ok(cache)
+}
+
+fn fill(alloc: Global, cache: &mut ResponseCache, size: u64) -> Result<(), NetError> {
+    for number in 0..size {
+        store(alloc, cache, number)?;
+    }
+    Ok(())
 }
 
 // Stores an answer for a host.
@@ -100,11 +109,18 @@ impl Subject for Gets<'_> {
     fn run(&mut self) -> Result<u64, NetError> {
         let mut found: u64 = 0;
         for query in &self.visits.asked {
-            if let Some(hit) = self.cache.get(query, 1) {
-                found = found.wrapping_add(hit?.answers.len() as u64);
-            }
+            found = found.wrapping_add(answers_of(self.cache.get(query, 1))?);
         }
         Ok(found)
+    }
+}
+
+// How many answers a hit has.
+fn answers_of(hit: Option<Result<Message, NetError>>) -> Result<u64, NetError> {
+    match hit {
+        Some(Ok(message)) => Ok(message.answers.len() as u64),
+        Some(Err(error)) => Err(error),
+        None => Ok(0),
     }
 }
 
@@ -132,9 +148,10 @@ impl Subject for Clamped<'_> {
     }
 
     fn run(&mut self) -> Result<u64, NetError> {
-        let none = Vec::new(self.cache.allocator());
-        for (query, message) in mem::replace(&mut self.answers, none) {
-            self.cache.upsert_clamped_ttl(query, Ok(message), 0, true)?;
+        for _ in 0..BATCH {
+            if let Some((query, message)) = self.answers.pop() {
+                self.cache.upsert_clamped_ttl(query, Ok(message), 0, true)?;
+            }
         }
         Ok(self.cache.len() as u64)
     }
@@ -163,11 +180,23 @@ struct Clears<'a> {
 
 impl Clears<'_> {
     fn store_again(&mut self) -> Result<(), NetError> {
-        for (query, message) in self.visits.answers()? {
-            self.cache.insert(query, Ok(message), 0)?;
-        }
-        Ok(())
+        let mut answers = self.visits.answers()?;
+        let stored = store_each(self.cache, &mut answers);
+        drop(answers);
+        stored
     }
+}
+
+fn store_each(
+    cache: &mut ResponseCache,
+    answers: &mut Vec<(Query, Message)>,
+) -> Result<(), NetError> {
+    for _ in 0..BATCH {
+        if let Some((query, message)) = answers.pop() {
+            cache.insert(query, Ok(message), 0)?;
+        }
+    }
+    Ok(())
 }
 
 impl Subject for Clears<'_> {
@@ -217,11 +246,12 @@ impl Subject for Evictions<'_> {
     }
 
     fn run(&mut self) -> Result<u64, NetError> {
-        let none = Vec::new(self.cache.allocator());
-        for (query, message) in mem::replace(&mut self.answers, none) {
-            let now = self.stored.wrapping_mul(DAY) / self.size;
-            self.cache.insert(query, Ok(message), now)?;
-            self.stored = self.stored.wrapping_add(1);
+        for _ in 0..BATCH {
+            if let Some((query, message)) = self.answers.pop() {
+                let now = self.stored.wrapping_mul(DAY) / self.size;
+                self.cache.insert(query, Ok(message), now)?;
+                self.stored = self.stored.wrapping_add(1);
+            }
         }
         Ok(self.cache.len() as u64)
     }

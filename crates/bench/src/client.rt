@@ -88,33 +88,69 @@ impl Subject for Sends {
     fn run(&mut self) -> Result<u64, NetError> {
         let mut answers: u64 = 0;
         for request in &self.requests {
-            let response = self.handle.send(request)?;
-            answers = answers.wrapping_add(response.message().answers.len() as u64);
+            answers = answers.wrapping_add(answers_of(self.handle.send(request))?);
         }
         Ok(answers)
+    }
+}
+
+// How many answers a response has.
+fn answers_of(response: Result<DnsResponse, NetError>) -> Result<u64, NetError> {
+    match response {
+        Ok(response) => Ok(response.message().answers.len() as u64),
+        Err(error) => Err(error),
     }
 }
 
 // Asks each host.
 fn requests(alloc: Global, aliases: u64) -> Result<Vec<DnsRequest>, NetError> {
     let mut requests = Vec::new(alloc);
+    match add_requests(alloc, &mut requests, aliases) {
+        Ok(()) => Ok(requests),
+        Err(error) => {
+            drop(requests);
+            Err(error)
+        }
+    }
+}
+
+fn add_requests(
+    alloc: Global,
+    requests: &mut Vec<DnsRequest>,
+    aliases: u64,
+) -> Result<(), NetError> {
     for number in 0..=aliases {
         requests.push(DnsRequest {
             query: question(alloc, number)?,
             options: DnsRequestOptions::default(),
         })?;
     }
-    Ok(requests)
+    Ok(())
 }
 
 // Each host but the last is an alias of the next, and the last has so many addresses.
 fn handle_of(alloc: Global, aliases: u64, addresses: u32) -> Result<TableHandle, NetError> {
     let mut outcomes = Vec::new(alloc);
+    match add_outcomes(alloc, &mut outcomes, aliases, addresses) {
+        Ok(()) => TableHandle::new(outcomes),
+        Err(error) => {
+            drop(outcomes);
+            Err(error)
+        }
+    }
+}
+
+fn add_outcomes(
+    alloc: Global,
+    outcomes: &mut Vec<(Query, Outcome)>,
+    aliases: u64,
+    addresses: u32,
+) -> Result<(), NetError> {
     for number in 0..aliases {
         outcomes.push(alias(alloc, number)?)?;
     }
     outcomes.push(last(alloc, aliases, addresses)?)?;
-    TableHandle::new(outcomes)
+    Ok(())
 }
 
 fn alias(alloc: Global, number: u64) -> Result<(Query, Outcome), NetError> {

@@ -4,7 +4,7 @@ ghost use Rattle.std.specs.Prelude.{◌<◌, ◌^◌};
 use crate::measure::{Stopwatch, Subject};
 use crate::samples::{BATCH, BATCHES, OPERATIONS, host, host_text, place};
 use hickory_proto_core::{Name, NetError, Query, RecordType};
-use hickory_resolver::Hosts;
+use hickory_resolver::{Hosts, Lookup};
 use std::alloc::Global;
 use std::net::Ipv4Addr;
 use std::rt::Clock;
@@ -122,11 +122,19 @@ impl Subject for LookUps {
     fn run(&mut self) -> Result<u64, NetError> {
         let mut found: u64 = 0;
         for query in &self.asked {
-            if let Some(lookup) = self.reads.hosts.lookup_static_host(query, 1)? {
-                found = found.wrapping_add(lookup.answers().len() as u64);
-            }
+            let reply = self.reads.hosts.lookup_static_host(query, 1);
+            found = found.wrapping_add(answers_of(reply)?);
         }
         Ok(found)
+    }
+}
+
+// How many answers a table gives.
+fn answers_of(reply: Result<Option<Lookup>, NetError>) -> Result<u64, NetError> {
+    match reply {
+        Ok(Some(lookup)) => Ok(lookup.answers().len() as u64),
+        Ok(None) => Ok(0),
+        Err(error) => Err(error),
     }
 }
 

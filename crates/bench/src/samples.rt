@@ -60,11 +60,27 @@ pub fn response(
     answers: u64,
 ) -> Result<Message, NetError> {
     let mut message = Message::response(alloc, 0, OpCode::Query);
+    match fill(&mut message, query, ttl, rdata, answers) {
+        Ok(()) => Ok(message),
+        Err(error) => {
+            drop(message);
+            Err(error)
+        }
+    }
+}
+
+fn fill(
+    message: &mut Message,
+    query: &Query,
+    ttl: u32,
+    rdata: &RData,
+    answers: u64,
+) -> Result<(), NetError> {
     message.add_query(query.clone()?)?;
     for _ in 0..answers {
-        add_answer(&mut message, query, ttl, rdata)?;
+        add_answer(message, query, ttl, rdata)?;
     }
-    Ok(message)
+    Ok(())
 }
 
 fn add_answer(
@@ -128,11 +144,21 @@ impl Visits {
     /// Responses to the questions of the batch, each with its question.
     pub fn answers(&self) -> Result<Vec<(Query, Message)>, NetError> {
         let mut answers = Vec::new(self.alloc);
+        match self.add_answers(&mut answers) {
+            Ok(()) => Ok(answers),
+            Err(error) => {
+                drop(answers);
+                Err(error)
+            }
+        }
+    }
+
+    fn add_answers(&self, answers: &mut Vec<(Query, Message)>) -> Result<(), NetError> {
         for (i, query) in self.asked.iter().enumerate() {
             let number = self.next.wrapping_add(i as u64);
             answers.push(answered(self.alloc, query, number)?)?;
         }
-        Ok(answers)
+        Ok(())
     }
 }
 

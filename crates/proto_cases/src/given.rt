@@ -1,6 +1,6 @@
 //! What is given for a name.
 use crate::sample::name;
-use hickory_proto_core::{IntoName, ip_text};
+use hickory_proto_core::{IntoName, Name, NameError, ip_text};
 use std::alloc::Global;
 use std::net::{IpAddr, Ipv4Addr, Ipv6Addr};
 
@@ -13,7 +13,16 @@ pub fn show_all(rt: &impl Print, alloc: Global) -> anyhow::Result<()> {
 // The address that it is, and its name.
 fn show<N: IntoName>(rt: &impl Print, alloc: Global, given: N) -> anyhow::Result<()> {
     let address = given.to_ip();
-    println!(rt; "given {address:?} {}", given.into_name(alloc)?)?;
+    show_parts(rt, address, given.into_name(alloc))
+}
+
+fn show_parts(
+    rt: &impl Print,
+    address: Option<IpAddr>,
+    name: Result<Name, NameError>,
+) -> anyhow::Result<()> {
+    let name = name?;
+    println!(rt; "given {address:?} {name}")?;
     Ok(())
 }
 

@@ -8,28 +8,33 @@ use hickory_proto_core::{
 use std::alloc::Global;
 
 pub fn show_all(rt: &impl Print, alloc: Global) -> anyhow::Result<()> {
-    show_question(rt, question(alloc, "a.", RecordType::A)?)?;
-    show_record(rt, address(alloc, "a.", 1)?)?;
+    show_question(rt, question(alloc, "a.", RecordType::A))?;
+    show_record(rt, address(alloc, "a.", 1))?;
     copies::show_both(rt, two_addresses(alloc)?)?;
-    show_message(rt, answered(alloc)?)?;
-    show_response(rt, DnsResponse::from_message(answered(alloc)?))?;
+    show_message(rt, answered(alloc))?;
+    show_response(rt, answered(alloc))?;
     copies::show(rt, "request", request(alloc)?)?;
     copies::show(rt, "exchange", exchange(alloc)?)
 }
 
-fn show_question(rt: &impl Print, query: Query) -> anyhow::Result<()> {
+fn show_question(rt: &impl Print, query: Result<Query, NetError>) -> anyhow::Result<()> {
+    let query = query?;
     copies::show_three(rt, query.clone(), query)
 }
 
-fn show_record(rt: &impl Print, shown: Record) -> anyhow::Result<()> {
+fn show_record(rt: &impl Print, shown: Result<Record, NetError>) -> anyhow::Result<()> {
+    let shown = shown?;
     copies::show_three(rt, shown.clone(), shown)
 }
 
-fn show_message(rt: &impl Print, message: Message) -> anyhow::Result<()> {
+fn show_message(rt: &impl Print, message: Result<Message, NetError>) -> anyhow::Result<()> {
+    let message = message?;
     copies::show_three(rt, message.clone(), message)
 }
 
-fn show_response(rt: &impl Print, response: DnsResponse) -> anyhow::Result<()> {
+// The response that is this message.
+fn show_response(rt: &impl Print, message: Result<Message, NetError>) -> anyhow::Result<()> {
+    let response = DnsResponse::from_message(message?);
     copies::show_three(rt, response.clone(), response)
 }
 

@@ -39,17 +39,26 @@ fn shown(alloc: Global, name: Result<Name, NameError>) -> Result<String, NameErr
 /// Whether two names are equal.
 pub fn equal(alloc: Global, a: &str, b: &str) -> Result<String, NameError> {
     let (a, b) = (Name::from_ascii(alloc, a)?, Name::from_ascii(alloc, b)?);
-    Ok(format!(in alloc; "{}", a == b)?)
+    let equal = a == b;
+    drop(b);
+    drop(a);
+    Ok(format!(in alloc; "{equal}")?)
 }
 
 /// The names between the tabs in their order.
 pub fn order(alloc: Global, texts: &str) -> Result<String, NameError> {
     let mut names = Vec::new(alloc);
+    let line = ordered(alloc, &mut names, texts);
+    drop(names);
+    line
+}
+
+fn ordered(alloc: Global, names: &mut Vec<Name>, texts: &str) -> Result<String, NameError> {
     for text in texts.split('\t') {
         names.push(Name::from_ascii(alloc, text)?)?;
     }
     names.sort()?;
-    in_brackets(alloc, &names)
+    in_brackets(alloc, names)
 }
 
 fn in_brackets(alloc: Global, names: &[Name]) -> Result<String, NameError> {

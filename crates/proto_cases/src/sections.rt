@@ -6,12 +6,17 @@ use std::io;
 
 pub fn show_all(rt: &impl Print, alloc: Global) -> anyhow::Result<()> {
     let message = full(alloc)?;
+    let shown = show_message(rt, &message);
+    drop(message);
+    Ok(shown?)
+}
+
+fn show_message(rt: &impl Print, message: &Message) -> io::Result<()> {
     println!(rt; "{:?}", message.metadata)?;
     println!(rt; "queries {:?}", message.queries)?;
     show(rt, "answer", &message.answers)?;
     show(rt, "authority", &message.authorities)?;
-    show(rt, "additional", &message.additionals)?;
-    Ok(())
+    show(rt, "additional", &message.additionals)
 }
 
 fn show(rt: &impl Print, section: &str, records: &[Record]) -> io::Result<()> {
