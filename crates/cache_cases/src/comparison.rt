@@ -39,19 +39,34 @@ fn agreeing<S: BuildHasher>(
     cache: &mut ResponseCache<S>,
     scanned: &mut Scanned,
 ) -> Result<u32, NetError> {
-    let (mut state, mut now): (u64, u64) = (1, 0);
+    let (mut state, mut now) = (1, 0);
     for steps in 0..500 {
-        state = state
-            .wrapping_mul(6_364_136_223_846_793_005)
-            .wrapping_add(1_442_695_040_888_963_407);
-        let bits = state ^ (state >> 29);
-        now = now.wrapping_add((bits >> 60) % 4);
-        take(alloc, cache, scanned, bits, now)?;
-        if !is_same(alloc, cache, scanned, now)? {
+        if !agrees(alloc, cache, scanned, &mut state, &mut now)? {
             return Ok(steps);
         }
     }
     Ok(500)
+}
+
+// Takes a step, and says whether both have the same answers then.
+fn agrees<S: BuildHasher>(
+    alloc: Global,
+    cache: &mut ResponseCache<S>,
+    scanned: &mut Scanned,
+    state: &mut u64,
+    now: &mut u64,
+) -> Result<bool, NetError> {
+    let bits = next(state);
+    *now = now.wrapping_add((bits >> 60) % 4);
+    take(alloc, cache, scanned, bits, *now)?;
+    is_same(alloc, cache, scanned, *now)
+}
+
+fn next(state: &mut u64) -> u64 {
+    *state = state
+        .wrapping_mul(6_364_136_223_846_793_005)
+        .wrapping_add(1_442_695_040_888_963_407);
+    *state ^ (*state >> 29)
 }
 
 // One of 6 names, each in two spellings, and one of two types.
