@@ -65,7 +65,12 @@ const NAMES: [Case; 6] = [
     Case {
         host: "h",
         hosts: "",
-        script: "option ip_strategy Ipv4Only\nreply NOERROR h. A\nanswer h. 20 IN A 192.0.2.1\nanswer h. 20 IN NS n.\nanswer h. 20 IN AAAA ::1\nadditional h. 20 IN A 192.0.2.3\n",
+        script: "option ip_strategy Ipv4Only\n\
+            reply NOERROR h. A\n\
+            answer h. 20 IN A 192.0.2.1\n\
+            answer h. 20 IN NS n.\n\
+            answer h. 20 IN AAAA ::1\n\
+            additional h. 20 IN A 192.0.2.3\n",
     },
     Case {
         host: "www",
