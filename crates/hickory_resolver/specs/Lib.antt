@@ -1,6 +1,7 @@
-pub mod Requests
+pub mod Replies
 pub mod Serving
 pub mod Transcripts
+pub use Rattle.hickory_resolver_lookup.specs.Requests
 pub use Rattle.hickory_resolver_model.specs.AliasWalk
 pub use Rattle.hickory_resolver_model.specs.Attempts
 pub use Rattle.hickory_resolver_model.specs.Bounds

@@ -4,7 +4,7 @@ ghost use Rattle.hickory_resolver_model.specs.Bounds.{bounds_fault};
 ghost use Rattle.hickory_resolver_model.specs.Options.{bounds_of};
 ghost use Rattle.hickory_resolver_model.specs.Run.{IsRun, Run, first_cache, settings_of};
 ghost use Rattle.hickory_resolver_theorems.specs.Statements.{Headline};
-ghost use Rattle.hickory_resolver.specs.Requests.{request_of};
+ghost use Rattle.hickory_resolver_lookup.specs.Requests.{request_of};
 ghost use Rattle.hickory_resolver.specs.Transcripts.{IsNoRun};
 
 use crate::config::{ResolverConfig, ResolverOpts};

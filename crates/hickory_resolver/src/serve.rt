@@ -3,7 +3,8 @@ ghost use Rattle.std.specs.Prelude.{◌≡◌, ◌≤◌, ◌-◌, ℕ, [], Matc
 ghost use Rattle.hickory_resolver_model.specs.Bounds.{bounds_fault};
 ghost use Rattle.hickory_resolver_model.specs.Options.{bounds_of};
 ghost use Rattle.hickory_resolver_model.specs.Run as served;
-ghost use Rattle.hickory_resolver.specs.Requests.{reply_of, request_of};
+ghost use Rattle.hickory_resolver.specs.Replies.{reply_of};
+ghost use Rattle.hickory_resolver_lookup.specs.Requests.{request_of};
 ghost use Rattle.hickory_resolver.specs.Serving.{Answered, AnswersAll, MakesStep};
 ghost use Rattle.hickory_resolver.specs.Transcripts.{IsNoRun};
 
@@ -28,7 +29,7 @@ pub trait Runs {
     type Fault;
 
     ghost use Rattle.std.specs.Prelude.{List, Result};
-    ghost use Rattle.hickory_resolver.specs.declared.request.Request.{Request};
+    ghost use Rattle.hickory_resolver_lookup.specs.declared.request.Request.{Request};
 
     ghost runs: { Self → List Request → Result Self.Out Self.Fault → Type 0 };
 
@@ -66,7 +67,7 @@ impl<R: DnsHandle + Recording + Drop, S: BuildHasher + Drop> Runs for Start<R, S
     ghost use Rattle.hickory_resolver_model.specs.Bounds.{bounds_fault};
     ghost use Rattle.hickory_resolver_model.specs.Options.{bounds_of};
     ghost use Rattle.hickory_resolver_model.specs.Resolver.{new_resolver};
-    ghost use Rattle.hickory_resolver.specs.Requests.{request_of};
+    ghost use Rattle.hickory_resolver_lookup.specs.Requests.{request_of};
     ghost use Rattle.hickory_resolver.specs.Serving.{AnswersAll};
     ghost use Rattle.hickory_resolver.specs.Transcripts.{IsNoRun};
 

@@ -1,7 +1,7 @@
 //! What a run comes to: its steps, and the resolver after it.
 ghost use Rattle.std.specs.Prelude.{◌≡◌};
 ghost use Rattle.hickory_resolver_model.specs.Run.{ends_run};
-ghost use Rattle.hickory_resolver.specs.Requests.{reply_of};
+ghost use Rattle.hickory_resolver.specs.Replies.{reply_of};
 
 use crate::lookup::Lookup;
 use crate::lookup_ip::LookupIp;
@@ -47,7 +47,7 @@ pub struct Step {
 
 impl Model for Step {
     ghost use Rattle.hickory_resolver_model.specs.Run.{StepValue};
-    ghost use Rattle.hickory_resolver.specs.Requests.{reply_of};
+    ghost use Rattle.hickory_resolver.specs.Replies.{reply_of};
 
     ghost Value = { StepValue };
 

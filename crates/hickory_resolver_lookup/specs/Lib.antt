@@ -1,1 +1,2 @@
 pub mod ConfigLends
+pub mod Requests

@@ -1,10 +1,12 @@
-//! Bounds on times to live, and what a look-up gives.
+//! Bounds on times to live, what a look-up gives, and the requests of a run.
 #![tactic(auto)]
 
 pub mod lookup;
+pub mod request;
 pub mod ttl_bounds;
 pub mod ttl_config;
 
 pub use lookup::Lookup;
+pub use request::Request;
 pub use ttl_bounds::{MAX_TTL, TtlBounds};
 pub use ttl_config::TtlConfig;

@@ -1,6 +1,6 @@
 use Rattle.std.proofs.Common.{◌≡◌, map, subst, sym}
 use Rattle.hickory_resolver_model.specs.Run.{IsRun, first_cache, settings_of}
-use Rattle.hickory_resolver.specs.Requests.{request_of}
+use Rattle.hickory_resolver_lookup.specs.Requests.{request_of}
 use Rattle.hickory_resolver.specs.Transcripts.{TranscriptValue}
 use Rattle.hickory_resolver.proofs.Serving.{is_run, resolver_is}
 use Rattle.hickory_resolver.proofs.runs.run_with_hasher.Goals as goal

@@ -1,5 +1,5 @@
 use Rattle.std.proofs.Common.{◌≡◌, ◌≤◌, length, map, drop, vec_len, vec_capacity}
-use Rattle.hickory_resolver.specs.Requests.{request_of}
+use Rattle.hickory_resolver_lookup.specs.Requests.{request_of}
 use Rattle.hickory_resolver.specs.Serving.{AnsweredSoFar}
 use Rattle.hickory_resolver.proofs.serve.serve_each.Given as goal
 

@@ -3,7 +3,7 @@ use Rattle.hickory_resolver_config.specs.Resolver.{OptionsValue}
 use Rattle.hickory_resolver_model.specs.Bounds.{ConfigValue, bounds_fault}
 use Rattle.hickory_resolver_model.specs.Options.{bounds_of}
 use Rattle.hickory_resolver_model.specs.Resolver.{ResolverValue}
-use Rattle.hickory_resolver.specs.Requests.{request_of}
+use Rattle.hickory_resolver_lookup.specs.Requests.{request_of}
 use Rattle.hickory_resolver.specs.Serving.{AnswersAll}
 use Rattle.hickory_resolver.proofs.serve.StartRuns.run_all.Goals as goal
 
