@@ -5,7 +5,8 @@ use Rattle.replay_script.specs.FailLine.{failure_of}
 use Rattle.replay_script.specs.RecordData.{IsAddressData, mx_of, srv_of, soa_of}
 use Rattle.replay_script.specs.RecordLine.{IsRecord}
 use Rattle.replay_script.specs.ReplyLine.{reply_of}
-use Rattle.replay_script.specs.Request.{request_of, lookup_of}
+use Rattle.replay_script.specs.Request.{host_asked, name_and_type, request_asked}
+use Rattle.replay_script.specs.Setting.{mode_of}
 use Rattle.replay_script.specs.Words.{only_name, texts}
 use Rattle.replay_script.specs.declared.fault.ScriptFault.TheVariants.{FieldCount}
 
@@ -30,16 +31,26 @@ record_short (a ∷ b ∷ []) short = refl
 record_short (a ∷ b ∷ c ∷ []) short = refl
 record_short (a ∷ b ∷ c ∷ d ∷ fs) short = absurd (omega arith)
 
-pub request_short : (fs : List (Bor (List ℕ))) → length fs < 2 → Err FieldCount ≡ request_of (texts fs)
+pub request_short : (fs : List (Bor (List ℕ))) → length fs < 2 → request_asked (texts fs) ≡ Err FieldCount
 request_short [] short = refl
 request_short (a ∷ []) short = refl
 request_short (a ∷ b ∷ fs) short = absurd (omega arith)
 
-pub lookup_other : (now : ℕ) (fs : List (Bor (List ℕ))) → length fs ≢ 2 → Err FieldCount ≡ lookup_of now (texts fs)
-lookup_other now [] other = refl
-lookup_other now (a ∷ []) other = refl
-lookup_other now (a ∷ b ∷ []) other = absurd (other (omega arith))
-lookup_other now (a ∷ b ∷ c ∷ fs) other = refl
+pub name_and_type_other : (fs : List (Bor (List ℕ))) → length fs ≢ 2 → name_and_type (texts fs) ≡ Err FieldCount
+name_and_type_other [] other = refl
+name_and_type_other (a ∷ []) other = refl
+name_and_type_other (a ∷ b ∷ []) other = absurd (other (omega arith))
+name_and_type_other (a ∷ b ∷ c ∷ fs) other = refl
+
+pub host_other : (now : ℕ) (fs : List (Bor (List ℕ))) → length fs ≢ 1 → host_asked now (texts fs) ≡ Err FieldCount
+host_other now [] other = refl
+host_other now (a ∷ []) other = absurd (other (omega arith))
+host_other now (a ∷ b ∷ fs) other = refl
+
+pub mode_other : (fs : List (Bor (List ℕ))) → length fs ≢ 1 → Err FieldCount ≡ mode_of (texts fs)
+mode_other [] other = refl
+mode_other (a ∷ []) other = absurd (other (omega arith))
+mode_other (a ∷ b ∷ fs) other = refl
 
 pub address_other : (IsAddress : List ℕ → DataValue → Type 0) (fs : List (Bor (List ℕ))) → length fs ≢ 1 → IsAddressData IsAddress (texts fs) (Err FieldCount)
 address_other IsAddress [] other = refl

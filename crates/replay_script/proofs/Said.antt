@@ -6,7 +6,9 @@ use Rattle.hickory_proto_core.specs.Handles.{OutcomeValue}
 use Rattle.hickory_proto_core.specs.Messages.{MessageValue}
 use Rattle.hickory_proto_core.specs.Records.{RecordValue}
 use Rattle.hickory_proto_core.specs.records.query.Query.{Query}
-use Rattle.hickory_resolver_model.specs.Run.{RequestValue, moment_of}
+use Rattle.hickory_resolver_lookup.specs.Requests.{request_of}
+use Rattle.hickory_resolver_lookup.specs.declared.request.Request.{Request as AskedRequest}
+use Rattle.hickory_resolver_model.specs.Run.{moment_of}
 use Rattle.replay_script.specs.FailLine.{error_of}
 use Rattle.replay_script.specs.RecordLine.{with_record}
 use Rattle.replay_script.specs.ReplyLine.{opened_response}
@@ -53,7 +55,7 @@ requests_of-push (Blank ∷ said) x = requests_of-push said x
 requests_of-push (Reply head ∷ said) x = requests_of-push said x
 requests_of-push (Fail failure ∷ said) x = requests_of-push said x
 requests_of-push (Record section found ∷ said) x = requests_of-push said x
-requests_of-push (Request request ∷ said) x = ap (λ rs. request ∷ rs) (requests_of-push said x)
+requests_of-push (Request request ∷ said) x = ap (λ rs. request_of request ∷ rs) (requests_of-push said x)
 requests_of-push (Configuration setting ∷ said) x = requests_of-push said x
 
 reply_from-push : (given : Bool) (said : List Line) (x : Line) → reply_from given (said ++ x ∷ []) ≡ reply_from (reply_from given said) (x ∷ [])
@@ -71,7 +73,7 @@ latest_from-push moment (Blank ∷ said) x = latest_from-push moment said x
 latest_from-push moment (Reply head ∷ said) x = latest_from-push moment said x
 latest_from-push moment (Fail failure ∷ said) x = latest_from-push moment said x
 latest_from-push moment (Record section found ∷ said) x = latest_from-push moment said x
-latest_from-push moment (Request request ∷ said) x = latest_from-push (moment_of request) said x
+latest_from-push moment (Request request ∷ said) x = latest_from-push (moment_of (request_of request)) said x
 latest_from-push moment (Configuration setting ∷ said) x = latest_from-push moment said x
 
 settings_of-push : (said : List Line) (x : Line) → settings_of (said ++ x ∷ []) ≡ settings_of said ++ settings_of (x ∷ [])
@@ -202,7 +204,7 @@ none_configuration : (setting : Setting) → AddsNothing (Configuration setting)
 unfolding AddsNothing
 none_configuration setting = λ m. refl
 
-none_request : (request : RequestValue) → AddsNothing (Request request)
+none_request : (request : AskedRequest) → AddsNothing (Request request)
 unfolding AddsNothing
 none_request request = λ m. refl
 
@@ -247,11 +249,11 @@ keeps-record reader said reply section found is k =
       configuration_is = k.configuration_is ∙ ap configured (sym (append-nil _) ∙ sym (settings_of-push said (Record section found)));
     }
 
-pub keeps-request : (reader : ReaderValue) (said : List Line) (request : RequestValue) → Keeps reader said
-    → Keeps (record reader { requests = reader.requests ++ request ∷ []; latest = moment_of request }) (said ++ Request request ∷ [])
+pub keeps-request : (reader : ReaderValue) (said : List Line) (request : AskedRequest) → Keeps reader said
+    → Keeps (record reader { requests = reader.requests ++ request_of request ∷ []; latest = moment_of (request_of request) }) (said ++ Request request ∷ [])
 keeps-request reader said request k = record {
   outcomes_are = k.outcomes_are ∙ sym (append-nil _) ∙ sym (outcomes_of-push said (Request request) (none_request request));
-  requests_are = ap (λ rs. rs ++ request ∷ []) k.requests_are ∙ sym (requests_of-push said (Request request));
+  requests_are = ap (λ rs. rs ++ request_of request ∷ []) k.requests_are ∙ sym (requests_of-push said (Request request));
   reply_is = k.reply_is ∙ sym (reply_from-push false said (Request request));
   latest_is = sym (latest_from-push 0 said (Request request));
   configuration_is = k.configuration_is ∙ ap configured (sym (append-nil _) ∙ sym (settings_of-push said (Request request)));

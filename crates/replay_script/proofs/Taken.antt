@@ -3,7 +3,9 @@ use Rattle.std.proofs.Common.{◌≡◌, ◌∙◌, ◌⊎◌, ◌<◌, ◌≤�
 use Rattle.std.proofs.lemmas.Bool.Decides.{nat_tests}
 use Rattle.std.specs.Option.{is_some}
 use Rattle.hickory_proto_core.specs.Records.{RecordValue}
-use Rattle.hickory_resolver_model.specs.Run.{RequestValue, moment_of}
+use Rattle.hickory_resolver_lookup.specs.Requests.{request_of}
+use Rattle.hickory_resolver_lookup.specs.declared.request.Request.{Request as AskedRequest}
+use Rattle.hickory_resolver_model.specs.Run.{moment_of}
 use Rattle.replay_script.specs.Line.{IsRead, is_record}
 use Rattle.replay_script.specs.ReplyLine.{opened_response}
 use Rattle.replay_script.specs.Script.{has_reply, latest_from}
@@ -60,21 +62,21 @@ pub taken-record : (before after : ReaderValue) (said : List Line) (line : List 
 taken-record before after said line section found l b result b_is placed l_is k read did =
     record_by before.open_reply before after said line section found result refl (sym b_is ∙ placed (ap is_record l_is)) k read did
 
-pub taken-request : (before after : ReaderValue) (said : List Line) (line : List ℕ) (request : RequestValue) (result : Result (Unit {0}) ScriptFault) → Keeps before said → IsRead (has_reply said) line (Ok (Request request))
-    → OnOk result (after ≡ record before { requests = before.requests ++ request ∷ []; latest = moment_of request })
-    → OnOk result (before.latest ≤ moment_of request)
-    → IfErr result (λ fault. (fault ≡ OutOfMemory) ⊎ ((fault ≡ MomentBack) × (moment_of request < before.latest)))
+pub taken-request : (before after : ReaderValue) (said : List Line) (line : List ℕ) (request : AskedRequest) (result : Result (Unit {0}) ScriptFault) → Keeps before said → IsRead (has_reply said) line (Ok (Request request))
+    → OnOk result (after ≡ record before { requests = before.requests ++ request_of request ∷ []; latest = moment_of (request_of request) })
+    → OnOk result (before.latest ≤ moment_of (request_of request))
+    → IfErr result (λ fault. (fault ≡ OutOfMemory) ⊎ ((fault ≡ MomentBack) × (moment_of (request_of request) < before.latest)))
     → IsTaken said line result after
 taken-request before after said line request (Ok u) k read ok order err =
     let P : ReaderValue → Type 0 = λ r. Keeps r (said ++ Request request ∷ []) in
-    let late : before.latest ≤ moment_of request = order in
+    let late : before.latest ≤ moment_of (request_of request) = order in
     let same = k.latest_is in
-    let not_before : nat_lt (moment_of request) (latest_from 0 said) ≡ false = grind (arith, nat_tests) in
+    let not_before : nat_lt (moment_of (request_of request)) (latest_from 0 said) ≡ false = grind (arith, nat_tests) in
     (Request request, read, rw not_before, subst P (sym ok) (keeps-request before said request k))
 taken-request before after said line request (Err fault) k read ok order (inl out) = inl out
 taken-request before after said line request (Err fault) k read ok order (inr (back, less)) =
     let same = k.latest_is in
-    let early : nat_lt (moment_of request) (latest_from 0 said) ≡ true = grind (arith, nat_tests) in
+    let early : nat_lt (moment_of (request_of request)) (latest_from 0 said) ≡ true = grind (arith, nat_tests) in
     inr (Ok (Request request), read, rw early (ap Err (sym back)))
 
 pub taken-configuration : (before after : ReaderValue) (said : List Line) (line : List ℕ) (setting : Setting) (result : Result (Unit {0}) ScriptFault) → Keeps before said → IsRead (has_reply said) line (Ok (Configuration setting))

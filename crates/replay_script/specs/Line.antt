@@ -7,7 +7,8 @@ use Rattle.replay_script.specs.Fields.{fields, is_skipped, is_allowed}
 use Rattle.replay_script.specs.FailLine.{IsFailure}
 use Rattle.replay_script.specs.RecordLine.{IsRecord}
 use Rattle.replay_script.specs.ReplyLine.{reply_of}
-use Rattle.replay_script.specs.Request.{request_of}
+use Rattle.hickory_resolver_lookup.specs.declared.request.Request.{Request}
+use Rattle.replay_script.specs.Request.{IsRequest, request_asked}
 use Rattle.replay_script.specs.Setting.{setting_of}
 use Rattle.replay_script.specs.Words.{◌>>=◌}
 use Rattle.replay_script.specs.declared.fail_line.Failure.{Failure}
@@ -34,6 +35,11 @@ IsFailureLine fields result =
     (found : Result Failure ScriptFault) × IsFailure fields found
     × (result ≡ (found >>= (λ failure. Ok (line.Fail failure))))
 
+abbrev pub IsRequestLine : List (List ℕ) → Result Line ScriptFault → Type 0
+IsRequestLine fields result =
+    (found : Result Request ScriptFault) × IsRequest (request_asked fields) found
+    × (result ≡ (found >>= (λ request. Ok (line.Request request))))
+
 -- a record of a section needs a reply that it can belong to
 abbrev pub IsRecordLine : Bool → Section → List (List ℕ) → Result Line ScriptFault → Type 0
 IsRecordLine has_reply section fields result =
@@ -53,7 +59,8 @@ directive_named word =
     if is_text (codes "at") word then Some directive.Request else (
     if is_text (codes "option") word then Some (directive.Configuration kind.Option) else (
     if is_text (codes "domain") word then Some (directive.Configuration kind.Domain) else (
-    if is_text (codes "search") word then Some (directive.Configuration kind.Search) else None))))))))
+    if is_text (codes "search") word then Some (directive.Configuration kind.Search) else (
+    if is_text (codes "upstream") word then Some (directive.Configuration kind.Upstream) else None)))))))))
 
 -- what the fields behind a directive say
 abbrev pub IsDirected : Bool → Option Directive → List (List ℕ) → Result Line ScriptFault → Type 0
@@ -63,8 +70,7 @@ IsDirected has_reply (Some directive.Reply) fields result =
 IsDirected has_reply (Some directive.Fail) fields result = IsFailureLine fields result
 IsDirected has_reply (Some (directive.Record section)) fields result =
     IsRecordLine has_reply section fields result
-IsDirected has_reply (Some directive.Request) fields result =
-    result ≡ (request_of fields >>= (λ request. Ok (line.Request request)))
+IsDirected has_reply (Some directive.Request) fields result = IsRequestLine fields result
 IsDirected has_reply (Some (directive.Configuration kind)) fields result =
     result ≡ (setting_of kind fields >>= (λ setting. Ok (line.Configuration setting)))
 

@@ -69,6 +69,7 @@ IsTaken said line result after =
 -- the script of these outcomes, and of what else is kept
 abbrev pub finished : List (Query × OutcomeValue) → ReaderValue → ScriptValue
 finished outcomes reader = record {
+  table = reader.configuration.table;
   outcomes = outcomes;
   requests = reader.requests;
   options = reader.configuration.options;

@@ -9,12 +9,13 @@ use Rattle.hickory_proto_core.specs.records.query.Query.{Query}
 use Rattle.hickory_resolver_config.specs.Resolver.{OptionsValue, default_options}
 use Rattle.hickory_resolver_model.specs.Bounds.{bounds_fault}
 use Rattle.hickory_resolver_model.specs.Options.{bounds_of}
+use Rattle.hickory_resolver_lookup.specs.Requests.{request_of}
 use Rattle.hickory_resolver_model.specs.Run.{RequestValue, moment_of}
 use Rattle.replay_script.specs.FailLine.{error_of}
 use Rattle.replay_script.specs.Line.{IsRead}
 use Rattle.replay_script.specs.RecordLine.{with_record}
 use Rattle.replay_script.specs.ReplyLine.{opened_response}
-use Rattle.replay_script.specs.Setting.{domain_from, options_from, search_in}
+use Rattle.replay_script.specs.Setting.{domain_from, options_from, search_in, table_from}
 use Rattle.replay_script.specs.declared.fault.ScriptFault.{ScriptFault}
 use Rattle.replay_script.specs.declared.fault.ScriptFault.TheVariants.{MomentBack, OutOfMemory, ReversedBounds}
 use Rattle.replay_script.specs.declared.fault.ScriptError.{ScriptError}
@@ -22,9 +23,10 @@ use Rattle.replay_script.specs.declared.line.Line.{Line}
 use Rattle.replay_script.specs.declared.line.Line.TheVariants.{Blank, Configuration, Fail, Record, Reply, Request}
 use Rattle.replay_script.specs.declared.setting.Setting.{Setting}
 
--- a script: what the upstream answers, each beside the question of its line; the requests; and what the
--- resolver is configured with
+-- a script: what the upstream answers, each beside the question of its line, and whether that is a table in
+-- which each question is looked up; the requests; and what the resolver is configured with
 pub record ScriptValue : Type 0 where
+  pub table : Bool
   pub outcomes : List (Query × OutcomeValue)
   pub requests : List RequestValue
   pub options : OptionsValue
@@ -56,7 +58,7 @@ requests_of (Blank ∷ said) = requests_of said
 requests_of (Reply head ∷ said) = requests_of said
 requests_of (Fail failure ∷ said) = requests_of said
 requests_of (Record section found ∷ said) = requests_of said
-requests_of (Request request ∷ said) = request ∷ requests_of said
+requests_of (Request request ∷ said) = request_of request ∷ requests_of said
 requests_of (Configuration setting ∷ said) = requests_of said
 
 -- what is set, in order
@@ -80,8 +82,13 @@ domain_of said = domain_from None (settings_of said)
 abbrev pub search_of : List Line → List NameValue
 search_of said = search_in (settings_of said)
 
+-- the last mode counts, and where there is none the outcomes come in order
+abbrev pub table_of : List Line → Bool
+table_of said = table_from false (settings_of said)
+
 abbrev pub script_of : List Line → ScriptValue
 script_of said = record {
+  table = table_of said;
   outcomes = outcomes_of said;
   requests = requests_of said;
   options = options_of said;
@@ -109,7 +116,7 @@ latest_from moment (Blank ∷ said) = latest_from moment said
 latest_from moment (Reply head ∷ said) = latest_from moment said
 latest_from moment (Fail failure ∷ said) = latest_from moment said
 latest_from moment (Record section found ∷ said) = latest_from moment said
-latest_from moment (Request request ∷ said) = latest_from (moment_of request) said
+latest_from moment (Request request ∷ said) = latest_from (moment_of (request_of request)) said
 latest_from moment (Configuration setting ∷ said) = latest_from moment said
 
 -- a request is refused that is earlier than the one before it
@@ -119,7 +126,7 @@ in_order moment (Ok (Reply head)) = Ok (Reply head)
 in_order moment (Ok (Fail failure)) = Ok (Fail failure)
 in_order moment (Ok (Record section found)) = Ok (Record section found)
 in_order moment (Ok (Request request)) =
-    if nat_lt (moment_of request) moment then Err MomentBack else Ok (Request request)
+    if nat_lt (moment_of (request_of request)) moment then Err MomentBack else Ok (Request request)
 in_order moment (Ok (Configuration setting)) = Ok (Configuration setting)
 in_order moment (Err fault) = Err fault
 

@@ -12,12 +12,13 @@ use hickory_resolver_lookup::TtlConfig;
 use std::alloc::Global;
 use std::marker::Model;
 
-// The options, the domain and the search list.
+// The options, the domain, the search list, and whether the outcomes are a table.
 #[derive(Drop)]
 pub(crate) struct Configuration {
     pub options: ResolverOpts,
     pub domain: Option<Name>,
     pub search: Vec<Name>,
+    pub table: bool,
 }
 
 impl Model for Configuration {
@@ -25,7 +26,12 @@ impl Model for Configuration {
 
     ghost Value = { ConfigurationValue };
 
-    ghost view = { λ c. record { options = c.options; domain = c.domain; search = c.search.items } };
+    ghost view = { λ c. record {
+      options = c.options;
+      domain = c.domain;
+      search = c.search.items;
+      table = c.table;
+    } };
 }
 
 impl Configuration {
@@ -37,6 +43,7 @@ impl Configuration {
             options: ResolverOpts::default(alloc),
             domain: None,
             search: Vec::new(alloc),
+            table: false,
         }
     }
 
@@ -48,6 +55,7 @@ impl Configuration {
             Setting::Option(line) => line.set(&mut self.options),
             Setting::Domain(name) => self.domain = Some(name),
             Setting::Search(name) => self.search.push(name)?,
+            Setting::Upstream { table } => self.table = table,
         }
         Ok(())
     }

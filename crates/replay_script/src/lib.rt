@@ -18,10 +18,10 @@ pub mod words;
 
 pub use fail_line::{Failure, FailureKind};
 pub use fault::{ScriptError, ScriptFault};
+pub use hickory_resolver_lookup::Request;
 pub use line::Line;
 pub use option_line::OptionLine;
 pub use record_line::Section;
 pub use reply_line::ReplyHead;
-pub use request::Request;
 pub use script::{Script, read_script};
 pub use setting::Setting;

@@ -2,7 +2,7 @@
 ghost use Rattle.std.specs.Prelude.{◌≡◌, ◌⊎◌, true, false, Err, IfOk, MatchResult};
 ghost use Rattle.std.specs.List.{list_all};
 ghost use Rattle.replay_script.specs.Fields.{fields, is_allowed};
-ghost use Rattle.replay_script.specs.Line.{IsDirected, IsFailureLine, IsRead, IsRecordLine, IsSaid, directive_named, is_record};
+ghost use Rattle.replay_script.specs.Line.{IsDirected, IsFailureLine, IsRead, IsRecordLine, IsRequestLine, IsSaid, directive_named, is_record};
 ghost use Rattle.replay_script.specs.Words.{texts};
 
 use crate::fail_line::{Failure, read_failure};
@@ -10,9 +10,10 @@ use crate::fault::ScriptFault;
 use crate::fields::{Fields, is_allowed, is_skipped};
 use crate::record_line::{Section, read_record};
 use crate::reply_line::{ReplyHead, read_reply};
-use crate::request::{Request, read_request};
+use crate::request::read_request;
 use crate::setting::{Setting, SettingKind, read_setting};
 use hickory_proto_core::Record;
+use hickory_resolver_lookup::Request;
 use std::alloc::{AllocError, Global};
 use std::str;
 
@@ -107,6 +108,7 @@ impl Directive {
             "option" => Some(Directive::Configuration(SettingKind::Option)),
             "domain" => Some(Directive::Configuration(SettingKind::Domain)),
             "search" => Some(Directive::Configuration(SettingKind::Search)),
+            "upstream" => Some(Directive::Configuration(SettingKind::Upstream)),
             _ => None,
         }
     }
@@ -126,7 +128,7 @@ fn read_directed(
         Some(Directive::Reply) => Ok(Line::Reply(read_reply(alloc, fields)?)),
         Some(Directive::Fail) => read_failure_line(alloc, fields),
         Some(Directive::Record(section)) => read_record_line(alloc, has_reply, section, fields),
-        Some(Directive::Request) => Ok(Line::Request(read_request(alloc, fields)?)),
+        Some(Directive::Request) => read_request_line(alloc, fields),
         Some(Directive::Configuration(kind)) => {
             Ok(Line::Configuration(read_setting(alloc, kind, fields)?))
         }
@@ -139,6 +141,13 @@ fn read_failure_line(alloc: Global, fields: &[&str]) -> Result<Line, ScriptFault
     ensures placed { IfOk result (λ l. is_record l ≡ false) }
 {
     Ok(Line::Fail(read_failure(alloc, fields)?))
+}
+
+fn read_request_line(alloc: Global, fields: &[&str]) -> Result<Line, ScriptFault>
+    ensures read { IsRequestLine (texts fields.now) result ⊎ (result ≡ Err ScriptFault.OutOfMemory) }
+    ensures placed { IfOk result (λ l. is_record l ≡ false) }
+{
+    Ok(Line::Request(read_request(alloc, fields)?))
 }
 
 fn read_record_line(

@@ -1,36 +1,17 @@
-//! Requests of a script.
-ghost use Rattle.std.specs.Prelude.{◌≡◌, ◌⊎◌, Err, MatchResult};
-ghost use Rattle.replay_script.specs.Request.{asked_of, lookup_of, request_of};
+//! Lines that are requests.
+ghost use Rattle.std.specs.Prelude.{◌≡◌, ◌⊎◌, Err, MatchResult, Ok, string_bytes};
+ghost use Rattle.replay_script.specs.Request.{IsRequest, asked_by, clear_asked, clear_lookup_asked, host_asked, lookup_asked, name_and_type, request_asked};
 ghost use Rattle.replay_script.specs.Words.{texts};
 
 use crate::fault::ScriptFault;
 use crate::words::number64;
 use hickory_proto_core::RecordType;
+use hickory_resolver_lookup::Request;
 use std::alloc::Global;
-use std::marker::Model;
 
-/// A question for the resolver. The name is kept as it is written: whether it is one is found out when
-/// it is asked.
-#[derive(Debug, Drop)]
-pub struct Request {
-    /// The moment at which it is asked, in seconds.
-    pub now: u64,
-    pub name: String,
-    pub record_type: RecordType,
-}
-
-impl Model for Request {
-    ghost use Rattle.std.specs.Prelude.{string_bytes};
-    ghost use Rattle.hickory_resolver_model.specs.Run.{RequestValue, Lookup};
-
-    ghost Value = { RequestValue };
-
-    ghost view = { λ r. Lookup (string_bytes r.name) r.record_type r.now };
-}
-
-// MOMENT lookup NAME TYPE
+// MOMENT, a verb, and what it is about
 pub fn read_request(alloc: Global, fields: &[&str]) -> Result<Request, ScriptFault>
-    ensures { (result ≡ request_of (texts fields.now)) ⊎ (result ≡ Err ScriptFault.OutOfMemory) }
+    ensures { IsRequest (request_asked (texts fields.now)) result ⊎ (result ≡ Err ScriptFault.OutOfMemory) }
 {
     let [moment, verb, fields @ ..] = fields else {
         return Err(ScriptFault::FieldCount);
@@ -40,25 +21,69 @@ pub fn read_request(alloc: Global, fields: &[&str]) -> Result<Request, ScriptFau
 }
 
 fn read_asked(alloc: Global, now: u64, verb: &str, fields: &[&str]) -> Result<Request, ScriptFault>
-    ensures { (result ≡ asked_of now verb.now (texts fields.now)) ⊎ (result ≡ Err ScriptFault.OutOfMemory) }
+    ensures { IsRequest (asked_by now verb.now (texts fields.now)) result ⊎ (result ≡ Err ScriptFault.OutOfMemory) }
 {
     match verb {
         "lookup" => read_lookup(alloc, now, fields),
+        "lookup_ip" => read_lookup_ip(alloc, now, fields),
+        "clear_lookup" => read_clear_lookup(alloc, now, fields),
+        "clear" => read_clear(now, fields),
         _ => Err(ScriptFault::UnknownWord),
     }
 }
 
 fn read_lookup(alloc: Global, now: u64, fields: &[&str]) -> Result<Request, ScriptFault>
-    ensures { (result ≡ lookup_of now (texts fields.now)) ⊎ (result ≡ Err ScriptFault.OutOfMemory) }
+    ensures { IsRequest (lookup_asked now (texts fields.now)) result ⊎ (result ≡ Err ScriptFault.OutOfMemory) }
+{
+    let (name, record_type) = read_name_and_type(alloc, fields)?;
+    Ok(Request::Lookup {
+        name,
+        record_type,
+        now,
+    })
+}
+
+fn read_lookup_ip(alloc: Global, now: u64, fields: &[&str]) -> Result<Request, ScriptFault>
+    ensures { IsRequest (host_asked now (texts fields.now)) result ⊎ (result ≡ Err ScriptFault.OutOfMemory) }
+{
+    let [host] = fields else {
+        return Err(ScriptFault::FieldCount);
+    };
+    let host = String::from_str(alloc, host)?;
+    Ok(Request::LookupIp { host, now })
+}
+
+fn read_clear_lookup(alloc: Global, now: u64, fields: &[&str]) -> Result<Request, ScriptFault>
+    ensures { IsRequest (clear_lookup_asked now (texts fields.now)) result
+        ⊎ (result ≡ Err ScriptFault.OutOfMemory) }
+{
+    let (name, record_type) = read_name_and_type(alloc, fields)?;
+    Ok(Request::ClearLookup {
+        name,
+        record_type,
+        now,
+    })
+}
+
+fn read_clear(now: u64, fields: &[&str]) -> Result<Request, ScriptFault>
+    ensures { IsRequest (clear_asked now (texts fields.now)) result }
+{
+    match fields {
+        [] => Ok(Request::Clear { now }),
+        _ => Err(ScriptFault::FieldCount),
+    }
+}
+
+// NAME TYPE, the name as it is written
+fn read_name_and_type(alloc: Global, fields: &[&str]) -> Result<(String, RecordType), ScriptFault>
+    ensures { MatchResult result
+        (λ made. name_and_type (texts fields.now) ≡ Ok (string_bytes made.0, made.1))
+        (λ fault. (name_and_type (texts fields.now) ≡ Err fault) ⊎ (fault ≡ ScriptFault.OutOfMemory)) }
 {
     let [name, record_type] = fields else {
         return Err(ScriptFault::FieldCount);
     };
     let record_type = RecordType::from_word(record_type).ok_or(ScriptFault::UnknownWord)?;
     let name = String::from_str(alloc, name)?;
-    Ok(Request {
-        now,
-        name,
-        record_type,
-    })
+    Ok((name, record_type))
 }

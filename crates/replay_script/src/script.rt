@@ -1,6 +1,7 @@
 //! Scripts: what an upstream answers, and what is asked of the resolver.
-ghost use Rattle.std.specs.Prelude.{◌≡◌, ◌⊎◌, ◌≤◌, ◌<◌, ◌++◌, ◌∷◌, List, [], None, Some, IfOk, IfErr, OnOk, IsOkUnless, Ok, IsErr};
+ghost use Rattle.std.specs.Prelude.{◌≡◌, ◌⊎◌, ◌≤◌, ◌<◌, ◌++◌, ◌∷◌, List, [], false, map, None, Some, IfOk, IfErr, OnOk, IsOkUnless, Ok, IsErr};
 ghost use Rattle.replay_script.specs.Reader.{IsAnswered, IsFinished, IsTaken, Keeps, failure_outcome, finished, opened};
+ghost use Rattle.hickory_resolver_lookup.specs.Requests.{request_of};
 ghost use Rattle.hickory_resolver_model.specs.Run.{moment_of};
 ghost use Rattle.replay_script.specs.ReplyLine.{opened_response};
 ghost use Rattle.replay_script.specs.Script.{IsScript};
@@ -14,18 +15,21 @@ use crate::fields::ScriptLines;
 use crate::line::{Line, read_line};
 use crate::record_line::Section;
 use crate::reply_line::ReplyHead;
-use crate::request::Request;
 use crate::setting::Setting;
 use hickory_proto_core::dns_handle::Outcome;
 use hickory_proto_core::{DnsResponse, Message, Name, NetError, OpCode, Query, Record};
 use hickory_resolver_config::ResolverOpts;
+use hickory_resolver_lookup::Request;
 use std::alloc::Global;
 use std::marker::Model;
 
-/// What a script says: what the upstream answers, in order, each beside the question of its line; the
-/// requests, in order; and the options, the domain and the search list of the resolver.
+/// What a script says: what the upstream answers, each beside the question of its line; the requests, in
+/// order; and the options, the domain and the search list of the resolver.
 #[derive(Drop)]
 pub struct Script {
+    /// Whether the upstream looks each question up among the outcomes, of which the last of equal questions
+    /// counts; else they come in order, whatever is asked.
+    pub table: bool,
     pub outcomes: Vec<(Query, Outcome)>,
     pub requests: Vec<Request>,
     /// The options, with the defaults where no line sets them.
@@ -35,13 +39,16 @@ pub struct Script {
 }
 
 impl Model for Script {
+    ghost use Rattle.std.specs.Prelude.{map};
+    ghost use Rattle.hickory_resolver_lookup.specs.Requests.{request_of};
     ghost use Rattle.replay_script.specs.Script.{ScriptValue};
 
     ghost Value = { ScriptValue };
 
     ghost view = { λ s. record {
+      table = s.table;
       outcomes = s.outcomes.items;
-      requests = s.requests.items;
+      requests = map request_of s.requests.items;
       options = s.options;
       domain = s.domain;
       search = s.search.items;
@@ -108,6 +115,8 @@ struct Reader {
 }
 
 impl Model for Reader {
+    ghost use Rattle.std.specs.Prelude.{map};
+    ghost use Rattle.hickory_resolver_lookup.specs.Requests.{request_of};
     ghost use Rattle.replay_script.specs.Reader.{ReaderValue};
 
     ghost Value = { ReaderValue };
@@ -115,7 +124,7 @@ impl Model for Reader {
     ghost view = { λ r. record {
       closed = r.closed.items;
       open_reply = r.open_reply;
-      requests = r.requests.items;
+      requests = map request_of r.requests.items;
       latest = r.latest;
       configuration = r.configuration;
     } };
@@ -199,13 +208,13 @@ impl Reader {
 
     fn add_request(&mut self, request: Request) -> Result<(), ScriptFault>
         ensures ok { OnOk result (self.new
-            ≡ record self.old { requests = self.old.requests ++ request ∷ []; latest = moment_of request }) }
-        ensures in_order { OnOk result (self.old.latest ≤ moment_of request) }
+            ≡ record self.old { requests = self.old.requests ++ request_of request ∷ []; latest = moment_of (request_of request) }) }
+        ensures in_order { OnOk result (self.old.latest ≤ moment_of (request_of request)) }
         ensures err { IfErr result
             (λ fault. (fault ≡ ScriptFault.OutOfMemory)
-            ⊎ ((fault ≡ ScriptFault.MomentBack) × (moment_of request < self.old.latest))) }
+            ⊎ ((fault ≡ ScriptFault.MomentBack) × (moment_of (request_of request) < self.old.latest))) }
     {
-        let now = request.now;
+        let now = request.moment();
         if now < self.latest {
             return Err(ScriptFault::MomentBack);
         }
@@ -255,8 +264,10 @@ impl Reader {
             options,
             domain,
             search,
+            table,
         } = self.configuration;
         Script {
+            table,
             outcomes: self.closed,
             requests: self.requests,
             options,

@@ -1,6 +1,6 @@
 //! Lines that set a part of the configuration.
 ghost use Rattle.std.specs.Prelude.{◌≡◌, ◌⊎◌, Err};
-ghost use Rattle.replay_script.specs.Setting.{setting_of};
+ghost use Rattle.replay_script.specs.Setting.{mode_named, mode_of, setting_of};
 ghost use Rattle.replay_script.specs.Words.{texts};
 
 use crate::fault::ScriptFault;
@@ -18,6 +18,11 @@ pub enum Setting {
     Domain(Name),
     /// One more domain of the search list.
     Search(Name),
+    /// How the upstream finds its outcomes.
+    Upstream {
+        /// Whether it looks each question up among them; else they come in order.
+        table: bool,
+    },
 }
 
 // What the fields of a line are to set.
@@ -26,6 +31,7 @@ pub(crate) enum SettingKind {
     Option,
     Domain,
     Search,
+    Upstream,
 }
 
 // Reads the fields behind such a directive.
@@ -40,5 +46,28 @@ pub(crate) fn read_setting(
         SettingKind::Option => Ok(Setting::Option(read_option(fields)?)),
         SettingKind::Domain => Ok(Setting::Domain(read_only_name(alloc, fields)?)),
         SettingKind::Search => Ok(Setting::Search(read_only_name(alloc, fields)?)),
+        SettingKind::Upstream => Ok(Setting::Upstream {
+            table: read_mode(fields)?,
+        }),
+    }
+}
+
+// MODE: whether the outcomes are a table.
+fn read_mode(fields: &[&str]) -> Result<bool, ScriptFault>
+    ensures { result ≡ mode_of (texts fields.now) }
+{
+    let [mode] = fields else {
+        return Err(ScriptFault::FieldCount);
+    };
+    mode_named(mode)
+}
+
+fn mode_named(word: &str) -> Result<bool, ScriptFault>
+    ensures { result ≡ mode_named word.now }
+{
+    match word {
+        "script" => Ok(false),
+        "table" => Ok(true),
+        _ => Err(ScriptFault::UnknownWord),
     }
 }
