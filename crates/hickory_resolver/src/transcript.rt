@@ -23,8 +23,8 @@ pub enum Reply {
 }
 
 impl Reply {
-    // Whether no step follows: memory ran out.
-    pub(crate) fn ends_run(&self) -> bool
+    /// Whether memory ran out, so that the run ended with it.
+    pub fn ends_run(&self) -> bool
         ensures { result ≡ ends_run (reply_of self.now) }
     {
         match self {

@@ -1,3 +1,4 @@
 pub mod Output
 pub mod Run
 pub mod Statuses
+pub mod Writing

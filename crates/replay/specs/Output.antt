@@ -1,5 +1,5 @@
 -- The text that tells what happened: names, questions, records and errors, and the block of a request.
-use Rattle.std.specs.Prelude.{ℕ, false, not, ◌-◌, ◌&&◌, ◌==◌, ◌^◌, List, [], ◌++◌, length, codes, Option, None, Some, Ok, Err, if◌then◌else◌}
+use Rattle.std.specs.Prelude.{ℕ, false, not, take, drop, map, ◌∷◌, ◌-◌, ◌&&◌, ◌==◌, ◌^◌, List, [], ◌++◌, length, codes, Option, None, Some, Ok, Err, if◌then◌else◌}
 use Rattle.std.specs.Fmt.{decimal, digits, format_spec, padded_integral}
 use Rattle.std.specs.List.{flat_map}
 use Rattle.std.specs.Net.Text.{ipv4_text, ipv6_text}
@@ -15,9 +15,10 @@ use Rattle.hickory_proto_core.specs.names.name_error.NameError.TheVariants as na
 use Rattle.hickory_proto_core.specs.records.net_error.NetError.{NetError}
 use Rattle.hickory_proto_core.specs.records.net_error.NetError.TheVariants.{Message, Timeout, Proto, Dns, NoOutcome, Bounds, OutOfMemory}
 use Rattle.hickory_proto_core.specs.records.net_error.DnsError.TheVariants.{ResponseCode, NoRecordsFound}
-use Rattle.hickory_resolver_model.specs.Lookup.{LookupValue, LookupResult}
+use Rattle.hickory_proto_core.specs.declared.recorded.Exchange.{Exchange}
+use Rattle.hickory_resolver_model.specs.Lookup.{LookupValue}
 use Rattle.hickory_proto_core.specs.codes.record_type.RecordType.{RecordType}
-use Rattle.hickory_resolver_model.specs.Run.{RequestValue, Lookup, LookupIp, ClearLookup, Clear}
+use Rattle.hickory_resolver_model.specs.Run.{RequestValue, Lookup, LookupIp, ClearLookup, Clear, StepReply, LookedUp, Cleared, StepValue}
 
 -- a name, where `@` stands for the relative name without labels
 abbrev pub shown_name : NameValue → List ℕ
@@ -116,32 +117,54 @@ sent_text questions = flat_map (λ q. line_text (codes "sent") (question_text q)
 abbrev pub section_text : List ℕ → List RecordValue → List ℕ
 section_text section records = flat_map (λ r. line_text section (record_text r)) records
 
--- the question and the deadline, then the records of the sections
-abbrev pub lookup_text : LookupValue → List ℕ
-lookup_text l =
+-- the line of an address; other data have none
+abbrev pub address_text : DataValue → List ℕ
+address_text (a_data octets) = line_text (codes "address") (ipv4_text octets)
+address_text (aaaa_data segments) = line_text (codes "address") (ipv6_text segments)
+address_text other = []
+
+-- a look-up of addresses tells those among its answers
+abbrev pub addresses_text : RequestValue → List RecordValue → List ℕ
+addresses_text (LookupIp host now) answers = flat_map (λ r. address_text r.rdata) answers
+addresses_text other answers = []
+
+-- the question and the deadline, the addresses where they were asked for, then the records of the sections
+abbrev pub lookup_text : RequestValue → LookupValue → List ℕ
+lookup_text request l =
     line_text (codes "ok")
     (question_text (first_query l.message.queries) ++ codes " until " ++ decimal l.valid_until)
+    ++ addresses_text request l.message.answers
     ++ section_text (codes "answer") l.message.answers
     ++ section_text (codes "authority") l.message.authorities
     ++ section_text (codes "additional") l.message.additionals
 
-abbrev pub reply_text : LookupResult → List ℕ
-reply_text (Ok lookup) = lookup_text lookup
-reply_text (Err error) = line_text (codes "err") (error_text error)
+abbrev pub reply_text : RequestValue → StepReply → List ℕ
+reply_text request (LookedUp (Ok lookup)) = lookup_text request lookup
+reply_text request (LookedUp (Err error)) = line_text (codes "err") (error_text error)
+reply_text request (Cleared (Ok u)) = codes "  cleared\n"
+reply_text request (Cleared (Err error)) = line_text (codes "err") (error_text error)
 
--- NAME TYPE
-abbrev pub asked_text : List ℕ → RecordType → List ℕ
-asked_text name t = name ++ codes " " ++ type_text (type_code t)
+-- at MOMENT VERB NAME TYPE
+abbrev pub asked_text : List ℕ → List ℕ → RecordType → ℕ → List ℕ
+asked_text verb name t now =
+    codes "at " ++ decimal now ++ codes " " ++ verb ++ codes " " ++ name ++ codes " " ++ type_text (type_code t)
+    ++ codes "\n"
 
 -- at MOMENT, and what is asked
 abbrev pub request_text : RequestValue → List ℕ
-request_text (Lookup name t now) =
-    codes "at " ++ decimal now ++ codes " lookup " ++ asked_text name t ++ codes "\n"
+request_text (Lookup name t now) = asked_text (codes "lookup") name t now
 request_text (LookupIp host now) = codes "at " ++ decimal now ++ codes " lookup_ip " ++ host ++ codes "\n"
-request_text (ClearLookup name t now) =
-    codes "at " ++ decimal now ++ codes " clear_lookup " ++ asked_text name t ++ codes "\n"
+request_text (ClearLookup name t now) = asked_text (codes "clear_lookup") name t now
 request_text (Clear now) = codes "at " ++ decimal now ++ codes " clear" ++ codes "\n"
 
 -- the block of a request: the request, each question that was sent for it, and the reply
-abbrev pub step_text : RequestValue → List Query → LookupResult → List ℕ
-step_text request sent reply = request_text request ++ sent_text sent ++ reply_text reply
+abbrev pub step_text : RequestValue → List Query → StepReply → List ℕ
+step_text request sent reply = request_text request ++ sent_text sent ++ reply_text request reply
+
+-- the blocks of the steps, each with as many of the exchanges as it made
+abbrev pub run_text : List RequestValue → List StepValue → List Exchange → List ℕ
+run_text [] steps exchanges = []
+run_text (request ∷ requests) [] exchanges = []
+run_text (request ∷ requests) (step ∷ steps) exchanges =
+    step_text request (map (λ x. x.query) (take step.exchanges exchanges)) step.reply
+    ++ run_text requests steps (drop step.exchanges exchanges)

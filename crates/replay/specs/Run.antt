@@ -1,93 +1,62 @@
--- A run of a script over a table of hosts: its requests one after the other, and the text of their blocks.
-use Rattle.std.specs.Prelude.{◌≡◌, ◌⊎◌, ℕ, true, false, List, [], ◌∷◌, ◌++◌, map, Result, Ok, Err}
-use Rattle.hickory_proto_core.specs.NameDecided.{text_name}
-use Rattle.hickory_proto_core.specs.Handles.{OutcomeValue, RecordedValue, ScriptStep}
-use Rattle.hickory_proto_core.specs.Recorded.{RecordedStep}
+-- A run of a script over a table of hosts, and its text.
+use Rattle.std.specs.Prelude.{◌≡◌, ◌⊎◌, ℕ, Bool, true, not, List, [], ◌∷◌, map, Result, Ok, Err, MatchBool}
+use Rattle.std.specs.List.{list_all}
+use Rattle.hickory_proto_core.specs.Handles.{OutcomeValue, Step, ScriptStep}
+use Rattle.hickory_proto_core.specs.Table.{TableValue, TableStep, outcome_in, last_given}
 use Rattle.hickory_proto_core.specs.records.query.Query.{Query}
-use Rattle.hickory_proto_core.specs.records.net_error.NetError.TheVariants.{OutOfMemory}
 use Rattle.hickory_proto_core.specs.declared.recorded.Exchange.{Exchange}
 use Rattle.hickory_resolver_config.specs.Resolver.{ResolverConfigValue}
 use Rattle.hickory_resolver.specs.Reading.{IsBytesRead}
 use Rattle.hickory_resolver.specs.hosts.hosts_error.HostsError.{HostsError}
 use Rattle.hickory_resolver.specs.hosts.hosts_error.HostsError.TheVariants as hosts_error
-use Rattle.hickory_resolver_model.specs.Lookup.{LookupResult}
+use Rattle.hickory_resolver_model.specs.Cache.{CacheValue}
 use Rattle.hickory_resolver_model.specs.Hosts.{Host}
-use Rattle.hickory_resolver_model.specs.Calls.{is_out_of_memory}
-use Rattle.hickory_resolver_model.specs.Resolver.{ResolverValue, AnswersCall, new_resolver}
-use Rattle.hickory_resolver_model.specs.Run.{RequestValue, Lookup, LookupIp, ClearLookup, Clear, moment_of, name_call}
+use Rattle.hickory_resolver_model.specs.Run.{RequestValue, Settings, StepValue, IsRun, ends_run, moment_of, settings_of}
 use Rattle.replay_script.specs.Script.{IsFault, IsWhole, ScriptValue, script_of}
-use Rattle.replay.specs.Output.{step_text}
 use Rattle.replay_script.specs.declared.fault.ScriptFault.TheVariants as fault
 use Rattle.replay_script.specs.declared.fault.ScriptFault.{ScriptFault}
 use Rattle.replay_script.specs.declared.fault.ScriptError.{ScriptError}
 use Rattle.replay_script.specs.declared.line.Line.{Line}
-use Rattle.replay.specs.declared.run.ReplayError.{ReplayError}
-use Rattle.replay.specs.declared.run.ReplayError.TheVariants.{Script, Hosts, Memory}
+use Rattle.replay.specs.Output.{run_text}
+use Rattle.replay.specs.declared.error.ReplayError.{ReplayError}
+use Rattle.replay.specs.declared.error.ReplayError.TheVariants.{Script, Hosts, Memory}
 
--- a resolver over the outcomes of a script that keeps what it asks
-abbrev pub ScriptResolver : Type 0
-ScriptResolver = ResolverValue (RecordedValue (List OutcomeValue))
+-- there was memory for each step
+abbrev pub is_remembered : List StepValue → Bool
+is_remembered steps = list_all (λ s. not (ends_run s.reply)) steps
+
+-- the text of steps for which there was memory
+abbrev pub IsToldBy : List RequestValue → List StepValue → List Exchange → List ℕ → Type 0
+IsToldBy requests steps exchanges text =
+    (is_remembered steps ≡ true) × (text ≡ run_text requests steps exchanges)
+
+-- the requests are run over this upstream, and memory does not run out: the text of that run
+pub record IsTold
+    {H : Type 0} (step : Step H) (s : Settings) (upstream : H) (requests : List RequestValue) (text : List ℕ)
+    : Type 0 where
+  pub steps : List StepValue
+  pub exchanges : List Exchange
+  pub upstream_after : H
+  pub cache_after : CacheValue
+  pub run : IsRun step s upstream requests steps exchanges upstream_after cache_after
+  pub told : IsToldBy requests steps exchanges text
+
+-- over an upstream that looks each question up among outcomes, of which the last of equal questions counts
+abbrev pub IsTableTold : Settings → List (Query × OutcomeValue) → List RequestValue → List ℕ → Type 0
+IsTableTold s outcomes requests text =
+    (table : TableValue) × ((q : Query) → outcome_in q table ≡ last_given q outcomes)
+    × IsTold TableStep s table requests text
 
 -- what a script configures
-abbrev pub script_config : ScriptValue → ResolverConfigValue
-script_config script = record { domain = script.domain; search = script.search; name_servers = [] }
+abbrev pub config_of : ScriptValue → ResolverConfigValue
+config_of script = record { domain = script.domain; search = script.search; name_servers = [] }
 
--- before the first request nothing is kept
-abbrev pub first_handle : ScriptValue → RecordedValue (List OutcomeValue)
-first_handle script = record { handle = map (λ o. o.1) script.outcomes; exchanges = [] }
-
-abbrev pub first_resolver : ScriptValue → List Host → ScriptResolver
-first_resolver script table =
-    record (new_resolver (script_config script) script.options (first_handle script)) { hosts = table }
-
--- A script asks look-ups of names, each of the text as it is written.
-abbrev pub IsAsked : ScriptResolver → RequestValue → LookupResult → ScriptResolver → Type 0
-IsAsked before (Lookup text t now) reply after =
-    AnswersCall (RecordedStep ScriptStep) now (name_call t (text_name text)) before reply after
-IsAsked before (LookupIp host now) reply after = ⊥
-IsAsked before (ClearLookup text t now) reply after = ⊥
-IsAsked before (Clear now) reply after = ⊥
-
--- a request, the questions that were sent for it, and the reply, for which there was memory
-pub record IsStep
-    (before : ScriptResolver) (request : RequestValue) (sent : List Query) (reply : LookupResult)
-    (after : ScriptResolver)
-    : Type 0 where
-  pub kept : List Exchange
-  pub asked : IsAsked before request reply after
-  pub exchanges_are : after.client.handle.exchanges ≡ before.client.handle.exchanges ++ kept
-  pub sent_are : sent ≡ map (λ x. x.query) kept
-  pub remembered : is_out_of_memory reply ≡ false
-
--- what a request is answered. What the resolver kept goes on what it had kept
-pub record IsAnswered
-    (before : ScriptResolver) (request : RequestValue) (reply : LookupResult) (after : ScriptResolver)
-    : Type 0 where
-  pub kept : List Exchange
-  pub asked : IsAsked before request reply after
-  pub exchanges_are : after.client.handle.exchanges ≡ before.client.handle.exchanges ++ kept
-
-abbrev pub Answers : ScriptResolver → RequestValue → LookupResult → ScriptResolver → Type 0
-Answers before request reply after = IsAnswered before request reply after ⊎ (reply ≡ Err OutOfMemory)
-
--- the block of a request is added to a text
-pub record AddsStep
-    (before : ScriptResolver) (old : List ℕ) (request : RequestValue) (after : ScriptResolver)
-    (new : List ℕ)
-    : Type 0 where
-  pub sent : List Query
-  pub reply : LookupResult
-  pub is_step : IsStep before request sent reply after
-  pub added : new ≡ old ++ step_text request sent reply
-
--- the requests one after the other, and the text of their blocks
-abbrev pub RunTo : ScriptResolver → List RequestValue → List ℕ → ScriptResolver → Type 0
-RunTo before [] text after = (text ≡ []) × (after ≡ before)
-RunTo before (request ∷ requests) text after =
-    (sent : List Query) × (reply : LookupResult) × (between : ScriptResolver) × (rest : List ℕ)
-    × IsStep before request sent reply between
-    × (text ≡ step_text request sent reply ++ rest)
-    × RunTo between requests rest after
+-- over the upstream of a script: a table, or one that answers the outcomes in order, whatever is asked
+abbrev pub IsScriptTold : ScriptValue → List Host → List ℕ → Type 0
+IsScriptTold script hosts text =
+    let s = settings_of (config_of script) script.options hosts in
+    MatchBool script.table (IsTableTold s script.outcomes script.requests text)
+    (IsTold ScriptStep s (map (λ o. o.1) script.outcomes) script.requests text)
 
 -- the moment of the first request, or 0
 abbrev pub first_moment : List RequestValue → ℕ
@@ -107,17 +76,13 @@ IsBroken now hosts error =
 abbrev pub IsNoTable : ℕ → List ℕ → ReplayError → Type 0
 IsNoTable now hosts error = (error ≡ Memory) ⊎ IsBroken now hosts error
 
--- the text of a run of a script over what a file of hosts says
-abbrev pub IsScriptRun : ScriptValue → List ℕ → List ℕ → Type 0
-IsScriptRun script hosts text =
-    (table : List Host) × (after : ScriptResolver) × IsTable (first_moment script.requests) hosts table
-    × RunTo (first_resolver script table) script.requests text after
-
--- the text of a run of what the lines of the script say
+-- the text of a run of what the lines of the script say, over what a file of hosts says
 pub record IsReplayed (script hosts text : List ℕ) : Type 0 where
   pub said : List Line
   pub read : IsWhole script said
-  pub run : IsScriptRun (script_of said) hosts text
+  pub table : List Host
+  pub hosts_are : IsTable (first_moment (script_of said).requests) hosts table
+  pub told : IsScriptTold (script_of said) table text
 
 -- a script that cannot be read, or out of memory
 abbrev pub replay_fault : ScriptFault → ScriptError → ReplayError

@@ -1,35 +1,101 @@
 //! The text that tells what happened.
-ghost use Rattle.std.specs.Prelude.{◌≡◌, ◌++◌, OnOk, codes, map, string_bytes};
-ghost use Rattle.replay.specs.Output.{error_text, line_text, lookup_text, name_error_text, question_text, record_text, reply_text, request_text, section_text, sent_text, step_text};
+ghost use Rattle.std.specs.Prelude.{◌≡◌, ◌++◌, OnOk, codes, drop, map, string_bytes, take};
+ghost use Rattle.std.specs.List.{flat_map};
+ghost use Rattle.hickory_proto_core.specs.Records.{data_of};
+ghost use Rattle.hickory_resolver.specs.Replies.{reply_of};
+ghost use Rattle.hickory_resolver.specs.Requests.{request_of};
+ghost use Rattle.replay.specs.Output.{address_text, addresses_text, asked_text, error_text, line_text, lookup_text, name_error_text, record_text, reply_text, request_text, run_text, section_text, sent_text, step_text};
 
 use hickory_proto_core::{
-    DnsError, Exchange, Name, NameError, NetError, NoRecords, Query, RData, Record,
+    DnsError, Exchange, Name, NameError, NetError, NoRecords, Query, RData, Record, RecordType,
 };
-use hickory_resolver::Lookup;
-use replay_script::Request;
+use hickory_resolver::{Lookup, Reply, Request, Step};
 use std::alloc::AllocError;
 use std::fmt;
 
-/// Adds the block of a request: the request, each question that was sent for it, and the reply.
-pub fn push_step(
+/// Adds the blocks of a run: each request, the questions that were sent for it, and the reply.
+pub fn push_steps(
     text: &mut String,
-    request: &Request,
+    requests: &[Request],
+    steps: &[Step],
     exchanges: &[Exchange],
-    reply: &Result<Lookup, NetError>,
 ) -> Result<(), AllocError>
     ensures { OnOk result (string_bytes text.new
-        ≡ string_bytes text.old ++ step_text request.entry.now (map (λ x. x.query) exchanges.now) reply.now) }
+        ≡ string_bytes text.old ++ run_text (map request_of requests.now) steps.now exchanges.now) }
+{
+    let mut asked = requests;
+    let mut left = exchanges;
+    for step in steps {
+        let [request, others @ ..] = asked else {
+            return Ok(());
+        };
+        let (sent, rest) = split(left, step.exchanges);
+        push_step(text, request, sent, &step.reply)?;
+        asked = others;
+        left = rest;
+    }
+    Ok(())
+}
+
+// So many exchanges, where there are so many, and those behind them.
+fn split(exchanges: &[Exchange], count: usize) -> (&[Exchange], &[Exchange])
+    ensures first { result.0.now ≡ take count exchanges.now }
+    ensures rest { result.1.now ≡ drop count exchanges.now }
+{
+    if count < exchanges.len() {
+        exchanges.split_at(count)
+    } else {
+        (exchanges, &[])
+    }
+}
+
+// Adds the block of a request.
+fn push_step(
+    text: &mut String,
+    request: &Request,
+    sent: &[Exchange],
+    reply: &Reply,
+) -> Result<(), AllocError>
+    ensures { OnOk result (string_bytes text.new
+        ≡ string_bytes text.old
+        ++ step_text (request_of request.now) (map (λ x. x.query) sent.now) (reply_of reply.now)) }
 {
     push_request(text, request)?;
-    push_sent(text, exchanges)?;
-    push_reply(text, reply)
+    push_sent(text, sent)?;
+    push_reply(text, request, reply)
 }
 
 fn push_request(text: &mut String, request: &Request) -> Result<(), AllocError>
-    ensures { OnOk result (string_bytes text.new ≡ string_bytes text.old ++ request_text request.entry.now) }
+    ensures { OnOk result (string_bytes text.new
+        ≡ string_bytes text.old ++ request_text (request_of request.now)) }
 {
-    let (now, name, record_type) = (request.now, request.name.as_str(), request.record_type);
-    write!(text, "at {now} lookup {name} {record_type}\n")
+    match request {
+        Request::Lookup {
+            name,
+            record_type,
+            now,
+        } => push_asked(text, "lookup", name.as_str(), *record_type, *now),
+        Request::LookupIp { host, now } => write!(text, "at {now} lookup_ip {host}\n"),
+        Request::ClearLookup {
+            name,
+            record_type,
+            now,
+        } => push_asked(text, "clear_lookup", name.as_str(), *record_type, *now),
+        Request::Clear { now } => write!(text, "at {now} clear\n"),
+    }
+}
+
+fn push_asked(
+    text: &mut String,
+    verb: &str,
+    name: &str,
+    record_type: RecordType,
+    now: u64,
+) -> Result<(), AllocError>
+    ensures { OnOk result (string_bytes text.new
+        ≡ string_bytes text.old ++ asked_text verb.now name.now record_type now) }
+{
+    write!(text, "at {now} {verb} {name} {record_type}\n")
 }
 
 fn push_sent(text: &mut String, exchanges: &[Exchange]) -> Result<(), AllocError>
@@ -43,24 +109,67 @@ fn push_sent(text: &mut String, exchanges: &[Exchange]) -> Result<(), AllocError
     Ok(())
 }
 
-fn push_reply(text: &mut String, reply: &Result<Lookup, NetError>) -> Result<(), AllocError>
-    ensures { OnOk result (string_bytes text.new ≡ string_bytes text.old ++ reply_text reply.now) }
+fn push_reply(text: &mut String, request: &Request, reply: &Reply) -> Result<(), AllocError>
+    ensures { OnOk result (string_bytes text.new
+        ≡ string_bytes text.old ++ reply_text (request_of request.now) (reply_of reply.now)) }
 {
     match reply {
-        Ok(lookup) => push_lookup(text, lookup),
-        Err(error) => push_error(text, error),
+        Reply::Lookup(Ok(lookup)) => push_lookup(text, request, lookup),
+        Reply::LookupIp(Ok(lookup)) => push_lookup(text, request, lookup.as_lookup()),
+        Reply::Cleared(Ok(())) => text.push_str("  cleared\n"),
+        Reply::Lookup(Err(error)) | Reply::LookupIp(Err(error)) | Reply::Cleared(Err(error)) => {
+            push_error(text, error)
+        }
     }
 }
 
-fn push_lookup(text: &mut String, lookup: &Lookup) -> Result<(), AllocError>
-    ensures { OnOk result (string_bytes text.new ≡ string_bytes text.old ++ lookup_text lookup.now) }
+fn push_lookup(text: &mut String, request: &Request, lookup: &Lookup) -> Result<(), AllocError>
+    ensures { OnOk result (string_bytes text.new
+        ≡ string_bytes text.old ++ lookup_text (request_of request.now) lookup.now) }
 {
     let question = ShownQuery(lookup.query());
     let deadline = lookup.valid_until();
     write!(text, "  ok {question} until {deadline}\n")?;
+    push_addresses(text, request, lookup.answers())?;
     push_records(text, "answer", lookup.answers())?;
     push_records(text, "authority", lookup.authorities())?;
     push_records(text, "additional", lookup.additionals())
+}
+
+// The addresses among the answers, where those were asked for.
+fn push_addresses(
+    text: &mut String,
+    request: &Request,
+    answers: &[Record],
+) -> Result<(), AllocError>
+    ensures { OnOk result (string_bytes text.new
+        ≡ string_bytes text.old ++ addresses_text (request_of request.now) answers.now) }
+{
+    match request {
+        Request::LookupIp { .. } => push_each_address(text, answers),
+        _ => Ok(()),
+    }
+}
+
+fn push_each_address(text: &mut String, answers: &[Record]) -> Result<(), AllocError>
+    ensures { OnOk result (string_bytes text.new
+        ≡ string_bytes text.old ++ flat_map (λ r. address_text r.rdata) answers.now) }
+{
+    for found in answers {
+        push_address(text, &found.rdata)?;
+    }
+    Ok(())
+}
+
+fn push_address(text: &mut String, rdata: &RData) -> Result<(), AllocError>
+    ensures { OnOk result (string_bytes text.new
+        ≡ string_bytes text.old ++ address_text (data_of rdata.now)) }
+{
+    match rdata {
+        RData::A(address) => write!(text, "  address {address}\n"),
+        RData::AAAA(address) => write!(text, "  address {address}\n"),
+        _ => Ok(()),
+    }
 }
 
 fn push_records(text: &mut String, section: &str, records: &[Record]) -> Result<(), AllocError>

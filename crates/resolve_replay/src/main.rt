@@ -1,7 +1,7 @@
 //! Runs a script against a table of hosts and a resolver, and prints what happened.
 #![tactic(auto)]
 
-use replay::{ReplayError, replay_text};
+use replay::{ReplayError, Watched, replay};
 use std::process::ExitCode;
 use std::rt::{Env, Files};
 use std::{env, fmt, fs, io};
@@ -23,7 +23,6 @@ enum RunError {
     Usage,
     Unreadable(String),
     Replay(ReplayError),
-    Unwritable,
 }
 
 impl RunError {
@@ -31,7 +30,7 @@ impl RunError {
         match self {
             RunError::Usage => 2,
             RunError::Replay(error) => error.status(),
-            RunError::Unreadable(_) | RunError::Unwritable => 4,
+            RunError::Unreadable(_) => 4,
         }
     }
 }
@@ -42,7 +41,6 @@ impl fmt::Display for RunError {
             RunError::Usage => f.write_str("usage: resolve_replay SCRIPT [HOSTS]"),
             RunError::Unreadable(path) => write!(f, "cannot read {path}"),
             RunError::Replay(error) => write!(f, "{error}"),
-            RunError::Unwritable => f.write_str("cannot write"),
         }
     }
 }
@@ -53,16 +51,18 @@ impl From<ReplayError> for RunError {
     }
 }
 
-// The whole text is made before any of it is written.
+// The text is whole before any of it is written, so it is written directly: a buffer would hide a write that
+// fails.
 fn run<R: AllocGlobal + Env + Files + Print>(rt: &R) -> Result<(), RunError> {
     let (script, hosts) = paths(rt)?;
     let script = read(rt, script)?;
     let hosts = match hosts {
-        Some(path) => read(rt, path)?,
-        None => Vec::new(rt.alloc()),
+        Some(path) => Some(read(rt, path)?),
+        None => None,
     };
-    let text = replay_text(rt.alloc(), &script, &hosts)?;
-    rt.print(text).map_err(|_| RunError::Unwritable)
+    let mut writer = Watched::new(io::writer(rt));
+    replay(rt.alloc(), &script, hosts.as_deref(), &mut writer)?;
+    Ok(())
 }
 
 // The arguments behind the program's name: the path of the script, and that of the hosts where there is one.
