@@ -88,17 +88,12 @@ fn push_set(alloc: Global, text: &mut String, config: &mut ResolverConfig) -> Re
 }
 
 fn push_search(text: &mut String, config: &ResolverConfig) -> Result<(), AllocError> {
-    push_domain(text, config.domain())?;
+    if let Some(domain) = config.domain() {
+        write!(text, "domain {domain} ")?;
+    }
     text.push_str("search")?;
     for name in config.search() {
         write!(text, " {name}")?;
     }
     text.push_str("\n")
-}
-
-fn push_domain(text: &mut String, domain: Option<&Name>) -> Result<(), AllocError> {
-    match domain {
-        Some(domain) => write!(text, "domain {domain} "),
-        None => Ok(()),
-    }
 }
