@@ -25,13 +25,12 @@ fn resolver_of(alloc: Global) -> Result<OneHashResolver, NetError> {
 }
 
 fn push_calls(text: &mut String, resolver: &mut OneHashResolver) -> Result<(), AllocError> {
-    for name in ["www", "www.", "a."] {
-        push_asked(text, resolver, name)?;
-    }
+    push_asked(text, resolver, &["www", "www.", "a."])?;
     for name in ["www", "a..b"] {
-        push_cleared(text, resolver, name)?;
+        drop(resolver.clear_lookup_cache(name, RecordType::A));
+        push_counts(text, resolver, "clear", name)?;
     }
-    push_asked(text, resolver, "a.")?;
+    push_asked(text, resolver, &["a."])?;
     resolver.clear_cache();
     push_counts(text, resolver, "clear", "all")
 }
@@ -39,19 +38,13 @@ fn push_calls(text: &mut String, resolver: &mut OneHashResolver) -> Result<(), A
 fn push_asked(
     text: &mut String,
     resolver: &mut OneHashResolver,
-    name: &str,
+    names: &[&str],
 ) -> Result<(), AllocError> {
-    drop(resolver.lookup(name, RecordType::A, 7));
-    push_counts(text, resolver, "lookup", name)
-}
-
-fn push_cleared(
-    text: &mut String,
-    resolver: &mut OneHashResolver,
-    name: &str,
-) -> Result<(), AllocError> {
-    drop(resolver.clear_lookup_cache(name, RecordType::A));
-    push_counts(text, resolver, "clear", name)
+    for name in names {
+        drop(resolver.lookup(*name, RecordType::A, 7));
+        push_counts(text, resolver, "lookup", name)?;
+    }
+    Ok(())
 }
 
 fn push_counts(

@@ -34,18 +34,16 @@ fn looked_up(alloc: Global, finally_ip_addr: Option<RData>) -> Result<LookupIp, 
 
 fn push_reply(text: &mut String, reply: Result<LookupIp, NetError>) -> Result<(), AllocError> {
     match reply {
-        Ok(found) => push_given_away(text, found),
+        Ok(found) => {
+            for address in found {
+                write!(text, "  address {address}\n")?;
+            }
+            Ok(())
+        }
         Err(error) => {
             let pushed = write!(text, "  {error}\n");
             drop(error);
             pushed
         }
     }
-}
-
-fn push_given_away(text: &mut String, found: LookupIp) -> Result<(), AllocError> {
-    for address in found {
-        write!(text, "  address {address}\n")?;
-    }
-    Ok(())
 }

@@ -2,7 +2,7 @@
 use crate::outcomes::query_of;
 use hickory_proto_core::{DnsHandle, DnsRequest, DnsRequestOptions, DnsResponse, NetError};
 use hickory_resolver::{CachingClient, Resolver, ResolverConfig, ResolverOpts};
-use std::alloc::{AllocError, Global};
+use std::alloc::Global;
 
 // An upstream that has no outcome.
 #[derive(Drop)]
@@ -26,21 +26,21 @@ pub fn push_of_clients(alloc: Global, text: &mut String) -> Result<(), NetError>
         edns_payload_len: 4096,
         case_randomization: true,
     };
-    push_kept(text, kept_by_client(alloc, options)?)?;
-    push_kept(text, kept_by_client(alloc, DnsRequestOptions::default())?)?;
+    for given in [options, DnsRequestOptions::default()] {
+        let kept = kept_by_client(alloc, given)?;
+        write!(text, "{kept:?}\n")?;
+    }
     Ok(())
 }
 
 /// Adds the options that resolvers hand on: of other options than the default, and of the default.
 pub fn push_of_resolvers(alloc: Global, text: &mut String) -> Result<(), NetError> {
     text.push_str("# options are handed on by resolvers\n")?;
-    push_kept(text, kept_by_resolver(alloc, other_options(alloc))?)?;
-    push_kept(text, kept_by_resolver(alloc, ResolverOpts::default(alloc))?)?;
+    let kept = kept_by_resolver(alloc, other_options(alloc))?;
+    write!(text, "{kept:?}\n")?;
+    let kept = kept_by_resolver(alloc, ResolverOpts::default(alloc))?;
+    write!(text, "{kept:?}\n")?;
     Ok(())
-}
-
-fn push_kept(text: &mut String, kept: Option<DnsRequestOptions>) -> Result<(), AllocError> {
-    write!(text, "{kept:?}\n")
 }
 
 // What the upstream keeps of a client's look-up.

@@ -36,15 +36,9 @@ pub fn add_address(
 }
 
 fn answer_to(alloc: Global, query: &Query, address: Ipv4Addr) -> Outcome {
-    let owner = query.name.clone()?;
-    let mut message = response_to(alloc, query)?;
-    message.add_answer(Record::from_rdata(owner, 20, RData::A(address)))?;
-    Ok(DnsResponse::from_message(message))
-}
-
-fn response_to(alloc: Global, query: &Query) -> Result<Message, NetError> {
-    let question = query.clone()?;
+    let (owner, question) = (query.name.clone()?, query.clone()?);
     let mut message = Message::response(alloc, 0, OpCode::Query);
     message.add_query(question)?;
-    Ok(message)
+    message.add_answer(Record::from_rdata(owner, 20, RData::A(address)))?;
+    Ok(DnsResponse::from_message(message))
 }

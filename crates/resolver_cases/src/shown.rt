@@ -1,5 +1,5 @@
 //! The texts of what is sent and of what is answered.
-use hickory_proto_core::{Exchange, NetError, Query, RData, Record};
+use hickory_proto_core::{Exchange, NetError, RData, Record};
 use hickory_resolver::Lookup;
 use std::alloc::AllocError;
 
@@ -27,14 +27,11 @@ pub fn push_outcome(text: &mut String, reply: &Result<Lookup, NetError>) -> Resu
 /// Adds a line for each question that was sent.
 pub fn push_sent(text: &mut String, lead: &str, sent: &[Exchange]) -> Result<(), AllocError> {
     for exchange in sent {
-        push_question(text, lead, &exchange.query)?;
+        let query = &exchange.query;
+        let (name, class, record_type) = (&query.name, query.query_class, query.query_type);
+        write!(text, "{lead}{name} {class} {record_type}\n")?;
     }
     Ok(())
-}
-
-fn push_question(text: &mut String, lead: &str, query: &Query) -> Result<(), AllocError> {
-    let (name, class, record_type) = (&query.name, query.query_class, query.query_type);
-    write!(text, "{lead}{name} {class} {record_type}\n")
 }
 
 fn push_answers(text: &mut String, answers: &[Record]) -> Result<(), AllocError> {
