@@ -1,7 +1,7 @@
 //! Builders whose bounds on times to live are reversed.
-use crate::scripts::{Upstream, upstream_of};
+use crate::upstream::{Upstream, builder_of};
 use hickory_proto_core::NetError;
-use hickory_resolver::{Resolver, ResolverConfig, ResolverOpts};
+use hickory_resolver::Resolver;
 use std::alloc::{AllocError, Global};
 
 // More than the greatest lifetime where no other is given.
@@ -22,21 +22,17 @@ fn push_built(
     alloc: Global,
     text: &mut String,
     what: &str,
-    bounds: [Option<u64>; 3],
+    [least, negative, greatest]: [Option<u64>; 3],
 ) -> Result<(), NetError> {
-    let upstream = upstream_of(alloc, Vec::new(alloc))?;
-    let mut builder = Resolver::builder_with_config(ResolverConfig::default(alloc), upstream);
-    set_bounds(builder.options_mut(), bounds);
+    let mut builder = builder_of(alloc)?;
+    let options = builder.options_mut();
+    options.positive_min_ttl = least;
+    options.negative_min_ttl = negative;
+    options.positive_max_ttl = greatest;
     let built = builder.build();
     let pushed = push_outcome(text, what, &built);
     drop(built);
     Ok(pushed?)
-}
-
-fn set_bounds(options: &mut ResolverOpts, [least, negative, greatest]: [Option<u64>; 3]) {
-    options.positive_min_ttl = least;
-    options.negative_min_ttl = negative;
-    options.positive_max_ttl = greatest;
 }
 
 fn push_outcome(

@@ -1,105 +1,59 @@
-//! A resolver whose cache is cleared.
+//! A resolver where every key of its cache has one hash, and whose cache is cleared.
 use crate::one_hash::OneHash;
-use crate::scripts::{Upstream, builder_of};
-use crate::shown::push_lookup;
-use hickory_proto_core::{NetError, RecordType};
-use hickory_resolver::{Resolver, ResolverBuilder};
+use crate::own_handle::OneAddress;
+use hickory_proto_core::{Name, NetError, RecordType};
+use hickory_resolver::{Resolver, ResolverConfig};
 use std::alloc::{AllocError, Global};
-use std::hash::BuildHasher;
 
-// The search list, and three answers.
-const SCRIPT: &str = "search x.
-reply NOERROR www.x. A
-answer www.x. 60 IN A 192.0.2.1
-reply NOERROR www. A
-answer www. 60 IN A 192.0.2.1
-reply NOERROR www. AAAA
-answer www. 60 IN AAAA 2001:db8::1
-";
+// Every question is answered with one address.
+type OneHashResolver = Resolver<OneAddress, OneHash>;
 
-/// Adds what it sends and keeps.
+/// Adds how many questions it has sent after each call, and how many entries it keeps.
 pub fn push_clears(alloc: Global, text: &mut String) -> Result<(), NetError> {
-    text.push_str("# clears\n")?;
-    push_built(text, builder_of(alloc, SCRIPT)?)
-}
-
-/// The same where every key has one hash.
-pub fn push_clears_of_one_hash(alloc: Global, text: &mut String) -> Result<(), NetError> {
-    text.push_str("# clears where every key has one hash\n")?;
-    let builder = builder_of(alloc, SCRIPT)?;
-    push_built(text, builder.with_hasher(OneHash, OneHash))
-}
-
-fn push_built<S: BuildHasher + Drop>(
-    text: &mut String,
-    builder: ResolverBuilder<Upstream, S>,
-) -> Result<(), NetError> {
-    let mut resolver = builder.build()?;
+    text.push_str("# every key has one hash\n")?;
+    let mut resolver = resolver_of(alloc)?;
     let pushed = push_calls(text, &mut resolver);
     drop(resolver);
     Ok(pushed?)
 }
 
-fn push_calls<S: BuildHasher>(
-    text: &mut String,
-    resolver: &mut Resolver<Upstream, S>,
-) -> Result<(), AllocError> {
-    push_asked(text, resolver, "www", RecordType::A)?;
-    push_asked(text, resolver, "www.", RecordType::A)?;
-    push_asked(text, resolver, "www.", RecordType::AAAA)?;
-    push_clearings(text, resolver)
+fn resolver_of(alloc: Global) -> Result<OneHashResolver, NetError> {
+    let mut config = ResolverConfig::default(alloc);
+    config.add_search(Name::from_ascii(alloc, "x.")?)?;
+    let builder = Resolver::builder_with_config(config, OneAddress::new(alloc));
+    builder.with_hasher(OneHash, OneHash).build()
 }
 
-fn push_clearings<S: BuildHasher>(
-    text: &mut String,
-    resolver: &mut Resolver<Upstream, S>,
-) -> Result<(), AllocError> {
-    push_cleared(text, resolver, "www")?;
-    push_cleared(text, resolver, "a..b")?;
-    push_asked(text, resolver, "www.", RecordType::AAAA)?;
-    push_cleared_all(text, resolver)
-}
-
-fn push_cleared_all<S: BuildHasher>(
-    text: &mut String,
-    resolver: &mut Resolver<Upstream, S>,
-) -> Result<(), AllocError> {
-    resolver.clear_cache();
-    text.push_str("clear all\n")?;
-    push_kept(text, resolver)
-}
-
-fn push_asked<S: BuildHasher>(
-    text: &mut String,
-    resolver: &mut Resolver<Upstream, S>,
-    name: &str,
-    record_type: RecordType,
-) -> Result<(), AllocError> {
-    write!(text, "{name} {record_type}\n")?;
-    push_lookup(text, resolver, name, record_type)?;
-    push_kept(text, resolver)
-}
-
-// What a name has of type A is cleared.
-fn push_cleared<S: BuildHasher>(
-    text: &mut String,
-    resolver: &mut Resolver<Upstream, S>,
-    name: &str,
-) -> Result<(), AllocError> {
-    write!(text, "clear {name} A\n")?;
-    match resolver.clear_lookup_cache(name, RecordType::A) {
-        Ok(()) => push_kept(text, resolver),
-        Err(error) => {
-            drop(error);
-            text.push_str("  refused\n")
-        }
+fn push_calls(text: &mut String, resolver: &mut OneHashResolver) -> Result<(), AllocError> {
+    push_asked(text, resolver, &["www", "www.", "a."])?;
+    for name in ["www", "a..b"] {
+        drop(resolver.clear_lookup_cache(name, RecordType::A));
+        push_counts(text, resolver, "clear", name)?;
     }
+    push_asked(text, resolver, &["a."])?;
+    resolver.clear_cache();
+    push_counts(text, resolver, "clear", "all")
 }
 
-fn push_kept<S: BuildHasher>(
+fn push_asked(
     text: &mut String,
-    resolver: &Resolver<Upstream, S>,
+    resolver: &mut OneHashResolver,
+    names: &[&str],
 ) -> Result<(), AllocError> {
+    for name in names {
+        drop(resolver.lookup(*name, RecordType::A, 7));
+        push_counts(text, resolver, "lookup", name)?;
+    }
+    Ok(())
+}
+
+fn push_counts(
+    text: &mut String,
+    resolver: &OneHashResolver,
+    call: &str,
+    name: &str,
+) -> Result<(), AllocError> {
+    let asked = resolver.client().handle().asked;
     let kept = resolver.client().cache().len();
-    write!(text, "  kept {kept}\n")
+    write!(text, "{call} {name}: asked {asked}, kept {kept}\n")
 }

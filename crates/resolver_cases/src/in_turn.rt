@@ -1,21 +1,30 @@
 //! Look-ups of several names, one after another.
-use crate::scripts::{Upstream, client_over, hosts_of};
-use crate::shown::push_since;
+use crate::shown::push_reply;
+use crate::upstream::{Upstream, client_over};
 use hickory_proto_core::{DnsRequestOptions, Name, NameError, NetError, RecordType};
-use hickory_resolver::{CachingClient, Lookup, LookupFuture};
+use hickory_resolver::{CachingClient, Hosts, Lookup, LookupFuture};
 use std::alloc::Global;
 
 /// Adds what they send, and the replies.
 pub fn push_in_turn(alloc: Global, text: &mut String) -> Result<(), NetError> {
     text.push_str("# names in turn\n")?;
-    push_names(alloc, text, "c. b. a.", &["c.", "b.", "a."], None)?;
-    push_names(alloc, text, "no names", &[], None)?;
-    push_hosts(alloc, text, "b. a. where b is a host", "10.0.0.2 b\n")?;
-    push_hosts(alloc, text, "b. a. where a is a host", "10.0.0.1 a\n")
-}
-
-fn push_hosts(alloc: Global, text: &mut String, what: &str, file: &str) -> Result<(), NetError> {
-    push_names(alloc, text, what, &["b.", "a."], Some(file))
+    push_names(alloc, text, "c. b. a.", &["c.", "b.", "a."], "")?;
+    push_names(alloc, text, "no names", &[], "")?;
+    let names = ["b.", "a."];
+    push_names(
+        alloc,
+        text,
+        "b. a. where b is a host",
+        &names,
+        "10.0.0.2 b\n",
+    )?;
+    push_names(
+        alloc,
+        text,
+        "b. a. where a is a host",
+        &names,
+        "10.0.0.1 a\n",
+    )
 }
 
 fn push_names(
@@ -23,35 +32,30 @@ fn push_names(
     text: &mut String,
     what: &str,
     names: &[&str],
-    hosts: Option<&str>,
+    hosts: &str,
 ) -> Result<(), NetError> {
     write!(text, "{what}\n")?;
     let mut client = client_over(alloc, Vec::new(alloc))?;
     let reply = looked_up(alloc, &mut client, names, hosts);
-    let pushed = push_since(text, &client, 0, reply);
+    let pushed = push_reply(text, client.handle().exchanges(), reply);
     drop(client);
     Ok(pushed?)
 }
 
+// A look-up with hosts, where there are any.
 fn looked_up(
     alloc: Global,
     client: &mut CachingClient<Upstream>,
     names: &[&str],
-    hosts: Option<&str>,
+    hosts: &str,
 ) -> Result<Lookup, NetError> {
     let names = names_of(alloc, names)?;
-    match hosts {
-        Some(file) => with_hosts(alloc, client, names, file),
-        None => without_hosts(client, names),
-    }
-}
-
-fn without_hosts(
-    client: &mut CachingClient<Upstream>,
-    names: Vec<Name>,
-) -> Result<Lookup, NetError> {
     let options = DnsRequestOptions::default();
-    LookupFuture::lookup(names, RecordType::A, options, client, 0)
+    if hosts.is_empty() {
+        LookupFuture::lookup(names, RecordType::A, options, client, 0)
+    } else {
+        with_hosts(alloc, client, names, hosts)
+    }
 }
 
 fn with_hosts(
@@ -65,6 +69,15 @@ fn with_hosts(
     let reply = LookupFuture::lookup_with_hosts(names, RecordType::A, options, client, &hosts, 0);
     drop(hosts);
     reply
+}
+
+// A table of what a file of hosts says that is read at 0.
+fn hosts_of(alloc: Global, file: &str) -> Result<Hosts, NetError> {
+    let mut hosts = Hosts::default(alloc);
+    match hosts.read_hosts_bytes(file.as_bytes(), 0) {
+        Ok(()) => Ok(hosts),
+        Err(_) => Err(NetError::Message("a file of hosts that is not read")),
+    }
 }
 
 fn names_of(alloc: Global, texts: &[&str]) -> Result<Vec<Name>, NameError> {

@@ -1,9 +1,8 @@
 //! A client and resolvers whose upstream keeps the options that it was asked with.
-use hickory_proto_core::{
-    DnsHandle, DnsRequest, DnsRequestOptions, DnsResponse, Name, NetError, Query, RecordType,
-};
+use crate::outcomes::query_of;
+use hickory_proto_core::{DnsHandle, DnsRequest, DnsRequestOptions, DnsResponse, NetError};
 use hickory_resolver::{CachingClient, Resolver, ResolverConfig, ResolverOpts};
-use std::alloc::{AllocError, Global};
+use std::alloc::Global;
 
 // An upstream that has no outcome.
 #[derive(Drop)]
@@ -18,52 +17,43 @@ impl DnsHandle for KeepsOptions {
     }
 }
 
-/// Adds whether look-ups of a client fail that are given other options than the default, and the default, and
-/// the options that are kept of them.
-pub fn push_of_clients(alloc: Global, text: &mut String) -> Result<(), AllocError> {
-    text.push_str("# options are handed on\n")?;
-    let mut client = CachingClient::new(alloc, 8, KeepsOptions { options: None }, false);
-    let pushed = push_both(alloc, text, &mut client);
-    drop(client);
-    pushed
-}
-
-fn push_both(
-    alloc: Global,
-    text: &mut String,
-    client: &mut CachingClient<KeepsOptions>,
-) -> Result<(), AllocError> {
+/// Adds the options that a client hands on: of other options than the default, and of the default.
+pub fn push_of_clients(alloc: Global, text: &mut String) -> Result<(), NetError> {
+    text.push_str("# options are handed on by clients\n")?;
     let options = DnsRequestOptions {
         recursion_desired: false,
         use_edns: true,
         edns_payload_len: 4096,
         case_randomization: true,
     };
-    push_given(alloc, text, client, options)?;
-    push_given(alloc, text, client, DnsRequestOptions::default())
-}
-
-fn push_given(
-    alloc: Global,
-    text: &mut String,
-    client: &mut CachingClient<KeepsOptions>,
-    given: DnsRequestOptions,
-) -> Result<(), AllocError> {
-    let query = Query::query(Name::root(alloc), RecordType::A);
-    let reply = client.lookup(query, given, 0);
-    let failed = reply.is_err();
-    // Its proof is far shorter than that of a drop at the end of the scope.
-    drop(reply);
-    let kept = client.handle().options;
-    write!(text, "{failed} {kept:?}\n")
+    for given in [options, DnsRequestOptions::default()] {
+        let kept = kept_by_client(alloc, given)?;
+        write!(text, "{kept:?}\n")?;
+    }
+    Ok(())
 }
 
 /// Adds the options that resolvers hand on: of other options than the default, and of the default.
 pub fn push_of_resolvers(alloc: Global, text: &mut String) -> Result<(), NetError> {
-    text.push_str("# options are handed on\n")?;
-    push_kept(text, kept(alloc, other_options(alloc))?)?;
-    push_kept(text, kept(alloc, ResolverOpts::default(alloc))?)?;
+    text.push_str("# options are handed on by resolvers\n")?;
+    let kept = kept_by_resolver(alloc, other_options(alloc))?;
+    write!(text, "{kept:?}\n")?;
+    let kept = kept_by_resolver(alloc, ResolverOpts::default(alloc))?;
+    write!(text, "{kept:?}\n")?;
     Ok(())
+}
+
+// What the upstream keeps of a client's look-up.
+fn kept_by_client(
+    alloc: Global,
+    options: DnsRequestOptions,
+) -> Result<Option<DnsRequestOptions>, NetError> {
+    let query = query_of(alloc, ".")?;
+    let mut client = CachingClient::new(alloc, 8, KeepsOptions { options: None }, false);
+    drop(client.lookup(query, options, 0));
+    let kept = client.handle().options;
+    drop(client);
+    Ok(kept)
 }
 
 fn other_options(alloc: Global) -> ResolverOpts {
@@ -75,12 +65,11 @@ fn other_options(alloc: Global) -> ResolverOpts {
     options
 }
 
-fn push_kept(text: &mut String, kept: Option<DnsRequestOptions>) -> Result<(), AllocError> {
-    write!(text, "{kept:?}\n")
-}
-
-// What the upstream keeps of a look-up.
-fn kept(alloc: Global, options: ResolverOpts) -> Result<Option<DnsRequestOptions>, NetError> {
+// What the upstream keeps of a resolver's look-up.
+fn kept_by_resolver(
+    alloc: Global,
+    options: ResolverOpts,
+) -> Result<Option<DnsRequestOptions>, NetError> {
     let handle = KeepsOptions { options: None };
     let builder = Resolver::builder_with_config(ResolverConfig::default(alloc), handle);
     let mut resolver = builder.with_options(options).build()?;

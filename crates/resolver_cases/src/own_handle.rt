@@ -7,12 +7,22 @@ use hickory_resolver::{CachingClient, Lookup};
 use std::alloc::{AllocError, Global};
 use std::net::Ipv4Addr;
 
-// An upstream that answers every question with one address for a minute, and counts what it is asked.
+/// An upstream that answers every question with one address for a minute, and counts what it is asked.
 #[derive(Drop)]
-struct OneAddress {
+pub struct OneAddress {
     alloc: Global,
     address: Ipv4Addr,
-    asked: u8,
+    pub asked: u8,
+}
+
+impl OneAddress {
+    pub fn new(alloc: Global) -> OneAddress {
+        OneAddress {
+            alloc,
+            address: Ipv4Addr::new(192, 0, 2, 1),
+            asked: 0,
+        }
+    }
 }
 
 impl DnsHandle for OneAddress {
@@ -29,11 +39,7 @@ impl DnsHandle for OneAddress {
 /// Adds the TTLs of its answers at some moments (seconds), and how often it was asked by then.
 pub fn push_own_handle(alloc: Global, text: &mut String) -> Result<(), NetError> {
     text.push_str("# a handle that is asked once a minute\n")?;
-    let handle = OneAddress {
-        alloc,
-        address: Ipv4Addr::new(192, 0, 2, 1),
-        asked: 0,
-    };
+    let handle = OneAddress::new(alloc);
     let mut client = CachingClient::new(alloc, 100, handle, false);
     push_moments(alloc, text, &mut client)
 }

@@ -1,46 +1,41 @@
 //! Configurations of known servers, and search lists.
-use hickory_proto_core::{Name, NetError};
+use hickory_proto_core::{Name, NetError, Protocol};
 use hickory_resolver::{
-    ConnectionConfig, NameServerConfig, ProtocolConfig, ResolverConfig, cloudflare, google, quad9,
+    ConnectionConfig, NameServerConfig, ProtocolConfig, ResolverConfig, ServerGroup, cloudflare,
+    google, quad9,
 };
 use std::alloc::{AllocError, Global};
 
 /// Adds the servers of each group, and what a search list comes to.
 pub fn push_configuration(alloc: Global, text: &mut String) -> Result<(), NetError> {
     text.push_str("# configuration\ndns.google\n")?;
-    push_config(text, google_over_tls(alloc)?)?;
+    push_config(text, config_of(google(alloc)?, Protocol::Tls))?;
     text.push_str("cloudflare-dns.com\n")?;
-    push_config(text, cloudflare_over_https(alloc)?)?;
+    push_config(text, config_of(cloudflare(alloc)?, Protocol::Https))?;
     text.push_str("dns.quad9.net\n")?;
-    push_config(text, plain_quad9(alloc)?)?;
+    push_config(text, config_of(quad9(alloc)?, Protocol::Udp))?;
     push_searches(alloc, text)
 }
 
-fn google_over_tls(alloc: Global) -> Result<ResolverConfig, NetError> {
-    let group = google(alloc)?;
-    let config = ResolverConfig::tls(&group);
+// The servers of a group over TLS or HTTPS, else over UDP and TCP.
+fn config_of(group: ServerGroup, over: Protocol) -> Result<ResolverConfig, NetError> {
+    let config = match over {
+        Protocol::Tls => ResolverConfig::tls(&group),
+        Protocol::Https => ResolverConfig::https(&group),
+        _ => ResolverConfig::udp_and_tcp(&group),
+    };
     drop(group);
     config
 }
 
-fn cloudflare_over_https(alloc: Global) -> Result<ResolverConfig, NetError> {
-    let group = cloudflare(alloc)?;
-    let config = ResolverConfig::https(&group);
-    drop(group);
-    config
-}
-
-fn plain_quad9(alloc: Global) -> Result<ResolverConfig, NetError> {
-    let group = quad9(alloc)?;
-    let config = ResolverConfig::udp_and_tcp(&group);
-    drop(group);
-    config
-}
-
-fn push_config(text: &mut String, config: ResolverConfig) -> Result<(), AllocError> {
+fn push_config(
+    text: &mut String,
+    config: Result<ResolverConfig, NetError>,
+) -> Result<(), NetError> {
+    let config = config?;
     let pushed = push_servers(text, config.name_servers());
     drop(config);
-    pushed
+    Ok(pushed?)
 }
 
 fn push_servers(text: &mut String, servers: &[NameServerConfig]) -> Result<(), AllocError> {
@@ -88,17 +83,12 @@ fn push_set(alloc: Global, text: &mut String, config: &mut ResolverConfig) -> Re
 }
 
 fn push_search(text: &mut String, config: &ResolverConfig) -> Result<(), AllocError> {
-    push_domain(text, config.domain())?;
+    if let Some(domain) = config.domain() {
+        write!(text, "domain {domain} ")?;
+    }
     text.push_str("search")?;
     for name in config.search() {
         write!(text, " {name}")?;
     }
     text.push_str("\n")
-}
-
-fn push_domain(text: &mut String, domain: Option<&Name>) -> Result<(), AllocError> {
-    match domain {
-        Some(domain) => write!(text, "domain {domain} "),
-        None => Ok(()),
-    }
 }

@@ -1,74 +1,46 @@
 //! A client over a table of many outcomes, as a test rig hands them in: the last outcome of a question counts,
 //! whatever the case of its name.
-use crate::requests::ask;
-use crate::scripts::{Upstream, add_late, client_over, parts_of};
+use crate::outcomes::{add_address, add_late, query_of};
+use crate::shown::push_reply;
+use crate::upstream::{Upstream, client_over};
 use hickory_proto_core::dns_handle::Outcome;
-use hickory_proto_core::{NetError, Query};
-use hickory_resolver::CachingClient;
-use replay::output::push_step;
-use replay_script::Request;
+use hickory_proto_core::{DnsRequestOptions, NetError, Query};
+use hickory_resolver::{CachingClient, Lookup};
 use std::alloc::{AllocError, Global};
+use std::net::Ipv4Addr;
 
-const SCRIPT: &str = "reply NOERROR N7. A
-answer n7. 30 IN A 192.0.2.1
-at 0 lookup n99999. A
-at 0 lookup n100000. A
-at 0 lookup n7. A
-";
-
+/// Adds the replies for a name that has an outcome, one that has none, and one that has two.
 pub fn push_table(alloc: Global, text: &mut String) -> Result<(), NetError> {
     text.push_str("# a table of a hundred thousand names\n")?;
-    let (outcomes, requests) = parts_of(alloc, SCRIPT)?;
-    let client = client_of(alloc, outcomes);
-    let pushed = push_replies(alloc, text, client, &requests);
-    drop(requests);
-    pushed
+    let mut client = client_of(alloc)?;
+    let pushed = push_replies(alloc, text, &mut client);
+    drop(client);
+    Ok(pushed?)
 }
 
 fn push_replies(
     alloc: Global,
     text: &mut String,
-    client: Result<CachingClient<Upstream>, NetError>,
-    requests: &[Request],
-) -> Result<(), NetError> {
-    let mut client = client?;
-    let pushed = push_requests(alloc, text, &mut client, requests);
-    drop(client);
-    Ok(pushed?)
-}
-
-fn push_requests(
-    alloc: Global,
-    text: &mut String,
     client: &mut CachingClient<Upstream>,
-    requests: &[Request],
 ) -> Result<(), AllocError> {
-    for request in requests {
-        push_asked(alloc, text, client, request)?;
+    for name in ["n99999.", "n100000.", "n7."] {
+        push_reply(text, &[], ask(alloc, client, name))?;
     }
     Ok(())
 }
 
-fn push_asked(
+fn ask(
     alloc: Global,
-    text: &mut String,
     client: &mut CachingClient<Upstream>,
-    request: &Request,
-) -> Result<(), AllocError> {
-    let reply = ask(alloc, client, request);
-    let pushed = push_step(text, request, &[], &reply);
-    // Its proof is far shorter than that of a drop at the end of the scope.
-    drop(reply);
-    pushed
+    name: &str,
+) -> Result<Lookup, NetError> {
+    let query = query_of(alloc, name)?;
+    client.lookup(query, DnsRequestOptions::default(), 0)
 }
 
-// No answer in time for each of a hundred thousand names, and then what a script says.
-fn client_of(
-    alloc: Global,
-    said: Vec<(Query, Outcome)>,
-) -> Result<CachingClient<Upstream>, NetError> {
+fn client_of(alloc: Global) -> Result<CachingClient<Upstream>, NetError> {
     let mut outcomes = Vec::new(alloc);
-    match fill(alloc, &mut outcomes, said) {
+    match fill(alloc, &mut outcomes) {
         Ok(()) => client_over(alloc, outcomes),
         Err(error) => {
             drop(outcomes);
@@ -77,21 +49,11 @@ fn client_of(
     }
 }
 
-fn fill(
-    alloc: Global,
-    outcomes: &mut Vec<(Query, Outcome)>,
-    said: Vec<(Query, Outcome)>,
-) -> Result<(), NetError> {
-    let mut said = said;
-    add_timeouts(alloc, outcomes)?;
-    outcomes.append(&mut said)?;
-    Ok(())
-}
-
-fn add_timeouts(alloc: Global, outcomes: &mut Vec<(Query, Outcome)>) -> Result<(), NetError> {
+// No answer in time for each of a hundred thousand names, and then an address for one of them.
+fn fill(alloc: Global, outcomes: &mut Vec<(Query, Outcome)>) -> Result<(), NetError> {
     for number in 0..100_000_u32 {
         let name = format!(in alloc; "n{number}.")?;
         add_late(alloc, outcomes, name.as_str())?;
     }
-    Ok(())
+    add_address(alloc, outcomes, "N7.", Ipv4Addr::new(192, 0, 2, 1))
 }

@@ -1,9 +1,9 @@
 //! The look-ups of one type each.
-use crate::scripts::{Upstream, resolver_of};
 use crate::shown::push_sent;
+use crate::upstream::{Upstream, builder_of};
 use hickory_proto_core::{NetError, RecordType};
 use hickory_resolver::{Lookup, Resolver};
-use std::alloc::Global;
+use std::alloc::{AllocError, Global};
 
 // The types of the calls, in their order.
 const TYPES: [RecordType; 11] = [
@@ -20,14 +20,19 @@ const TYPES: [RecordType; 11] = [
     RecordType::PTR,
 ];
 
-/// Adds the question that each look-up sends.
+/// Adds the question that each look-up sends, and what stands for the resolver.
 pub fn push_types(alloc: Global, text: &mut String) -> Result<(), NetError> {
     text.push_str("# each look-up of a type\n")?;
-    let mut resolver = resolver_of(alloc, "")?;
+    let mut resolver = builder_of(alloc)?.build()?;
     ask_each(&mut resolver);
-    let pushed = push_sent(text, "", resolver.client().handle().exchanges());
+    let pushed = push_asked(text, &resolver);
     drop(resolver);
     Ok(pushed?)
+}
+
+fn push_asked(text: &mut String, resolver: &Resolver<Upstream>) -> Result<(), AllocError> {
+    push_sent(text, "", resolver.client().handle().exchanges())?;
+    write!(text, "# debug\n{resolver:?}\n")
 }
 
 fn ask_each(resolver: &mut Resolver<Upstream>) {

@@ -1,0 +1,44 @@
+//! What tables of outcomes hold.
+use hickory_proto_core::dns_handle::Outcome;
+use hickory_proto_core::{
+    DnsResponse, Message, Name, NetError, OpCode, Query, RData, Record, RecordType,
+};
+use std::alloc::Global;
+use std::net::Ipv4Addr;
+
+/// A question for the A records of a name.
+pub fn query_of(alloc: Global, name: &str) -> Result<Query, NetError> {
+    Ok(Query::query(Name::from_ascii(alloc, name)?, RecordType::A))
+}
+
+/// Adds that there is no answer in time for a name.
+pub fn add_late(
+    alloc: Global,
+    outcomes: &mut Vec<(Query, Outcome)>,
+    name: &str,
+) -> Result<(), NetError> {
+    let query = query_of(alloc, name)?;
+    outcomes.push((query, Err(NetError::Timeout)))?;
+    Ok(())
+}
+
+/// Adds that a name has this address for twenty seconds.
+pub fn add_address(
+    alloc: Global,
+    outcomes: &mut Vec<(Query, Outcome)>,
+    name: &str,
+    address: Ipv4Addr,
+) -> Result<(), NetError> {
+    let query = query_of(alloc, name)?;
+    let outcome = answer_to(alloc, &query, address);
+    outcomes.push((query, outcome))?;
+    Ok(())
+}
+
+fn answer_to(alloc: Global, query: &Query, address: Ipv4Addr) -> Outcome {
+    let (owner, question) = (query.name.clone()?, query.clone()?);
+    let mut message = Message::response(alloc, 0, OpCode::Query);
+    message.add_query(question)?;
+    message.add_answer(Record::from_rdata(owner, 20, RData::A(address)))?;
+    Ok(DnsResponse::from_message(message))
+}

@@ -1,0 +1,24 @@
+//! Clients and resolvers over tables of outcomes.
+use hickory_proto_core::dns_handle::Outcome;
+use hickory_proto_core::{NetError, Query, Recorded, TableHandle};
+use hickory_resolver::{CachingClient, Resolver, ResolverBuilder, ResolverConfig};
+use std::alloc::Global;
+
+/// An upstream that is a table and records what it is asked.
+pub type Upstream = Recorded<TableHandle>;
+
+/// A client over the upstream that answers so, and everything else with an error. It preserves no intermediate
+/// records.
+pub fn client_over(
+    alloc: Global,
+    outcomes: Vec<(Query, Outcome)>,
+) -> Result<CachingClient<Upstream>, NetError> {
+    let upstream = Recorded::new(alloc, TableHandle::new(outcomes)?);
+    Ok(CachingClient::new(alloc, 8, upstream, false))
+}
+
+/// A builder where nothing is set, over an upstream without outcomes.
+pub fn builder_of(alloc: Global) -> Result<ResolverBuilder<Upstream>, NetError> {
+    let upstream = Recorded::new(alloc, TableHandle::new(Vec::new(alloc))?);
+    Ok(Resolver::builder_with_config(ResolverConfig::default(alloc), upstream))
+}
