@@ -1,9 +1,8 @@
 -- A text that is written by one write after another.
-use Rattle.std.proofs.Common.{◌≡◌, ◌∙◌, ◌<◌, ◌≤◌, ◌-◌, ◌||◌, ◌==◌, ℕ, Bool, true, false, zero, suc, Ok, List, [], ◌∷◌, ◌++◌, length, take, drop, Option, None, Some, refl, sym, ap, subst, append_assoc, arith}
+use Rattle.std.proofs.Common.{◌≡◌, ◌∙◌, ◌-◌, ◌||◌, ◌==◌, ℕ, Bool, true, false, zero, suc, nat_lt, ◌&&◌, List, [], ◌∷◌, ◌++◌, length, take, drop, Option, None, Some, refl, sym, ap, subst, append_assoc, arith}
 use Rattle.std.proofs.lemmas.Bool.Decides.{nat_tests}
 use Rattle.std.proofs.lemmas.List.{append-nil, length-drop, take_all}
 use Rattle.std.specs.Io.KnownBytes.{Appends, Keeps}
-use Rattle.hickory_resolver.specs.Watched.{write_fails}
 
 -- of a text, what was written so far and what is left
 pub record UnderWay (text : List ℕ) (before now : Option (List ℕ)) (rest : List ℕ) : Type 0 where
@@ -71,13 +70,13 @@ failed_by : (old new answered : Bool) → old ≡ false → new ≡ old || answe
 failed_by false new answered h is = is
 failed_by true new answered h is = absurd (let e = h in cc)
 
-pub still_well : (E : Type 0) (old new : Bool) (taken size : ℕ) → old ≡ false → new ≡ old || write_fails {E = E} size (Ok taken) → (taken ≡ 0 → ⊥) → new ≡ false
-still_well E old new taken size well is some =
+pub still_well : (old new : Bool) (taken size : ℕ) → old ≡ false → new ≡ old || (taken == 0) && nat_lt 0 size → (taken ≡ 0 → ⊥) → new ≡ false
+still_well old new taken size well is some =
     let none : (taken == 0) ≡ false = grind (arith, nat_tests) in
     failed_by old new _ well is ∙ rw none
 
-pub fails : (E : Type 0) (old new : Bool) (taken size : ℕ) → old ≡ false → new ≡ old || write_fails {E = E} size (Ok taken) → taken ≡ 0 → false ≡ (size == 0) → new ≡ true
-fails E old new taken size well is none some =
+pub fails : (old new : Bool) (taken size : ℕ) → old ≡ false → new ≡ old || (taken == 0) && nat_lt 0 size → taken ≡ 0 → false ≡ (size == 0) → new ≡ true
+fails old new taken size well is none some =
     failed_by old new _ well is ∙ grind (arith, nat_tests)
 
 pub fails_for_good : (old new : Bool) → new ≡ old || true → new ≡ true

@@ -1,5 +1,5 @@
 -- A run of a script over a table of hosts, and its text.
-use Rattle.std.specs.Prelude.{◌≡◌, ◌⊎◌, ℕ, Bool, true, not, List, [], ◌∷◌, map, Result, Ok, Err, MatchBool}
+use Rattle.std.specs.Prelude.{◌≡◌, ◌⊎◌, ℕ, Bool, true, not, List, [], ◌∷◌, map, Ok, Err, MatchBool}
 use Rattle.std.specs.List.{list_all}
 use Rattle.hickory_proto_core.specs.Handles.{OutcomeValue, Step, ScriptStep}
 use Rattle.hickory_proto_core.specs.Table.{TableValue, TableStep, outcome_in, last_given}

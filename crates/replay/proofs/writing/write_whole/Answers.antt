@@ -6,7 +6,7 @@ pub loop-rest-preserved : goal.loop-rest-preserved
 loop-rest-preserved g c =
     let held = g.W.Write.contents c.loop-rest.writer.inner in (
       went_on c.args.bytes.now _ held _ c.loop-rest.rest.now _ c.in-Ok.count c.loop-rest.invariant.0 c.in-Ok.ensures.bytes (behind c.in-Ok.count c.loop-rest.rest.now),
-      still_well _ c.loop-rest.writer.failed c.write.new.self.failed c.in-Ok.count _ c.loop-rest.invariant.1 c.in-Ok.ensures.failed c.in-Ok.count-test.1,
+      still_well c.loop-rest.writer.failed c.write.new.self.failed c.in-Ok.count _ c.loop-rest.invariant.1 c.in-Ok.ensures.failed c.in-Ok.count-test.1,
     )
 
 pub returns-in-Ok-eq0 : goal.returns-in-Ok-eq0
@@ -14,7 +14,7 @@ returns-in-Ok-eq0 g c =
     let held = g.W.Write.contents c.loop-rest.writer.inner in
     let taken = c.in-Ok-eq0.field-0 in (
       refl,
-      fails _ c.loop-rest.writer.failed c.write.new.self.failed taken _ c.loop-rest.invariant.1 c.in-Ok-eq0.ensures.failed c.in-Ok-eq0.field-0-test c.loop-rest-test.ensures,
+      fails c.loop-rest.writer.failed c.write.new.self.failed taken _ c.loop-rest.invariant.1 c.in-Ok-eq0.ensures.failed c.in-Ok-eq0.field-0-test c.loop-rest-test.ensures,
       took_none c.args.bytes.now _ held _ c.loop-rest.rest.now taken c.loop-rest.invariant.0 c.in-Ok-eq0.ensures.bytes c.in-Ok-eq0.field-0-test,
     )
 
