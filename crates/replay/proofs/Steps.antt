@@ -1,14 +1,16 @@
 -- The text of a run, step by step, and why there is no table of hosts.
 use Rattle.std.proofs.Common.{◌≡◌, ◌∙◌, ℕ, List, [], ◌∷◌, ◌++◌, take, drop, map, Result, Ok, Err, IfOk, String, string_bytes, refl, sym, ap, subst, inl, inr, append_assoc}
 use Rattle.std.proofs.lemmas.List.{append-nil}
+use Rattle.hickory_proto_core.specs.Handles.{Step}
 use Rattle.hickory_proto_core.specs.declared.recorded.Exchange.{Exchange}
 use Rattle.hickory_resolver.specs.Reading.{IsBytesRead}
 use Rattle.hickory_resolver.specs.hosts.hosts_error.HostsError.{HostsError}
 use Rattle.hickory_resolver.specs.hosts.hosts_error.HostsError.TheVariants as hosts_error
+use Rattle.hickory_resolver_model.specs.Cache.{CacheValue}
 use Rattle.hickory_resolver_model.specs.Hosts.{Host}
-use Rattle.hickory_resolver_model.specs.Run.{RequestValue, StepValue}
+use Rattle.hickory_resolver_model.specs.Run.{IsRun, RequestValue, Settings, StepValue}
 use Rattle.replay.specs.Output.{run_text, step_text}
-use Rattle.replay.specs.Run.{IsNoTable, IsReplayed, IsScriptTold, IsTable, first_moment, hosts_fault}
+use Rattle.replay.specs.Run.{IsNoTable, IsReplayed, IsScriptTold, IsTable, IsTold, IsToldBy, first_moment, hosts_fault}
 use Rattle.replay_script.specs.Script.{IsWhole, ScriptValue, script_of}
 use Rattle.replay_script.specs.declared.line.Line.{Line}
 use Rattle.replay.specs.declared.error.ReplayError.{ReplayError}
@@ -53,6 +55,13 @@ pub no_table : (now : ℕ) (hosts : List ℕ) (start : List Host) (fault : Hosts
 no_table now hosts start fault table error empty read error_is =
     let P : List Host → Type 0 = λ before. IsBytesRead now hosts before (Err fault) table in
     subst (IsNoTable now hosts) (sym error_is) (fault_of now hosts fault table (subst P empty read))
+
+-- the text of a run
+pub told_of : {H Z E : Type 0} (step : Step H) (s : Settings) (upstream : H) (requests : List RequestValue) (steps : List StepValue) (exchanges : List Exchange) (after : H) (cache : CacheValue) (result : Result (String Z) E)
+    → IsRun step s upstream requests steps exchanges after cache → IfOk result (λ text. IsToldBy requests steps exchanges (string_bytes text)) → IfOk result (λ text. IsTold step s upstream requests (string_bytes text))
+told_of step s upstream requests steps exchanges after cache (Ok text) run told =
+    record { steps = steps; exchanges = exchanges; upstream_after = after; cache_after = cache; run = run; told = told }
+told_of step s upstream requests steps exchanges after cache (Err error) run told = tt
 
 -- the text of a script that was read whole
 pub replayed : {Z E : Type 0} (script hosts : List ℕ) (said : List Line) (read : ScriptValue) (now : ℕ) (table : List Host) (result : Result (String Z) E)
