@@ -1,4 +1,5 @@
-use Rattle.std.proofs.Common.{◌∙◌, sym, ap, subst, rules}
+use Rattle.std.proofs.Common.{◌∙◌, sym, ap, arith, subst, rules}
+use Rattle.std.proofs.lemmas.Grind.{common_steps}
 use Rattle.std.specs.Str.Lines.{lines}
 use Rattle.replay_script.proofs.UnderWay.{UnderWay, begun}
 use Rattle.replay_script.proofs.script.read_script.Goals as goal
@@ -11,3 +12,6 @@ loop-line-init c =
 
 pub returns-in-Err : goal.returns-in-Err
 returns-in-Err c = search rules
+
+pub loop-line-preserved : goal.loop-line-preserved
+loop-line-preserved c = grind (arith, common_steps)
