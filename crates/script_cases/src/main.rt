@@ -1,13 +1,20 @@
 //! Runs scripts one after another, and prints what happened in each. The output that is wanted stands
 //! beside this crate's sources. A file of hosts serves the script after it. A file `.scripts` holds
-//! short scripts with an empty line between two.
+//! short scripts with an empty line between two. The script in a file `.short` is written to writers with
+//! little room.
 #![tactic(auto)]
 
+mod one_hash;
+mod short_of_room;
+
+use crate::one_hash::OneHash;
+use crate::short_of_room::ShortOfRoom;
 use bstr::ByteSlice;
-use replay::{ReplayError, replay_text};
+use replay::{ReplayError, Watched, replay, replay_text, replay_text_with_hasher};
+use std::alloc::Global;
 use std::process::ExitCode;
 use std::rt::{Env, Files};
-use std::{env, fs, io};
+use std::{env, fs, io, str};
 
 fn main(rt: HostRuntime) -> ExitCode {
     match run_all(&rt) {
@@ -27,6 +34,8 @@ fn run_all<R: AllocGlobal + Env + Files + Print>(rt: &R) -> io::Result<()> {
             hosts = bytes;
         } else if path.as_str().ends_with(".scripts") {
             run_each(rt, &bytes)?;
+        } else if path.as_str().ends_with(".short") {
+            write_each(rt, &bytes)?;
         } else {
             run(rt, &bytes, &hosts)?;
             hosts.clear();
@@ -44,10 +53,69 @@ fn run_each<R: AllocGlobal + Print>(rt: &R, scripts: &[u8]) -> io::Result<()> {
     Ok(())
 }
 
+// What the script comes to, which is the same where all names have one hash.
 fn run<R: AllocGlobal + Print>(rt: &R, script: &[u8], hosts: &[u8]) -> io::Result<()> {
-    match replay_text(rt.alloc(), script, hosts) {
+    let text = replay_text(rt.alloc(), script, hosts);
+    if !is_told_with_one_hash(rt.alloc(), script, hosts, &text) {
+        rt.println("another text where all names have one hash")?;
+    }
+    match text {
         Ok(text) => rt.print(text),
         Err(error) => print_error(rt, error),
+    }
+}
+
+fn is_told_with_one_hash(
+    alloc: Global,
+    script: &[u8],
+    hosts: &[u8],
+    text: &Result<String, ReplayError>,
+) -> bool {
+    let other = replay_text_with_hasher(alloc, script, hosts, OneHash, OneHash);
+    match (&other, text) {
+        (Ok(other), Ok(text)) => other.as_str() == text.as_str(),
+        (Err(other), Err(error)) => other == error,
+        _ => false,
+    }
+}
+
+// The script, written to writers with room for nothing, for forty bytes, and for all.
+fn write_each<R: AllocGlobal + Print>(rt: &R, script: &[u8]) -> io::Result<()> {
+    for (room, is_interrupted) in [(0, false), (40, false), (40, true), (usize::MAX, true)] {
+        rt.println("-")?;
+        write(rt, script, room, is_interrupted)?;
+    }
+    Ok(())
+}
+
+// What such a writer took, and why it is not all.
+fn write<R: AllocGlobal + Print>(
+    rt: &R,
+    script: &[u8],
+    room: usize,
+    is_interrupted: bool,
+) -> io::Result<()> {
+    let mut writer = Watched::new(ShortOfRoom {
+        taken: Vec::new(rt.alloc()),
+        room,
+        is_interrupted,
+    });
+    let written = replay(rt.alloc(), script, None, &mut writer);
+    let has_failed = writer.failed();
+    print_bytes(rt, &writer.into_inner().taken)?;
+    match written {
+        Ok(()) => rt.println(if has_failed { "failed" } else { "whole" }),
+        Err(error) => {
+            rt.println(if has_failed { "|failed" } else { "|whole" })?;
+            print_error(rt, error)
+        }
+    }
+}
+
+fn print_bytes<R: Print>(rt: &R, bytes: &[u8]) -> io::Result<()> {
+    match str::from_utf8(bytes) {
+        Ok(text) => rt.print(text),
+        Err(_) => rt.print("no text"),
     }
 }
 
