@@ -1,5 +1,5 @@
 //! Scripts: what an upstream answers, and what is asked of the resolver.
-ghost use Rattle.std.specs.Prelude.{◌≡◌, ◌⊎◌, ◌≤◌, ◌<◌, ◌++◌, ◌∷◌, List, [], false, map, None, Some, IfOk, IfErr, OnOk, IsOkUnless, Ok, IsErr};
+ghost use Rattle.std.specs.Prelude.{◌≡◌, ◌⊎◌, ◌≤◌, ◌<◌, ◌++◌, ◌∷◌, List, [], map, None, Some, IfOk, IfErr, OnOk, IsOkUnless, Ok, IsErr};
 ghost use Rattle.replay_script.specs.Reader.{IsAnswered, IsFinished, IsTaken, Keeps, failure_outcome, finished, opened};
 ghost use Rattle.hickory_resolver_lookup.specs.Requests.{request_of};
 ghost use Rattle.hickory_resolver_model.specs.Run.{moment_of};
@@ -208,7 +208,10 @@ impl Reader {
 
     fn add_request(&mut self, request: Request) -> Result<(), ScriptFault>
         ensures ok { OnOk result (self.new
-            ≡ record self.old { requests = self.old.requests ++ request_of request ∷ []; latest = moment_of (request_of request) }) }
+            ≡ record self.old {
+              requests = self.old.requests ++ request_of request ∷ [];
+              latest = moment_of (request_of request);
+            }) }
         ensures in_order { OnOk result (self.old.latest ≤ moment_of (request_of request)) }
         ensures err { IfErr result
             (λ fault. (fault ≡ ScriptFault.OutOfMemory)
