@@ -1,6 +1,6 @@
 -- What the handles may answer, and what stands after a request.
 use Rattle.std.specs.Prelude.{◌≡◌, List, [], ◌∷◌, ◌++◌, Result, Err}
-use Rattle.std.proofs.Common.{subst}
+use Rattle.std.proofs.Common.{subst, sym}
 use Rattle.hickory_proto_records.specs.Messages.{MessageValue}
 use Rattle.hickory_proto_core.specs.declared.dns_request.DnsRequest.{DnsRequest}
 use Rattle.hickory_proto_core.specs.declared.dns_request.DnsRequestOptions.{DnsRequestOptions}
@@ -36,6 +36,18 @@ pub Leads-append : {H : Type 0} (step : Step H) (options : DnsRequestOptions) (b
 Leads-append step options before mid after [] ys e l = subst (λ h. Leads step options h ys after) e l
 Leads-append step options before mid after (x ∷ xs) ys (next, sent, rest) l =
     (next, sent, Leads-append step options next mid after xs ys rest l)
+
+-- what each step keeps, a chain of exchanges keeps
+pub Leads-keeps : {H : Type 0} (step : Step H) (options : DnsRequestOptions) (Holds : H → Type 0)
+    → ((before : H) (request : DnsRequest) (outcome : OutcomeValue) (after : H)
+    → step before request outcome after → Holds before → Holds after)
+    → (before after : H) (xs : List Exchange) → Leads step options before xs after → Holds before
+    → Holds after
+Leads-keeps step options Holds keeps before after [] e held = subst Holds (sym e) held
+Leads-keeps step options Holds keeps before after (x ∷ xs) (mid, sent, rest) held =
+    let asked : DnsRequest = record { query = x.query; options = options } in
+    let kept = keeps before asked x.outcome mid sent held in
+    Leads-keeps step options Holds keeps mid after xs rest kept
 
 -- what a handle that keeps its exchanges shows
 pub record RecordedValue (H : Type 0) : Type 0 where

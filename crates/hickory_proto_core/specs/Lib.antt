@@ -18,6 +18,7 @@ pub use Rattle.hickory_proto_records.specs.Messages
 pub use Rattle.hickory_proto_records.specs.NetErrors
 pub use Rattle.hickory_proto_records.specs.Query
 pub use Rattle.hickory_proto_records.specs.Records
+pub use Rattle.hickory_proto_records.specs.Texts
 pub use Rattle.hickory_proto_codes.specs.declared as codes
 pub use Rattle.hickory_proto_names.specs.declared as names
 pub use Rattle.hickory_proto_records.specs.declared as records

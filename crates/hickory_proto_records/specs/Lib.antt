@@ -4,3 +4,4 @@ pub mod Messages
 pub mod NetErrors
 pub mod Query
 pub mod Records
+pub mod Texts

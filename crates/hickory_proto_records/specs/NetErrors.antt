@@ -1,6 +1,10 @@
--- What the error of a name becomes as the error of an answer, and which errors are negative answers.
-use Rattle.std.specs.Prelude.{Result, Ok, Err}
+-- What the error of a name becomes as the error of an answer, and which errors are negative answers
+-- (RFC 2308, section 2).
+use Rattle.std.specs.Prelude.{Bool, false, true, ◌==◌, Option, None, Result, Ok, Err}
+use Rattle.hickory_proto_codes.specs.Codes.{response_code}
+use Rattle.hickory_proto_codes.specs.declared.response_code.ResponseCode.TheVariants.{NXDomain}
 use Rattle.hickory_proto_records.specs.Errors.{NoRecordsValue}
+use Rattle.hickory_proto_records.specs.Records.{RecordValue}
 use Rattle.hickory_proto_names.specs.declared.name_error.NameError.{NameError}
 use Rattle.hickory_proto_names.specs.declared.name_error.NameError.TheVariants as name_error
 use Rattle.hickory_proto_records.specs.declared.net_error.NetError.{NetError}
@@ -26,3 +30,17 @@ no_records_or (Proto error) = Err (Proto error)
 no_records_or NoOutcome = Err NoOutcome
 no_records_or (Bounds error) = Err (Bounds error)
 no_records_or OutOfMemory = Err OutOfMemory
+
+-- whether an error is a negative answer, and whether it says that the name does not exist
+abbrev pub is_no_records_found : NetError → Bool
+is_no_records_found (Dns (NoRecordsFound none)) = true
+is_no_records_found other = false
+
+abbrev pub is_nx_domain : NetError → Bool
+is_nx_domain (Dns (NoRecordsFound none)) = response_code none.response_code == response_code NXDomain
+is_nx_domain other = false
+
+-- the SOA record of a negative answer, where it has one
+abbrev pub soa_of_error : NetError → Option RecordValue
+soa_of_error (Dns (NoRecordsFound none)) = none.soa
+soa_of_error other = None

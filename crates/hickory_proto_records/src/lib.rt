@@ -8,6 +8,7 @@ pub mod net_error;
 pub mod query;
 pub mod record_data;
 pub mod resource;
+mod texts;
 
 pub use bounds_error::BoundsError;
 pub use dns_response::DnsResponse;

@@ -1,7 +1,7 @@
 //! What an upstream or a resolver answers where it has no records.
 ghost use Rattle.std.specs.Prelude.{◌≡◌, None, IfOk, IsOkUnless};
 ghost use Rattle.hickory_proto_records.specs.Errors.{items_or_none};
-ghost use Rattle.hickory_proto_records.specs.NetErrors.{no_records_or};
+ghost use Rattle.hickory_proto_records.specs.NetErrors.{is_no_records_found, is_nx_domain, no_records_or, soa_of_error};
 
 use crate::bounds_error::BoundsError;
 use crate::query::Query;
@@ -172,6 +172,35 @@ impl Clone for DnsError {
 }
 
 impl NetError {
+    /// Whether it is a negative answer (RFC 2308, section 2).
+    pub fn is_no_records_found(&self) -> bool
+        ensures { result ≡ is_no_records_found self.now }
+    {
+        matches!(self, NetError::Dns(DnsError::NoRecordsFound(_)))
+    }
+
+    /// Whether it is the answer that the name does not exist (RFC 2308, section 2.1).
+    pub fn is_nx_domain(&self) -> bool
+        ensures { result ≡ is_nx_domain self.now }
+    {
+        match self {
+            NetError::Dns(DnsError::NoRecordsFound(none)) => {
+                none.response_code == ResponseCode::NXDomain
+            }
+            _ => false,
+        }
+    }
+
+    /// The SOA record of the zone that has no such records, where the error is a negative answer with one.
+    pub fn into_soa(self) -> Option<Record>
+        ensures { result ≡ soa_of_error self }
+    {
+        match self {
+            NetError::Dns(DnsError::NoRecordsFound(none)) => none.soa,
+            _ => None,
+        }
+    }
+
     /// The negative answer that the error is, or else the error itself.
     pub fn into_no_records(self) -> Result<NoRecords, NetError>
         ensures { result ≡ no_records_or self }
@@ -275,6 +304,17 @@ impl From<NameError> for NetError {
             NameError::OutOfMemory => NetError::OutOfMemory,
             _ => NetError::Proto(error),
         }
+    }
+}
+
+impl From<BoundsError> for NetError {
+    ghost use Rattle.std.specs.Prelude.{◌≡◌};
+    ghost use Rattle.hickory_proto_records.specs.declared.net_error.NetError.TheVariants.{Bounds};
+
+    ghost from_gives = { λ bounds_error e. e ≡ Bounds bounds_error };
+
+    fn from(error: BoundsError) -> NetError {
+        NetError::Bounds(error)
     }
 }
 

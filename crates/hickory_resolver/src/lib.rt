@@ -18,7 +18,7 @@ mod serve;
 pub mod transcript;
 
 pub use cache::{MAX_TTL, ResponseCache, TtlBounds, TtlConfig};
-pub use caching_client::CachingClient;
+pub use caching_client::{CachingClient, is_special_use};
 pub use config::{
     ConnectionConfig, LookupIpStrategy, NameServerConfig, OpportunisticEncryption,
     OpportunisticEncryptionConfig, ProtocolConfig, ResolveHosts, ResolverConfig, ResolverOpts,

@@ -1,13 +1,12 @@
 -- The replies to questions about special names, where memory may run out.
-use Rattle.std.specs.Prelude.{◌≡◌, ◌⊎◌, ℕ, Bool, ◌||◌, codes, [], ◌∷◌, Option, Some, None, Ok, Err}
+use Rattle.std.specs.Prelude.{◌≡◌, ◌⊎◌, ℕ, Option, Some, None, Ok, Err}
 use Rattle.std.specs.Option.{option_map_or}
-use Rattle.hickory_proto_core.specs.Name.{NameValue, is_zone_of}
 use Rattle.hickory_proto_core.specs.Codes.{type_code}
 use Rattle.hickory_proto_core.specs.records.query.Query.{Query}
 use Rattle.hickory_proto_core.specs.codes.response_code.ResponseCode.TheVariants.{NoError}
 use Rattle.hickory_proto_core.specs.records.net_error.NetError.TheVariants.{OutOfMemory}
 use Rattle.hickory_resolver_model.specs.Lookup.{LookupResult}
-use Rattle.hickory_resolver_model.specs.SpecialUse.{full_name, loopback_data, one_record, no_records}
+use Rattle.hickory_resolver_model.specs.SpecialUse.{loopback_data, one_record, no_records}
 
 -- this result, or out of memory
 abbrev pub IsUnlessOut : LookupResult → LookupResult → Type 0
@@ -17,11 +16,6 @@ IsUnlessOut wanted result = (result ≡ wanted) ⊎ (result ≡ Err OutOfMemory)
 abbrev pub IsSpecialReply : Option LookupResult → Option LookupResult → Type 0
 IsSpecialReply None got = got ≡ None
 IsSpecialReply (Some reply) got = (got ≡ Some reply) ⊎ (got ≡ Some (Err OutOfMemory))
-
--- the names that do not exist
-abbrev pub is_nonexistent_name : NameValue → Bool
-is_nonexistent_name n =
-    is_zone_of (full_name (codes "invalid" ∷ [])) n || is_zone_of (full_name (codes "onion" ∷ [])) n
 
 -- what a question about a loopback name comes to
 abbrev pub loopback_result : Query → ℕ → LookupResult

@@ -3,7 +3,8 @@
 
 mod alias_walk;
 pub mod caching_client;
-mod special_use;
+pub mod special_use;
 mod verdict;
 
 pub use caching_client::CachingClient;
+pub use special_use::is_special_use;

@@ -6,8 +6,8 @@ ghost use Rattle.std.specs.Cmp.Lexicographic.{pointwise};
 ghost use Rattle.hickory_proto_core.specs.Codes.{type_code};
 ghost use Rattle.hickory_proto_core.specs.Name.{label_bytes, lower_label, lower_labels, is_zone_of, localhost};
 ghost use Rattle.hickory_proto_core.specs.Records.{data_of};
-ghost use Rattle.hickory_resolver_model.specs.SpecialUse.{special_use_result, full_name, is_loopback_name, loopback_data, no_records};
-ghost use Rattle.hickory_resolver_client.specs.Special.{IsSpecialReply, IsUnlessOut, is_nonexistent_name, loopback_result};
+ghost use Rattle.hickory_resolver_model.specs.SpecialUse.{special_use_result, full_name, is_loopback_name, is_nonexistent_name, is_special_use, loopback_data, no_records};
+ghost use Rattle.hickory_resolver_client.specs.Special.{IsSpecialReply, IsUnlessOut, loopback_result};
 
 use hickory_proto_core::{
     DNSClass, Name, NetError, NoRecords, Query, RData, RecordType, ResponseCode,
@@ -28,6 +28,15 @@ static LOOPBACK_V6: [&[u8]; 34] = [
 static INVALID: [&[u8]; 1] = [b"invalid"];
 
 static ONION: [&[u8]; 1] = [b"onion"];
+
+/// Whether a name is special: a question about it, in the class of the Internet, is answered without asking. So
+/// are `localhost.` and the names of the loopback addresses, and the names below `invalid.` and `onion.`, which do
+/// not exist (RFC 6761, sections 6.3 and 6.4; RFC 7686, section 2). Names below `local.` are as any other.
+pub fn is_special_use(name: &Name) -> bool
+    ensures { result ≡ is_special_use name.now }
+{
+    is_loopback_name(name) || is_nonexistent_name(name)
+}
 
 fn is_loopback_name(name: &Name) -> bool
     ensures { result ≡ is_loopback_name name.now }
@@ -72,11 +81,11 @@ fn label_eq(a: &[u8], b: &[u8]) -> bool
     a.eq_ignore_ascii_case(b)
 }
 
-/// The reply to a question about a special name, at a moment (seconds), and none for any other name. In the
-/// class of the Internet, the loopback names have their addresses and names, and nothing else; names under
-/// `invalid.` and `onion.` do not exist. Another name takes no memory; the reply to a special one may find
-/// none.
-pub fn special_use_result(
+// The reply to a question about a special name, at a moment (seconds), and none for any other name. In the
+// class of the Internet, the loopback names have their addresses and names, and nothing else; names under
+// `invalid.` and `onion.` do not exist. Another name takes no memory; the reply to a special one may find
+// none.
+pub(crate) fn special_use_result(
     alloc: Global,
     query: &Query,
     now: u64,

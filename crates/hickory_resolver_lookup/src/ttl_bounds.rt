@@ -1,5 +1,5 @@
 //! Bounds on times to live.
-ghost use Rattle.std.specs.Prelude.{◌≡◌, ◌≤◌, unwrap_or};
+ghost use Rattle.std.specs.Prelude.{◌≡◌, ◌≤◌, Some, unwrap_or};
 ghost use Rattle.hickory_resolver_model.specs.Bounds.{bounds_or_fault, positive_bounds, negative_bounds, is_reversed, reduced_bound, reduced_bounds, clamp, day};
 
 use hickory_proto_core::BoundsError;
@@ -77,6 +77,58 @@ impl TtlBounds {
             positive_max,
             negative_max,
         })
+    }
+
+    /// The same bounds, but for the least time that positive answers are kept for, in seconds. What `new` refuses
+    /// is refused. These calls chain: `TtlBounds::default().with_positive_max(3_600)?.with_negative_max(60)?`.
+    pub fn with_positive_min(self, seconds: u64) -> Result<TtlBounds, BoundsError>
+        ensures { result ≡ bounds_or_fault (record self { positive_min = Some seconds }) }
+    {
+        TtlBounds::new(
+            Some(seconds),
+            self.negative_min,
+            self.positive_max,
+            self.negative_max,
+        )
+    }
+
+    /// The same bounds, but for the least time that negative answers are kept for, in seconds. What `new` refuses
+    /// is refused.
+    pub fn with_negative_min(self, seconds: u64) -> Result<TtlBounds, BoundsError>
+        ensures { result ≡ bounds_or_fault (record self { negative_min = Some seconds }) }
+    {
+        TtlBounds::new(
+            self.positive_min,
+            Some(seconds),
+            self.positive_max,
+            self.negative_max,
+        )
+    }
+
+    /// The same bounds, but for the greatest time that positive answers are kept for, in seconds. What `new` refuses
+    /// is refused.
+    pub fn with_positive_max(self, seconds: u64) -> Result<TtlBounds, BoundsError>
+        ensures { result ≡ bounds_or_fault (record self { positive_max = Some seconds }) }
+    {
+        TtlBounds::new(
+            self.positive_min,
+            self.negative_min,
+            Some(seconds),
+            self.negative_max,
+        )
+    }
+
+    /// The same bounds, but for the greatest time that negative answers are kept for, in seconds. What `new` refuses
+    /// is refused.
+    pub fn with_negative_max(self, seconds: u64) -> Result<TtlBounds, BoundsError>
+        ensures { result ≡ bounds_or_fault (record self { negative_max = Some seconds }) }
+    {
+        TtlBounds::new(
+            self.positive_min,
+            self.negative_min,
+            self.positive_max,
+            Some(seconds),
+        )
     }
 
     // The least and the greatest time that a positive answer is kept for.

@@ -1,6 +1,6 @@
 -- Names that are answered without asking (RFC 6761, sections 6.3 and 6.4; RFC 7686, section 2). Nothing is
 -- read from the cache for them, and nothing is stored.
-use Rattle.std.specs.Prelude.{ℕ, Bool, true, ◌==◌, List, [], ◌∷◌, ◌++◌, replicate, codes, Option, Some, None, Ok, Err, if◌then◌else◌}
+use Rattle.std.specs.Prelude.{ℕ, Bool, true, ◌==◌, ◌||◌, List, [], ◌∷◌, ◌++◌, replicate, codes, Option, Some, None, Ok, Err, if◌then◌else◌}
 use Rattle.std.specs.List.{list_any}
 use Rattle.std.specs.Option.{option_map_or}
 use Rattle.hickory_proto_core.specs.Name.{NameValue, is_zone_of, localhost}
@@ -31,6 +31,15 @@ loopback_zones =
 
 abbrev pub is_loopback_name : NameValue → Bool
 is_loopback_name n = list_any (λ zone. is_zone_of zone n) loopback_zones
+
+-- the names that do not exist
+abbrev pub is_nonexistent_name : NameValue → Bool
+is_nonexistent_name n =
+    is_zone_of (full_name (codes "invalid" ∷ [])) n || is_zone_of (full_name (codes "onion" ∷ [])) n
+
+-- the special names: a question about one, in the class of the Internet, is not asked
+abbrev pub is_special_use : NameValue → Bool
+is_special_use n = is_loopback_name n || is_nonexistent_name n
 
 -- what the loopback names have, by the code of the type: A, AAAA and PTR
 abbrev pub loopback_data : ℕ → Option DataValue

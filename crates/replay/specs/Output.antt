@@ -1,12 +1,11 @@
--- The text that tells what happened: names, questions, records and errors, and the block of a request.
-use Rattle.std.specs.Prelude.{ℕ, false, not, take, drop, map, ◌∷◌, ◌-◌, ◌&&◌, ◌==◌, ◌^◌, List, [], ◌++◌, length, codes, Option, None, Some, Ok, Err, if◌then◌else◌}
-use Rattle.std.specs.Fmt.{decimal, digits, format_spec, padded_integral}
+-- The text that tells what happened: errors, look-ups, and the block of a request.
+use Rattle.std.specs.Prelude.{ℕ, take, drop, map, ◌∷◌, List, [], ◌++◌, codes, Option, None, Some, Ok, Err}
+use Rattle.std.specs.Fmt.{decimal}
 use Rattle.std.specs.List.{flat_map}
 use Rattle.std.specs.Net.Text.{ipv4_text, ipv6_text}
-use Rattle.hickory_proto_core.specs.Name.{NameValue}
-use Rattle.hickory_proto_core.specs.NameText.{name_text}
-use Rattle.hickory_proto_core.specs.Codes.{type_code, type_text, class_code, class_text, response_code, response_text}
-use Rattle.hickory_proto_core.specs.Records.{RecordValue, DataValue, a_data, aaaa_data, cname_data, ns_data, ptr_data, soa_data, srv_data, mx_data, txt_data, unknown_data, data_type}
+use Rattle.hickory_proto_core.specs.Codes.{type_code, type_text, response_code, response_text}
+use Rattle.hickory_proto_core.specs.Records.{RecordValue, DataValue, a_data, aaaa_data}
+use Rattle.hickory_proto_core.specs.Texts.{question_text, record_text}
 use Rattle.hickory_proto_core.specs.Errors.{NoRecordsValue}
 use Rattle.hickory_proto_core.specs.ResponseKind.{first_query}
 use Rattle.hickory_proto_core.specs.records.query.Query.{Query}
@@ -19,61 +18,6 @@ use Rattle.hickory_proto_core.specs.declared.recorded.Exchange.{Exchange}
 use Rattle.hickory_resolver_model.specs.Lookup.{LookupValue}
 use Rattle.hickory_proto_core.specs.codes.record_type.RecordType.{RecordType}
 use Rattle.hickory_resolver_model.specs.Run.{RequestValue, Lookup, LookupIp, ClearLookup, Clear, StepReply, LookedUp, Cleared, StepValue}
-
--- a name, where `@` stands for the relative name without labels
-abbrev pub shown_name : NameValue → List ℕ
-shown_name name = if (length name.labels == 0) && not name.fqdn then codes "@" else name_text name
-
--- NAME CLASS TYPE
-abbrev pub question_text : Query → List ℕ
-question_text q =
-    shown_name q.name ++ codes " " ++ class_text (class_code q.query_class) ++ codes " "
-    ++ type_text (type_code q.query_type)
-
--- two hex digits for each byte, or `-` for no bytes
-abbrev pub hex_text : List ℕ → List ℕ
-hex_text bytes =
-    flat_map (λ byte. padded_integral (format_spec 32 0 4 2 (2 ^ 64 - 1)) false []
-    (digits 16 false byte)) bytes
-
-abbrev pub bytes_text : List ℕ → List ℕ
-bytes_text bytes = if length bytes == 0 then codes "-" else hex_text bytes
-
-abbrev pub strings_text : List (List ℕ) → List ℕ
-strings_text strings = flat_map (λ string. codes " " ++ bytes_text string) strings
-
--- a field of data: a space, and what it tells
-abbrev pub name_field : NameValue → List ℕ
-name_field name = codes " " ++ shown_name name
-
-abbrev pub number_field : ℕ → List ℕ
-number_field n = codes " " ++ decimal n
-
--- the fields of the data
-abbrev pub data_text : DataValue → List ℕ
-data_text (a_data octets) = codes " " ++ ipv4_text octets
-data_text (aaaa_data segments) = codes " " ++ ipv6_text segments
-data_text (cname_data target) = name_field target
-data_text (ns_data target) = name_field target
-data_text (ptr_data target) = name_field target
-data_text (soa_data mname rname serial refresh retry expire minimum) =
-    name_field mname ++ name_field rname ++ number_field serial ++ number_field refresh ++ number_field retry
-    ++ number_field expire ++ number_field minimum
-data_text (srv_data priority weight port target) =
-    number_field priority ++ number_field weight ++ number_field port ++ name_field target
-data_text (mx_data preference exchange) = number_field preference ++ name_field exchange
-data_text (txt_data strings) = strings_text strings
-data_text (unknown_data code bytes) = codes " " ++ bytes_text bytes
-
--- TTL CLASS TYPE
-abbrev pub kind_text : RecordValue → List ℕ
-kind_text r =
-    decimal r.ttl ++ codes " " ++ class_text (class_code r.dns_class) ++ codes " "
-    ++ type_text (type_code (data_type r.rdata))
-
--- NAME TTL CLASS TYPE, and the fields of the data
-abbrev pub record_text : RecordValue → List ℕ
-record_text r = shown_name r.name ++ codes " " ++ kind_text r ++ data_text r.rdata
 
 -- how the faults of names are numbered
 abbrev pub name_error_text : NameError → List ℕ

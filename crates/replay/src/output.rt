@@ -4,10 +4,10 @@ ghost use Rattle.std.specs.List.{flat_map};
 ghost use Rattle.hickory_proto_core.specs.Records.{data_of};
 ghost use Rattle.hickory_resolver.specs.Replies.{reply_of};
 ghost use Rattle.hickory_resolver.specs.Requests.{request_of};
-ghost use Rattle.replay.specs.Output.{address_text, addresses_text, asked_text, error_text, line_text, lookup_text, name_error_text, record_text, reply_text, request_text, run_text, section_text, sent_text, step_text};
+ghost use Rattle.replay.specs.Output.{address_text, addresses_text, asked_text, error_text, line_text, lookup_text, name_error_text, reply_text, request_text, run_text, section_text, sent_text, step_text};
 
 use hickory_proto_core::{
-    DnsError, Exchange, Name, NameError, NetError, NoRecords, Query, RData, Record, RecordType,
+    DnsError, Exchange, NameError, NetError, NoRecords, RData, Record, RecordType,
 };
 use hickory_resolver::{Lookup, Reply, Request, Step};
 use std::alloc::AllocError;
@@ -103,7 +103,7 @@ fn push_sent(text: &mut String, exchanges: &[Exchange]) -> Result<(), AllocError
         ≡ string_bytes text.old ++ sent_text (map (λ x. x.query) exchanges.now)) }
 {
     for exchange in exchanges {
-        let question = ShownQuery(&exchange.query);
+        let question = &exchange.query;
         write!(text, "  sent {question}\n")?;
     }
     Ok(())
@@ -127,7 +127,7 @@ fn push_lookup(text: &mut String, request: &Request, lookup: &Lookup) -> Result<
     ensures { OnOk result (string_bytes text.new
         ≡ string_bytes text.old ++ lookup_text (request_of request.now) lookup.now) }
 {
-    let question = ShownQuery(lookup.query());
+    let question = lookup.query();
     let deadline = lookup.valid_until();
     write!(text, "  ok {question} until {deadline}\n")?;
     push_addresses(text, request, lookup.answers())?;
@@ -177,8 +177,7 @@ fn push_records(text: &mut String, section: &str, records: &[Record]) -> Result<
         ≡ string_bytes text.old ++ section_text section.now records.now) }
 {
     for found in records {
-        let shown = ShownRecord(found);
-        write!(text, "  {section} {shown}\n")?;
+        write!(text, "  {section} {found}\n")?;
     }
     Ok(())
 }
@@ -189,180 +188,6 @@ fn push_error(text: &mut String, error: &NetError) -> Result<(), AllocError>
 {
     let shown = ShownError(error);
     write!(text, "  err {shown}\n")
-}
-
-/// A name as it is printed: the relative name without labels is `@`.
-#[derive(Clone, Copy)]
-pub struct ShownName<'a>(pub &'a Name);
-
-impl fmt::Display for ShownName<'_> {
-    ghost use Rattle.std.specs.Prelude.{Some};
-    ghost use Rattle.replay.specs.Output.{shown_name};
-
-    ghost output = { λ x. Some (shown_name x.0.now) };
-
-    fn fmt<W: fmt::Write>(&self, f: &mut fmt::Formatter<W>) -> fmt::Result {
-        let name = self.0;
-        if name.labels().is_empty() && !name.is_fqdn() {
-            return f.write_str("@");
-        }
-        write!(f, "{name}")
-    }
-}
-
-/// NAME CLASS TYPE
-#[derive(Clone, Copy)]
-pub struct ShownQuery<'a>(pub &'a Query);
-
-impl fmt::Display for ShownQuery<'_> {
-    ghost use Rattle.std.specs.Prelude.{Some};
-    ghost use Rattle.replay.specs.Output.{question_text};
-
-    ghost output = { λ x. Some (question_text x.0.now) };
-
-    fn fmt<W: fmt::Write>(&self, f: &mut fmt::Formatter<W>) -> fmt::Result {
-        let name = ShownName(self.0.name());
-        let class = self.0.query_class();
-        let record_type = self.0.query_type();
-        write!(f, "{name} {class} {record_type}")
-    }
-}
-
-/// NAME TTL CLASS TYPE DATA
-#[derive(Clone, Copy)]
-pub struct ShownRecord<'a>(pub &'a Record);
-
-impl fmt::Display for ShownRecord<'_> {
-    ghost use Rattle.std.specs.Prelude.{Some};
-    ghost use Rattle.replay.specs.Output.{record_text};
-
-    ghost output = { λ x. Some (record_text x.0.now) };
-
-    fn fmt<W: fmt::Write>(&self, f: &mut fmt::Formatter<W>) -> fmt::Result {
-        let found = self.0;
-        let name = ShownName(&found.name);
-        let kind = ShownKind(found);
-        let rdata = ShownData(&found.rdata);
-        write!(f, "{name} {kind}{rdata}")
-    }
-}
-
-/// TTL CLASS TYPE
-#[derive(Clone, Copy)]
-pub struct ShownKind<'a>(pub &'a Record);
-
-impl fmt::Display for ShownKind<'_> {
-    ghost use Rattle.std.specs.Prelude.{Some};
-    ghost use Rattle.replay.specs.Output.{kind_text};
-
-    ghost output = { λ x. Some (kind_text x.0.now) };
-
-    fn fmt<W: fmt::Write>(&self, f: &mut fmt::Formatter<W>) -> fmt::Result {
-        let found = self.0;
-        let (ttl, class, record_type) = (found.ttl, found.dns_class, found.record_type());
-        write!(f, "{ttl} {class} {record_type}")
-    }
-}
-
-/// The fields of the data, a space before each: addresses, names, numbers, and bytes as hex digits.
-#[derive(Clone, Copy)]
-pub struct ShownData<'a>(pub &'a RData);
-
-impl fmt::Display for ShownData<'_> {
-    ghost use Rattle.std.specs.Prelude.{Some};
-    ghost use Rattle.hickory_proto_core.specs.Records.{data_of};
-    ghost use Rattle.replay.specs.Output.{data_text};
-
-    ghost output = { λ x. Some (data_text (data_of x.0.now)) };
-
-    fn fmt<W: fmt::Write>(&self, f: &mut fmt::Formatter<W>) -> fmt::Result {
-        match self.0 {
-            RData::A(address) => write!(f, " {address}"),
-            RData::AAAA(address) => write!(f, " {address}"),
-            RData::CNAME(target) | RData::NS(target) | RData::PTR(target) => {
-                let target = ShownName(target);
-                write!(f, " {target}")
-            }
-            RData::SOA {
-                mname,
-                rname,
-                serial,
-                refresh,
-                retry,
-                expire,
-                minimum,
-            } => {
-                let (mname, rname) = (ShownName(mname), ShownName(rname));
-                write!(f, " {mname} {rname}")?;
-                write!(f, " {serial} {refresh} {retry} {expire} {minimum}")
-            }
-            RData::SRV {
-                priority,
-                weight,
-                port,
-                target,
-            } => {
-                let target = ShownName(target);
-                write!(f, " {priority} {weight} {port} {target}")
-            }
-            RData::MX {
-                preference,
-                exchange,
-            } => {
-                let exchange = ShownName(exchange);
-                write!(f, " {preference} {exchange}")
-            }
-            RData::TXT(strings) => {
-                let shown = ShownStrings(strings);
-                write!(f, "{shown}")
-            }
-            RData::Unknown { code: _, bytes } => {
-                let shown = ShownBytes(bytes);
-                write!(f, " {shown}")
-            }
-        }
-    }
-}
-
-/// Strings, a space before each.
-#[derive(Clone, Copy)]
-pub struct ShownStrings<'a>(pub &'a [Vec<u8>]);
-
-impl fmt::Display for ShownStrings<'_> {
-    ghost use Rattle.std.specs.Prelude.{Some};
-    ghost use Rattle.hickory_proto_core.specs.Name.{label_bytes};
-    ghost use Rattle.replay.specs.Output.{strings_text};
-
-    ghost output = { λ x. Some (strings_text (label_bytes x.0.now)) };
-
-    fn fmt<W: fmt::Write>(&self, f: &mut fmt::Formatter<W>) -> fmt::Result {
-        for string in self.0 {
-            let shown = ShownBytes(string);
-            write!(f, " {shown}")?;
-        }
-        Ok(())
-    }
-}
-
-/// Bytes as hex digits, where `-` stands for no bytes.
-#[derive(Clone, Copy)]
-pub struct ShownBytes<'a>(pub &'a [u8]);
-
-impl fmt::Display for ShownBytes<'_> {
-    ghost use Rattle.std.specs.Prelude.{Some};
-    ghost use Rattle.replay.specs.Output.{bytes_text};
-
-    ghost output = { λ x. Some (bytes_text x.0.now) };
-
-    fn fmt<W: fmt::Write>(&self, f: &mut fmt::Formatter<W>) -> fmt::Result {
-        if self.0.is_empty() {
-            return f.write_str("-");
-        }
-        for byte in self.0 {
-            write!(f, "{byte:02x}")?;
-        }
-        Ok(())
-    }
 }
 
 /// What an error is called.
@@ -409,7 +234,7 @@ impl fmt::Display for ShownNoRecords<'_> {
         let none = self.0;
         let code = none.response_code;
         let ttl = ShownTtl(none.negative_ttl);
-        let question = ShownQuery(&none.query);
+        let question = &none.query;
         write!(f, "norecords {code} {ttl} {question}")
     }
 }

@@ -1,6 +1,6 @@
 use Rattle.std.proofs.Common.{arith}
 use Rattle.std.proofs.lemmas.Grind.{common_steps}
-use Rattle.replay.proofs.output.ShownNameDisplay.fmt.Goals as goal
+use Rattle.hickory_proto_records.proofs.texts.ShownNameDisplay.fmt.Goals as goal
 
 pub returns-then-not-is_fqdn-clause-writes : goal.returns-then-not-is_fqdn-clause-writes
 returns-then-not-is_fqdn-clause-writes g c = grind (arith, common_steps)

@@ -1,7 +1,7 @@
 use Rattle.std.proofs.Common.{take}
 use Rattle.std.specs.Fmt.{HasWritten, IsPlainFormatter}
-use Rattle.replay.specs.Output.{hex_text}
-use Rattle.replay.proofs.output.ShownBytesDisplay.fmt.Given as goal
+use Rattle.hickory_proto_records.specs.Texts.{hex_text}
+use Rattle.hickory_proto_records.proofs.texts.ShownBytesDisplay.fmt.Given as goal
 
 abbrev pub invariant-loop-byte : goal.invariant-loop-byte
 invariant-loop-byte g l =

@@ -1,0 +1,2 @@
+use Rattle.forwarder.proofs.Held as held
+use Rattle.forwarder.proofs.ask.ask.Goals as goal
