@@ -13,11 +13,12 @@ use Rattle.hickory_resolver.specs.Verdict.{Hop, first_hop}
 use Rattle.forwarder.specs.Zone.{IsSameZone, ZoneStep, ZoneValue}
 
 -- what each question keeps, all questions of a look-up keep
-pub zone_stays : (options : DnsRequestOptions) (before after : ZoneValue) (asks : List Exchange) → Leads ZoneStep options before asks after → IsSameZone before after
-zone_stays options before after asks led =
-    Leads-keeps ZoneStep options (IsSameZone before) kept before after asks led (record { records_are = refl; soa_is = refl })
+pub zone_stays : (options : DnsRequestOptions) (now : ℕ) (before after : ClientValue ZoneValue) (q : Query) (result : LookupResult)
+    → IsLookup ZoneStep options now before q result after → IsSameZone before.handle after.handle
+zone_stays options now before after q result looked =
+    Leads-keeps ZoneStep options (IsSameZone before.handle) kept before.handle after.handle looked.asks looked.led (record { records_are = refl; soa_is = refl })
   where
-    kept : (mid : ZoneValue) (request : DnsRequest) (outcome : OutcomeValue) (next : ZoneValue) → IsSameZone mid next → IsSameZone before mid → IsSameZone before next
+    kept : (mid : ZoneValue) (request : DnsRequest) (outcome : OutcomeValue) (next : ZoneValue) → IsSameZone mid next → IsSameZone before.handle mid → IsSameZone before.handle next
     kept mid request outcome next stays so_far = record { records_are = stays.records_are ∙ so_far.records_are; soa_is = stays.soa_is ∙ so_far.soa_is }
 
 -- a question with a current entry does not go upstream

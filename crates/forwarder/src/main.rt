@@ -19,12 +19,11 @@ fn main(rt: HostRuntime) -> anyhow::Result<()> {
     let mut text = String::new(alloc);
     push_resolver(alloc, &mut text)?;
     push_client(alloc, &mut text)?;
-    rt.print(text)?;
-    Ok(())
+    Ok(rt.print(text)?)
 }
 
 // The zone: an address below example.com, and the name server of example.com.
-fn zone(alloc: Global) -> Result<Zone, NetError> {
+fn example_zone(alloc: Global) -> Result<Zone, NetError> {
     let address = RData::A(Ipv4Addr::new(192, 0, 2, 1));
     let server = RData::NS(Name::from_ascii(alloc, "ns.example.com.")?);
     let mut records = Vec::new(alloc);
@@ -57,7 +56,7 @@ fn resolver(alloc: Global) -> Result<Resolver<Zone>, NetError> {
     config.add_search(Name::from_ascii(alloc, "example.com.")?)?;
     let mut options = ResolverOpts::default(alloc);
     options.positive_max_ttl = Some(600);
-    let builder = Resolver::builder_with_config(config, zone(alloc)?);
+    let builder = Resolver::builder_with_config(config, example_zone(alloc)?);
     builder.with_options(options).build()
 }
 
@@ -75,34 +74,35 @@ fn client(alloc: Global) -> Result<CachingClient<Zone>, NetError> {
     let mut config = TtlConfig::from(alloc, bounds);
     config.with_query_type_ttl_bounds(RecordType::NS, bounds.with_positive_max(60)?)?;
     let cache = ResponseCache::new(alloc, 1_000, config);
-    Ok(CachingClient::with_cache(cache, zone(alloc)?, false))
+    Ok(CachingClient::with_cache(cache, example_zone(alloc)?, false))
 }
 
 fn push_client(alloc: Global, text: &mut String) -> Result<(), NetError> {
     let mut client = client(alloc)?;
-    for now in [100, 160, 161] {
-        let query = Query::query(Name::from_ascii(alloc, "example.com.")?, RecordType::NS);
-        push_reply(text, ask(&mut client, query, now))?;
-        push_asked(text, client.handle())?;
-    }
-    Ok(())
+    push_reply(text, servers(alloc, &mut client, 100))?;
+    push_reply(text, servers(alloc, &mut client, 160))?;
+    push_reply(text, servers(alloc, &mut client, 161))?;
+    push_asked(text, client.handle())
+}
+
+fn servers(alloc: Global, client: &mut CachingClient<Zone>, now: u64) -> Result<Lookup, NetError> {
+    let query = Query::query(Name::from_ascii(alloc, "example.com.")?, RecordType::NS);
+    ask(client, query, now)
 }
 
 // What a look-up came to: its answers, a line each, or that there is no such name.
 fn push_reply(text: &mut String, reply: Result<Lookup, NetError>) -> Result<(), NetError> {
-    match reply {
-        Ok(lookup) => {
-            for answer in lookup.answers() {
-                write!(text, "{answer}\n")?;
-            }
-        }
-        Err(error) if error.is_nx_domain() => text.push_str("no such name\n")?,
+    let lookup = match reply {
+        Ok(lookup) => lookup,
+        Err(error) if error.is_nx_domain() => return Ok(text.push_str("no such name\n")?),
         Err(error) => return Err(error),
+    };
+    for answer in lookup.answers() {
+        write!(text, "{answer}\n")?;
     }
     Ok(())
 }
 
 fn push_asked(text: &mut String, zone: &Zone) -> Result<(), NetError> {
-    let asked = zone.asked();
-    Ok(write!(text, "asked so far: {asked}\n")?)
+    Ok(write!(text, "asked so far: {}\n", zone.asked())?)
 }
