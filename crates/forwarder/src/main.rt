@@ -14,6 +14,8 @@ use std::alloc::Global;
 use std::net::Ipv4Addr;
 use zone::Zone;
 
+type Client = CachingClient<Zone>;
+
 fn main(rt: HostRuntime) -> anyhow::Result<()> {
     let alloc = rt.alloc();
     let mut text = String::new(alloc);
@@ -61,15 +63,19 @@ fn resolver(alloc: Global) -> Result<Resolver<Zone>, NetError> {
 }
 
 fn push_resolver(alloc: Global, text: &mut String) -> Result<(), NetError> {
-    let mut resolver = resolver(alloc)?;
+    push_names(text, &mut resolver(alloc)?)
+}
+
+fn push_names(text: &mut String, resolver: &mut Resolver<Zone>) -> Result<(), NetError> {
     push_reply(text, resolver.lookup("www", RecordType::A, 100))?;
     push_reply(text, resolver.lookup("www", RecordType::A, 145))?;
     push_reply(text, resolver.lookup("ftp", RecordType::A, 145))?;
-    push_asked(text, resolver.client().handle())
+    let zone = resolver.client().handle();
+    Ok(write!(text, "asked so far: {}\n", zone.asked)?)
 }
 
 // A client with room for a thousand answers. None is kept for more than an hour, and name servers for a minute.
-fn client(alloc: Global) -> Result<CachingClient<Zone>, NetError> {
+fn client(alloc: Global) -> Result<Client, NetError> {
     let bounds = TtlBounds::default().with_positive_max(3_600)?;
     let mut config = TtlConfig::from(alloc, bounds);
     config.with_query_type_ttl_bounds(RecordType::NS, bounds.with_positive_max(60)?)?;
@@ -78,14 +84,17 @@ fn client(alloc: Global) -> Result<CachingClient<Zone>, NetError> {
 }
 
 fn push_client(alloc: Global, text: &mut String) -> Result<(), NetError> {
-    let mut client = client(alloc)?;
-    push_reply(text, servers(alloc, &mut client, 100))?;
-    push_reply(text, servers(alloc, &mut client, 160))?;
-    push_reply(text, servers(alloc, &mut client, 161))?;
-    push_asked(text, client.handle())
+    push_servers(alloc, text, &mut client(alloc)?)
 }
 
-fn servers(alloc: Global, client: &mut CachingClient<Zone>, now: u64) -> Result<Lookup, NetError> {
+fn push_servers(alloc: Global, text: &mut String, client: &mut Client) -> Result<(), NetError> {
+    push_reply(text, servers(alloc, client, 100))?;
+    push_reply(text, servers(alloc, client, 160))?;
+    push_reply(text, servers(alloc, client, 161))?;
+    Ok(write!(text, "asked so far: {}\n", client.handle().asked)?)
+}
+
+fn servers(alloc: Global, client: &mut Client, now: u64) -> Result<Lookup, NetError> {
     let query = Query::query(Name::from_ascii(alloc, "example.com.")?, RecordType::NS);
     ask(client, query, now)
 }
@@ -101,8 +110,4 @@ fn push_reply(text: &mut String, reply: Result<Lookup, NetError>) -> Result<(), 
         write!(text, "{answer}\n")?;
     }
     Ok(())
-}
-
-fn push_asked(text: &mut String, zone: &Zone) -> Result<(), NetError> {
-    Ok(write!(text, "asked so far: {}\n", zone.asked())?)
 }

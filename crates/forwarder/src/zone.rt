@@ -12,7 +12,7 @@ pub struct Zone {
     alloc: Global,
     records: Vec<Record>,
     soa: Record,
-    asked: u64,
+    pub asked: u64,
 }
 
 impl Model for Zone {
@@ -31,11 +31,6 @@ impl Zone {
             soa,
             asked: 0,
         }
-    }
-
-    /// How many questions it was asked.
-    pub fn asked(&self) -> u64 {
-        self.asked
     }
 
     // The records of the name and type, or else the SOA record, and NXDOMAIN unless the name has other records.
