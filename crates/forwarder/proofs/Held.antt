@@ -7,7 +7,7 @@ use Rattle.hickory_proto_core.specs.declared.dns_request.DnsRequestOptions.{DnsR
 use Rattle.hickory_proto_core.specs.declared.recorded.Exchange.{Exchange}
 use Rattle.hickory_resolver.specs.Cache.{CacheValue, Entry, current}
 use Rattle.hickory_resolver.specs.Client.{ClientValue, IsLookup, start_of}
-use Rattle.hickory_resolver.specs.Hops.{Asked, ChainEnd, FollowsAliases, GoesUpstream, Hit, HopList, IsChainEnd, IsReply, LookupContext, Special, asks_of}
+use Rattle.hickory_resolver.specs.Hops.{Asked, ChainEnd, FollowsAliases, GoesUpstream, Hit, IsChainEnd, IsReply, LookupContext, Special, asks_of}
 use Rattle.hickory_resolver.specs.Lookup.{LookupResult}
 use Rattle.hickory_resolver.specs.Verdict.{Hop, first_hop}
 use Rattle.forwarder.specs.Zone.{IsSameZone, ZoneStep, ZoneValue}
