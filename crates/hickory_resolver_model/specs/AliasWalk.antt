@@ -1,5 +1,5 @@
 -- The walk along the aliases among the answers of a response (RFC 1034, section 3.6.2; RFC 2782).
-use Rattle.std.specs.Prelude.{◌≡◌, ◌≤◌, ◌<◌, ◌+◌, ℕ, Bool, true, false, ◌==◌, List, [], ◌∷◌, length, min, Option, Some, None, slice_get, if◌then◌else◌}
+use Rattle.std.specs.Prelude.{◌≡◌, ◌≤◌, ◌<◌, ◌+◌, ℕ, Bool, true, false, List, [], ◌∷◌, length, min, Option, Some, None, slice_get, if◌then◌else◌}
 use Rattle.std.specs.Option.{option_map_or}
 use Rattle.hickory_proto_core.specs.Name.{NameValue, name_eq}
 use Rattle.hickory_proto_core.specs.ResponseKind.{asks_for}

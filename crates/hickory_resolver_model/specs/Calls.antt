@@ -13,7 +13,7 @@ use Rattle.hickory_proto_core.specs.codes.dns_class.DNSClass.TheVariants as clas
 use Rattle.hickory_proto_core.specs.declared.recorded.Exchange.{Exchange}
 use Rattle.hickory_proto_core.specs.records.net_error.NetError.TheVariants.{Message, OutOfMemory}
 use Rattle.hickory_resolver_model.specs.Bounds.{day}
-use Rattle.hickory_resolver_model.specs.Cache.{CacheValue, saturating_sum}
+use Rattle.hickory_resolver_model.specs.Cache.{CacheValue}
 use Rattle.hickory_resolver_model.specs.Lookup.{LookupValue, LookupResult, answers_for_day}
 use Rattle.hickory_resolver_model.specs.Hops.{LookupContext, IsReply}
 use Rattle.hickory_resolver_model.specs.Hosts.{Host, append, IsStatic}

@@ -5,19 +5,16 @@ use Rattle.std.specs.List.{list_any}
 use Rattle.std.specs.Option.{option_map_or}
 use Rattle.hickory_proto_core.specs.Name.{NameValue, is_zone_of, localhost}
 use Rattle.hickory_proto_core.specs.Codes.{type_code, class_code}
-use Rattle.hickory_proto_core.specs.Records.{RecordValue, DataValue, a_data, aaaa_data, ptr_data}
-use Rattle.hickory_proto_core.specs.Messages.{MessageValue, response_metadata}
+use Rattle.hickory_proto_core.specs.Records.{DataValue, a_data, aaaa_data, ptr_data}
 use Rattle.hickory_proto_core.specs.records.query.Query.{Query}
 use Rattle.hickory_proto_core.specs.codes.dns_class.DNSClass.TheVariants as class
 use Rattle.hickory_proto_core.specs.codes.record_type.RecordType.TheVariants as type
-use Rattle.hickory_proto_core.specs.codes.op_code.OpCode.TheVariants as op
 use Rattle.hickory_proto_core.specs.codes.response_code.ResponseCode.{ResponseCode}
 use Rattle.hickory_proto_core.specs.codes.response_code.ResponseCode.TheVariants.{NoError, NXDomain}
 use Rattle.hickory_proto_core.specs.records.net_error.NetError.{NetError}
 use Rattle.hickory_proto_core.specs.records.net_error.NetError.TheVariants.{Dns}
 use Rattle.hickory_proto_core.specs.records.net_error.DnsError.TheVariants.{NoRecordsFound}
 use Rattle.hickory_resolver_model.specs.Bounds.{day}
-use Rattle.hickory_resolver_model.specs.Cache.{saturating_sum}
 use Rattle.hickory_resolver_model.specs.Lookup.{LookupValue, LookupResult, answers_for_day}
 
 abbrev pub full_name : List (List ℕ) → NameValue

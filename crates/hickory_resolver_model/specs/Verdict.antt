@@ -1,6 +1,6 @@
 -- Where a response leads the one who asked: it is accepted, or it is an alias of another name, or it has
 -- nothing that was asked for (RFC 1034, section 3.6.2; RFC 1035, section 7.3).
-use Rattle.std.specs.Prelude.{ℕ, Bool, true, false, not, ◌&&◌, ◌||◌, ◌==◌, List, [], ◌∷◌, ◌++◌, map, filter, min, if◌then◌else◌}
+use Rattle.std.specs.Prelude.{ℕ, Bool, not, ◌&&◌, ◌||◌, ◌==◌, List, [], ◌++◌, map, filter, min, if◌then◌else◌}
 use Rattle.hickory_proto_core.specs.Name.{name_eq}
 use Rattle.hickory_proto_core.specs.Codes.{type_code, class_code}
 use Rattle.hickory_proto_core.specs.Records.{RecordValue}
