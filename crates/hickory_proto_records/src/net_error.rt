@@ -293,6 +293,7 @@ impl From<AllocError> for NetError {
     }
 }
 
+/// The error of a name as one of asking; where memory ran out over the name, it is `NetError::OutOfMemory`.
 impl From<NameError> for NetError {
     ghost use Rattle.std.specs.Prelude.{◌≡◌};
     ghost use Rattle.hickory_proto_records.specs.NetErrors.{net_error_of};
@@ -307,6 +308,7 @@ impl From<NameError> for NetError {
     }
 }
 
+/// Reversed bounds as an error of asking.
 impl From<BoundsError> for NetError {
     ghost use Rattle.std.specs.Prelude.{◌≡◌};
     ghost use Rattle.hickory_proto_records.specs.declared.net_error.NetError.TheVariants.{Bounds};

@@ -97,7 +97,7 @@ impl<H: DnsHandle, S: BuildHasher> Resolver<H, S> {
     /// those of the domain and the search list (RFC 1535, section 6), each as the one before has no answers.
     /// The first result with answers is the reply; where none has any, it is the result of the last attempt. The
     /// table of hosts is asked for the first name alone, before the cache and the upstream. A text that is no
-    /// name gets its fault as the answer, and nothing is asked.
+    /// name gets its fault as the answer, and nothing is asked. Out of memory ends the call.
     pub fn lookup<N: IntoName>(
         &mut self,
         name: N,
@@ -115,7 +115,8 @@ impl<H: DnsHandle, S: BuildHasher> Resolver<H, S> {
     /// table of hosts is asked for every name and family, before the cache and the upstream. A text that spells
     /// an address is answered by it at once, for a day, where `ndots` is 4 at the most or the text is no name;
     /// else the address is the reply where no name has answers. Any other text that is no name gets its fault as
-    /// the answer, and nothing is asked.
+    /// the answer, and nothing is asked. The other errors are those of `lookup`: what the last attempt came to, or
+    /// out of memory, which ends the call.
     pub fn lookup_ip<N: IntoName>(&mut self, host: N, now: u64) -> Result<LookupIp, NetError>
         ensures { AnswersHost H.step (N.to_ip_gives host) (N.into_name_gives host) now self.old result self.new }
     {
@@ -126,77 +127,78 @@ impl<H: DnsHandle, S: BuildHasher> Resolver<H, S> {
         }
     }
 
-    /// A look-up of PTR records: of an address, the names that it has. A text is read as a name.
+    /// `lookup` of PTR records, at a moment (seconds): of an address, the names that it has. A text is read as a
+    /// name.
     pub fn reverse_lookup<N: IntoName>(&mut self, query: N, now: u64) -> Result<Lookup, NetError>
         ensures { AnswersName H.step (N.into_name_gives query) type.PTR now self.old result self.new }
     {
         self.lookup(query, RecordType::PTR, now)
     }
 
-    /// A look-up of A records.
+    /// `lookup` of A records, at a moment (seconds).
     pub fn ipv4_lookup<N: IntoName>(&mut self, query: N, now: u64) -> Result<Lookup, NetError>
         ensures { AnswersName H.step (N.into_name_gives query) type.A now self.old result self.new }
     {
         self.lookup(query, RecordType::A, now)
     }
 
-    /// A look-up of AAAA records.
+    /// `lookup` of AAAA records, at a moment (seconds).
     pub fn ipv6_lookup<N: IntoName>(&mut self, query: N, now: u64) -> Result<Lookup, NetError>
         ensures { AnswersName H.step (N.into_name_gives query) type.AAAA now self.old result self.new }
     {
         self.lookup(query, RecordType::AAAA, now)
     }
 
-    /// A look-up of MX records.
+    /// `lookup` of MX records, at a moment (seconds).
     pub fn mx_lookup<N: IntoName>(&mut self, query: N, now: u64) -> Result<Lookup, NetError>
         ensures { AnswersName H.step (N.into_name_gives query) type.MX now self.old result self.new }
     {
         self.lookup(query, RecordType::MX, now)
     }
 
-    /// A look-up of NS records.
+    /// `lookup` of NS records, at a moment (seconds).
     pub fn ns_lookup<N: IntoName>(&mut self, query: N, now: u64) -> Result<Lookup, NetError>
         ensures { AnswersName H.step (N.into_name_gives query) type.NS now self.old result self.new }
     {
         self.lookup(query, RecordType::NS, now)
     }
 
-    /// A look-up of SMIMEA records.
+    /// `lookup` of SMIMEA records, at a moment (seconds).
     pub fn smimea_lookup<N: IntoName>(&mut self, query: N, now: u64) -> Result<Lookup, NetError>
         ensures { AnswersName H.step (N.into_name_gives query) type.SMIMEA now self.old result self.new }
     {
         self.lookup(query, RecordType::SMIMEA, now)
     }
 
-    /// A look-up of SOA records.
+    /// `lookup` of SOA records, at a moment (seconds).
     pub fn soa_lookup<N: IntoName>(&mut self, query: N, now: u64) -> Result<Lookup, NetError>
         ensures { AnswersName H.step (N.into_name_gives query) type.SOA now self.old result self.new }
     {
         self.lookup(query, RecordType::SOA, now)
     }
 
-    /// A look-up of SRV records.
+    /// `lookup` of SRV records, at a moment (seconds).
     pub fn srv_lookup<N: IntoName>(&mut self, query: N, now: u64) -> Result<Lookup, NetError>
         ensures { AnswersName H.step (N.into_name_gives query) type.SRV now self.old result self.new }
     {
         self.lookup(query, RecordType::SRV, now)
     }
 
-    /// A look-up of TLSA records.
+    /// `lookup` of TLSA records, at a moment (seconds).
     pub fn tlsa_lookup<N: IntoName>(&mut self, query: N, now: u64) -> Result<Lookup, NetError>
         ensures { AnswersName H.step (N.into_name_gives query) type.TLSA now self.old result self.new }
     {
         self.lookup(query, RecordType::TLSA, now)
     }
 
-    /// A look-up of TXT records.
+    /// `lookup` of TXT records, at a moment (seconds).
     pub fn txt_lookup<N: IntoName>(&mut self, query: N, now: u64) -> Result<Lookup, NetError>
         ensures { AnswersName H.step (N.into_name_gives query) type.TXT now self.old result self.new }
     {
         self.lookup(query, RecordType::TXT, now)
     }
 
-    /// A look-up of CERT records.
+    /// `lookup` of CERT records, at a moment (seconds).
     pub fn cert_lookup<N: IntoName>(&mut self, query: N, now: u64) -> Result<Lookup, NetError>
         ensures { AnswersName H.step (N.into_name_gives query) type.CERT now self.old result self.new }
     {

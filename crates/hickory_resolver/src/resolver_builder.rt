@@ -107,7 +107,8 @@ impl<H: DnsHandle, S: BuildHasher + Drop> ResolverBuilder<H, S> {
 
 impl<H: DnsHandle + Drop, S: BuildHasher + Drop> ResolverBuilder<H, S> {
     /// The resolver, with an empty cache and an empty table of hosts. Options whose bounds on times to live are
-    /// reversed are refused, those of positive answers first, and nothing is made. Takes no memory.
+    /// reversed are refused (`NetError::Bounds`), those of positive answers first, and nothing is made. Takes no
+    /// memory.
     pub fn build(self) -> Result<Resolver<H, S>, NetError>
         ensures { result ≡ built self }
     {

@@ -30,8 +30,9 @@ static INVALID: [&[u8]; 1] = [b"invalid"];
 static ONION: [&[u8]; 1] = [b"onion"];
 
 /// Whether a name is special: a question about it, in the class of the Internet, is answered without asking. So
-/// are `localhost.` and the names of the loopback addresses, and the names below `invalid.` and `onion.`, which do
-/// not exist (RFC 6761, sections 6.3 and 6.4; RFC 7686, section 2). Names below `local.` are as any other.
+/// are `localhost.`, the names of the loopback addresses, `invalid.` and `onion.`, with all names below each.
+/// Those of the last two do not exist (RFC 6761, sections 6.3 and 6.4; RFC 7686, section 2). Names below `local.`
+/// are as any other. The mark of a fully qualified name makes no difference.
 pub fn is_special_use(name: &Name) -> bool
     ensures { result ≡ is_special_use name.now }
 {
