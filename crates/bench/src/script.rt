@@ -1,4 +1,6 @@
 //! A script of many requests, from its bytes to the text of its run.
+ghost use Rattle.std.specs.Prelude.{◌<◌};
+
 use crate::measure::{Stopwatch, Subject};
 use crate::samples::host_text;
 use hickory_proto_core::NetError;
@@ -6,25 +8,37 @@ use replay::replay_text;
 use std::alloc::Global;
 use std::rt::Clock;
 
-// How many names are asked, in turn: as many replies as the script has.
-const NAMES: u64 = 8_000;
-
 const REQUESTS: u64 = 1_000_000;
 
-/// Times the run of a script, and prints a line for one of its requests.
+/// Times the runs of two scripts, and prints a line for a request of each: over as many replies as they have
+/// names, in order, and over a table.
 pub fn print_times<R: Clock + Print>(
     alloc: Global,
     watch: &mut Stopwatch<'_, R>,
 ) -> anyhow::Result<()> {
-    let script = script(alloc)?;
-    let requests = &mut Requests { alloc, script };
-    watch.print_best("a request of 1,000,000 in a script", requests, 1, REQUESTS)
+    let in_order = script(alloc, "", 8_000)?;
+    print_request(alloc, watch, "a request of 1,000,000 in a script", in_order)?;
+    let table = script(alloc, "upstream table\n", 1_000)?;
+    print_request(alloc, watch, "a request of 1,000,000 over a table", table)
 }
 
-// Each name has an address for a day. The first 8,000 requests are asked upstream, and the others are hits.
-fn script(alloc: Global) -> anyhow::Result<String> {
-    let mut script = String::new(alloc);
-    for number in 0..NAMES {
+fn print_request<R: Clock + Print>(
+    alloc: Global,
+    watch: &mut Stopwatch<'_, R>,
+    what: &str,
+    script: String,
+) -> anyhow::Result<()> {
+    let requests = &mut Requests { alloc, script };
+    watch.print_best(what, requests, 1, REQUESTS)
+}
+
+// These lines, a reply for each of so many names, with an address for a day, and requests for the names in turn.
+// The first ones are asked upstream, and the others are hits.
+fn script(alloc: Global, lines: &str, names: u64) -> anyhow::Result<String>
+    requires { 0 < names }
+{
+    let mut script = String::from_str(alloc, lines)?;
+    for number in 0..names {
         let name = host_text(alloc, number)?;
         write!(
             script,
@@ -32,8 +46,8 @@ fn script(alloc: Global) -> anyhow::Result<String> {
         )?;
     }
     for number in 0..REQUESTS {
-        let name = host_text(alloc, number % NAMES)?;
-        write!(script, "at {} lookup {name} A\n", number / NAMES)?;
+        let name = host_text(alloc, number % names)?;
+        write!(script, "at {} lookup {name} A\n", number / names)?;
     }
     Ok(script)
 }

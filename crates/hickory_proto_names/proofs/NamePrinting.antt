@@ -19,6 +19,25 @@ byte_digits first b small other =
     ap₂ (λ x y. 92 ∷ (x ++ y)) (decimal_digit (b / 100) (omega arith)) (ap₂ (λ x y. x ++ y) (decimal_digit (b / 10 % 10) (omega arith)) (decimal_digit (b % 10) (omega arith)))
     ∙ ap (λ p. written_text (if p then itself b else numbered (b / 100) (b / 10 % 10) (b % 10))) other
 
+later_plain : (bs : List ℕ) → list_all (is_plain false) bs ≡ true → piece_text (map (printed false) bs) ≡ bs
+later_plain [] h = refl
+later_plain (b ∷ bs) h =
+    let parts = and_parts (is_plain false b) (list_all (is_plain false) bs) h in
+    ap₂ (λ p xs. written_text (if p then itself b else numbered (b / 100) (b / 10 % 10) (b % 10)) ++ xs) parts.0 (later_plain bs parts.1)
+
+-- a label is printed as its bytes where each of them stands for itself
+pub printed_plain : (l : List ℕ) → 0 < length l → is_plain true (get_or l 0 0) ≡ true
+    → list_all (is_plain false) (take (length l - 1) (drop 1 l)) ≡ true → l ≡ piece_text (printed_label l)
+printed_plain [] some first later = absurd (omega arith)
+printed_plain (b ∷ bs) some first later =
+    sym (ap₂ (λ p xs. written_text (if p then itself b else numbered (b / 100) (b / 10 % 10) (b % 10)) ++ xs) first (later_plain bs plain))
+  where
+    rest : take (length (b ∷ bs) - 1) bs ≡ bs
+    rest = let same : length (b ∷ bs) - 1 ≡ length bs = omega arith in rw same (take-length bs)
+
+    plain : list_all (is_plain false) bs ≡ true
+    plain = ap (list_all (is_plain false)) (sym rest) ∙ later
+
 join-push : (xs : List (List ℕ)) (x : List ℕ) → 0 < length xs → join_with_byte 46 (xs ++ x ∷ []) ≡ join_with_byte 46 xs ++ (46 ∷ x)
 join-push [] x h = absurd (omega arith)
 join-push (y ∷ []) x h = refl

@@ -1,5 +1,6 @@
 //! The text of names (RFC 1035, sections 2.3.1 and 5.1).
 ghost use Rattle.std.specs.Prelude.{◌≡◌, ◌≤◌, ◌++◌, ◌∷◌, ◌⊎◌, [], IfOk, IfErr, IfSome, IfNone, OnOk, IsOkUnless, MatchOption, Some, None, false};
+ghost use Rattle.std.specs.List.{list_all};
 ghost use Rattle.std.specs.String.{string_bytes};
 ghost use Rattle.hickory_proto_names.specs.Name.{label_bytes};
 ghost use Rattle.hickory_proto_names.specs.NameDecided.{text_name};
@@ -9,7 +10,7 @@ ghost use Rattle.hickory_proto_names.specs.NameTextParts.{ArePieces, Begins, IsE
 use crate::name::Name;
 use crate::name_error::NameError;
 use std::alloc::Global;
-use std::fmt;
+use std::{fmt, str};
 
 // A character of a text: a dot between two pieces, or a byte of a label.
 #[derive(Clone, Copy)]
@@ -111,6 +112,45 @@ impl fmt::Display for LabelsText<'_> {
 struct LabelText<'a>(&'a [u8]);
 
 impl fmt::Display for LabelText<'_> {
+    ghost output = { λ l. Some (piece_text (printed_label l.0.now)) };
+
+    fn fmt<W: fmt::Write>(&self, f: &mut fmt::Formatter<W>) -> fmt::Result {
+        match plain_text(self.0) {
+            Some(text) => f.write_str(text),
+            None => write!(f, "{}", EscapedText(self.0)),
+        }
+    }
+}
+
+// The text of a label each of whose bytes stands for itself: its bytes.
+fn plain_text(label: &[u8]) -> Option<&str>
+    ensures { IfSome result (λ text. text.now ≡ piece_text (printed_label label.now)) }
+{
+    match label {
+        [first, rest @ ..] if is_plain(true, *first) && are_plain(rest) => { text_of(label) }
+        _ => None,
+    }
+}
+
+// The bytes as a text.
+fn text_of(bytes: &[u8]) -> Option<&str>
+    ensures { IfSome result (λ text. text.now ≡ bytes.now) }
+{
+    str::from_utf8(bytes).ok()
+}
+
+// Whether these bytes stand for themselves behind the first one of a label.
+fn are_plain(bytes: &[u8]) -> bool
+    ensures { result ≡ list_all (is_plain false) bytes.now }
+{
+    bytes.iter().all(|b| is_plain(false, *b))
+}
+
+// A label that prints as its text, byte for byte.
+#[derive(Clone, Copy)]
+struct EscapedText<'a>(&'a [u8]);
+
+impl fmt::Display for EscapedText<'_> {
     ghost output = { λ l. Some (piece_text (printed_label l.0.now)) };
 
     fn fmt<W: fmt::Write>(&self, f: &mut fmt::Formatter<W>) -> fmt::Result {

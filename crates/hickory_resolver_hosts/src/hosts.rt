@@ -107,6 +107,9 @@ impl<S: BuildHasher> Hosts<S> {
             (find (is_host (as_fqdn query.now.name)) self.now)) }
         ensures err { IsOkUnless result NetError.OutOfMemory }
     {
+        if self.names.is_empty() {
+            return Ok(None);
+        }
         let name = as_fqdn(&query.name)?;
         let Some(host) = self.names.get(&name) else {
             return Ok(None);

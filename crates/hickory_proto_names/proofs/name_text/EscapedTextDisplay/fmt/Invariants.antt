@@ -1,7 +1,7 @@
 use Rattle.std.proofs.Common.{◌∷◌, get_or, take}
 use Rattle.std.specs.Fmt.{HasWritten, IsPlainFormatter}
 use Rattle.hickory_proto_names.specs.NameText.{piece_text, printed_label}
-use Rattle.hickory_proto_names.proofs.name_text.LabelTextDisplay.fmt.Given as goal
+use Rattle.hickory_proto_names.proofs.name_text.EscapedTextDisplay.fmt.Given as goal
 
 abbrev pub invariant-loop-byte : goal.invariant-loop-byte
 invariant-loop-byte g l =
