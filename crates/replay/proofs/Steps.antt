@@ -12,7 +12,7 @@ use Rattle.hickory_resolver_model.specs.Run.{IsRun, RequestValue, Settings, Step
 use Rattle.replay.specs.Output.{run_text, step_text}
 use Rattle.replay.specs.Run.{IsNoTable, IsReplayed, IsScriptTold, IsTable, IsTold, IsToldBy, first_moment, hosts_fault}
 use Rattle.replay_script.specs.Script.{IsWhole, ScriptValue, script_of}
-use Rattle.replay_script.specs.declared.line.Line.{Line}
+use Rattle.replay_lines.specs.declared.line.Line.{Line}
 use Rattle.replay.specs.declared.error.ReplayError.{ReplayError}
 
 -- the block of a step is added, and what is left stands behind it

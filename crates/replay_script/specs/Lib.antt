@@ -1,13 +1,3 @@
-pub mod FailLine
-pub mod Faults
-pub mod Fields
-pub mod Line
-pub mod OptionLine
+pub mod Configuration
 pub mod Reader
-pub mod RecordData
-pub mod RecordLine
-pub mod ReplyLine
-pub mod Request
 pub mod Script
-pub mod Setting
-pub mod Words

@@ -2,13 +2,12 @@
 ghost use Rattle.std.specs.Prelude.{◌≡◌, [], None, MatchResult, OnOk, IsOkUnless, IsSome};
 ghost use Rattle.hickory_resolver_model.specs.Bounds.{bounds_fault};
 ghost use Rattle.hickory_resolver_model.specs.Options.{bounds_of};
-ghost use Rattle.replay_script.specs.Setting.{configured, with_setting};
+ghost use Rattle.replay_script.specs.Configuration.{configured, with_setting};
 
-use crate::fault::ScriptFault;
-use crate::setting::Setting;
 use hickory_proto_core::Name;
 use hickory_resolver_config::ResolverOpts;
 use hickory_resolver_lookup::TtlConfig;
+use replay_lines::{ScriptFault, Setting};
 use std::alloc::Global;
 use std::marker::Model;
 
@@ -22,7 +21,7 @@ pub(crate) struct Configuration {
 }
 
 impl Model for Configuration {
-    ghost use Rattle.replay_script.specs.Setting.{ConfigurationValue};
+    ghost use Rattle.replay_script.specs.Configuration.{ConfigurationValue};
 
     ghost Value = { ConfigurationValue };
 

@@ -2,26 +2,10 @@
 #![tactic(auto)]
 
 pub mod configuration;
-pub mod fail_line;
-pub mod fault;
-pub mod fields;
-pub mod line;
-pub mod numbers;
-pub mod option_line;
-pub mod record_data;
-pub mod record_line;
-pub mod reply_line;
-pub mod request;
 pub mod script;
-pub mod setting;
-pub mod words;
 
-pub use fail_line::{Failure, FailureKind};
-pub use fault::{ScriptError, ScriptFault};
 pub use hickory_resolver_lookup::Request;
-pub use line::Line;
-pub use option_line::OptionLine;
-pub use record_line::Section;
-pub use reply_line::ReplyHead;
+pub use replay_lines::{
+    Failure, FailureKind, Line, OptionLine, ReplyHead, ScriptError, ScriptFault, Section, Setting,
+};
 pub use script::{Script, read_script};
-pub use setting::Setting;

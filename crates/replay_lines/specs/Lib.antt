@@ -1,0 +1,11 @@
+pub mod FailLine
+pub mod Faults
+pub mod Fields
+pub mod Line
+pub mod OptionLine
+pub mod RecordData
+pub mod RecordLine
+pub mod ReplyLine
+pub mod Request
+pub mod Setting
+pub mod Words
