@@ -99,7 +99,7 @@ impl Message {
         ensures unchanged { OnErr result (self.new ≡ self.old) }
         ensures err { IsOkUnless result NetError.OutOfMemory }
     {
-        self.queries.push(query)?;
+        push_last(&mut self.queries, query)?;
         Ok(())
     }
 
@@ -109,7 +109,7 @@ impl Message {
         ensures unchanged { OnErr result (self.new ≡ self.old) }
         ensures err { IsOkUnless result NetError.OutOfMemory }
     {
-        self.answers.push(added)?;
+        push_last(&mut self.answers, added)?;
         Ok(())
     }
 
@@ -119,8 +119,7 @@ impl Message {
         ensures unchanged { OnErr result (self.new ≡ self.old) }
         ensures err { IsOkUnless result NetError.OutOfMemory }
     {
-        let mut added = added;
-        self.answers.append(&mut added)?;
+        append_last(&mut self.answers, added)?;
         Ok(())
     }
 
@@ -132,7 +131,7 @@ impl Message {
         ensures unchanged { OnErr result (self.new ≡ self.old) }
         ensures err { IsOkUnless result NetError.OutOfMemory }
     {
-        self.authorities.push(added)?;
+        push_last(&mut self.authorities, added)?;
         Ok(())
     }
 
@@ -145,8 +144,7 @@ impl Message {
         ensures unchanged { OnErr result (self.new ≡ self.old) }
         ensures err { IsOkUnless result NetError.OutOfMemory }
     {
-        let mut added = added;
-        self.authorities.append(&mut added)?;
+        append_last(&mut self.authorities, added)?;
         Ok(())
     }
 
@@ -158,7 +156,7 @@ impl Message {
         ensures unchanged { OnErr result (self.new ≡ self.old) }
         ensures err { IsOkUnless result NetError.OutOfMemory }
     {
-        self.additionals.push(added)?;
+        push_last(&mut self.additionals, added)?;
         Ok(())
     }
 
@@ -171,8 +169,7 @@ impl Message {
         ensures unchanged { OnErr result (self.new ≡ self.old) }
         ensures err { IsOkUnless result NetError.OutOfMemory }
     {
-        let mut added = added;
-        self.additionals.append(&mut added)?;
+        append_last(&mut self.additionals, added)?;
         Ok(())
     }
 
@@ -223,4 +220,31 @@ impl Eq for Message {
     ghost use Rattle.hickory_proto_records.specs.Messages.{message_equiv};
 
     ghost laws = { message_equiv };
+}
+
+// Puts an item last. The first one gets room for itself alone, since most sections hold no more.
+fn push_last<T: Drop>(items: &mut Vec<T>, item: T) -> Result<(), AllocError>
+    ensures ok { OnOk result (items.new.items ≡ items.old.items ++ item ∷ []) }
+    ensures unchanged { OnErr result (items.new.items ≡ items.old.items) }
+{
+    if items.is_empty() && items.reserve_exact(1).is_err() {
+        drop(item);
+        return Err(AllocError);
+    }
+    items.push(item)?;
+    Ok(())
+}
+
+// Puts more items last, in order. Where there is none before them, they are kept where they are.
+fn append_last<T: Drop>(items: &mut Vec<T>, added: Vec<T>) -> Result<(), AllocError>
+    ensures ok { OnOk result (items.new.items ≡ items.old.items ++ added.items) }
+    ensures unchanged { OnErr result (items.new.items ≡ items.old.items) }
+{
+    if items.is_empty() {
+        *items = added;
+        return Ok(());
+    }
+    let mut added = added;
+    items.append(&mut added)?;
+    Ok(())
 }

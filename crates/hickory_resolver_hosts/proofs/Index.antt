@@ -1,6 +1,6 @@
 -- The index after a change of the places of one address.
 use Rattle.std.proofs.Common.{◌≡◌, ℕ, Bool, true, false, cond, not, ◌||◌, ◌&&◌, ◌==◌, Option, None, Some, Result, Ok, Err, OnErr, refl, sym, ap, ◌∙◌}
-use Rattle.std.specs.Option.{option_map_or}
+use Rattle.std.specs.Option.{option_map_or, unwrap_or}
 use Rattle.std.specs.List.{list_any}
 use Rattle.std.specs.Ordering.{is_eq, nat_cmp}
 use Rattle.std.specs.Cmp.{IsTotalOrder, unsigned_ties}
@@ -32,7 +32,7 @@ get_same m a b h =
 abbrev pub IsPlaced : OwnerPlaces → OwnerPlaces → IpAddr → BTreeSet ℕ → Type 0
 IsPlaced m n k places = (q : IpAddr) → tree.get address_cmp n q ≡ cond (same_address k q) (Some places) (tree.get address_cmp m q)
 
-abbrev has_place : Option (BTreeSet ℕ) → ℕ → Bool
+abbrev pub has_place : Option (BTreeSet ℕ) → ℕ → Bool
 has_place places i = option_map_or (λ s. set.contains nat_cmp s i) places false
 
 pub placed_owner : (m n : OwnerPlaces) (k : IpAddr) (places : BTreeSet ℕ) (f : ℕ → Bool → Bool) → IsPlaced m n k places
@@ -48,7 +48,7 @@ placed_owner m n k places f placed says a i = by (same_address k a) refl
         ap (λ o. has_place o i) (placed a ∙ ap (λ b. cond b (Some places) (tree.get address_cmp m a)) e)
         ∙ ap (λ b. cond b (f i (is_owner m a i)) (is_owner m a i)) (sym e)
 
-abbrev added : ℕ → ℕ → Bool → Bool
+abbrev pub added : ℕ → ℕ → Bool → Bool
 added place i had = had || (place == i)
 
 abbrev removed : ℕ → ℕ → Bool → Bool
@@ -109,15 +109,19 @@ owner_none m k place none a i = by (same_address k a) refl
         and_true true = refl
         and_true false = refl
 
--- the same places under another map
-pub owner_kept : (m n : OwnerPlaces) (k : IpAddr) (old places : BTreeSet ℕ) → IsPlaced m n k places → Some old ≡ tree.get address_cmp m k → places.keys ≡ old.keys
+-- an address gets places that say the same
+pub owner_same : (m n : OwnerPlaces) (k : IpAddr) (places : BTreeSet ℕ) → IsPlaced m n k places → ((i : ℕ) → set.contains nat_cmp places i ≡ has_place (tree.get address_cmp m k) i)
     → (a : IpAddr) (i : ℕ) → is_owner n a i ≡ is_owner m a i
-owner_kept m n k old places placed was same a i =
-    placed_owner m n k places (λ _ had. had) placed (λ j. ap (λ ks. set.contains_by (nat_cmp j) (record old { keys = ks })) same ∙ ap (λ o. has_place o j) was) a i ∙ by (same_address k a)
+owner_same m n k places placed says a i = placed_owner m n k places (λ _ had. had) placed says a i ∙ by (same_address k a)
   where
     by : (b : Bool) → cond b (is_owner m a i) (is_owner m a i) ≡ is_owner m a i
     by true = refl
     by false = refl
+
+-- the places of an address, or none
+pub contains_or_none : (had : Option (BTreeSet ℕ)) (none : BTreeSet ℕ) → set.IsEmpty none → (i : ℕ) → set.contains nat_cmp (unwrap_or had none) i ≡ has_place had i
+contains_or_none None none empty i = ap (λ ks. list_any (λ k. is_eq (nat_cmp i k)) ks) empty
+contains_or_none (Some places) none empty i = refl
 
 -- the first place of an address
 pub contains_first : (old new : BTreeSet ℕ) (place : ℕ) → set.IsEmpty old → set.Updates nat_cmp old new place true → (i : ℕ) → set.contains nat_cmp new i ≡ added place i false

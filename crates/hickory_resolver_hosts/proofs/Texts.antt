@@ -1,5 +1,6 @@
 -- Characters and bytes of the fields of a line.
-use Rattle.std.proofs.Common.{◌≡◌, ◌⊎◌, ℕ, ◌<◌, ◌≤◌, ◌+◌, zero, suc, Bool, true, false, cond, not, ◌&&◌, ◌==◌, List, [], ◌∷◌, ◌++◌, length, map, filter, take, drop, refl, sym, ap, ap₂, subst, ◌∙◌, inl, inr, append_assoc, true≢false, length-append, arith}
+use Rattle.std.proofs.Common.{◌≡◌, ◌⊎◌, ℕ, ◌<◌, ◌≤◌, ◌+◌, zero, suc, Bool, true, false, cond, not, ◌&&◌, ◌==◌, List, [], ◌∷◌, ◌++◌, Option, None, Some, length, map, filter, take, drop, refl, sym, ap, ap₂, subst, ◌∙◌, inl, inr, append_assoc, true≢false, length-append, arith}
+use Rattle.std.specs.Prelude.{MatchOption, MatchResult, Result, Ok, Err}
 use Rattle.std.specs.Bool.{MatchBool}
 use Rattle.std.specs.List.{list_all, before_first, prefix_len}
 use Rattle.std.specs.Char.{is_ascii, to_ascii_lowercase, is_whitespace, is_not_whitespace, encode_utf8}
@@ -14,6 +15,9 @@ use Rattle.hickory_proto_core.specs.names.name_error.NameError.{NameError}
 use Rattle.hickory_proto_core.specs.names.name_error.NameError.TheVariants.{OutOfMemory}
 use Rattle.hickory_proto_core.specs.ResponseKind.{is_empty}
 use Rattle.hickory_resolver_model.specs.Hosts.{cut_at, put_first}
+use Rattle.hickory_resolver_hosts.specs.Reading.{IsNameField}
+use Rattle.hickory_resolver_hosts.specs.declared.hosts_error.HostsError.{HostsError}
+use Rattle.hickory_resolver_hosts.specs.declared.hosts_error.HostsError.TheVariants as hosts_error
 
 -- a list with an element
 abbrev pub is_nonempty : {A : Type 0} → List A → Bool
@@ -197,11 +201,32 @@ pub is_past_ascii : (b : Bool) (bs : List ℕ) → MatchBool b (IsAscii bs) (IsN
 is_past_ascii true bs h e = absurd (true≢false e)
 is_past_ascii false bs h e = h
 
--- a field that is no name
-pub no_name_field : (f bytes : List ℕ) (error : NameError) → bytes ≡ map to_ascii_lowercase f → IsUnambiguous bytes → (error ≡ OutOfMemory) ⊎ HasFault bytes error → (error ≡ OutOfMemory → ⊥)
-    → (n : NameValue) → Spells (map to_ascii_lowercase f) n → ⊥
-no_name_field f bytes error is only (inl out) differs n spelled = differs out
-no_name_field f bytes error is only (inr found) differs n spelled = only.not_both n error (subst (λ b. Spells b n) (sym is) spelled) found
+-- a text that is no name
+pub no_name : (bytes : List ℕ) (error : NameError) → IsUnambiguous bytes → (error ≡ OutOfMemory) ⊎ HasFault bytes error → (error ≡ OutOfMemory → ⊥) → (n : NameValue) → Spells bytes n → ⊥
+no_name bytes error only (inl out) differs n spelled = differs out
+no_name bytes error only (inr found) differs n spelled = only.not_both n error spelled found
+
+-- the name that a field is, by the text that it is in lower case
+pub named_field : (f bytes : List ℕ) (found : Option NameValue) → list_all is_ascii f ≡ true → bytes ≡ map to_ascii_lowercase f
+    → MatchOption found ((n : NameValue) → Spells bytes n → ⊥) (Spells bytes) → IsNameField f found
+named_field f bytes None plain is none = inr (λ n spelled. none n (subst (λ b. Spells b n) (sym is) spelled))
+named_field f bytes (Some n) plain is spelled = (plain, subst (λ b. Spells b n) is spelled)
+
+pub named_by : (f bytes : List ℕ) (r : Result (Option NameValue) HostsError) → list_all is_ascii f ≡ true → bytes ≡ map to_ascii_lowercase f
+    → MatchResult r (λ found. MatchOption found ((n : NameValue) → Spells bytes n → ⊥) (Spells bytes)) (λ error. error ≡ hosts_error.OutOfMemory)
+    → MatchResult r (IsNameField f) (λ error. error ≡ hosts_error.OutOfMemory)
+named_by f bytes (Ok found) plain is h = named_field f bytes found plain is h
+named_by f bytes (Err error) plain is h = h
+
+-- bytes that are in lower case
+pub lower_is : (bs : List ℕ) → list_all (λ b. to_ascii_lowercase b == b) bs ≡ true → bs ≡ map to_ascii_lowercase bs
+lower_is [] h = refl
+lower_is (b ∷ bs) h =
+    let parts = and_parts (to_ascii_lowercase b == b) _ h in
+    ap₂ (λ x xs. x ∷ xs) (sym (from_test (to_ascii_lowercase b) b parts.0)) (lower_is bs parts.1)
+  where
+    from_test : (x y : ℕ) → (x == y) ≡ true → x ≡ y
+    from_test x y e = grind (arith, nat_tests)
 
 take_drop : (i : ℕ) (xs : List ℕ) → xs ≡ take i xs ++ drop i xs
 take_drop zero xs = refl

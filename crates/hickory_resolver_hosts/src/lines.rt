@@ -1,7 +1,10 @@
 //! What the lines of a file of hosts say.
 ghost use Rattle.std.specs.Prelude.{◌≡◌, ◌≢◌, ◌==◌, map, IfOk, OnOk, OnErr, IsOkUnless, MatchOption, MatchResult};
-ghost use Rattle.std.specs.List.{before_first};
+ghost use Rattle.std.specs.Char.{to_ascii_lowercase};
+ghost use Rattle.std.specs.List.{before_first, list_all};
 ghost use Rattle.std.specs.Str.{chars};
+ghost use Rattle.hickory_proto_core.specs.Name.{NameValue};
+ghost use Rattle.hickory_proto_core.specs.NameText.{Spells};
 ghost use Rattle.hickory_proto_core.specs.Records.{DataValue, data_of_address};
 ghost use Rattle.hickory_resolver_model.specs.Hosts.{IsAddressField, insert_host, line_fields, as_fqdn, one_address, address_type, file_lines, without_mark};
 ghost use Rattle.hickory_resolver_hosts.specs.Reading.{AreNamesRead, IsBytesRead, IsLineRead, IsNameField};
@@ -119,9 +122,27 @@ fn host_name(alloc: Global, field: &str) -> Result<Option<Name>, HostsError>
     if !field.is_ascii() {
         return Ok(None);
     }
+    if is_lower(field) {
+        return name_of(alloc, field);
+    }
     let mut text = String::from_str(alloc, field)?;
     text.make_ascii_lowercase();
-    match Name::from_ascii(alloc, &text) {
+    name_of(alloc, &text)
+}
+
+// Whether no byte of the text is another one in lower case.
+fn is_lower(text: &str) -> bool
+    ensures { result ≡ list_all (λ b. to_ascii_lowercase b == b) text.now }
+{
+    text.bytes().all(|b| b.to_ascii_lowercase() == b)
+}
+
+// The name that a text spells, if it spells one.
+fn name_of(alloc: Global, text: &str) -> Result<Option<Name>, HostsError>
+    ensures { MatchResult result (λ found. MatchOption found ((n : NameValue) → Spells text.now n → ⊥) (Spells text.now))
+        (λ error. error ≡ HostsError.OutOfMemory) }
+{
+    match Name::from_ascii(alloc, text) {
         Ok(name) => Ok(Some(name)),
         Err(error) => {
             check_memory(error)?;

@@ -37,13 +37,8 @@ pub fn add_owner(
         is_owner owners.new a i ≡ is_owner owners.old a i || (same_address address a && (place == i))) }
     ensures err { OnErr result ((a : Address) (i : ℕ) → is_owner owners.new a i ≡ is_owner owners.old a i) }
 {
-    if let Some(places) = owners.get_mut(&address) {
-        places.insert(place)?;
-        return Ok(());
-    }
-    let mut places = BTreeSet::new(alloc);
+    let places = owners.entry(address)?.or_insert(BTreeSet::new(alloc));
     places.insert(place)?;
-    owners.insert(address, places)?;
     Ok(())
 }
 

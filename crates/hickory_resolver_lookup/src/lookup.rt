@@ -87,8 +87,7 @@ impl Lookup {
         ensures err { IsOkUnless result NetError.OutOfMemory }
     {
         let record = Record::from_rdata(query.name.clone()?, MAX_TTL, rdata);
-        let mut records = Vec::new(alloc);
-        records.push(record)?;
+        let records = vec![in alloc; record]?;
         Lookup::new_with_max_ttl(query, records, now)
     }
 

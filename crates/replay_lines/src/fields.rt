@@ -72,7 +72,8 @@ fn without_return(line: &[u8]) -> &[u8]
 /// The fields of a line: what stands between spaces and TABs.
 #[derive(Drop)]
 pub struct Fields<'a> {
-    rest: &'a str,
+    /// The text whose fields are still to come.
+    pub rest: &'a str,
 }
 
 impl<'a> Fields<'a> {
