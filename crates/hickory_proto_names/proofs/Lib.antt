@@ -9,3 +9,4 @@ pub mod NameOnce
 pub mod NameParts
 pub mod NamePrinting
 pub mod NameReading
+pub mod NameRuns

@@ -12,9 +12,10 @@ use Rattle.hickory_proto_names.specs.declared.name_error.NameError.{NameError}
 use Rattle.hickory_proto_names.specs.declared.name_error.NameError.TheVariants.{EmptyLabel, LabelTooLong, NameTooLong}
 use Rattle.hickory_proto_names.specs.declared.name_text.Measure.{Measure}
 use Rattle.hickory_proto_names.specs.Name.{wire_len, is_empty_label, is_long_label, label_fault}
-use Rattle.hickory_proto_names.specs.NameText.{Written, IsCutInto, HasFault, piece_bytes, written_byte, pieces_name, marked_name, is_empty}
+use Rattle.hickory_proto_names.specs.NameText.{Written, IsCutInto, HasFault, piece_bytes, written_byte, itself, pieces_name, marked_name, is_empty}
 use Rattle.hickory_proto_names.specs.NameSteps.{ends_empty-last}
-use Rattle.hickory_proto_names.specs.NameTextParts.{IsMeasure, IsNamed, no_labels, with_label, with_last, measure_fault}
+use Rattle.hickory_proto_names.proofs.NameRuns.{cut-run, length-run}
+use Rattle.hickory_proto_names.specs.NameTextParts.{BeginsPlain, IsMeasure, IsNamed, are_plain, no_labels, with_label, with_last, measure_fault}
 
 pub none_measured : IsMeasure no_labels []
 none_measured = record { wire_length = refl; has_empty = refl; has_long = refl }
@@ -91,11 +92,11 @@ named_measured m ls (b ∷ bs) n is e =
     let Q : Bool → Type 0 = λ t. IsMeasure (with_label m n) (if t then marked_name (take (length (ls ++ (b ∷ bs) ∷ []) - 1) (ls ++ (b ∷ bs) ∷ [])) else record { labels = ls ++ (b ∷ bs) ∷ []; fqdn = false }).labels in
     subst P (sym some) (subst Q (sym (ends_empty-last ls (b ∷ bs))) (more_measured m ls (b ∷ bs) n is e))
 
--- the text is at its end
-abbrev pub IsAtEnd : List ℕ → Measure → ℕ → Type 0
-IsAtEnd text m n =
+-- the text is scanned up to a rest
+abbrev pub IsScanned : List ℕ → List ℕ → Measure → ℕ → Type 0
+IsScanned text rest m n =
     (before : List (List Written)) × (last : List Written)
-    × IsCutInto text (before ++ last ∷ []) []
+    × IsCutInto text (before ++ last ∷ []) rest
     × IsMeasure m (map piece_bytes before)
     × (n ≡ min 256 (length last))
 
@@ -106,12 +107,12 @@ last_measured m n before last is len =
     ∙ ap (λ ls. label_fault (pieces_name ls).labels) (sym (map-append piece_bytes before (last ∷ [])))
 
 -- then the text spells a name where its labels have no fault, and has their fault otherwise
-pub named_at_end : {T : Type 0} (text : List ℕ) (m : Measure) (n : ℕ) (result : Result T NameError) → IsAtEnd text m n → OnOk result (measure_fault (with_last m n) ≡ None) → OnOk result (IsNamed text)
+pub named_at_end : {T : Type 0} (text : List ℕ) (m : Measure) (n : ℕ) (result : Result T NameError) → IsScanned text [] m n → OnOk result (measure_fault (with_last m n) ≡ None) → OnOk result (IsNamed text)
 named_at_end text m n (Ok x) (before, last, cut, is, len) found =
     (pieces_name (map piece_bytes (before ++ last ∷ [])), record { pieces = before ++ last ∷ []; whole = cut; named = refl; valid = sym (last_measured m n before last is len) ∙ found })
 named_at_end text m n (Err e) end found = found
 
-pub fault_at_end : {T : Type 0} (text : List ℕ) (m : Measure) (n : ℕ) (result : Result T NameError) → IsAtEnd text m n → IfErr result (λ e. measure_fault (with_last m n) ≡ Some e) → IfErr result (λ e. HasFault text e)
+pub fault_at_end : {T : Type 0} (text : List ℕ) (m : Measure) (n : ℕ) (result : Result T NameError) → IsScanned text [] m n → IfErr result (λ e. measure_fault (with_last m n) ≡ Some e) → IfErr result (λ e. HasFault text e)
 fault_at_end text m n (Ok x) end found = found
 fault_at_end text m n (Err e) (before, last, cut, is, len) found =
     record { pieces = before ++ last ∷ []; rest = []; before = cut; found = sym (last_measured m n before last is len) ∙ found }
@@ -127,9 +128,17 @@ pieces_measured m before last n is len =
     let long : n ≡ min 256 (length (piece_bytes last)) = len ∙ ap (min 256) (sym (length-map last written_byte)) in
     subst (IsMeasure (with_label m n)) (sym (map-append piece_bytes before (last ∷ []))) (more_measured m (map piece_bytes before) (piece_bytes last) n is long)
 
+nat_min : (k : ℕ) → ord_min nat_cmp 256 k ≡ min 256 k
+nat_min k = grind (arith, nat_tests)
+
 -- one more byte
 pub one_longer : (n : ℕ) (last : List Written) (w : Written) → n ≡ min 256 (length last) → ord_min nat_cmp 256 (n + 1) ≡ min 256 (length (last ++ w ∷ []))
 one_longer n last w e = nat_min (n + 1) ∙ omega (arith, length-append last (w ∷ []))
+
+-- a run behind what is scanned
+pub scanned-run : {text rest after : List ℕ} (m : Measure) (n k : ℕ) (run : List ℕ) → IsScanned text rest m n → BeginsPlain (n == 0) rest run after → k ≡ ord_min nat_cmp 256 (n + length run) → IsScanned text after m k
+scanned-run m n k run (before, last, cut, is, len) begins longer =
+    (before, last ++ map itself run, cut-run before last run cut begins.0 (ap (λ e. are_plain e run) (sym (empty_at n last len)) ∙ begins.1), is, longer ∙ nat_min (n + length run) ∙ both)
   where
-    nat_min : (k : ℕ) → ord_min nat_cmp 256 k ≡ min 256 k
-    nat_min k = grind (arith, nat_tests)
+    both : min 256 (n + length run) ≡ min 256 (length (last ++ map itself run))
+    both = omega (arith, len, length-run last run)

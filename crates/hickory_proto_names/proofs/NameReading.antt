@@ -1,5 +1,5 @@
 -- Reading the text of a name, character by character.
-use Rattle.std.proofs.Common.{◌≡◌, ◌==◌, ℕ, suc, ◌-◌, ◌≤◌, List, [], ◌∷◌, ◌++◌, map, length, get_or, take, drop, Option, Some, Result, Ok, Err, sym, refl, ap, ap₂, ◌∙◌, arith}
+use Rattle.std.proofs.Common.{◌≡◌, ◌==◌, ℕ, suc, ◌-◌, ◌≤◌, Bool, List, [], ◌∷◌, ◌++◌, map, length, get_or, take, drop, Option, Some, Result, Ok, Err, sym, refl, ap, ap₂, ◌∙◌, arith}
 use Rattle.std.proofs.Math.Seq.{take-length}
 use Rattle.std.proofs.lemmas.List.{map-append}
 use Rattle.std.specs.Result.{result_ok}
@@ -7,7 +7,9 @@ use Rattle.std.specs.Global.{Vec}
 use Rattle.std.specs.Vec.{vec_len}
 use Rattle.std.proofs.lemmas.Bool.{ne_eqb}
 use Rattle.hickory_proto_names.specs.Name.{label_bytes}
-use Rattle.hickory_proto_names.specs.NameText.{Written, piece_bytes, is_empty, ends_empty}
+use Rattle.hickory_proto_names.specs.NameText.{Written, IsCutInto, itself, piece_bytes, is_empty, ends_empty}
+use Rattle.hickory_proto_names.specs.NameTextParts.{BeginsPlain, are_plain}
+use Rattle.hickory_proto_names.proofs.NameRuns.{cut-run, piece_bytes-run}
 
 -- a text is its first bytes, and the rest
 pub front_one : (t : List ℕ) → 1 ≤ length t → t ≡ get_or t 0 0 ∷ take (length t - 1) (drop 1 t)
@@ -35,6 +37,19 @@ ok_was (Err e) o x same was = cc
 pub same_empty : (v : Vec ℕ) (ws : List Written) → v.items ≡ piece_bytes ws → (vec_len v == 0) ≡ is_empty ws
 same_empty v [] e = ap (λ n. n == 0) (v.ok.0 ∙ ap length e)
 same_empty v (w ∷ ws) e = ap (λ n. n == 0) (v.ok.0 ∙ ap length e) ∙ ne_eqb (length (piece_bytes (w ∷ ws))) 0 (λ h. absurd (omega arith))
+
+-- the text is read up to a rest
+abbrev pub IsTaken : List ℕ → List ℕ → List (List ℕ) → List ℕ → Type 0
+IsTaken text rest pieces piece =
+    (before : List (List Written)) × (last : List Written)
+    × IsCutInto text (before ++ last ∷ []) rest
+    × (pieces ≡ map piece_bytes before)
+    × (piece ≡ piece_bytes last)
+
+-- a run behind what is read
+pub taken-run : {text rest after : List ℕ} (pieces : List (List ℕ)) (v : Vec ℕ) (first : Bool) (run items : List ℕ) → IsTaken text rest pieces v.items → first ≡ (vec_len v == 0) → BeginsPlain first rest run after → items ≡ v.items ++ run → IsTaken text after pieces items
+taken-run pieces v first run items (before, last, cut, is, bytes) empty begins more =
+    (before, last ++ map itself run, cut-run before last run cut begins.0 (ap (λ e. are_plain e run) (sym (empty ∙ same_empty v last bytes)) ∙ begins.1), is, more ∙ ap (λ l. l ++ run) bytes ∙ sym (piece_bytes-run last run))
 
 -- one more label
 pub label_bytes-push : (vs : List (Vec ℕ)) (v : Vec ℕ) (before : List (List Written)) (last : List Written) → label_bytes vs ≡ map piece_bytes before → v.items ≡ piece_bytes last → label_bytes (vs ++ v ∷ []) ≡ map piece_bytes (before ++ last ∷ [])

@@ -1,13 +1,13 @@
 -- What the steps of reading a name's text find.
-use Rattle.std.specs.Prelude.{◌≡◌, ℕ, ◌+◌, ◌==◌, ◌||◌, min, nat_lt, Bool, false, IsTrue, List, [], ◌∷◌, ◌++◌, map, Option, Some, None, if◌then◌else◌}
-use Rattle.std.specs.List.{list_any}
+use Rattle.std.specs.Prelude.{◌≡◌, ℕ, ◌+◌, ◌==◌, ◌||◌, ◌&&◌, min, nat_lt, Bool, true, false, IsTrue, List, [], ◌∷◌, ◌++◌, map, Option, Some, None, if◌then◌else◌}
+use Rattle.std.specs.List.{list_all, list_any}
 use Rattle.hickory_proto_names.specs.declared.name_error.NameError.{NameError}
 use Rattle.hickory_proto_names.specs.declared.name_error.NameError.TheVariants.{EmptyLabel, LabelTooLong, NameTooLong}
 use Rattle.hickory_proto_names.specs.declared.name_text.Measure.{Measure}
 use Rattle.hickory_proto_names.specs.Name.{NameValue, wire_len, is_empty_label, is_long_label}
 use Rattle.hickory_proto_names.specs.declared.name_text.Character.{Character}
 use Rattle.hickory_proto_names.specs.declared.name_text.Character.TheVariants.{Dot, Byte}
-use Rattle.hickory_proto_names.specs.NameText.{Written, written_text, written_byte, may_stand, IsCutInto, Spells, piece_bytes}
+use Rattle.hickory_proto_names.specs.NameText.{Written, written_text, written_byte, is_plain, may_stand, IsCutInto, Spells, piece_bytes}
 
 -- the whole text is pieces of these bytes
 abbrev pub ArePieces : List ℕ → List (List ℕ) → Type 0
@@ -19,6 +19,16 @@ abbrev pub Begins : Bool → List ℕ → Character → List ℕ → Type 0
 Begins first text Dot rest = text ≡ 46 ∷ rest
 Begins first text (Byte b) rest =
     (w : Written) × (text ≡ written_text w ++ rest) × IsTrue (may_stand first w) × (written_byte w ≡ b)
+
+-- whether these bytes stand for themselves in their places, the first one as the first of its label or as a
+-- later one
+abbrev pub are_plain : Bool → List ℕ → Bool
+are_plain first [] = true
+are_plain first (b ∷ bs) = is_plain first b && list_all (is_plain false) bs
+
+-- the text begins with these bytes in their places, and then the rest
+abbrev pub BeginsPlain : Bool → List ℕ → List ℕ → List ℕ → Type 0
+BeginsPlain first text run rest = (text ≡ run ++ rest) × IsTrue (are_plain first run)
 
 -- behind a `\` the text has what stands for this byte at any place, and then the rest
 abbrev pub IsEscape : List ℕ → ℕ → List ℕ → Type 0

@@ -1,11 +1,11 @@
 //! The text of names (RFC 1035, sections 2.3.1 and 5.1).
-ghost use Rattle.std.specs.Prelude.{◌≡◌, ◌≤◌, ◌++◌, ◌∷◌, ◌⊎◌, [], IfOk, IfErr, IfSome, IfNone, OnOk, IsOkUnless, MatchOption, Some, None, false};
+ghost use Rattle.std.specs.Prelude.{◌≡◌, ◌≤◌, ◌++◌, ◌∷◌, ◌⊎◌, [], length, take, IfOk, IfErr, IfSome, IfNone, IsTrue, OnOk, IsOkUnless, MatchOption, Some, None, false};
 ghost use Rattle.std.specs.List.{list_all};
 ghost use Rattle.std.specs.String.{string_bytes};
 ghost use Rattle.hickory_proto_names.specs.Name.{label_bytes};
 ghost use Rattle.hickory_proto_names.specs.NameDecided.{text_name};
 ghost use Rattle.hickory_proto_names.specs.NameText.{HasFault, IsUnambiguous, Spells, ends_empty, front_fault, is_plain, is_number, escape_fault, pieces_name, name_text, labels_text, piece_text, printed_label, printed, written_text};
-ghost use Rattle.hickory_proto_names.specs.NameTextParts.{ArePieces, Begins, IsEscape, IsNamed, no_labels, with_label, with_last, measure_fault};
+ghost use Rattle.hickory_proto_names.specs.NameTextParts.{ArePieces, Begins, BeginsPlain, IsEscape, IsNamed, are_plain, no_labels, with_label, with_last, measure_fault};
 
 use crate::name::Name;
 use crate::name_error::NameError;
@@ -274,7 +274,12 @@ fn check_text(text: &[u8]) -> Result<(), NameError>
     let mut labels = Measure::new();
     let mut length = 0;
     let mut rest = text;
-    while let Some((character, after)) = read_character(length == 0, rest)? {
+    loop {
+        let (run, behind) = split_run(length == 0, rest);
+        length = 256.min(length + run.len());
+        let Some((character, after)) = read_character(length == 0, behind)? else {
+            return labels.with_last(length).check();
+        };
         match character {
             Character::Byte(_) => length = 256.min(length + 1),
             Character::Dot => {
@@ -284,7 +289,6 @@ fn check_text(text: &[u8]) -> Result<(), NameError>
         }
         rest = after;
     }
-    labels.with_last(length).check()
 }
 
 // The bytes of the pieces between the dots, an empty one at the end too.
@@ -295,7 +299,13 @@ fn read_pieces(alloc: Global, text: &[u8]) -> Result<Vec<Vec<u8>>, NameError>
     let mut pieces = Vec::new(alloc);
     let mut piece = Vec::new(alloc);
     let mut rest = text;
-    while let Some((character, after)) = read_character(piece.is_empty(), rest)? {
+    loop {
+        let (run, behind) = split_run(piece.is_empty(), rest);
+        piece.extend_from_slice(run)?;
+        let Some((character, after)) = read_character(piece.is_empty(), behind)? else {
+            pieces.push(piece)?;
+            return Ok(pieces);
+        };
         match character {
             Character::Byte(byte) => piece.push(byte)?,
             Character::Dot => {
@@ -305,8 +315,6 @@ fn read_pieces(alloc: Global, text: &[u8]) -> Result<Vec<Vec<u8>>, NameError>
         }
         rest = after;
     }
-    pieces.push(piece)?;
-    Ok(pieces)
 }
 
 // Whether the last piece is empty.
@@ -335,6 +343,37 @@ fn take_mark(pieces: &mut Vec<Vec<u8>>) -> bool
         pieces.pop();
     }
     marked
+}
+
+// The bytes at the front of a text that stand for themselves in their places, and the text after them.
+// `first` says whether they would be the first ones of their label.
+fn split_run(first: bool, text: &[u8]) -> (&[u8], &[u8])
+    ensures { BeginsPlain first text.now result.0.now result.1.now }
+{
+    text.split_at(run_len(first, text))
+}
+
+// How many bytes at the front of a text stand for themselves in their places.
+fn run_len(first: bool, text: &[u8]) -> usize
+    ensures inside { result ≤ length text.now }
+    ensures plain { IsTrue (are_plain first (take result text.now)) }
+{
+    match text {
+        [byte, rest @ ..] if is_plain(first, *byte) => 1 + plain_len(rest),
+        _ => 0,
+    }
+}
+
+// How many bytes at the front of these stand for themselves behind the first one of a label.
+fn plain_len(bytes: &[u8]) -> usize
+    ensures inside { result ≤ length bytes.now }
+    ensures plain { IsTrue (list_all (is_plain false) (take result bytes.now)) }
+{
+    let mut count = 0;
+    while count < bytes.len() && is_plain(false, bytes[count]) {
+        count += 1;
+    }
+    count
 }
 
 // The character at the front of a text, and the text after it. `first` says whether a byte would be

@@ -1,14 +1,9 @@
-use Rattle.std.proofs.Common.{◌≡◌, List, [], ◌∷◌, ◌++◌, map, length, min}
-use Rattle.hickory_proto_names.specs.NameText.{Written, IsCutInto, piece_bytes}
-use Rattle.hickory_proto_names.specs.NameTextParts.{IsMeasure}
+use Rattle.std.proofs.Common.{length}
+use Rattle.hickory_proto_names.proofs.NameMeasure.{IsScanned}
 use Rattle.hickory_proto_names.proofs.name_text.check_text.Given as goal
 
 abbrev pub invariant-loop-character : goal.invariant-loop-character
-invariant-loop-character l =
-    (before : List (List Written)) × (last : List Written)
-    × IsCutInto l.text (before ++ last ∷ []) l.rest
-    × IsMeasure l.labels (map piece_bytes before)
-    × (l.length ≡ min 256 (length last))
+invariant-loop-character l = IsScanned l.text l.rest l.labels l.length
 
 abbrev pub decreases-loop-character : goal.decreases-loop-character
 decreases-loop-character l = length l.rest
