@@ -67,9 +67,7 @@ fn alone(alloc: Global, name: Name) -> Result<Vec<Name>, NetError>
     ensures ok { IfOk result (λ names. names.items ≡ name ∷ []) }
     ensures err { IsOkUnless result NetError.OutOfMemory }
 {
-    let mut names = Vec::new(alloc);
-    names.push(name)?;
-    Ok(names)
+    Ok(vec![in alloc; name]?)
 }
 
 // The name, fully qualified, and then those that it was joined to.
@@ -79,7 +77,8 @@ fn with_raw_first(alloc: Global, name: Name, joined: &[Name]) -> Result<Vec<Name
 {
     let mut name = name;
     name.set_fqdn(true);
-    let mut names = alone(alloc, name)?;
+    let mut names = Vec::with_capacity(alloc, joined.len() + 1)?;
+    names.push(name)?;
     push_last(&mut names, joined)?;
     Ok(names)
 }
@@ -92,7 +91,7 @@ fn with_raw_last(alloc: Global, name: Name, joined: Vec<Name>) -> Result<Vec<Nam
     let (mut name, mut found) = (name, joined);
     name.set_fqdn(true);
     found.push(name)?;
-    let mut names = Vec::new(alloc);
+    let mut names = Vec::with_capacity(alloc, found.len())?;
     push_last(&mut names, &found)?;
     Ok(names)
 }

@@ -14,6 +14,7 @@ use crate::request::read_request;
 use crate::setting::{Setting, SettingKind, read_setting};
 use hickory_proto_core::Record;
 use hickory_resolver_lookup::Request;
+use smallvec::SmallVec;
 use std::alloc::{AllocError, Global};
 use std::str;
 
@@ -67,7 +68,8 @@ fn is_all_allowed(line: &[u8]) -> bool
     line.iter().all(|b| is_allowed(*b))
 }
 
-fn split(alloc: Global, text: &str) -> Result<Vec<&str>, AllocError>
+// The fields of a line. Those of a usual line take no memory.
+fn split(alloc: Global, text: &str) -> Result<SmallVec<&str, 8>, AllocError>
     ensures { IfOk result (λ v. texts v.items ≡ fields text.now) }
 {
     Fields::new(text).collect(alloc)
