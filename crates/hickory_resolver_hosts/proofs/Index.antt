@@ -1,5 +1,5 @@
 -- The index after one more owner of an address, and after one less.
-use Rattle.std.proofs.Common.{◌≡◌, ℕ, ◌<◌, nat_lt, Bool, true, false, cond, not, ◌||◌, ◌&&◌, ◌==◌, Result, Ok, Err, OnErr, refl, sym, ap, ap₂, ◌∙◌, arith}
+use Rattle.std.proofs.Common.{◌≡◌, ℕ, nat_lt, Bool, true, false, cond, not, ◌||◌, ◌&&◌, ◌==◌, Result, Ok, Err, OnErr, refl, sym, ap, ap₂, ◌∙◌, arith}
 use Rattle.std.specs.List.{list_any}
 use Rattle.std.specs.Ordering.{is_eq, is_gt, is_le, nat_cmp, ordering_then}
 use Rattle.std.specs.Cmp.{IsTotalOrder, unsigned_ties}
@@ -8,7 +8,6 @@ use Rattle.std.specs.declared.cmp.Ordering.TheVariants.{Less, Equal, Greater}
 use Rattle.std.specs.declared.net.IpAddr.{IpAddr}
 use Rattle.std.specs.declared.ops.Bound.TheVariants.{Included, Excluded}
 use Rattle.std.specs.contracts.net.ip_addr.IpAddrOrd.TheImpl.Laws.{total-law}
-use Rattle.std.specs.BTreeMap as tree
 use Rattle.std.specs.BTreeMap.Range.{range_contains}
 use Rattle.std.specs.BTreeSet as set
 use Rattle.std.proofs.lemmas.Cmp.{tied_itself}
