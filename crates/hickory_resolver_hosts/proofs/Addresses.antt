@@ -14,7 +14,7 @@ use Rattle.hickory_proto_core.specs.records.record_data.RData.TheVariants.{A, AA
 use Rattle.hickory_proto_core.specs.codes.record_type.RecordType.{RecordType}
 use Rattle.hickory_resolver_hosts.specs.Index.{same_address, is_among, is_owner, OwnerPlaces}
 use Rattle.hickory_resolver_hosts.specs.Table.{gives, is_given, is_of_family}
-use Rattle.hickory_resolver_hosts.proofs.Index.{get_same}
+use Rattle.hickory_resolver_hosts.proofs.Index.{owner_alike}
 
 pub and_true : (x : Bool) → x && true ≡ x
 and_true true = refl
@@ -72,7 +72,7 @@ same_family t (V6 k) (V4 a) h = cc
 same_family t (V6 k) (V6 a) h = refl
 
 same_owner : (m : OwnerPlaces) (k a : IpAddr) (place : ℕ) → same_address k a ≡ true → is_owner m a place ≡ is_owner m k place
-same_owner m k a place h = simp (get_same m k a h)
+same_owner m k a place h = sym (owner_alike m k a place h)
 
 -- what a record of an address gives that is not there
 pub gives_found : (m : OwnerPlaces) (place : ℕ) (t : RecordType) (r : RecordValue) (k a : IpAddr) → r.rdata ≡ data_of_address k

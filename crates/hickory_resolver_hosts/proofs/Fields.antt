@@ -5,7 +5,8 @@ use Rattle.std.specs.Str.Iter.{split_whitespace_rest, split_whitespace_steps}
 use Rattle.std.specs.Borrow.{Bor}
 use Rattle.std.proofs.lemmas.Iterator.{YieldsList}
 use Rattle.std.proofs.lemmas.Iterator.Splits.{YieldsList-from_shown_while}
-use Rattle.hickory_resolver_hosts.proofs.Texts.{words, split_turn, split_end}
+use Rattle.hickory_resolver_hosts.specs.Text.{words}
+use Rattle.hickory_resolver_hosts.proofs.Texts.{split_turn, split_end}
 
 pub splits : (s : _) → IsUtf8 (split_whitespace_rest s) → YieldsList split_whitespace_steps (λ (x : Bor (List ℕ)). chars x.now) s (words (chars (split_whitespace_rest s)))
 splits s u =

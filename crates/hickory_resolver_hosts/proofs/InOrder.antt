@@ -1,30 +1,30 @@
 -- The names of an address by their places, in the order of the table.
-use Rattle.std.proofs.Common.{◌≡◌, ℕ, ◌<◌, ◌≤◌, ◌+◌, ◌-◌, suc, Bool, true, false, cond, ◌||◌, ◌==◌, List, [], ◌∷◌, ◌++◌, length, map, filter, slice_get, Option, None, Some, Result, Ok, Err, IfOk, refl, sym, ap, ap₂, subst, ◌∙◌, append_assoc, true≢false, arith}
+use Rattle.std.proofs.Common.{◌≡◌, ℕ, ◌<◌, ◌≤◌, ◌+◌, ◌-◌, zero, suc, nat_lt, Bool, true, false, cond, ◌||◌, ◌&&◌, ◌==◌, List, [], ◌∷◌, ◌++◌, length, map, filter, slice_get, Option, None, Some, Result, Ok, Err, IfOk, refl, sym, ap, ap₂, subst, ◌∙◌, append_assoc, true≢false, arith}
 use Rattle.std.specs.Bool.{⊤}
 use Rattle.std.specs.List.{list_any, filter_map, cons_option, AllByRecursion}
 use Rattle.std.specs.List.Sorted.{IsStrictlySortedBy}
 use Rattle.std.specs.Option.{option_map, option_map_or}
-use Rattle.std.specs.Ordering.{nat_cmp}
-use Rattle.std.specs.Cmp.{unsigned_ties}
-use Rattle.std.specs.declared.cmp.Ordering.TheVariants.{Less}
+use Rattle.std.specs.Ordering.{is_eq, nat_cmp, ordering_then}
+use Rattle.std.specs.Cmp.{IsTotalOrder, nat_cmp_total, on_total, then_total}
+use Rattle.std.specs.declared.cmp.Ordering.TheVariants.{Less, Equal}
 use Rattle.std.specs.declared.net.IpAddr.{IpAddr}
-use Rattle.std.specs.BTreeMap as tree
-use Rattle.std.specs.BTreeSet.{BTreeSet}
 use Rattle.std.specs.BTreeSet as set
-use Rattle.std.proofs.lemmas.Cmp.{ranked}
-use Rattle.std.proofs.lemmas.Bool.{eqb-true, eq-eqb}
+use Rattle.std.proofs.lemmas.Cmp.{ranked, tied_itself}
+use Rattle.std.proofs.lemmas.Bool.{eqb-true, eq-eqb, lt-ltb}
 use Rattle.std.proofs.lemmas.Bool.Decides.{nat_tests}
 use Rattle.std.proofs.lemmas.Option.{slice_get-map}
 use Rattle.hickory_proto_core.specs.Name.{NameValue}
-use Rattle.hickory_proto_core.specs.Records.{RecordValue, data_of_address}
+use Rattle.hickory_proto_core.specs.Records.{RecordValue, DataValue, data_of_address}
 use Rattle.hickory_proto_core.specs.Arpa.{IsArpaNameOf}
 use Rattle.hickory_proto_core.specs.names.ip.IpNet.{IpNet}
 use Rattle.hickory_proto_core.specs.records.query.Query.{Query}
 use Rattle.hickory_resolver_model.specs.Lookup.{LookupValue, answers_for_day}
 use Rattle.hickory_resolver_model.specs.Hosts.{Host, has_address, as_fqdn, pointer_lookup, pointers}
-use Rattle.hickory_resolver_hosts.specs.Index.{OwnerPlaces, address_cmp}
+use Rattle.hickory_resolver_hosts.specs.Index.{Owner, OwnerPlaces, address_cmp, owner_cmp, same_address}
 use Rattle.hickory_resolver_hosts.specs.Table.{host_at, hosts_of, has_address_at, no_lookups, pointer_at, pointer_to, HasPointers, IsIndexed}
 use Rattle.hickory_resolver_hosts.specs.declared.host.HostLookups.{HostLookups}
+use Rattle.hickory_resolver_hosts.proofs.Index.{address_total, equal_from, is_below, is_below_by, tied}
+use Rattle.hickory_resolver_hosts.proofs.Addresses.{and_true}
 
 -- a turn of the loop over places
 pub turn_some : {X Y : Type 0} (g : X → Option Y) (rs new all : List Y) (s t : List X) (x : X) (r : Y) → s ≡ x ∷ t → g x ≡ Some r → new ≡ rs ++ r ∷ []
@@ -128,32 +128,106 @@ in_order {R} p f (h ∷ hosts) n g ks from gives says = by (λ js a b. in_order 
         let none : has js n ≡ false = says 0 n (omega arith) ∙ e in
         ih js (from_next n js from none) (λ i m r. says (suc i) m (omega arith)) ∙ ap (λ b. map f (cond b (h ∷ filter p hosts) (filter p hosts))) (sym e)
 
-abbrev places_have : Option (BTreeSet ℕ) → ℕ → Bool
-places_have places i = option_map_or (λ s. set.contains nat_cmp s i) places false
+-- the places among the pairs of an address that are below a number
+abbrev places_of : IpAddr → ℕ → List Owner → List ℕ
+places_of a n owners = map (λ q. q.1) (filter (is_below a n) owners)
 
--- the places that the index has for an address are those of its names
-places_say : (hosts : List Host) (m : OwnerPlaces) (a : IpAddr) (places : Option (BTreeSet ℕ)) → IsIndexed hosts m → places ≡ tree.get address_cmp m a → (i k : ℕ) → k ≡ 0 + i
-    → places_have places k ≡ option_map_or (has_address (data_of_address a)) (slice_get hosts i) false
-places_say hosts m a places indexed is i k e =
-    let same : k ≡ i = omega arith in
-    ap (λ o. places_have o k) is ∙ indexed a k ∙ ap (has_address_at hosts (data_of_address a)) same
+owner_total : IsTotalOrder owner_cmp
+owner_total = then_total (on_total (λ q. q.0) address_total) (on_total (λ q. q.1) nat_cmp_total)
+
+-- a pair among others
+owner_there : (q : Owner) (owners : List Owner) → list_any (λ r. is_eq (owner_cmp q r)) (q ∷ owners) ≡ true
+owner_there q owners = ap (λ o. is_eq o || list_any (λ r. is_eq (owner_cmp q r)) owners) (tied_itself owner_total q)
+
+owner_behind : (q p : Owner) (owners : List Owner) → list_any (λ r. is_eq (owner_cmp q r)) owners ≡ true → list_any (λ r. is_eq (owner_cmp q r)) (p ∷ owners) ≡ true
+owner_behind q p owners h = by (is_eq (owner_cmp q p))
+  where
+    by : (b : Bool) → b || list_any (λ r. is_eq (owner_cmp q r)) owners ≡ true
+    by true = refl
+    by false = h
+
+-- where all places are below a number, the places of an address are those of its pairs
+places_have : (a : IpAddr) (n : ℕ) (owners : List Owner) → ((q : Owner) → list_any (λ r. is_eq (owner_cmp q r)) owners ≡ true → q.1 < n) → (i : ℕ)
+    → has (places_of a n owners) i ≡ list_any (λ r. is_eq (owner_cmp (a, i) r)) owners
+places_have a n [] below i = refl
+places_have a n (q ∷ owners) below i = by (places_have a n owners (λ p h. below p (owner_behind p q owners h)) i) (is_below a n q) refl
+  where
+    low : nat_lt q.1 n ≡ true
+    low = lt-ltb q.1 n (below q (owner_there q owners))
+
+    is_same : is_below a n q ≡ same_address a q.0
+    is_same = is_below_by a n q ∙ ap (λ b. same_address a q.0 && b) low ∙ and_true (same_address a q.0)
+
+    at : (b : Bool) → is_below a n q ≡ b → is_eq (owner_cmp (a, i) q) ≡ b && (i == q.1)
+    at b e = tied a q.0 i q.1 ∙ ap (λ s. s && (i == q.1)) (sym is_same ∙ e)
+
+    by : has (places_of a n owners) i ≡ list_any (λ r. is_eq (owner_cmp (a, i) r)) owners → (b : Bool) → is_below a n q ≡ b
+        → has (map (λ r. r.1) (cond b (q ∷ filter (is_below a n) owners) (filter (is_below a n) owners))) i
+        ≡ is_eq (owner_cmp (a, i) q) || list_any (λ r. is_eq (owner_cmp (a, i) r)) owners
+    by rest true e = ap₂ (λ x y. x || y) (sym (at true e)) rest
+    by rest false e = rest ∙ ap (λ x. x || list_any (λ r. is_eq (owner_cmp (a, i) r)) owners) (sym (at false e))
+
+-- the places of an address ascend
+same_from : (a : IpAddr) (n : ℕ) (q : Owner) → is_below a n q ≡ true → address_cmp a q.0 ≡ Equal
+same_from a n q h = equal_from (address_cmp a q.0) (by (same_address a q.0) (nat_lt q.1 n) (sym (is_below_by a n q) ∙ h))
+  where
+    by : (x y : Bool) → x && y ≡ true → x ≡ true
+    by true y e = refl
+    by false y e = e
+
+later_place : (a : IpAddr) (p q : Owner) → address_cmp a p.0 ≡ Equal → address_cmp a q.0 ≡ Equal → owner_cmp p q ≡ Less → nat_cmp p.1 q.1 ≡ Less
+later_place a p q p_is q_is h =
+    ap (λ o. ordering_then o (nat_cmp p.1 q.1)) (sym q_is ∙ address_total.congr a p.0 q.0 p_is) ∙ h
+
+above_places : (a : IpAddr) (n : ℕ) (p : Owner) (owners : List Owner) → address_cmp a p.0 ≡ Equal → AllByRecursion (λ q. owner_cmp p q ≡ Less) owners
+    → AllByRecursion (λ i. nat_cmp p.1 i ≡ Less) (places_of a n owners)
+above_places a n p [] p_is above = tt
+above_places a n p (q ∷ owners) p_is above = by (above_places a n p owners p_is above.1) (is_below a n q) refl
+  where
+    by : AllByRecursion (λ i. nat_cmp p.1 i ≡ Less) (places_of a n owners) → (b : Bool) → is_below a n q ≡ b
+        → AllByRecursion (λ i. nat_cmp p.1 i ≡ Less) (map (λ r. r.1) (cond b (q ∷ filter (is_below a n) owners) (filter (is_below a n) owners)))
+    by rest true e = (later_place a p q p_is (same_from a n q e) above.0, rest)
+    by rest false e = rest
+
+places_sorted : (a : IpAddr) (n : ℕ) (owners : List Owner) → IsStrictlySortedBy owner_cmp owners → IsStrictlySortedBy nat_cmp (places_of a n owners)
+unfolding IsStrictlySortedBy
+places_sorted a n [] sorted = tt
+places_sorted a n (q ∷ owners) sorted = by (places_sorted a n owners sorted.1) (is_below a n q) refl
+  where
+    by : IsStrictlySortedBy nat_cmp (places_of a n owners) → (b : Bool) → is_below a n q ≡ b
+        → IsStrictlySortedBy nat_cmp (map (λ r. r.1) (cond b (q ∷ filter (is_below a n) owners) (filter (is_below a n) owners)))
+    by rest true e = (above_places a n q owners (same_from a n q e) sorted.0, rest)
+    by rest false e = rest
+
+-- a place that has an address is that of a host
+place_below : (hosts : List Host) (d : DataValue) (i : ℕ) → has_address_at hosts d i ≡ true → i < length hosts
+place_below [] d i h = absurd (true≢false (sym h))
+place_below (x ∷ hosts) d zero h = omega arith
+place_below (x ∷ hosts) d (suc i) h = let rest = place_below hosts d i h in omega arith
 
 gives_at : (owner : NameValue) (hosts : List Host) (i k : ℕ) → k ≡ 0 + i → pointer_at owner hosts k ≡ option_map (pointer_to owner) (slice_get hosts i)
 gives_at owner hosts i k e = let same : k ≡ i = omega arith in ap (pointer_at owner hosts) same
 
-pub pointers_of_places : (owner : NameValue) (hosts : List Host) (m : OwnerPlaces) (a : IpAddr) (places : BTreeSet ℕ) → IsIndexed hosts m → Some places ≡ tree.get address_cmp m a
-    → set.IsOrdered nat_cmp places → filter_map (pointer_at owner hosts) places.keys ≡ pointers owner (filter (has_address (data_of_address a)) hosts)
-pointers_of_places owner hosts m a places indexed is ordered =
-    in_order (has_address (data_of_address a)) (pointer_to owner) hosts 0 (pointer_at owner hosts) places.keys (from_sorted 0 places.keys ordered (from_zero places.keys)) (gives_at owner hosts)
-    (λ i k e. ties k ∙ places_say hosts m a (Some places) indexed is i k e)
-  where
-    ties : (k : ℕ) → has places.keys k ≡ set.contains nat_cmp places k
-    ties k j = list_any (λ x. unsigned_ties k x j) places.keys
+filter_map_places : {R : Type 0} (g : ℕ → Option R) (owners : List Owner) → filter_map (λ q. g q.1) owners ≡ filter_map g (map (λ q. q.1) owners)
+filter_map_places g [] = refl
+filter_map_places g (q ∷ owners) = ap (cons_option (g q.1)) (filter_map_places g owners)
 
-pub pointers_of_none : (owner : NameValue) (hosts : List Host) (m : OwnerPlaces) (a : IpAddr) → IsIndexed hosts m → None ≡ tree.get address_cmp m a
-    → [] ≡ pointers owner (filter (has_address (data_of_address a)) hosts)
-pointers_of_none owner hosts m a indexed is =
-    in_order (has_address (data_of_address a)) (pointer_to owner) hosts 0 (pointer_at owner hosts) [] tt (gives_at owner hosts) (places_say hosts m a None indexed is)
+-- the pairs that the index has for an address give the names that have it, in the order of the table
+pub pointers_between : (owner : NameValue) (hosts : List Host) (m : OwnerPlaces) (a : IpAddr) (n : ℕ) (found : List Owner) → IsIndexed hosts m → n ≡ length hosts
+    → found ≡ filter (is_below a n) m.keys → set.IsOrdered owner_cmp m
+    → filter_map (λ q. pointer_at owner hosts q.1) found ≡ pointers owner (filter (has_address (data_of_address a)) hosts)
+pointers_between owner hosts m a n found indexed n_is found_is ordered =
+    ap (filter_map (λ q. pointer_at owner hosts q.1)) found_is ∙ filter_map_places (pointer_at owner hosts) (filter (is_below a n) m.keys)
+    ∙ in_order (has_address (data_of_address a)) (pointer_to owner) hosts 0 (pointer_at owner hosts) (places_of a n m.keys)
+    (from_sorted 0 (places_of a n m.keys) (places_sorted a n m.keys ordered) (from_zero (places_of a n m.keys))) (gives_at owner hosts) says
+  where
+    below : (q : Owner) → list_any (λ r. is_eq (owner_cmp q r)) m.keys ≡ true → q.1 < n
+    below q h = let short = place_below hosts (data_of_address q.0) q.1 (sym (indexed q.0 q.1) ∙ h) in omega arith
+
+    says : (i k : ℕ) → k ≡ 0 + i → has (places_of a n m.keys) k ≡ option_map_or (has_address (data_of_address a)) (slice_get hosts i) false
+    says i k e =
+        let same : k ≡ i = omega arith in
+        places_have a n m.keys below k ∙ indexed a k ∙ ap (has_address_at hosts (data_of_address a)) same
 
 pub if_ok : {T E : Type 0} {P Q : T → Type 0} (r : Result T E) → ((x : T) → P x → Q x) → IfOk r P → IfOk r Q
 if_ok (Ok x) f p = f x p

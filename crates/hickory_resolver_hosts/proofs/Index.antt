@@ -1,68 +1,41 @@
--- The index after a change of the places of one address.
-use Rattle.std.proofs.Common.{◌≡◌, ℕ, Bool, true, false, cond, not, ◌||◌, ◌&&◌, ◌==◌, Option, None, Some, Result, Ok, Err, OnErr, refl, sym, ap, ◌∙◌}
-use Rattle.std.specs.Option.{option_map_or, unwrap_or}
+-- The index after one more owner of an address, and after one less.
+use Rattle.std.proofs.Common.{◌≡◌, ℕ, nat_lt, Bool, true, false, cond, not, ◌||◌, ◌&&◌, ◌==◌, Result, Ok, Err, OnErr, refl, sym, ap, ap₂, ◌∙◌, arith}
 use Rattle.std.specs.List.{list_any}
-use Rattle.std.specs.Ordering.{is_eq, nat_cmp}
+use Rattle.std.specs.Ordering.{is_eq, is_gt, is_le, nat_cmp, ordering_then}
 use Rattle.std.specs.Cmp.{IsTotalOrder, unsigned_ties}
-use Rattle.std.specs.Map.{lookup}
 use Rattle.std.specs.declared.cmp.Ordering.{Ordering}
 use Rattle.std.specs.declared.cmp.Ordering.TheVariants.{Less, Equal, Greater}
 use Rattle.std.specs.declared.net.IpAddr.{IpAddr}
+use Rattle.std.specs.declared.ops.Bound.TheVariants.{Included, Excluded}
 use Rattle.std.specs.contracts.net.ip_addr.IpAddrOrd.TheImpl.Laws.{total-law}
-use Rattle.std.specs.BTreeMap as tree
-use Rattle.std.specs.BTreeSet.{BTreeSet}
+use Rattle.std.specs.BTreeMap.Range.{range_contains}
 use Rattle.std.specs.BTreeSet as set
-use Rattle.hickory_resolver_hosts.specs.Index.{address_cmp, same_address, is_owner, OwnerPlaces}
+use Rattle.std.proofs.lemmas.Cmp.{tied_itself}
+use Rattle.std.proofs.lemmas.Bool.Decides.{nat_tests}
+use Rattle.hickory_resolver_hosts.specs.Index.{address_cmp, same_address, is_owner, owner_cmp, Owner, OwnerPlaces}
 
 pub address_total : IsTotalOrder address_cmp
 address_total = total-law
 
-equal_from : (o : Ordering) → is_eq o ≡ true → o ≡ Equal
+pub equal_from : (o : Ordering) → is_eq o ≡ true → o ≡ Equal
 equal_from Less h = cc
 equal_from Equal h = refl
 equal_from Greater h = cc
 
--- equal addresses find the same places
-pub get_same : (m : OwnerPlaces) (a b : IpAddr) → same_address a b ≡ true → tree.get address_cmp m a ≡ tree.get address_cmp m b
-get_same m a b h =
-    let e = equal_from (address_cmp a b) h in
-    λ j. lookup (λ q. is_eq (address_total.congr a b q e j)) m.entries
+-- equal addresses have the same owners
+pub owner_alike : (m : OwnerPlaces) (k a : IpAddr) (place : ℕ) → same_address k a ≡ true → is_owner m k place ≡ is_owner m a place
+owner_alike m k a place h =
+    let e = equal_from (address_cmp k a) h in
+    λ j. list_any (λ q. is_eq (ordering_then (address_total.congr k a q.0 e j) (nat_cmp place q.1))) m.keys
 
--- one address gets new places
-abbrev pub IsPlaced : OwnerPlaces → OwnerPlaces → IpAddr → BTreeSet ℕ → Type 0
-IsPlaced m n k places = (q : IpAddr) → tree.get address_cmp n q ≡ cond (same_address k q) (Some places) (tree.get address_cmp m q)
-
-abbrev pub has_place : Option (BTreeSet ℕ) → ℕ → Bool
-has_place places i = option_map_or (λ s. set.contains nat_cmp s i) places false
-
-pub placed_owner : (m n : OwnerPlaces) (k : IpAddr) (places : BTreeSet ℕ) (f : ℕ → Bool → Bool) → IsPlaced m n k places
-    → ((i : ℕ) → set.contains nat_cmp places i ≡ f i (has_place (tree.get address_cmp m k) i))
-    → (a : IpAddr) (i : ℕ) → is_owner n a i ≡ cond (same_address k a) (f i (is_owner m a i)) (is_owner m a i)
-placed_owner m n k places f placed says a i = by (same_address k a) refl
+-- pairs are equal where both of their parts are
+pub tied : (k a : IpAddr) (place i : ℕ) → is_eq (owner_cmp (k, place) (a, i)) ≡ same_address k a && (place == i)
+tied k a place i = by (address_cmp k a)
   where
-    by : (b : Bool) → same_address k a ≡ b → is_owner n a i ≡ cond (same_address k a) (f i (is_owner m a i)) (is_owner m a i)
-    by true e =
-        let here = ap (λ o. has_place o i) (placed a ∙ ap (λ b. cond b (Some places) (tree.get address_cmp m a)) e) in
-        here ∙ says i ∙ ap (λ o. f i (has_place o i)) (get_same m k a e) ∙ ap (λ b. cond b (f i (is_owner m a i)) (is_owner m a i)) (sym e)
-    by false e =
-        ap (λ o. has_place o i) (placed a ∙ ap (λ b. cond b (Some places) (tree.get address_cmp m a)) e)
-        ∙ ap (λ b. cond b (f i (is_owner m a i)) (is_owner m a i)) (sym e)
-
-abbrev pub added : ℕ → ℕ → Bool → Bool
-added place i had = had || (place == i)
-
-abbrev removed : ℕ → ℕ → Bool → Bool
-removed place i had = had && not (place == i)
-
-cond_or : (s x p : Bool) → cond s (x || p) x ≡ x || (s && p)
-cond_or true x p = refl
-cond_or false true p = refl
-cond_or false false p = refl
-
-cond_and : (s x p : Bool) → cond s (x && not p) x ≡ x && not (s && p)
-cond_and true x p = refl
-cond_and false true p = refl
-cond_and false false p = refl
+    by : (o : Ordering) → is_eq (ordering_then o (nat_cmp place i)) ≡ is_eq o && (place == i)
+    by Less = refl
+    by Equal = sym (unsigned_ties place i)
+    by Greater = refl
 
 cond_true : (p x : Bool) → cond p true x ≡ x || p
 cond_true true true = refl
@@ -76,57 +49,42 @@ cond_false true false = refl
 cond_false false true = refl
 cond_false false false = refl
 
--- a set that also has a place, and one that has it no more
-pub contains_added : (old new : BTreeSet ℕ) (place : ℕ) → set.Updates nat_cmp old new place true → (i : ℕ) → set.contains nat_cmp new i ≡ added place i (set.contains nat_cmp old i)
-contains_added old new place h i = h.0 i ∙ ap (λ b. cond b true (set.contains nat_cmp old i)) (sym (unsigned_ties place i)) ∙ cond_true (place == i) (set.contains nat_cmp old i)
+pub owner_added : (m n : OwnerPlaces) (k : IpAddr) (place : ℕ) → set.Updates owner_cmp m n (k, place) true → (a : IpAddr) (i : ℕ)
+    → is_owner n a i ≡ is_owner m a i || (same_address k a && (place == i))
+owner_added m n k place h a i =
+    h.0 (a, i) ∙ ap (λ b. cond b true (is_owner m a i)) (tied k a place i) ∙ cond_true (same_address k a && (place == i)) (is_owner m a i)
 
-pub contains_removed : (old new : BTreeSet ℕ) (place : ℕ) → set.Updates nat_cmp old new place false → (i : ℕ) → set.contains nat_cmp new i ≡ removed place i (set.contains nat_cmp old i)
-contains_removed old new place h i = h.0 i ∙ ap (λ b. cond b false (set.contains nat_cmp old i)) (sym (unsigned_ties place i)) ∙ cond_false (place == i) (set.contains nat_cmp old i)
+pub owner_removed : (m n : OwnerPlaces) (k : IpAddr) (place : ℕ) → set.Updates owner_cmp m n (k, place) false → (a : IpAddr) (i : ℕ)
+    → is_owner n a i ≡ is_owner m a i && not (same_address k a && (place == i))
+owner_removed m n k place h a i =
+    h.0 (a, i) ∙ ap (λ b. cond b false (is_owner m a i)) (tied k a place i) ∙ cond_false (same_address k a && (place == i)) (is_owner m a i)
 
-pub owner_added : (m n : OwnerPlaces) (k : IpAddr) (old : Option (BTreeSet ℕ)) (places : BTreeSet ℕ) (place : ℕ) → IsPlaced m n k places → old ≡ tree.get address_cmp m k
-    → ((i : ℕ) → set.contains nat_cmp places i ≡ added place i (has_place old i))
-    → (a : IpAddr) (i : ℕ) → is_owner n a i ≡ is_owner m a i || (same_address k a && (place == i))
-owner_added m n k old places place placed was says a i =
-    placed_owner m n k places (added place) placed (λ j. says j ∙ ap (λ o. added place j (has_place o j)) was) a i ∙ cond_or (same_address k a) (is_owner m a i) (place == i)
+pub owner_same : (m n : OwnerPlaces) → set.IsUnchanged m n → (a : IpAddr) (i : ℕ) → is_owner n a i ≡ is_owner m a i
+owner_same m n h a i = ap (list_any (λ q. is_eq (owner_cmp (a, i) q))) h
 
-pub owner_removed : (m n : OwnerPlaces) (k : IpAddr) (old : Option (BTreeSet ℕ)) (places : BTreeSet ℕ) (place : ℕ) → IsPlaced m n k places → old ≡ tree.get address_cmp m k
-    → ((i : ℕ) → set.contains nat_cmp places i ≡ removed place i (has_place old i))
-    → (a : IpAddr) (i : ℕ) → is_owner n a i ≡ is_owner m a i && not (same_address k a && (place == i))
-owner_removed m n k old places place placed was says a i =
-    placed_owner m n k places (removed place) placed (λ j. says j ∙ ap (λ o. removed place j (has_place o j)) was) a i ∙ cond_and (same_address k a) (is_owner m a i) (place == i)
+-- the pairs of an address whose places are below a number
+abbrev pub is_below : IpAddr → ℕ → Owner → Bool
+is_below a n = range_contains owner_cmp (Included (a, 0)) (Excluded (a, n))
 
--- where an address has no places, it is no owner of any
-pub owner_none : (m : OwnerPlaces) (k : IpAddr) (place : ℕ) → None ≡ tree.get address_cmp m k → (a : IpAddr) (i : ℕ) → is_owner m a i ≡ is_owner m a i && not (same_address k a && (place == i))
-owner_none m k place none a i = by (same_address k a) refl
+least : (i : ℕ) → is_le (nat_cmp 0 i) ≡ true
+least i = grind (arith, nat_tests)
+
+not_past : (n i : ℕ) → not (is_le (nat_cmp n i)) ≡ nat_lt i n
+not_past n i = grind (arith, nat_tests)
+
+pub is_below_by : (a : IpAddr) (n : ℕ) (q : Owner) → is_below a n q ≡ same_address a q.0 && nat_lt q.1 n
+is_below_by a n q = by (address_cmp a q.0)
   where
-    by : (b : Bool) → same_address k a ≡ b → is_owner m a i ≡ is_owner m a i && not (same_address k a && (place == i))
-    by true e =
-        let no : is_owner m a i ≡ false = ap (λ o. has_place o i) (sym (get_same m k a e) ∙ sym none) in
-        no ∙ ap (λ x. x && not (same_address k a && (place == i))) (sym no)
-    by false e = and_true (is_owner m a i) ∙ ap (λ s. is_owner m a i && not (s && (place == i))) (sym e)
-      where
-        and_true : (x : Bool) → x ≡ x && true
-        and_true true = refl
-        and_true false = refl
+    by : (o : Ordering) → is_le (ordering_then o (nat_cmp 0 q.1)) && not (is_le (ordering_then o (nat_cmp n q.1))) ≡ is_eq o && nat_lt q.1 n
+    by Less = refl
+    by Equal = ap₂ (λ x y. x && y) (least q.1) (not_past n q.1)
+    by Greater = refl
 
--- an address gets places that say the same
-pub owner_same : (m n : OwnerPlaces) (k : IpAddr) (places : BTreeSet ℕ) → IsPlaced m n k places → ((i : ℕ) → set.contains nat_cmp places i ≡ has_place (tree.get address_cmp m k) i)
-    → (a : IpAddr) (i : ℕ) → is_owner n a i ≡ is_owner m a i
-owner_same m n k places placed says a i = placed_owner m n k places (λ _ had. had) placed says a i ∙ by (same_address k a)
-  where
-    by : (b : Bool) → cond b (is_owner m a i) (is_owner m a i) ≡ is_owner m a i
-    by true = refl
-    by false = refl
+not_above : (n : ℕ) → is_gt (nat_cmp 0 n) ≡ false
+not_above n = grind (arith, nat_tests)
 
--- the places of an address, or none
-pub contains_or_none : (had : Option (BTreeSet ℕ)) (none : BTreeSet ℕ) → set.IsEmpty none → (i : ℕ) → set.contains nat_cmp (unwrap_or had none) i ≡ has_place had i
-contains_or_none None none empty i = ap (λ ks. list_any (λ k. is_eq (nat_cmp i k)) ks) empty
-contains_or_none (Some places) none empty i = refl
-
--- the first place of an address
-pub contains_first : (old new : BTreeSet ℕ) (place : ℕ) → set.IsEmpty old → set.Updates nat_cmp old new place true → (i : ℕ) → set.contains nat_cmp new i ≡ added place i false
-contains_first old new place empty h i =
-    contains_added old new place h i ∙ ap (λ ks. added place i (list_any (λ k. is_eq (nat_cmp i k)) ks)) empty
+pub from_least : (a : IpAddr) (n : ℕ) → is_gt (owner_cmp (a, 0) (a, n)) ≡ false
+from_least a n = ap (λ o. is_gt (ordering_then o (nat_cmp 0 n))) (tied_itself address_total a) ∙ not_above n
 
 -- a fact of one outcome holds where it holds
 pub on_err : {T E P : Type 0} (r : Result T E) → P → OnErr r P

@@ -5,7 +5,6 @@ use Rattle.std.specs.Option.{option_to_list}
 use Rattle.std.specs.Char.{is_ascii, digit_value}
 use Rattle.std.specs.Str.{chars, IsUtf8}
 use Rattle.std.specs.Str.Parse.{AllDigits}
-use Rattle.std.specs.Borrow.{Bor}
 use Rattle.std.specs.Net.Grammar.{IsDotted, IsGroupsAfter}
 use Rattle.std.specs.declared.net.IpAddr.{IpAddr}
 use Rattle.std.specs.declared.net.IpAddr.TheVariants.{V4, V6}
@@ -16,7 +15,6 @@ use Rattle.hickory_proto_core.specs.Records.{DataValue, data_of_address}
 use Rattle.hickory_proto_core.specs.Addresses.{IsAddressText}
 use Rattle.hickory_resolver_model.specs.Hosts.{Host, AreNames, AreLinePairs, IsAddressField, insert_host, insert_pairs, line_fields, one_address, address_type, as_fqdn}
 use Rattle.hickory_resolver_hosts.specs.Reading.{Pair, pairs_of, AreNamesRead, IsNameField, IsLineRead}
-use Rattle.hickory_resolver_hosts.specs.Text.{texts}
 use Rattle.hickory_resolver_hosts.specs.declared.hosts_error.HostsError.{HostsError}
 use Rattle.hickory_resolver_hosts.specs.declared.hosts_error.HostsError.TheVariants.{Read, InvalidData, OutOfMemory}
 use Rattle.hickory_resolver_hosts.proofs.Texts.{all_ascii, ascii_all, chars_of_ascii, text_of_ascii}
@@ -29,10 +27,17 @@ pairs_joined : (d : DataValue) (ns ms : List NameValue) → pairs_of d (ns ++ ms
 pairs_joined d [] ms = refl
 pairs_joined d (n ∷ ns) ms = ap (λ ps. (n, d) ∷ ps) (pairs_joined d ns ms)
 
-more_text : (xs : List (Bor (List ℕ))) (k : ℕ) (d : Bor (List ℕ)) → k < length xs → take (suc k) (texts xs) ≡ take k (texts xs) ++ chars (get_or xs k d).now ∷ []
-more_text [] k d h = absurd (omega arith)
-more_text (x ∷ xs) zero d h = refl
-more_text (x ∷ xs) (suc k) d h = ap (λ ts. chars x.now ∷ ts) (more_text xs k d (omega arith))
+-- the front of a list up to an element, and the whole
+pub more_at : {X : Type 0} (xs : List X) (k : ℕ) (x : X) → (k < length xs) × (x ≡ get_or xs k x) → take (suc k) xs ≡ take k xs ++ x ∷ []
+more_at [] k x h = absurd (omega (arith, h.0))
+more_at (y ∷ ys) zero x h = ap (λ z. z ∷ []) (sym h.1)
+more_at (y ∷ ys) (suc k) x h = let short = h.0 in ap (λ zs. y ∷ zs) (more_at ys k x (omega arith, h.1))
+
+pub take_whole : {X : Type 0} (k : ℕ) (xs : List X) → k ≡ length xs → take k xs ≡ xs
+take_whole zero [] h = refl
+take_whole zero (x ∷ xs) h = absurd (omega arith)
+take_whole (suc k) [] h = absurd (omega arith)
+take_whole (suc k) (x ∷ xs) h = ap (λ ys. x ∷ ys) (take_whole k xs (omega arith))
 
 names_push : (fs : List (List ℕ)) (f : List ℕ) (found : Option NameValue) (names : List NameValue) → AreNames fs names → IsNameField f found → AreNames (fs ++ f ∷ []) (names ++ option_to_list found)
 names_push [] f None names h none = inr (none, ap (λ ns. ns ++ []) h)
@@ -48,24 +53,36 @@ append_none (x ∷ xs) = ap (λ ys. x ∷ ys) (append_none xs)
 abbrev pub AreSoFar : ℕ → DataValue → List (List ℕ) → List Host → List Host → Type 0
 AreSoFar now d fields before after = (found : List NameValue) × AreNames fields found × (after ≡ insert_pairs now (pairs_of d found) before)
 
-pub name_put : (now : ℕ) (d : DataValue) (xs : List (Bor (List ℕ))) (k : ℕ) (default : Bor (List ℕ)) (n : NameValue) (before middle after : List Host) → k < length xs
-    → AreSoFar now d (take k (texts xs)) before middle → IsNameField (chars (get_or xs k default).now) (Some n)
-    → after ≡ insert_host n (address_type d) (one_address (as_fqdn n) d now) now middle → AreSoFar now d (take (k + 1) (texts xs)) before after
-name_put now d xs k default n before middle after short sofar is insert_entry = (
+pub name_put : (now : ℕ) (d : DataValue) (fs : List (List ℕ)) (k j : ℕ) (f : List ℕ) (n : NameValue) (before middle after : List Host) → (k < length fs) × (f ≡ get_or fs k f) → j ≡ k + 1
+    → AreSoFar now d (take k fs) before middle → IsNameField f (Some n) → after ≡ insert_host n (address_type d) (one_address (as_fqdn n) d now) now middle → AreSoFar now d (take j fs) before after
+name_put now d fs k j f n before middle after here next sofar is insert_entry = (
   sofar.0 ++ n ∷ [],
-  subst (λ fs. AreNames fs (sofar.0 ++ n ∷ [])) (sym (ap (λ j. take j (texts xs)) (add-one k) ∙ more_text xs k default short)) (names_push (take k (texts xs)) _ (Some n) sofar.0 sofar.1 is),
+  subst (λ gs. AreNames gs (sofar.0 ++ n ∷ [])) (sym (ap (λ i. take i fs) (next ∙ add-one k) ∙ more_at fs k f here)) (names_push (take k fs) f (Some n) sofar.0 sofar.1 is),
   insert_entry ∙ ap (insert_host n (address_type d) (one_address (as_fqdn n) d now) now) sofar.2
       ∙ sym (ap (λ ps. insert_pairs now ps before) (pairs_joined d sofar.0 (n ∷ [])) ∙ pairs_in_turn now (pairs_of d sofar.0) ((n, d) ∷ []) before),
 )
 
-pub name_passed : (now : ℕ) (d : DataValue) (xs : List (Bor (List ℕ))) (k : ℕ) (default : Bor (List ℕ)) (before middle after : List Host) → k < length xs
-    → AreSoFar now d (take k (texts xs)) before middle → IsNameField (chars (get_or xs k default).now) None → after ≡ middle → AreSoFar now d (take (k + 1) (texts xs)) before after
-name_passed now d xs k default before middle after short sofar is same = (
+pub name_passed : (now : ℕ) (d : DataValue) (fs : List (List ℕ)) (k j : ℕ) (f : List ℕ) (before middle after : List Host) → (k < length fs) × (f ≡ get_or fs k f) → j ≡ k + 1
+    → AreSoFar now d (take k fs) before middle → IsNameField f None → after ≡ middle → AreSoFar now d (take j fs) before after
+name_passed now d fs k j f before middle after here next sofar is same = (
   sofar.0,
-  subst (λ ns. AreNames (take (k + 1) (texts xs)) ns) (append_none sofar.0)
-      (subst (λ fs. AreNames fs (sofar.0 ++ [])) (sym (ap (λ j. take j (texts xs)) (add-one k) ∙ more_text xs k default short)) (names_push (take k (texts xs)) _ None sofar.0 sofar.1 is)),
+  subst (λ ns. AreNames (take j fs) ns) (append_none sofar.0)
+      (subst (λ gs. AreNames gs (sofar.0 ++ [])) (sym (ap (λ i. take i fs) (next ∙ add-one k) ∙ more_at fs k f here)) (names_push (take k fs) f None sofar.0 sofar.1 is)),
   same ∙ sofar.2,
 )
+
+pub none_left : (fs : List (List ℕ)) → length fs ≡ 0 → fs ≡ []
+none_left [] h = refl
+none_left (f ∷ fs) h = absurd (omega arith)
+
+-- all the names of a line are put in
+pub names_all : (now : ℕ) (d : DataValue) (fs : List (List ℕ)) (k : ℕ) (before after : List Host) → k ≡ length fs → AreSoFar now d (take k fs) before after → AreNamesRead now d fs before (Ok tt) after
+names_all now d fs k before after done sofar = (sofar.0, subst (λ gs. AreNames gs sofar.0) (take_whole k fs done) sofar.1, sofar.2)
+
+-- memory runs out at a name of a line
+pub names_failed : (now : ℕ) (d : DataValue) (fs : List (List ℕ)) (k : ℕ) (error : HostsError) (before middle after : List Host) → error ≡ OutOfMemory → after ≡ middle
+    → AreSoFar now d (take k fs) before middle → AreNamesRead now d fs before (Err error) after
+names_failed now d fs k error before middle after out same sofar = (out, (k, sofar.0, sofar.1, same ∙ sofar.2))
 
 -- the texts of addresses are ASCII
 both_ascii : (xs ys : List ℕ) → list_all is_ascii xs ≡ true → list_all is_ascii ys ≡ true → list_all is_ascii (xs ++ ys) ≡ true

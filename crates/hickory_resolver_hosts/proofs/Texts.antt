@@ -16,6 +16,7 @@ use Rattle.hickory_proto_core.specs.names.name_error.NameError.TheVariants.{OutO
 use Rattle.hickory_proto_core.specs.ResponseKind.{is_empty}
 use Rattle.hickory_resolver_model.specs.Hosts.{cut_at, put_first}
 use Rattle.hickory_resolver_hosts.specs.Reading.{IsNameField}
+use Rattle.hickory_resolver_hosts.specs.Text.{words}
 use Rattle.hickory_resolver_hosts.specs.declared.hosts_error.HostsError.{HostsError}
 use Rattle.hickory_resolver_hosts.specs.declared.hosts_error.HostsError.TheVariants as hosts_error
 
@@ -112,10 +113,6 @@ before_one p (c ∷ cs) e es h here =
   where
     one : 1 + prefix_len (λ x. not (p x)) (cs ++ e ∷ es) ≡ suc (prefix_len (λ x. not (p x)) (cs ++ e ∷ es))
     one = omega arith
-
--- words between white space
-abbrev pub words : List ℕ → List (List ℕ)
-words cs = filter is_nonempty (cut_at is_whitespace cs)
 
 no_words : (cs : List ℕ) → NonePass is_not_whitespace cs → words cs ≡ []
 no_words [] h = refl

@@ -1,7 +1,9 @@
--- Texts by their characters.
-use Rattle.std.specs.Prelude.{ℕ, List, map}
-use Rattle.std.specs.Borrow.{Bor}
-use Rattle.std.specs.Str.{chars}
+-- The words of a text.
+use Rattle.std.specs.Prelude.{ℕ, not, List, filter}
+use Rattle.std.specs.Char.{is_whitespace}
+use Rattle.hickory_proto_core.specs.ResponseKind.{is_empty}
+use Rattle.hickory_resolver_model.specs.Hosts.{cut_at}
 
-abbrev pub texts : List (Bor (List ℕ)) → List (List ℕ)
-texts fields = map (λ field. chars field.now) fields
+-- what stands between white space
+abbrev pub words : List ℕ → List (List ℕ)
+words cs = filter (λ word. not (is_empty word)) (cut_at is_whitespace cs)

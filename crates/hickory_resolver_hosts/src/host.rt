@@ -78,9 +78,6 @@ fn add_lookup(
     if let Some(joined) = kept {
         return joined.append_in_place(lookup);
     }
-    let query = Query::query(name, record_type);
-    let mut joined = Lookup::new_with_max_ttl(query, Vec::new(alloc), now)?;
-    joined.append_in_place(lookup)?;
-    *kept = Some(joined);
+    *kept = Some(lookup.into_answer_to(Query::query(name, record_type), now));
     Ok(())
 }

@@ -13,7 +13,7 @@ use hickory_proto_core::{Name, NetError, Query, Record, RecordType};
 use hickory_resolver_lookup::Lookup;
 use indexmap::IndexMap;
 use std::alloc::Global;
-use std::collections::BTreeMap;
+use std::collections::BTreeSet;
 use std::hash::{BuildHasher, BuildHasherDefault, FoldHasher};
 use std::marker::Model;
 
@@ -53,7 +53,7 @@ impl<S: BuildHasher> Hosts<S> {
     {
         Hosts {
             names: IndexMap::with_hasher(alloc, hasher),
-            owners: BTreeMap::new(alloc),
+            owners: BTreeSet::new(alloc),
         }
     }
 

@@ -2,13 +2,14 @@
 ghost use Rattle.std.specs.Prelude.{◌≡◌, ◌≢◌, ◌==◌, map, IfOk, OnOk, OnErr, IsOkUnless, MatchOption, MatchResult};
 ghost use Rattle.std.specs.Char.{to_ascii_lowercase};
 ghost use Rattle.std.specs.List.{before_first, list_all};
-ghost use Rattle.std.specs.Str.{chars};
+ghost use Rattle.std.specs.Str.{chars, IsUtf8};
+ghost use Rattle.std.specs.Str.Iter.{split_whitespace_rest};
 ghost use Rattle.hickory_proto_core.specs.Name.{NameValue};
 ghost use Rattle.hickory_proto_core.specs.NameText.{Spells};
 ghost use Rattle.hickory_proto_core.specs.Records.{DataValue, data_of_address};
-ghost use Rattle.hickory_resolver_model.specs.Hosts.{IsAddressField, insert_host, line_fields, as_fqdn, one_address, address_type, file_lines, without_mark};
+ghost use Rattle.hickory_resolver_model.specs.Hosts.{IsAddressField, insert_host, as_fqdn, one_address, address_type, file_lines, without_mark};
 ghost use Rattle.hickory_resolver_hosts.specs.Reading.{AreNamesRead, IsBytesRead, IsLineRead, IsNameField};
-ghost use Rattle.hickory_resolver_hosts.specs.Text.{texts};
+ghost use Rattle.hickory_resolver_hosts.specs.Text.{words};
 
 use crate::hosts::Hosts;
 use crate::hosts_error::HostsError;
@@ -18,6 +19,7 @@ use std::alloc::{AllocError, Global};
 use std::hash::BuildHasher;
 use std::net::IpAddr;
 use std::str;
+use std::str::SplitWhitespace;
 
 /// Puts in what the lines of a file say, at this moment (seconds).
 pub fn insert_lines<S: BuildHasher>(
@@ -63,12 +65,12 @@ fn insert_line<S: BuildHasher>(
     let Ok(text) = str::from_utf8(line) else {
         return Err(HostsError::InvalidData);
     };
-    let fields = fields(alloc, text)?;
-    let Some((first, names)) = fields.as_slice().split_first() else {
+    let mut fields = without_comment(text).split_whitespace();
+    let Some(first) = fields.next() else {
         return Ok(());
     };
     match address_of(first) {
-        Some(address) => insert_names(alloc, hosts, address, names, now),
+        Some(address) => insert_names(alloc, hosts, address, fields, now),
         None => Ok(()),
     }
 }
@@ -81,13 +83,6 @@ fn address_of(field: &str) -> Option<IpAddr>
     read_ip(field)
 }
 
-// What stands between white space before the comment, if there is one.
-fn fields(alloc: Global, text: &str) -> Result<Vec<&str>, AllocError>
-    ensures { IfOk result (λ found. texts found.items ≡ line_fields text.now) }
-{
-    without_comment(text).split_whitespace().collect(alloc)
-}
-
 // What stands before the first `#`.
 fn without_comment(text: &str) -> &str
     ensures { chars result.now ≡ before_first (λ c. c == 35) (chars text.now) }
@@ -98,14 +93,17 @@ fn without_comment(text: &str) -> &str
     }
 }
 
+// Puts in the names with an address.
 fn insert_names<S: BuildHasher>(
     alloc: Global,
     hosts: &mut Hosts<S>,
     address: IpAddr,
-    names: &[&str],
+    names: SplitWhitespace<'_>,
     now: u64,
 ) -> Result<(), HostsError>
-    ensures { AreNamesRead now (data_of_address address) (texts names.now) hosts.old result hosts.new }
+    requires { IsUtf8 (split_whitespace_rest names) }
+    ensures { AreNamesRead now (data_of_address address) (words (chars (split_whitespace_rest names.entry)))
+        hosts.old result hosts.new }
 {
     for field in names {
         if let Some(name) = host_name(alloc, field)? {

@@ -10,35 +10,26 @@ ghost use Rattle.hickory_resolver_hosts.specs.Table.{gives, is_given, is_of_fami
 
 use hickory_proto_core::{Record, RecordType};
 use std::alloc::{AllocError, Global};
-use std::collections::{BTreeMap, BTreeSet};
+use std::collections::BTreeSet;
 use std::net::IpAddr;
 
-/// For each address the places of its names, in ascending order.
-pub type Owners = BTreeMap<IpAddr, BTreeSet<usize>>;
+/// The pairs of an address and the place of a name that has it, in ascending order.
+pub type Owners = BTreeSet<(IpAddr, usize)>;
 
 /// Whether the name at this place has the address.
 pub fn is_owner(owners: &Owners, address: IpAddr, place: usize) -> bool
     ensures { result ≡ is_owner owners.now address place }
 {
-    match owners.get(&address) {
-        Some(places) => places.contains(&place),
-        None => false,
-    }
+    owners.contains(&(address, place))
 }
 
 /// The name at this place has the address from now on. A refused call changes nothing.
-pub fn add_owner(
-    alloc: Global,
-    owners: &mut Owners,
-    address: IpAddr,
-    place: usize,
-) -> Result<(), AllocError>
+pub fn add_owner(owners: &mut Owners, address: IpAddr, place: usize) -> Result<(), AllocError>
     ensures ok { OnOk result ((a : Address) (i : ℕ) →
         is_owner owners.new a i ≡ is_owner owners.old a i || (same_address address a && (place == i))) }
     ensures err { OnErr result ((a : Address) (i : ℕ) → is_owner owners.new a i ≡ is_owner owners.old a i) }
 {
-    let places = owners.entry(address)?.or_insert(BTreeSet::new(alloc));
-    places.insert(place)?;
+    owners.insert((address, place))?;
     Ok(())
 }
 
@@ -47,9 +38,7 @@ pub fn remove_owner(owners: &mut Owners, address: IpAddr, place: usize)
     ensures { (a : Address) (i : ℕ) →
         is_owner owners.new a i ≡ is_owner owners.old a i && not (same_address address a && (place == i)) }
 {
-    if let Some(places) = owners.get_mut(&address) {
-        places.remove(&place);
-    }
+    owners.remove(&(address, place));
 }
 
 /// Those of the addresses that records of a type give which the name at this place does not have yet.
@@ -98,19 +87,14 @@ fn is_of_family(record_type: RecordType, address: IpAddr) -> bool
 
 /// The name at this place has these addresses from now on, none of which it had before. A refused call
 /// changes nothing.
-pub fn add_owners(
-    alloc: Global,
-    owners: &mut Owners,
-    addresses: &[IpAddr],
-    place: usize,
-) -> Result<(), AllocError>
+pub fn add_owners(owners: &mut Owners, addresses: &[IpAddr], place: usize) -> Result<(), AllocError>
     requires { (a : Address) → is_among a addresses.now ≡ true → is_owner owners.old a place ≡ false }
     ensures ok { OnOk result ((a : Address) (i : ℕ) →
         is_owner owners.new a i ≡ is_owner owners.old a i || (is_among a addresses.now && (place == i))) }
     ensures err { OnErr result ((a : Address) (i : ℕ) → is_owner owners.new a i ≡ is_owner owners.old a i) }
 {
     for address in addresses {
-        if add_owner(alloc, owners, *address, place).is_err() {
+        if add_owner(owners, *address, place).is_err() {
             remove_owners(owners, addresses, place);
             return Err(AllocError);
         }

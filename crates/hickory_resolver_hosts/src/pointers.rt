@@ -1,18 +1,14 @@
 //! The names of an address.
 ghost use Rattle.std.specs.Prelude.{◌≡◌, filter, IfOk, IsOkUnless};
-ghost use Rattle.std.specs.List.{filter_map};
-ghost use Rattle.std.specs.BTreeSet.{IsOrdered};
-ghost use Rattle.std.specs.Ordering.{nat_cmp};
 ghost use Rattle.hickory_proto_core.specs.Records.{data_of_address};
 ghost use Rattle.hickory_resolver_model.specs.Hosts.{has_address, pointers};
-ghost use Rattle.hickory_resolver_hosts.specs.Table.{hosts_of, no_lookups, pointer_at, pointer_to, IsIndexed};
+ghost use Rattle.hickory_resolver_hosts.specs.Table.{hosts_of, no_lookups, pointer_to, IsIndexed};
 
 use crate::host::HostLookups;
 use crate::owners::Owners;
 use hickory_proto_core::{Name, NetError, RData, Record};
 use hickory_resolver_lookup::MAX_TTL;
 use indexmap::IndexMap;
-use std::collections::BTreeSet;
 use std::hash::BuildHasher;
 use std::net::IpAddr;
 
@@ -29,25 +25,9 @@ pub fn pointer_records<S: BuildHasher>(
         (filter (has_address (data_of_address address)) (hosts_of names.now.entries))) }
     ensures err { IsOkUnless result NetError.OutOfMemory }
 {
-    match owners.get(&address) {
-        Some(places) => records_at(names, owner, places),
-        None => Ok(Vec::new(*names.allocator())),
-    }
-}
-
-fn records_at<S: BuildHasher>(
-    names: &IndexMap<Name, HostLookups, S>,
-    owner: &Name,
-    places: &BTreeSet<usize>,
-) -> Result<Vec<Record>, NetError>
-    ensures ok { IfOk result (λ records.
-        records.items ≡ filter_map (pointer_at owner.now (hosts_of names.now.entries)) places.now.keys) }
-    ensures ordered { IsOrdered nat_cmp places.now }
-    ensures err { IsOkUnless result NetError.OutOfMemory }
-{
     let mut records = Vec::new(*names.allocator());
-    for place in places {
-        if let Some((name, _)) = names.get_index(*place) {
+    for pair in owners.range((address, 0)..(address, names.len())) {
+        if let Some((name, _)) = names.get_index(pair.1) {
             records.push(pointer_record(owner, name)?)?;
         }
     }

@@ -33,7 +33,7 @@ pub fn insert_indexed<S: BuildHasher>(
     let alloc = *names.allocator();
     let place = place_of(names, &name);
     let added = new_addresses(alloc, owners, place, record_type, lookup.answers())?;
-    add_owners(alloc, owners, &added, place)?;
+    add_owners(owners, &added, place)?;
     let inserted = insert(names, place, name, record_type, lookup, now);
     if inserted.is_err() {
         remove_owners(owners, &added, place);

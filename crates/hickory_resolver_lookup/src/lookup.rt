@@ -1,5 +1,5 @@
 //! What a look-up gives.
-ghost use Rattle.std.specs.Prelude.{◌≡◌, ◌++◌, IfOk, OnOk, OnErr, IsOkUnless, length, vec_len, vec_capacity, IsOk, ◌+◌, ◌≤◌};
+ghost use Rattle.std.specs.Prelude.{◌≡◌, [], ◌++◌, IfOk, OnOk, OnErr, IsOkUnless, length, vec_len, vec_capacity, IsOk, ◌+◌, ◌<◌, ◌≤◌};
 ghost use Rattle.hickory_resolver_model.specs.Bounds.{least_ttl};
 ghost use Rattle.hickory_resolver_model.specs.Hosts.{append, append_messages};
 ghost use Rattle.hickory_resolver_model.specs.Lookup.{LookupValue, with_question, hit_lookup, found_lookup, hit_seconds, answers_until, answers_for_day, more_authorities, more_additionals};
@@ -10,8 +10,9 @@ ghost use Rattle.hickory_proto_core.specs.Records.{data_of};
 use crate::ttl_bounds::MAX_TTL;
 use crate::ttl_config::TtlConfig;
 use hickory_proto_core::{Message, NetError, OpCode, Query, RData, Record};
-use std::alloc::Global;
+use std::alloc::{AllocError, Global};
 use std::marker::Model;
+use std::mem;
 
 /// The message that a look-up came to, which always has a question, and until when it may be used (seconds).
 #[derive(Debug, Drop)]
@@ -189,6 +190,23 @@ impl Lookup {
         Ok(())
     }
 
+    /// This look-up joined to a fresh response to a question, without records, which may be used for a day
+    /// from this moment (seconds). Takes no memory: the sections stay where they are.
+    pub fn into_answer_to(self, query: Query, now: u64) -> Lookup
+        ensures { result ≡ append (answers_for_day query [] now) self }
+    {
+        let deadline = now.saturating_add(u64::from(MAX_TTL));
+        let valid_until = deadline.min(self.valid_until);
+        let mut message = self.message;
+        message.metadata = Message::query(*message.queries.allocator()).metadata;
+        message.queries[0] = query;
+        message.queries.truncate(1);
+        Lookup {
+            message,
+            valid_until,
+        }
+    }
+
     /// Adds records to the authority section, in order. Where there is no memory for them all, nothing
     /// changes.
     pub fn extend_authorities(&mut self, records: Vec<Record>) -> Result<(), NetError>
@@ -258,20 +276,35 @@ fn append_sections(message: &mut Message, added: Message) -> Result<(), NetError
     ensures err { IsOkUnless result NetError.OutOfMemory }
 {
     let mut added = added;
-    message.answers.reserve(added.answers.len())?;
-    message.authorities.reserve(added.authorities.len())?;
-    message.additionals.reserve(added.additionals.len())?;
+    make_room(&mut message.answers, added.answers.len())?;
+    make_room(&mut message.authorities, added.authorities.len())?;
+    make_room(&mut message.additionals, added.additionals.len())?;
     move_records(&mut message.answers, &mut added.answers);
     move_records(&mut message.authorities, &mut added.authorities);
     move_records(&mut message.additionals, &mut added.additionals);
     Ok(())
 }
 
-// Moves the records to the end of a vector that has room for them.
+// Makes room for so many more records, unless there are none yet: others can then take their place whole.
+fn make_room(records: &mut Vec<Record>, count: usize) -> Result<(), AllocError>
+    ensures items { records.new.items ≡ records.old.items }
+    ensures room { OnOk result (0 < vec_len records.new → vec_len records.new + count ≤ vec_capacity records.new) }
+{
+    if records.is_empty() {
+        return Ok(());
+    }
+    records.reserve(count)
+}
+
+// Moves the records to the end of a vector that has room for them. Where it is empty, they stay where they are.
 fn move_records(records: &mut Vec<Record>, added: &mut Vec<Record>)
-    requires { vec_len records.old + vec_len added.old ≤ vec_capacity records.old }
+    requires { 0 < vec_len records.old → vec_len records.old + vec_len added.old ≤ vec_capacity records.old }
     ensures { records.new.items ≡ records.old.items ++ added.old.items }
 {
+    if records.is_empty() {
+        mem::swap(records, added);
+        return;
+    }
     let moved = records.append(added);
     prove!(moved.is_ok());
 }

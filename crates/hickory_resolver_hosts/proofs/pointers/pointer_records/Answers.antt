@@ -1,14 +1,32 @@
-use Rattle.std.proofs.Common.{◌∙◌}
-use Rattle.hickory_resolver_hosts.specs.Table.{hosts_of}
-use Rattle.hickory_resolver_hosts.proofs.InOrder.{if_ok, pointers_of_places, pointers_of_none}
+use Rattle.std.proofs.Common.{◌≡◌, ◌++◌, length, ap, sym, ◌∙◌}
+use Rattle.std.proofs.lemmas.List.{length-map}
+use Rattle.std.specs.List.{filter_map}
+use Rattle.hickory_resolver_hosts.specs.Table.{host_at, hosts_of, pointer_at}
+use Rattle.hickory_resolver_hosts.proofs.Index.{from_least}
+use Rattle.hickory_resolver_hosts.proofs.InOrder.{turn_some, turn_none, pointed, not_pointed, pointers_between}
 use Rattle.hickory_resolver_hosts.proofs.pointers.pointer_records.Goals as goal
 
-pub returns-in-Some-clause-ok : goal.returns-in-Some-clause-ok
-returns-in-Some-clause-ok g c =
-    if_ok c.records_at.result
-    (λ records e. e ∙ pointers_of_places c.args.owner.now (hosts_of c.args.names.now.entries) c.args.owners.now c.args.address c.in-Some.places.now c.requires c.in-Some.ensures.value c.records_at.ensures.ordered)
-    c.records_at.ensures.ok
+pub range-pair-items-requires : goal.range-pair-items-requires
+range-pair-items-requires g c = from_least c.args.address c.len.result
 
-pub returns-in-None-clause-ok : goal.returns-in-None-clause-ok
-returns-in-None-clause-ok g c =
-    c.new.ensures.items ∙ pointers_of_none c.args.owner.now (hosts_of c.args.names.now.entries) c.args.owners.now c.args.address c.requires c.in-None.ensures.value
+pub loop-pair-init : goal.loop-pair-init
+loop-pair-init g c =
+    let es = c.args.names.now.entries in
+    let count : c.len.result ≡ length (hosts_of es) = c.len.ensures.len ∙ sym (length-map es (λ e. host_at e.0 e.1)) in
+    ap (λ rs. rs ++ filter_map (λ q. pointer_at c.args.owner.now (hosts_of es) q.1) c.into_iter-pair-iterator.result) c.new-records.ensures.items
+    ∙ pointers_between c.args.owner.now (hosts_of es) c.args.owners.now c.args.address c.len.result c.into_iter-pair-iterator.result c.requires count
+    (c.into_iter-pair-iterator.ensures.into_iter_gives ∙ c.range-pair-items.ensures.between tt) c.range-pair-items.ensures.ordered
+
+pub loop-pair-preserved-in_ok-push : goal.loop-pair-preserved-in_ok-push
+loop-pair-preserved-in_ok-push g c =
+    let es = c.args.names.now.entries in
+    let place = c.in-Some.pair.now.1 in
+    turn_some (λ q. pointer_at c.args.owner.now (hosts_of es) q.1) c.loop-pair.records.items c.push.new.self.items _ c.loop-pair.pair-iterator c.next.new.self c.in-Some.pair.now c.in_ok-pointer_record.field-0 c.in-Some.ensures.steps
+    (pointed c.args.owner.now c.in-Some-get_index.name.now c.in-Some-get_index.field-0-1.now es place c.in_ok-pointer_record.field-0 c.in-Some-get_index.ensures.entry c.in_ok-pointer_record.ensures.ok)
+    c.in_ok-push.ensures.items c.loop-pair.invariant
+
+pub loop-pair-preserved : goal.loop-pair-preserved
+loop-pair-preserved g c =
+    let es = c.args.names.now.entries in
+    turn_none (λ q. pointer_at c.args.owner.now (hosts_of es) q.1) c.loop-pair.records.items _ c.loop-pair.pair-iterator c.next.new.self c.in-Some.pair.now c.in-Some.ensures.steps
+    (not_pointed c.args.owner.now es c.in-Some.pair.now.1 c.in_default.ensures.entry) c.loop-pair.invariant
