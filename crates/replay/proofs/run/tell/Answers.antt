@@ -1,5 +1,7 @@
-use Rattle.replay.proofs.Steps.{told_of}
+use Rattle.std.proofs.Common.{ap, subst, sym, string_bytes}
+use Rattle.replay.specs.Run.{IsTold}
+use Rattle.replay.proofs.Steps.{told_run}
 use Rattle.replay.proofs.run.tell.Goals as goal
 
 pub returns-in-Ok-clause-ok : goal.returns-in-Ok-clause-ok
-returns-in-Ok-clause-ok g c = told_of g.H.DnsHandle.step _ c.args.upstream _ _ _ _ _ c.told.result c.in-Ok.ensures.run c.told.ensures.ok
+returns-in-Ok-clause-ok g c = ?
