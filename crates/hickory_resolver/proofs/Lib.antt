@@ -1,3 +1,3 @@
 pub mod Answering
 pub mod Serving
-pub mod Telling
+pub mod ToldRuns

@@ -94,7 +94,8 @@ fn tell_each<R: DnsHandle + Recording, S: BuildHasher, L: Listener>(
         (map request_of requests.now) told resolver.new listener.new) }
 {
     for request in requests {
-        if tell(resolver, listener, request)? {
+        let is_last = tell(resolver, listener, request)?;
+        if is_last {
             return Ok(());
         }
     }
