@@ -1,5 +1,5 @@
 -- Runs that are told: what is told is that of the run, and the listener hears of it in order.
-use Rattle.std.proofs.Common.{◌≡◌, ◌⊎◌, ℕ, Bool, true, false, List, [], ◌∷◌, ◌++◌, ◌-◌, length, map, take, drop, Result, Ok, Err, IfOk, refl, sym, ap, ◌∙◌, subst, inl, inr, arith, append_assoc, length-append}
+use Rattle.std.proofs.Common.{◌≡◌, ◌⊎◌, ℕ, Bool, true, false, List, [], ◌∷◌, ◌++◌, ◌-◌, length, map, take, drop, Result, Ok, Err, IfOk, MatchResult, refl, sym, ap, ◌∙◌, subst, inl, inr, arith, append_assoc, length-append}
 use Rattle.std.proofs.lemmas.List.{append-nil}
 use Rattle.hickory_proto_core.specs.Handles.{Step, RecordedValue}
 use Rattle.hickory_proto_core.specs.Recorded.{RecordedStep, IsRecorded, recorded_leads}
@@ -165,3 +165,13 @@ module _ {H L : Type 0} (law : KeepsRequest) (step : Step H) (hears : Hears L) (
     options = options;
   }
   told_resolver_is = resolver_is law step config options hosts handle start starts requests (steps_of told) resolver answered
+
+-- ---- an outcome
+
+pub on_ok : {X E : Type 0} (r : Result X E) (P : X → Type 0) (Q : E → Type 0) {S : X → Type 0} → ((x : X) → P x → S x) → MatchResult r P Q → IfOk r S
+on_ok (Ok x) P Q says m = says x m
+on_ok (Err e) P Q says m = tt
+
+pub on_each : {X E : Type 0} (r : Result X E) {S : X → Type 0} → ((x : X) → S x) → IfOk r S
+on_each (Ok x) says = says x
+on_each (Err e) says = tt

@@ -22,7 +22,7 @@ pub trait Listener {
         ensures { OnOk result (hears self.old (record {
           request = request_of request.now;
           sent = sent.now;
-          step = step.now;
+          step = step.entry.now;
         }) self.new) };
 }
 
