@@ -5,6 +5,7 @@ pub mod cache;
 pub mod caching_client;
 pub mod config;
 pub mod hosts;
+pub mod listener;
 pub mod lookup;
 pub mod lookup_future;
 pub mod lookup_ip;
@@ -15,6 +16,7 @@ pub mod resolver;
 pub mod resolver_builder;
 pub mod runs;
 mod serve;
+mod telling;
 pub mod transcript;
 
 pub use cache::{MAX_TTL, ResponseCache, TtlBounds, TtlConfig};
@@ -25,6 +27,7 @@ pub use config::{
     ServerGroup, ServerGroupIter, ServerOrderingStrategy, cloudflare, google, quad9,
 };
 pub use hosts::{Hosts, HostsError, Watched};
+pub use listener::{Heard, Listener};
 pub use lookup::Lookup;
 pub use lookup_future::LookupFuture;
 pub use lookup_ip::{LookupIp, LookupIpIntoIter, LookupIpIter};
@@ -32,5 +35,5 @@ pub use lookup_ip_future::LookupIpFuture;
 pub use request::Request;
 pub use resolver::Resolver;
 pub use resolver_builder::ResolverBuilder;
-pub use runs::{run, run_with_hasher};
+pub use runs::{run, run_told, run_with_hasher};
 pub use transcript::{Reply, Step, Transcript};

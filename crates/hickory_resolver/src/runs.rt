@@ -1,16 +1,19 @@
 //! Runs: requests one after another, over one resolver.
-ghost use Rattle.std.specs.Prelude.{◌≡◌, IfOk, MatchResult, None, map};
+ghost use Rattle.std.specs.Prelude.{◌≡◌, IfOk, List, MatchResult, None, map};
 ghost use Rattle.hickory_resolver_model.specs.Bounds.{bounds_fault};
 ghost use Rattle.hickory_resolver_model.specs.Options.{bounds_of};
-ghost use Rattle.hickory_resolver_model.specs.Run.{IsRun, Run, first_cache, settings_of};
+ghost use Rattle.hickory_resolver_model.specs.Run.{IsRun, Run, StepValue, first_cache, settings_of};
 ghost use Rattle.hickory_resolver_theorems.specs.Statements.{Headline};
 ghost use Rattle.hickory_resolver_lookup.specs.Requests.{request_of};
+ghost use Rattle.hickory_resolver.specs.Telling.{IsToldRun};
 ghost use Rattle.hickory_resolver.specs.Transcripts.{IsNoRun};
 
 use crate::config::{ResolverConfig, ResolverOpts};
 use crate::hosts::Hosts;
+use crate::listener::{Heard, Listener};
 use crate::request::Request;
 use crate::serve::{Served, Start, run_by};
+use crate::telling::Telling;
 use crate::transcript::Transcript;
 use hickory_proto_core::{DnsHandle, NetError, Recorded};
 use hickory_resolver_theorems::laws::{a_record_keeps_the_request, headline};
@@ -106,4 +109,48 @@ pub fn run_with_hasher<H: DnsHandle + Drop, S: BuildHasher + Drop>(
         }
         Err(error) => Err(error),
     }
+}
+
+/// As `run_with_hasher`, but no step is kept: this listener hears of each when it is made. Its error ends the run,
+/// which is refused as out of memory.
+pub fn run_told<H: DnsHandle + Drop, S: BuildHasher + Drop, L: Listener + Drop>(
+    config: ResolverConfig,
+    options: ResolverOpts,
+    hosts: Hosts<S>,
+    handle: H,
+    requests: &[Request],
+    cache_hasher: S,
+    listener: L,
+) -> Result<Heard<Recorded<H>, S, L>, NetError>
+    ensures run { IfOk result (λ t. IsToldRun H.step L.hears (settings_of config options hosts) handle
+        (map request_of requests.now) listener t.resolver t.listener) }
+    ensures headline { IfOk result (λ t. (steps : List StepValue)
+        (run : Run (settings_of config options hosts) (first_cache (settings_of config options hosts))
+        (map request_of requests.now) steps t.resolver.client.handle.exchanges t.resolver.client.cache)
+        → Headline (settings_of config options hosts) (first_cache (settings_of config options hosts))
+        (map request_of requests.now) steps t.resolver.client.handle.exchanges t.resolver.client.cache run) }
+    ensures resolver { IfOk result (λ t. t.resolver ≡ record {
+      client = record {
+        cache = t.resolver.client.cache;
+        handle = t.resolver.client.handle;
+        preserve_intermediates = options.preserve_intermediates;
+      };
+      hosts = hosts;
+      config = config;
+      options = options;
+    }) }
+    ensures refused { MatchResult result (λ _. bounds_fault (bounds_of options) ≡ None)
+        (IsNoRun (bounds_fault (bounds_of options))) }
+{
+    headline();
+    a_record_keeps_the_request();
+    let handle = Recorded::new(*config.search.allocator(), handle);
+    let start = Start {
+        config,
+        options,
+        hosts,
+        handle,
+        cache_hasher,
+    };
+    run_by(Telling { start, listener }, requests)
 }

@@ -118,7 +118,7 @@ fn bounds_and_room(
 }
 
 // A resolver before its first request, with these bounds.
-fn first_resolver<R: DnsHandle, S: BuildHasher>(
+pub fn first_resolver<R: DnsHandle, S: BuildHasher>(
     start: Start<R, S>,
     bounds: TtlConfig,
 ) -> Resolver<R, S>
@@ -167,7 +167,7 @@ fn serve_each<R: DnsHandle + Recording, S: BuildHasher>(
 }
 
 // Serves a request: its step.
-fn serve<R: DnsHandle + Recording, S: BuildHasher>(
+pub fn serve<R: DnsHandle + Recording, S: BuildHasher>(
     resolver: &mut Resolver<R, S>,
     request: &Request,
 ) -> Step
@@ -184,7 +184,7 @@ fn serve<R: DnsHandle + Recording, S: BuildHasher>(
 }
 
 // How many exchanges the handle has kept.
-fn exchange_count<R: DnsHandle + Recording, S: BuildHasher>(resolver: &Resolver<R, S>) -> usize
+pub fn exchange_count<R: DnsHandle + Recording, S: BuildHasher>(resolver: &Resolver<R, S>) -> usize
     ensures { result ≡ length (R.kept resolver.now.client.handle) }
 {
     resolver.client().handle().kept_exchanges().len()

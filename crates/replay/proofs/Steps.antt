@@ -1,50 +1,47 @@
 -- The text of a run, step by step, and why there is no table of hosts.
-use Rattle.std.proofs.Common.{◌≡◌, ◌∙◌, ℕ, List, [], ◌∷◌, ◌++◌, take, drop, map, Result, Ok, Err, IfOk, String, string_bytes, refl, sym, ap, subst, inl, inr, append_assoc}
+use Rattle.std.proofs.Common.{◌≡◌, ◌∙◌, ℕ, true, not, List, [], ◌∷◌, ◌++◌, take, drop, map, Result, Ok, Err, IfOk, String, string_bytes, refl, sym, ap, subst, inl, inr, append_assoc}
+use Rattle.std.proofs.lemmas.Bool.{and_from}
 use Rattle.std.proofs.lemmas.List.{append-nil}
-use Rattle.hickory_proto_core.specs.Handles.{Step}
+use Rattle.hickory_proto_core.specs.Handles.{Step, RecordedValue}
 use Rattle.hickory_proto_core.specs.declared.recorded.Exchange.{Exchange}
 use Rattle.hickory_resolver.specs.Reading.{IsBytesRead}
 use Rattle.hickory_resolver.specs.hosts.hosts_error.HostsError.{HostsError}
 use Rattle.hickory_resolver.specs.hosts.hosts_error.HostsError.TheVariants as hosts_error
-use Rattle.hickory_resolver_model.specs.Cache.{CacheValue}
 use Rattle.hickory_resolver_model.specs.Hosts.{Host}
-use Rattle.hickory_resolver_model.specs.Run.{IsRun, RequestValue, Settings, StepValue}
+use Rattle.hickory_resolver_model.specs.Resolver.{ResolverValue}
+use Rattle.hickory_resolver_model.specs.Run.{RequestValue, Settings, StepValue}
+use Rattle.hickory_resolver.specs.Telling.{Told, Hears, HearsAll, IsToldRun, told_of}
+use Rattle.replay.specs.Hearing.{AddsBlock}
 use Rattle.replay.specs.Output.{run_text, step_text}
-use Rattle.replay.specs.Run.{IsNoTable, IsReplayed, IsScriptTold, IsTable, IsTold, IsToldBy, first_moment, hosts_fault}
+use Rattle.replay.specs.Run.{IsNoTable, IsReplayed, IsScriptTold, IsTable, IsTold, first_moment, hosts_fault, is_remembered}
 use Rattle.replay_script.specs.Script.{IsWhole, ScriptValue, script_of}
 use Rattle.replay_lines.specs.declared.line.Line.{Line}
 use Rattle.replay.specs.declared.error.ReplayError.{ReplayError}
 
--- the block of a step is added, and what is left stands behind it
-pub run_went_on : (all text new : List ℕ) (asked others : List RequestValue) (request : RequestValue) (steps more : List StepValue) (step : StepValue) (left sent rest : List Exchange)
-    → text ++ run_text asked steps left ≡ all → asked ≡ request ∷ others → steps ≡ step ∷ more
-    → sent ≡ take step.exchanges left → rest ≡ drop step.exchanges left
-    → new ≡ text ++ step_text request (map (λ x. x.query) sent) step.reply
-    → new ++ run_text others more rest ≡ all
-run_went_on all text new asked others request steps more step left sent rest so_far asked_are steps_are sent_are rest_is added =
-    let block = step_text request (map (λ x. x.query) (take step.exchanges left)) step.reply in
-    let behind = run_text others more (drop step.exchanges left) in
-    (λ i. added i ++ run_text others more (rest_is i))
-    ∙ (λ i. (text ++ step_text request (map (λ x. x.query) (sent_are i)) step.reply) ++ behind)
-    ∙ append_assoc text block behind
-    ∙ sym (λ i. text ++ run_text (asked_are i) (steps_are i) left)
-    ∙ so_far
-
 -- where no step is left the text is whole
-no_step : (asked : List RequestValue) (left : List Exchange) → run_text asked [] left ≡ []
-no_step [] left = refl
-no_step (request ∷ asked) left = refl
+no_step : (requests : List RequestValue) (exchanges : List Exchange) → run_text requests [] exchanges ≡ []
+no_step [] exchanges = refl
+no_step (request ∷ requests) exchanges = refl
 
-pub run_ended : (all text : List ℕ) (asked : List RequestValue) (steps : List StepValue) (left : List Exchange)
-    → text ++ run_text asked steps left ≡ all → steps ≡ [] → text ≡ all
-run_ended all text asked steps left so_far none =
-    sym (append-nil text) ∙ sym (ap (λ t. text ++ t) (no_step asked left)) ∙ sym (λ i. text ++ run_text asked (none i) left) ∙ so_far
+-- what a listener hears that adds the block of each step to its text
+module _ {L : Type 0} (text : L → List ℕ) (hears : Hears L) (adds : (before : L) (told : Told) (after : L) → hears before told after → AddsBlock (text before) told (text after)) where
+  -- the text of the run is added
+  pub heard_text : (requests : List RequestValue) (steps : List StepValue) (exchanges : List Exchange) (before after : L) → HearsAll hears before (told_of requests steps exchanges) after
+      → text after ≡ text before ++ run_text requests steps exchanges
+  heard_text [] steps exchanges before after same = ap text same ∙ sym (append-nil (text before))
+  heard_text (request ∷ requests) [] exchanges before after same = ap text same ∙ sym (append-nil (text before))
+  heard_text (request ∷ requests) (step ∷ steps) exchanges before after (mid, heard, rest) =
+      let block = step_text request (map (λ x. x.query) (take step.exchanges exchanges)) step.reply in
+      let behind = run_text requests steps (drop step.exchanges exchanges) in
+      heard_text requests steps (drop step.exchanges exchanges) mid after rest
+      ∙ ap (λ t. t ++ behind) (adds before _ mid heard).1
+      ∙ append_assoc (text before) block behind
 
--- and where no request is left
-pub requests_ended : (all text : List ℕ) (asked : List RequestValue) (steps : List StepValue) (left : List Exchange)
-    → text ++ run_text asked steps left ≡ all → asked ≡ [] → text ≡ all
-requests_ended all text asked steps left so_far none =
-    sym (append-nil text) ∙ sym (λ i. text ++ run_text (none i) steps left) ∙ so_far
+  -- there was memory for each step
+  pub heard_remembered : (told : List Told) (before after : L) → HearsAll hears before told after → is_remembered (map (λ one. one.step) told) ≡ true
+  heard_remembered [] before after same = refl
+  heard_remembered (one ∷ told) before after (mid, heard, rest) =
+      and_from _ _ (ap not (adds before one mid heard).0) (heard_remembered told mid after rest)
 
 fault_of : (now : ℕ) (hosts : List ℕ) (fault : HostsError) (table : List Host) → IsBytesRead now hosts [] (Err fault) table → IsNoTable now hosts (hosts_fault fault)
 fault_of now hosts hosts_error.Read table read = absurd read
@@ -56,12 +53,23 @@ no_table now hosts start fault table error empty read error_is =
     let P : List Host → Type 0 = λ before. IsBytesRead now hosts before (Err fault) table in
     subst (IsNoTable now hosts) (sym error_is) (fault_of now hosts fault table (subst P empty read))
 
--- the text of a run
-pub told_of : {H Z E : Type 0} (step : Step H) (s : Settings) (upstream : H) (requests : List RequestValue) (steps : List StepValue) (exchanges : List Exchange) (after : H) (cache : CacheValue) (result : Result (String Z) E)
-    → IsRun step s upstream requests steps exchanges after cache → IfOk result (λ text. IsToldBy requests steps exchanges (string_bytes text)) → IfOk result (λ text. IsTold step s upstream requests (string_bytes text))
-told_of step s upstream requests steps exchanges after cache (Ok text) run told =
-    record { steps = steps; exchanges = exchanges; upstream_after = after; cache_after = cache; run = run; told = told }
-told_of step s upstream requests steps exchanges after cache (Err error) run told = tt
+-- the text of a run that was told
+pub told_run : {H L : Type 0} (step : Step H) (s : Settings) (upstream : H) (requests : List RequestValue) (text : L → List ℕ) (hears : Hears L) → ((before : L) (told : Told) (after : L) → hears before told after → AddsBlock (text before) told (text after))
+    → (before : L) (resolver : ResolverValue (RecordedValue H)) (after : L) → text before ≡ [] → IsToldRun step hears s upstream requests before resolver after → IsTold step s upstream requests (text after)
+told_run step s upstream requests text hears adds before resolver after none run =
+    let exchanges = resolver.client.handle.exchanges in
+    let all = told_of requests run.steps exchanges in
+    record {
+      steps = run.steps;
+      exchanges = exchanges;
+      upstream_after = resolver.client.handle.handle;
+      cache_after = resolver.client.cache;
+      run = run.run;
+      told = (
+        ap is_remembered (sym run.all_told) ∙ heard_remembered text hears adds all before after run.heard,
+        heard_text text hears adds requests run.steps exchanges before after run.heard ∙ ap (λ t. t ++ run_text requests run.steps exchanges) none,
+      );
+    }
 
 -- the text of a script that was read whole
 pub replayed : {Z E : Type 0} (script hosts : List ℕ) (said : List Line) (read : ScriptValue) (now : ℕ) (table : List Host) (result : Result (String Z) E)

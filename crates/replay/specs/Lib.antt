@@ -1,3 +1,4 @@
+pub mod Hearing
 pub mod Output
 pub mod Run
 pub mod Statuses

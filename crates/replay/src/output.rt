@@ -1,51 +1,40 @@
 //! The text that tells what happened.
-ghost use Rattle.std.specs.Prelude.{◌≡◌, ◌++◌, OnOk, codes, drop, map, string_bytes, take};
+ghost use Rattle.std.specs.Prelude.{◌≡◌, ◌++◌, OnOk, codes, map, string_bytes};
 ghost use Rattle.std.specs.List.{flat_map};
 ghost use Rattle.hickory_proto_core.specs.Records.{data_of};
 ghost use Rattle.hickory_resolver.specs.Replies.{reply_of};
 ghost use Rattle.hickory_resolver.specs.Requests.{request_of};
-ghost use Rattle.replay.specs.Output.{address_text, addresses_text, asked_text, error_text, line_text, lookup_text, name_error_text, reply_text, request_text, run_text, section_text, sent_text, step_text};
+ghost use Rattle.replay.specs.Output.{address_text, addresses_text, asked_text, error_text, line_text, lookup_text, name_error_text, reply_text, request_text, section_text, sent_text, step_text};
 
 use hickory_proto_core::{
     DnsError, Exchange, NameError, NetError, NoRecords, RData, Record, RecordType,
 };
-use hickory_resolver::{Lookup, Reply, Request, Step};
+use hickory_resolver::{Listener, Lookup, Reply, Request, Step};
 use std::alloc::AllocError;
 use std::fmt;
 
-/// Adds the blocks of a run: each request, the questions that were sent for it, and the reply.
-pub fn push_steps(
-    text: &mut String,
-    requests: &[Request],
-    steps: &[Step],
-    exchanges: &[Exchange],
-) -> Result<(), AllocError>
-    ensures { OnOk result (string_bytes text.new
-        ≡ string_bytes text.old ++ run_text (map request_of requests.now) steps.now exchanges.now) }
-{
-    let mut asked = requests;
-    let mut left = exchanges;
-    for step in steps {
-        let [request, others @ ..] = asked else {
-            return Ok(());
-        };
-        let (sent, rest) = split(left, step.exchanges);
-        push_step(text, request, sent, &step.reply)?;
-        asked = others;
-        left = rest;
-    }
-    Ok(())
+/// Makes the text of a run out of its steps, each when it hears of it.
+#[derive(Drop)]
+pub struct TextListener {
+    pub text: String,
 }
 
-// So many exchanges, where there are so many, and those behind them.
-fn split(exchanges: &[Exchange], count: usize) -> (&[Exchange], &[Exchange])
-    ensures first { result.0.now ≡ take count exchanges.now }
-    ensures rest { result.1.now ≡ drop count exchanges.now }
-{
-    if count < exchanges.len() {
-        exchanges.split_at(count)
-    } else {
-        (exchanges, &[])
+impl Listener for TextListener {
+    ghost use Rattle.replay.specs.Hearing.{AddsBlock};
+
+    ghost hears = { λ before told after. AddsBlock (string_bytes before.text) told (string_bytes after.text) };
+
+    // There is no text of a run in which memory ran out.
+    fn hear(
+        &mut self,
+        request: &Request,
+        sent: &[Exchange],
+        step: &Step,
+    ) -> Result<(), AllocError> {
+        if step.reply.ends_run() {
+            return Err(AllocError);
+        }
+        push_step(&mut self.text, request, sent, &step.reply)
     }
 }
 

@@ -5,15 +5,13 @@ ghost use Rattle.hickory_resolver.specs.Requests.{request_of};
 ghost use Rattle.hickory_resolver_model.specs.Bounds.{bounds_fault};
 ghost use Rattle.hickory_resolver_model.specs.Options.{bounds_of};
 ghost use Rattle.hickory_resolver_model.specs.Run.{settings_of};
-ghost use Rattle.replay.specs.Run.{IsNoTable, IsRefused, IsReplayed, IsScriptTold, IsTable, IsTableTold, IsTold, IsToldBy, first_moment, is_remembered};
+ghost use Rattle.replay.specs.Run.{IsNoTable, IsRefused, IsReplayed, IsScriptTold, IsTable, IsTableTold, IsTold, first_moment};
 
 use crate::error::ReplayError;
-use crate::output::push_steps;
+use crate::output::TextListener;
 use hickory_proto_core::dns_handle::Outcome;
-use hickory_proto_core::{DnsHandle, Exchange, Query, ScriptHandle, TableHandle};
-use hickory_resolver::{
-    Hosts, Request, ResolverConfig, ResolverOpts, Step, Transcript, run_with_hasher,
-};
+use hickory_proto_core::{DnsHandle, Query, Recorded, ScriptHandle, TableHandle};
+use hickory_resolver::{Heard, Hosts, Request, ResolverConfig, ResolverOpts, run_told};
 use replay_script::{Script, read_script};
 use std::alloc::{AllocError, Global};
 use std::hash::{BuildHasher, BuildHasherDefault, FoldHasher};
@@ -182,51 +180,24 @@ fn tell<H: DnsHandle + Drop, S: BuildHasher + Drop>(
         config,
         options,
         hosts,
-        cache_hasher,
+        cache_hasher: hasher,
     } = start;
-    match run_with_hasher(config, options, hosts, upstream, requests, cache_hasher) {
-        Ok(transcript) => told(alloc, requests, transcript),
+    let listener = TextListener {
+        text: String::new(alloc),
+    };
+    match run_told(config, options, hosts, upstream, requests, hasher, listener) {
+        Ok(heard) => Ok(text_of(heard)),
         Err(_) => Err(ReplayError::Memory),
     }
 }
 
-// The text of a run in which memory did not run out.
-fn told<H: DnsHandle + Drop, S: BuildHasher + Drop>(
-    alloc: Global,
-    requests: &[Request],
-    transcript: Transcript<H, S>,
-) -> Result<String, ReplayError>
-    ensures ok { IfOk result (λ text. IsToldBy (map request_of requests.now) transcript.steps
-        transcript.resolver.client.handle.exchanges (string_bytes text)) }
-    ensures err { IsOkUnless result ReplayError.Memory }
+// The text that was made of a run.
+fn text_of<H: DnsHandle + Drop, S: BuildHasher + Drop>(
+    heard: Heard<Recorded<H>, S, TextListener>,
+) -> String
+    ensures { result ≡ heard.listener.text }
 {
-    let text = text_of(alloc, requests, transcript.steps(), transcript.exchanges());
-    // Its proof is far shorter than that of a drop at the end of the scope.
-    drop(transcript.into_resolver());
-    text
-}
-
-fn text_of(
-    alloc: Global,
-    requests: &[Request],
-    steps: &[Step],
-    exchanges: &[Exchange],
-) -> Result<String, ReplayError>
-    ensures ok { IfOk result (λ text. IsToldBy (map request_of requests.now) steps.now exchanges.now
-        (string_bytes text)) }
-    ensures err { IsOkUnless result ReplayError.Memory }
-{
-    if !is_remembered(steps) {
-        return Err(ReplayError::Memory);
-    }
-    let mut text = String::new(alloc);
-    push_steps(&mut text, requests, steps, exchanges)?;
-    Ok(text)
-}
-
-// Whether there was memory for each step.
-fn is_remembered(steps: &[Step]) -> bool
-    ensures { result ≡ is_remembered steps.now }
-{
-    steps.iter().all(|step| !step.reply.ends_run())
+    let Heard { resolver, listener } = heard;
+    drop(resolver);
+    listener.text
 }
