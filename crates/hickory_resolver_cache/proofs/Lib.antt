@@ -4,4 +4,6 @@ mod TurnOrder
 mod Store
 mod Timely
 mod Renumbered
+mod Stored
+mod Spelled
 mod Laws

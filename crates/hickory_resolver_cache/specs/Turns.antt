@@ -1,6 +1,6 @@
 -- What a cache keeps: entries by question in any order, each with the number of its store, and the questions
 -- by deadline and number. The list of its entries is in the order of the numbers.
-use Rattle.std.specs.Prelude.{◌≡◌, ℕ, true, ◌≤◌, ◌<◌, zero, suc, ◌==◌, nat_eq, List, [], ◌∷◌, ◌++◌, map, length, Option, None, Some, if◌then◌else◌, cond}
+use Rattle.std.specs.Prelude.{◌≡◌, ℕ, true, ◌≤◌, ◌<◌, zero, suc, ◌==◌, nat_eq, List, [], ◌∷◌, ◌++◌, map, length, Option, None, Some, if◌then◌else◌, cond, slice_get}
 use Rattle.std.specs.declared.cmp.Ordering.{Ordering}
 use Rattle.std.specs.Ordering.{nat_cmp, ordering_then}
 use Rattle.std.specs.Option.{option_to_list}
@@ -160,6 +160,33 @@ pub record MakesRoom (capacity next : ℕ) (q : Query) (ps : List Pair) (turn : 
       → entries_of rs next ≡ room_for capacity q (entries_of ps next)
   pub room : turn ≡ None → length ps < capacity
 
+-- no pair is left for the question once the turn goes
+abbrev pub Frees : Query → List Pair → Option Turn → Type 0
+Frees q ps turn =
+    (rs : List Pair) → IsDistinct query_eq (keys_of rs) → Gone turn ps rs → lookup (query_eq q) rs ≡ None
+
+-- the pair at the place i is the question's
+abbrev pub IsOwnPlace : Query → List Pair → ℕ → Type 0
+IsOwnPlace q ps i = (p : Pair) × (slice_get ps i ≡ Some p) × (query_eq q p.0 ≡ true)
+
+-- the pair at the place i has the question to the letter, and the turn
+abbrev pub IsSpelledAt : Query → List Pair → ℕ → Turn → Type 0
+IsSpelledAt q ps i t = (k : Kept) × (slice_get ps i ≡ Some (q, k)) × (t ≡ (k.valid_until, k.number))
+
+-- The pair p has come in, under the number n, and what stood at the turn has left, if there is one. The pairs
+-- may stand in another order.
+pub record IsStored (turn : Option Turn) (n : ℕ) (ps : List Pair) (old : Order) (p : Pair) (qs : List Pair) (new : Order) : Type 0 where
+  pub rest : List Pair
+  pub between : Order
+  pub gone : Gone turn ps rest
+  pub moved : IsPermutation (rest ++ p ∷ []) qs
+  pub added : (u : Turn) → get turn_cmp between u ≡ cond (is_at (turn_cmp (p.1.valid_until, n)) u) (Some p.0) (get turn_cmp old u)
+  pub turn_gone : TurnGone turn between new
+
+-- the same of a pair whose question had one, which has left
+abbrev pub Replaces : ℕ → List Pair → Order → Pair → List Pair → Order → Type 0
+Replaces n ps old p qs new = (t : Turn) × IsTurnOf p.0 ps (Some t) × IsStored (Some t) n ps old p qs new
+
 -- the same of a removal
 abbrev pub Drops : ℕ → Query → List Pair → Option Turn → Type 0
 Drops next q ps turn =
@@ -169,6 +196,11 @@ Drops next q ps turn =
 abbrev pub IsFirstTurn : Order → Option Turn → Type 0
 IsFirstTurn order None = (t : Turn) → get turn_cmp order t ≡ None
 IsFirstTurn order (Some t) = ((q : Query) × (get turn_cmp order t ≡ Some q)) × IsLowerBound turn_cmp order t
+
+-- the turn is the first where there are as many pairs as may be, and none where there are fewer
+abbrev pub IsLeaving : ℕ → List Pair → Order → Option Turn → Type 0
+IsLeaving capacity ps order turn =
+    (length ps < capacity → turn ≡ None) × (capacity ≤ length ps → IsFirstTurn order turn)
 
 -- what a look-up gives of an entry
 abbrev pub shown : Kept → OutcomeValue × ℕ × ℕ

@@ -5,13 +5,14 @@ ghost use Rattle.hickory_resolver_model.specs.Cache.{age, aged_outcome};
 use crate::aging::{age, age_error, age_message};
 use hickory_proto_core::{Message, NetError};
 
-/// An outcome, when it was stored and until when it is current (seconds), and the number of its store.
+/// When an outcome was stored and until when it is current (seconds), the number of its store, and the outcome.
+/// It comes last, since it is long and a hit reads its front alone.
 #[derive(Drop)]
 pub struct Kept {
-    pub result: Result<Message, NetError>,
     pub original_time: u64,
     pub valid_until: u64,
     pub number: u64,
+    pub result: Result<Message, NetError>,
 }
 
 impl Kept {

@@ -6,6 +6,7 @@ mod entry;
 mod kept;
 mod renumber;
 pub mod response_cache;
+mod spelling;
 mod turns;
 
 pub use response_cache::ResponseCache;

@@ -6,10 +6,11 @@ ghost use Rattle.std.specs.BTreeMap.{get as turn_get, is_at};
 ghost use Rattle.indexmap.specs.IndexMap.{spare, get, IsUnique};
 ghost use Rattle.hickory_proto_core.specs.Query.{query_eq};
 ghost use Rattle.hickory_resolver_model.specs.Cache.{insert_entry};
-ghost use Rattle.hickory_resolver_cache.specs.Turns.{Turn, by_number, entries_of, pair_of, turn_cmp, IsKept, IsNumbered, IsPlaced, IsSameList, Gone, TurnGone, IsTaken, IsTurnOf, IsSomeTurn, IsFirstTurn, MakesRoom};
+ghost use Rattle.hickory_resolver_cache.specs.Turns.{Turn, by_number, entries_of, pair_of, turn_cmp, IsKept, IsNumbered, IsPlaced, IsSameList, Gone, TurnGone, IsTaken, IsTurnOf, IsSomeTurn, IsFirstTurn, IsLeaving, IsOwnPlace, IsSpelledAt, Frees, IsStored, Replaces};
 
 use crate::entry::CacheEntry;
 use crate::kept::Kept;
+use crate::spelling::is_same_spelling;
 use hickory_proto_core::{NetError, Query};
 use indexmap::IndexMap;
 use std::collections::BTreeMap;
@@ -39,7 +40,94 @@ pub fn store<S: BuildHasher>(
     ensures refused { OnErr result (IsSameList index.old.entries number index.new.entries number order.new) }
     ensures err { IsOkUnless result NetError.OutOfMemory }
 {
-    let turn = leaving(index, order, capacity, number, &entry.query);
+    let Some(place) = index.get_index_of(&entry.query) else {
+        let turn = leaving(index, order, capacity);
+        return exchange(index, order, turn, number, entry);
+    };
+    replace(index, order, place, number, entry)
+}
+
+// Puts an entry in as the newest, by this number, for a question whose entry stands at this place. That one
+// leaves. A refused call leaves the entries and their turns as they were.
+fn replace<S: BuildHasher>(
+    index: &mut Index<S>,
+    order: &mut Order,
+    place: usize,
+    number: u64,
+    entry: CacheEntry,
+) -> Result<(), NetError>
+    requires numbers { IsNumbered number index.old.entries }
+    requires placed { IsPlaced index.old.entries order.old }
+    requires unique { IsUnique query_eq index.old }
+    requires own { IsOwnPlace entry.query index.old.entries place }
+    ensures ok { OnOk result
+        (Replaces number index.old.entries order.old (pair_of entry number) index.new.entries order.new) }
+    ensures refused { OnErr result (IsSameList index.old.entries number index.new.entries number order.new) }
+    ensures err { IsOkUnless result NetError.OutOfMemory }
+{
+    let (query, kept) = index.get_index(place).unwrap();
+    let turn = (kept.valid_until, kept.number);
+    if is_same_spelling(query, &entry.query) {
+        rewrite(index, order, turn, place, number, entry)
+    } else {
+        exchange(index, order, Some(turn), number, entry)
+    }
+}
+
+// Writes an entry as the newest, by this number, over the one of its question, in the same spelling, that
+// has this turn and stands at this place. A refused call leaves the entries and their turns as they were.
+fn rewrite<S: BuildHasher>(
+    index: &mut Index<S>,
+    order: &mut Order,
+    turn: (u64, u64),
+    place: usize,
+    number: u64,
+    entry: CacheEntry,
+) -> Result<(), NetError>
+    requires numbers { IsNumbered number index.old.entries }
+    requires placed { IsPlaced index.old.entries order.old }
+    requires own { IsSpelledAt entry.query index.old.entries place turn }
+    ensures ok { OnOk result
+        (IsStored (Some turn) number index.old.entries order.old (pair_of entry number) index.new.entries order.new) }
+    ensures refused { OnErr result (IsSameList index.old.entries number index.new.entries number order.new) }
+    ensures err { IsOkUnless result NetError.OutOfMemory }
+{
+    let CacheEntry {
+        query,
+        result,
+        original_time,
+        valid_until,
+    } = entry;
+    order.insert((valid_until, number), query)?;
+    drop(order.remove(&turn));
+    index[place] = Kept {
+        result,
+        original_time,
+        valid_until,
+        number,
+    };
+    Ok(())
+}
+
+// Puts an entry in as the newest, by this number, and takes out what stands at the turn, after which there is
+// none for its question. Room and the copy of its question come first: a refused call leaves the entries and
+// their turns as they were.
+fn exchange<S: BuildHasher>(
+    index: &mut Index<S>,
+    order: &mut Order,
+    turn: Option<(u64, u64)>,
+    number: u64,
+    entry: CacheEntry,
+) -> Result<(), NetError>
+    requires numbers { IsNumbered number index.old.entries }
+    requires placed { IsPlaced index.old.entries order.old }
+    requires turn { IsSomeTurn index.old.entries turn }
+    requires frees { Frees entry.query index.old.entries turn }
+    ensures ok { OnOk result
+        (IsStored turn number index.old.entries order.old (pair_of entry number) index.new.entries order.new) }
+    ensures refused { OnErr result (IsSameList index.old.entries number index.new.entries number order.new) }
+    ensures err { IsOkUnless result NetError.OutOfMemory }
+{
     add_turn(index, order, (entry.valid_until, number), &entry.query)?;
     take_out(index, order, turn);
     insert_entry(index, entry, number);
@@ -119,25 +207,14 @@ pub fn turn_of<S: BuildHasher>(index: &Index<S>, query: &Query) -> Option<(u64, 
     }
 }
 
-// The turn of the entry that leaves when one for this question comes in.
-fn leaving<S: BuildHasher>(
-    index: &Index<S>,
-    order: &Order,
-    capacity: u64,
-    next_number: u64,
-    query: &Query,
-) -> Option<(u64, u64)>
-    requires some { 0 < capacity }
-    requires numbers { IsNumbered next_number index.now.entries }
-    requires placed { IsPlaced index.now.entries order.now }
-    ensures room { MakesRoom capacity next_number query.now index.now.entries result }
-    ensures turn { IsSomeTurn index.now.entries result }
+// The turn of the entry that leaves when one comes in for a question that has none: the first, if it is full.
+fn leaving<S: BuildHasher>(index: &Index<S>, order: &Order, capacity: u64) -> Option<(u64, u64)>
+    ensures { IsLeaving capacity index.now.entries order.now result }
 {
-    let len = index.len();
-    match turn_of(index, query) {
-        Some(turn) => Some(turn),
-        None if (len as u64) < capacity => None,
-        None => first(order),
+    if (index.len() as u64) < capacity {
+        None
+    } else {
+        first(order)
     }
 }
 
