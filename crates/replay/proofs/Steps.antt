@@ -1,19 +1,21 @@
 -- The text of a run, step by step, and why there is no table of hosts.
-use Rattle.std.proofs.Common.{◌≡◌, ◌∙◌, ℕ, true, not, List, [], ◌∷◌, ◌++◌, take, drop, map, Result, Ok, Err, IfOk, String, string_bytes, refl, sym, ap, subst, inl, inr, append_assoc}
+use Rattle.std.proofs.Common.{◌≡◌, ◌∙◌, ℕ, Bool, true, false, not, MatchBool, List, [], ◌∷◌, ◌++◌, take, drop, map, Result, Ok, Err, IfOk, String, string_bytes, refl, sym, ap, subst, inl, inr, append_assoc}
 use Rattle.std.proofs.lemmas.Bool.{and_from}
 use Rattle.std.proofs.lemmas.List.{append-nil}
-use Rattle.hickory_proto_core.specs.Handles.{Step, RecordedValue}
+use Rattle.hickory_proto_core.specs.Handles.{OutcomeValue, Step, RecordedValue, ScriptStep}
+use Rattle.hickory_proto_core.specs.records.query.Query.{Query}
+use Rattle.hickory_resolver_config.specs.Resolver.{ResolverConfigValue, OptionsValue}
 use Rattle.hickory_proto_core.specs.declared.recorded.Exchange.{Exchange}
 use Rattle.hickory_resolver.specs.Reading.{IsBytesRead}
 use Rattle.hickory_resolver.specs.hosts.hosts_error.HostsError.{HostsError}
 use Rattle.hickory_resolver.specs.hosts.hosts_error.HostsError.TheVariants as hosts_error
 use Rattle.hickory_resolver_model.specs.Hosts.{Host}
 use Rattle.hickory_resolver_model.specs.Resolver.{ResolverValue}
-use Rattle.hickory_resolver_model.specs.Run.{RequestValue, Settings, StepValue}
+use Rattle.hickory_resolver_model.specs.Run.{RequestValue, Settings, StepValue, settings_of}
 use Rattle.hickory_resolver.specs.Telling.{Told, Hears, HearsAll, IsToldRun, told_of}
 use Rattle.replay.specs.Hearing.{AddsBlock}
 use Rattle.replay.specs.Output.{run_text, step_text}
-use Rattle.replay.specs.Run.{IsNoTable, IsReplayed, IsScriptTold, IsTable, IsTold, first_moment, hosts_fault, is_remembered}
+use Rattle.replay.specs.Run.{IsNoTable, IsReplayed, IsScriptTold, IsTable, IsTableTold, IsTold, config_of, first_moment, hosts_fault, is_remembered}
 use Rattle.replay_script.specs.Script.{IsWhole, ScriptValue, script_of}
 use Rattle.replay_lines.specs.declared.line.Line.{Line}
 use Rattle.replay.specs.declared.error.ReplayError.{ReplayError}
@@ -70,6 +72,20 @@ told_run step s upstream requests text hears adds before resolver after none run
         heard_text text hears adds requests run.steps exchanges before after run.heard ∙ ap (λ t. t ++ run_text requests run.steps exchanges) none,
       );
     }
+
+-- the text of a script whose outcomes are answered in order
+pub told_in_order : {Z E : Type 0} (script : ScriptValue) (hosts : List Host) (config : ResolverConfigValue) (options : OptionsValue) (outcomes : List (Query × OutcomeValue)) (requests : List RequestValue) (result : Result (String Z) E)
+    → script.table ≡ false → config ≡ config_of script → options ≡ script.options → outcomes ≡ script.outcomes → requests ≡ script.requests
+    → IfOk result (λ text. IsTold ScriptStep (settings_of config options hosts) (map (λ o. o.1) outcomes) requests (string_bytes text)) → IfOk result (λ text. IsScriptTold script hosts (string_bytes text))
+told_in_order script hosts config options outcomes requests (Ok text) in_order config_is options_are outcomes_are requests_are told =
+    let C : ResolverConfigValue → Type 0 = λ c. IsTold ScriptStep (settings_of c options hosts) (map (λ o. o.1) outcomes) requests (string_bytes text) in
+    let O : OptionsValue → Type 0 = λ o. IsTold ScriptStep (settings_of (config_of script) o hosts) (map (λ o. o.1) outcomes) requests (string_bytes text) in
+    let A : List (Query × OutcomeValue) → Type 0 = λ os. IsTold ScriptStep (settings_of (config_of script) script.options hosts) (map (λ o. o.1) os) requests (string_bytes text) in
+    let R : List RequestValue → Type 0 = λ rs. IsTold ScriptStep (settings_of (config_of script) script.options hosts) (map (λ o. o.1) script.outcomes) rs (string_bytes text) in
+    let s = settings_of (config_of script) script.options hosts in
+    let T : Bool → Type 0 = λ b. MatchBool b (IsTableTold s script.outcomes script.requests (string_bytes text)) (IsTold ScriptStep s (map (λ o. o.1) script.outcomes) script.requests (string_bytes text)) in
+    subst T (sym in_order) (subst R requests_are (subst A outcomes_are (subst O options_are (subst C config_is told))))
+told_in_order script hosts config options outcomes requests (Err error) in_order config_is options_are outcomes_are requests_are told = tt
 
 -- the text of a script that was read whole
 pub replayed : {Z E : Type 0} (script hosts : List ℕ) (said : List Line) (read : ScriptValue) (now : ℕ) (table : List Host) (result : Result (String Z) E)
