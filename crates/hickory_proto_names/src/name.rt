@@ -326,11 +326,12 @@ fn byte_count(label: &[u8]) -> usize
     label.len()
 }
 
-// Whether two labels are equal without ASCII case.
+// Whether two labels are equal without ASCII case. Most equal labels are spelled alike, which takes less
+// time to find.
 fn label_eq(a: &[u8], b: &[u8]) -> bool
     ensures { result ≡ pointwise nat_eq (lower_label a.now) (lower_label b.now) }
 {
-    a.eq_ignore_ascii_case(b)
+    a == b || a.eq_ignore_ascii_case(b)
 }
 
 fn labels_eq(a: &[Vec<u8>], b: &[Vec<u8>]) -> bool
