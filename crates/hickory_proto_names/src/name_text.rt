@@ -59,12 +59,19 @@ impl Name {
     }
 }
 
-// The name that the text spells.
+// The longest text of a name without escapes. On the wire each label has its length before it, where the
+// text has a dot behind it, and there the root takes one byte of the 255.
+const MAX_PLAIN_TEXT: usize = 254;
+
+// The name that the text spells. A longer text than most names have is scanned first, so that its pieces
+// take memory only where it is a name's.
 fn read_name(alloc: Global, text: &str) -> Result<Name, NameError>
     ensures ok { IfOk result (λ n. Spells text.now n) }
     ensures err { IfErr result (λ e. (e ≡ NameError.OutOfMemory) ⊎ HasFault text.now e) }
 {
-    check_text(text.as_bytes())?;
+    if MAX_PLAIN_TEXT < text.len() {
+        check_text(text.as_bytes())?;
+    }
     let mut pieces = read_pieces(alloc, text.as_bytes())?;
     let fqdn = take_mark(&mut pieces);
     let mut name = Name::from_labels(pieces)?;
