@@ -369,15 +369,15 @@ fn labels_cmp(a: &[Vec<u8>], b: &[Vec<u8>]) -> Ordering
     a.len().cmp(&b.len())
 }
 
-// Feeds the length, and then the bytes in lower case in one piece.
+// Feeds the length, and then the bytes in lower case in one piece. All of the buffer is put in lower case,
+// which takes less time than some number of bytes does.
 fn hash_label<H: Hasher>(label: &[u8], state: &mut H)
     requires { length label.now ≤ 63 }
     ensures { state.new ≡ fold H.write state.old (fed_label (lower_label label.now)) }
 {
-    let mut buffer = [0; 63];
-    let lower = &mut buffer[..label.len()];
-    lower.copy_from_slice(label);
-    lower.make_ascii_lowercase();
+    let mut buffer = [0; 64];
+    buffer[..label.len()].copy_from_slice(label);
+    buffer.make_ascii_lowercase();
     label.len().hash(state);
-    state.write(lower);
+    state.write(&buffer[..label.len()]);
 }

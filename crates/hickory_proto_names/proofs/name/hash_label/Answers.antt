@@ -1,5 +1,0 @@
-use Rattle.std.proofs.Common.{rules}
-use Rattle.hickory_proto_names.proofs.name.hash_label.Goals as goal
-
-pub returns : goal.returns
-returns g c = search rules
