@@ -59,12 +59,12 @@ impl Name {
     }
 }
 
-// The longest text of a name without escapes. On the wire each label has its length before it, where the
-// text has a dot behind it, and there the root takes one byte of the 255.
+// The longest text of a name without escapes: all of the 255 bytes on the wire but the root's. A label has
+// its length before it there, and a dot behind it in the text.
 const MAX_PLAIN_TEXT: usize = 254;
 
-// The name that the text spells. A longer text than most names have is scanned first, so that its pieces
-// take memory only where it is a name's.
+// The name that the text spells. A text that is a name's only if it has escapes is scanned before any of it
+// is kept.
 fn read_name(alloc: Global, text: &str) -> Result<Name, NameError>
     ensures ok { IfOk result (λ n. Spells text.now n) }
     ensures err { IfErr result (λ e. (e ≡ NameError.OutOfMemory) ⊎ HasFault text.now e) }
@@ -431,9 +431,26 @@ fn read_number(text: &[u8]) -> Option<(u8, &[u8])>
     Some((byte, rest))
 }
 
+// Flags of where in its label a byte stands for itself: as the first byte, and as a later one.
+const AS_FIRST: u8 = 1;
+
+const AS_LATER: u8 = 2;
+
+// For each byte a digit, whose low two bits are its flags.
+static PLAIN: [u8; 256] = *b"\
+    00000000000000000000000000000000\
+    00000000001002003333333333000000\
+    03333333333333333333333333300003\
+    03333333333333333333333333300000\
+    00000000000000000000000000000000\
+    00000000000000000000000000000000\
+    00000000000000000000000000000000\
+    00000000000000000000000000000000";
+
 // Whether the byte stands for itself in a label, as its first byte or as a later one.
 fn is_plain(first: bool, byte: u8) -> bool
     ensures { result ≡ is_plain first byte }
 {
-    byte.is_ascii_alphanumeric() || byte == b'_' || byte == if first { b'*' } else { b'-' }
+    let place = if first { AS_FIRST } else { AS_LATER };
+    PLAIN[byte as usize] & place != 0
 }
