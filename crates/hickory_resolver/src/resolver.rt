@@ -25,7 +25,7 @@ use hickory_proto_core::{
 };
 use hickory_resolver_attempts::attempts;
 use hickory_resolver_futures::literal_at_once;
-use std::alloc::Global;
+use std::alloc::{AllocError, Global};
 use std::fmt;
 use std::hash::{BuildHasher, BuildHasherDefault, FoldHasher};
 use std::marker::Model;
@@ -331,9 +331,8 @@ impl<H: DnsHandle, S: BuildHasher> Resolver<H, S> {
     }
 
     // The names that are attempted for a name.
-    fn attempts(&self, name: Name) -> Result<Vec<Name>, NetError>
-        ensures ok { IfOk result (λ names. names.items ≡ attempts (settings self.now).search name) }
-        ensures err { IsOkUnless result NetError.OutOfMemory }
+    fn attempts(&self, name: Name) -> Result<Vec<Name>, AllocError>
+        ensures { IfOk result (λ names. names.items ≡ attempts (settings self.now).search name) }
     {
         let (domain, search) = (self.config.domain(), self.config.search());
         attempts(self.alloc(), name, self.options.ndots, domain, search)

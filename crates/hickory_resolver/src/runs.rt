@@ -112,7 +112,7 @@ pub fn run_with_hasher<H: DnsHandle + Drop, S: BuildHasher + Drop>(
 }
 
 /// As `run_with_hasher`, but no step is kept: this listener hears of each when it is made. Its error ends the run,
-/// which is refused as out of memory.
+/// which is refused as out of memory; questions may have been asked by then.
 pub fn run_told<H: DnsHandle + Drop, S: BuildHasher + Drop, L: Listener + Drop>(
     config: ResolverConfig,
     options: ResolverOpts,

@@ -1,32 +1,32 @@
 //! The names that are attempted for a name: itself, and itself below the domain and the search domains.
-ghost use Rattle.std.specs.Prelude.{◌≡◌, ◌++◌, ◌∷◌, [], ◌||◌, nat_eq, nat_lt, codes, reverse, true, IfOk, OnOk, IsOkUnless};
+ghost use Rattle.std.specs.Prelude.{◌≡◌, ◌++◌, ◌∷◌, [], ◌||◌, nat_eq, nat_lt, codes, reverse, true, IfOk, OnOk};
 ghost use Rattle.std.specs.List.{filter_map, list_any};
 ghost use Rattle.std.specs.Option.{option_copied, option_to_list};
 ghost use Rattle.std.specs.Cmp.Lexicographic.{pointwise};
 ghost use Rattle.hickory_proto_core.specs.Name.{is_zone_of, localhost, lower_label, name_eq, num_labels_of};
 ghost use Rattle.hickory_resolver_model.specs.Attempts.{attempts, is_onion_address, joined_name, keep_last};
 
-use hickory_proto_core::{Name, NameError, NetError};
-use std::alloc::Global;
+use hickory_proto_core::{Name, NameError};
+use std::alloc::{AllocError, Global};
 
 /// The names in the order in which they are attempted for this one (RFC 1535, section 6). A fully qualified
 /// name, and the address of an onion service (RFC 7686, section 2), is attempted alone, as it is. Any other is
 /// attempted below the domain, below each search domain in order, where that is not too long, and as it is:
 /// first, where it has more labels than `ndots` or is under `localhost` (RFC 6761, section 6.3), else last.
-/// Of equal names the last stays, but a name that is attempted first as it is stays too.
+/// Of equal names the last stays, but a name that is attempted first as it is stays too. The error is that no
+/// memory was left.
 pub fn attempts(
     alloc: Global,
     name: Name,
     ndots: usize,
     domain: Option<&Name>,
     search: &[Name],
-) -> Result<Vec<Name>, NetError>
-    ensures ok { IfOk result (λ names. names.items ≡ attempts (record {
+) -> Result<Vec<Name>, AllocError>
+    ensures { IfOk result (λ names. names.items ≡ attempts (record {
       ndots = ndots;
       domain = option_copied domain.entry;
       search = search.now;
     }) name) }
-    ensures err { IsOkUnless result NetError.OutOfMemory }
 {
     if name.is_fqdn() || is_onion_address(&name) {
         return alone(alloc, name);
@@ -63,17 +63,15 @@ fn is_raw_first(name: &Name, ndots: usize) -> bool
     ndots < usize::from(name.num_labels()) || name.is_localhost()
 }
 
-fn alone(alloc: Global, name: Name) -> Result<Vec<Name>, NetError>
-    ensures ok { IfOk result (λ names. names.items ≡ name ∷ []) }
-    ensures err { IsOkUnless result NetError.OutOfMemory }
+fn alone(alloc: Global, name: Name) -> Result<Vec<Name>, AllocError>
+    ensures { IfOk result (λ names. names.items ≡ name ∷ []) }
 {
     Ok(vec![in alloc; name]?)
 }
 
 // The name, fully qualified, and then those that it was joined to.
-fn with_raw_first(alloc: Global, name: Name, joined: &[Name]) -> Result<Vec<Name>, NetError>
-    ensures ok { IfOk result (λ names. names.items ≡ record name { fqdn = true } ∷ keep_last joined.now) }
-    ensures err { IsOkUnless result NetError.OutOfMemory }
+fn with_raw_first(alloc: Global, name: Name, joined: &[Name]) -> Result<Vec<Name>, AllocError>
+    ensures { IfOk result (λ names. names.items ≡ record name { fqdn = true } ∷ keep_last joined.now) }
 {
     let mut name = name;
     name.set_fqdn(true);
@@ -84,9 +82,8 @@ fn with_raw_first(alloc: Global, name: Name, joined: &[Name]) -> Result<Vec<Name
 }
 
 // Those that the name was joined to, and then the name, fully qualified.
-fn with_raw_last(alloc: Global, name: Name, joined: Vec<Name>) -> Result<Vec<Name>, NetError>
-    ensures ok { IfOk result (λ names. names.items ≡ keep_last (joined.items ++ record name { fqdn = true } ∷ [])) }
-    ensures err { IsOkUnless result NetError.OutOfMemory }
+fn with_raw_last(alloc: Global, name: Name, joined: Vec<Name>) -> Result<Vec<Name>, AllocError>
+    ensures { IfOk result (λ names. names.items ≡ keep_last (joined.items ++ record name { fqdn = true } ∷ [])) }
 {
     let (mut name, mut found) = (name, joined);
     name.set_fqdn(true);
@@ -97,13 +94,12 @@ fn with_raw_last(alloc: Global, name: Name, joined: Vec<Name>) -> Result<Vec<Nam
 }
 
 // Adds names, of equal ones the last.
-fn push_last(names: &mut Vec<Name>, found: &[Name]) -> Result<(), NetError>
-    ensures ok { OnOk result (names.new.items ≡ names.old.items ++ keep_last found.now) }
-    ensures err { IsOkUnless result NetError.OutOfMemory }
+fn push_last(names: &mut Vec<Name>, found: &[Name]) -> Result<(), AllocError>
+    ensures { OnOk result (names.new.items ≡ names.old.items ++ keep_last found.now) }
 {
     for i in 0..found.len() {
         if !is_among(&found[i], &found[i + 1..]) {
-            names.push(found[i].clone()?)?;
+            names.push(Clone::clone(&found[i])?)?;
         }
     }
     Ok(())
@@ -121,10 +117,9 @@ fn joined_names(
     name: &Name,
     domain: Option<&Name>,
     search: &[Name],
-) -> Result<Vec<Name>, NetError>
-    ensures ok { IfOk result (λ names. names.items
+) -> Result<Vec<Name>, AllocError>
+    ensures { IfOk result (λ names. names.items
         ≡ filter_map (joined_name name.now) (option_to_list (option_copied domain.entry) ++ search.now)) }
-    ensures err { IsOkUnless result NetError.OutOfMemory }
 {
     let mut names = Vec::new(alloc);
     if let Some(domain) = domain {
@@ -137,14 +132,13 @@ fn joined_names(
 }
 
 // Adds the name below a domain, where that is not too long.
-fn push_joined(names: &mut Vec<Name>, name: &Name, domain: &Name) -> Result<(), NetError>
-    ensures ok { OnOk result
+fn push_joined(names: &mut Vec<Name>, name: &Name, domain: &Name) -> Result<(), AllocError>
+    ensures { OnOk result
         (names.new.items ≡ names.old.items ++ option_to_list (joined_name name.now domain.now)) }
-    ensures err { IsOkUnless result NetError.OutOfMemory }
 {
-    match name.clone()?.append_domain(domain) {
+    match Clone::clone(name)?.append_domain(domain) {
         Ok(joined) => names.push(joined)?,
-        Err(NameError::OutOfMemory) => return Err(NetError::OutOfMemory),
+        Err(NameError::OutOfMemory) => return Err(AllocError),
         Err(_) => {}
     }
     Ok(())

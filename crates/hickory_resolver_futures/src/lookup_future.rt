@@ -36,7 +36,7 @@ impl LookupFuture {
 
     /// As `lookup`; for the first name that is attempted, the table of hosts is asked before the client.
     pub fn lookup_with_hosts<H: DnsHandle, S: BuildHasher, T: BuildHasher>(
-        names: Vec<Name>,
+        mut names: Vec<Name>,
         record_type: RecordType,
         options: DnsRequestOptions,
         client: &mut CachingClient<H, S>,
@@ -46,7 +46,6 @@ impl LookupFuture {
         ensures { LooksUp H.step options hosts.now now (name_plan record_type) true (reverse names.items)
             client.old result client.new }
     {
-        let mut names = names;
         let Some(name) = names.pop() else {
             return Err(NetError::from("can not lookup for no names"));
         };
@@ -75,8 +74,8 @@ pub(crate) fn attempt_with_hosts<H: DnsHandle, S: BuildHasher, T: BuildHasher>(
 
 // The attempts after this result, at the other names.
 fn go_on<H: DnsHandle, S: BuildHasher>(
-    names: Vec<Name>,
-    last: Result<Lookup, NetError>,
+    mut names: Vec<Name>,
+    mut last: Result<Lookup, NetError>,
     record_type: RecordType,
     options: DnsRequestOptions,
     client: &mut CachingClient<H, S>,
@@ -85,7 +84,6 @@ fn go_on<H: DnsHandle, S: BuildHasher>(
     ensures { (hosts : List Host) → GoesOn H.step options hosts now (name_plan record_type)
         (reverse names.items) last client.old result client.new }
 {
-    let (mut names, mut last) = (names, last);
     while !stops(&last) {
         match names.pop() {
             Some(name) => {

@@ -75,8 +75,8 @@ fn or_last_resort(
 
 // The attempts after this result, at these names.
 fn go_on<H: DnsHandle, S: BuildHasher, T: BuildHasher>(
-    names: Vec<Name>,
-    last: Result<Lookup, NetError>,
+    mut names: Vec<Name>,
+    mut last: Result<Lookup, NetError>,
     strategy: LookupIpStrategy,
     client: &mut CachingClient<H, S>,
     options: DnsRequestOptions,
@@ -86,7 +86,6 @@ fn go_on<H: DnsHandle, S: BuildHasher, T: BuildHasher>(
     ensures { GoesOn H.step options hosts.now now (address_plan strategy None) (reverse names.items) last
         client.old result client.new }
 {
-    let (mut names, mut last) = (names, last);
     while !stops(&last) {
         match names.pop() {
             Some(name) => {

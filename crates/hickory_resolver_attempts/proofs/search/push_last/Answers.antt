@@ -2,5 +2,5 @@ use native.Mathlib.Omega.{arith}
 use Rattle.std.proofs.lemmas.Grind.{common_steps}
 use Rattle.hickory_resolver_attempts.proofs.search.push_last.Goals as goal
 
-pub returns-clause-ok : goal.returns-clause-ok
-returns-clause-ok c = grind (arith, common_steps)
+pub returns : goal.returns
+returns c = grind (arith, common_steps)

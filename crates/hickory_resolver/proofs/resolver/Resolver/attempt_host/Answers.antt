@@ -21,6 +21,6 @@ returns g c =
     c.request_options-options.ensures
     (ap (λ r. r.hosts) c.self.view_is)
     (ap (λ r. r.client) c.self.view_is)
-    (ap (λ ns. reverse ns) c.reverse.ensures.items ∙ reverse-reverse _ ∙ c.in_ok-attempts.ensures.ok)
+    (ap (λ ns. reverse ns) c.reverse.ensures.items ∙ reverse-reverse _ ∙ c.in_ok-attempts.ensures)
     (subst L (c.record_data.ensures c.args.now) c.lookup.ensures)
     (ap with_client c.self.view_is)

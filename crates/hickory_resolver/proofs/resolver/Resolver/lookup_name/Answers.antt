@@ -15,6 +15,6 @@ returns g c =
     c.request_options-options.ensures
     (ap (λ r. r.hosts) c.self.view_is)
     (ap (λ r. r.client) c.self.view_is)
-    (ap (λ ns. reverse ns) c.reverse.ensures.items ∙ reverse-reverse _ ∙ c.in_ok-names.ensures.ok)
+    (ap (λ ns. reverse ns) c.reverse.ensures.items ∙ reverse-reverse _ ∙ c.in_ok-names.ensures)
     c.lookup_with_hosts.ensures
     (ap with_client c.self.view_is)
