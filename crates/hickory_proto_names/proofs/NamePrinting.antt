@@ -1,9 +1,10 @@
 -- Printing names, and reading back what was printed.
-use Rattle.std.proofs.Common.{◌≡◌, ℕ, ◌+◌, ◌*◌, ◌-◌, ◌/◌, ◌%◌, ◌<◌, Bool, true, false, List, [], ◌∷◌, ◌++◌, map, length, take, drop, get_or, nat_lt, None, sym, refl, ap, ap₂, ◌∙◌, append_assoc, append-nil, arith, add-one, ⊎_elim, if◌then◌else◌}
+use Rattle.std.proofs.Common.{◌≡◌, ℕ, zero, suc, ◌+◌, ◌*◌, ◌-◌, ◌/◌, ◌%◌, ◌<◌, Bool, true, false, List, [], ◌∷◌, ◌++◌, map, length, take, drop, get_or, nat_lt, None, sym, refl, ap, ap₂, ◌∙◌, append_assoc, append-nil, arith, add-one, ⊎_elim, if◌then◌else◌}
 use Rattle.std.proofs.Math.Seq.{take-length, take-append_seam}
 use Rattle.std.specs.Fmt.{decimal}
 use Rattle.std.specs.List.{list_all, list_any, join_with_byte}
 use Rattle.std.specs.Global.{Vec}
+use Rattle.std.specs.Str.{IsAscii}
 use Rattle.std.proofs.lemmas.Fmt.{decimal_digit}
 use Rattle.std.proofs.lemmas.List.{take_more, map-append, length-append}
 use Rattle.std.proofs.lemmas.List.Folds.{list_all-append}
@@ -25,18 +26,34 @@ later_plain (b ∷ bs) h =
     let parts = and_parts (is_plain false b) (list_all (is_plain false) bs) h in
     ap₂ (λ p xs. written_text (if p then itself b else numbered (b / 100) (b / 10 % 10) (b % 10)) ++ xs) parts.0 (later_plain bs parts.1)
 
+-- the list behind the first element, as code reads it
+behind : {A : Type 0} (x : A) (xs : List A) → take (length (x ∷ xs) - 1) xs ≡ xs
+behind x xs = let same : length (x ∷ xs) - 1 ≡ length xs = omega arith in rw same (take-length xs)
+
 -- a label is printed as its bytes where each of them stands for itself
 pub printed_plain : (l : List ℕ) → 0 < length l → is_plain true (get_or l 0 0) ≡ true
     → list_all (is_plain false) (take (length l - 1) (drop 1 l)) ≡ true → l ≡ piece_text (printed_label l)
 printed_plain [] some first later = absurd (omega arith)
 printed_plain (b ∷ bs) some first later =
+    let plain : list_all (is_plain false) bs ≡ true = ap (list_all (is_plain false)) (sym (behind b bs)) ∙ later in
     sym (ap₂ (λ p xs. written_text (if p then itself b else numbered (b / 100) (b / 10 % 10) (b % 10)) ++ xs) first (later_plain bs plain))
-  where
-    rest : take (length (b ∷ bs) - 1) bs ≡ bs
-    rest = let same : length (b ∷ bs) - 1 ≡ length bs = omega arith in rw same (take-length bs)
 
-    plain : list_all (is_plain false) bs ≡ true
-    plain = ap (list_all (is_plain false)) (sym rest) ∙ later
+-- a byte that stands for itself is ASCII
+plain_ascii : (first : Bool) (b : ℕ) → is_plain first b ≡ true → b < 128
+plain_ascii true b h = grind arith
+plain_ascii false b h = grind arith
+
+later_ascii : (bs : List ℕ) → list_all (is_plain false) bs ≡ true → IsAscii bs
+later_ascii [] h i = omega arith
+later_ascii (b ∷ bs) h zero = plain_ascii false b (and_parts (is_plain false b) (list_all (is_plain false) bs) h).0
+later_ascii (b ∷ bs) h (suc i) = later_ascii bs (and_parts (is_plain false b) (list_all (is_plain false) bs) h).1 i
+
+-- and so is a label of such bytes
+pub label_ascii : (l : List ℕ) → 0 < length l → is_plain true (get_or l 0 0) ≡ true
+    → list_all (is_plain false) (take (length l - 1) (drop 1 l)) ≡ true → IsAscii l
+label_ascii [] some first later i = absurd (omega arith)
+label_ascii (b ∷ bs) some first later zero = plain_ascii true b first
+label_ascii (b ∷ bs) some first later (suc i) = later_ascii bs (ap (list_all (is_plain false)) (sym (behind b bs)) ∙ later) i
 
 join-push : (xs : List (List ℕ)) (x : List ℕ) → 0 < length xs → join_with_byte 46 (xs ++ x ∷ []) ≡ join_with_byte 46 xs ++ (46 ∷ x)
 join-push [] x h = absurd (omega arith)
@@ -63,14 +80,11 @@ labels_text-more (u ∷ us) i v bytes h e k =
     texts-push : (ws : List (Vec ℕ)) (w : Vec ℕ) → map (λ l. piece_text (printed_label l)) (label_bytes (ws ++ w ∷ [])) ≡ map (λ l. piece_text (printed_label l)) (label_bytes ws) ++ piece_text (printed_label w.items) ∷ []
     texts-push ws w = ap (map (λ l. piece_text (printed_label l))) (map-append (λ x. x.items) ws (w ∷ [])) ∙ map-append (λ l. piece_text (printed_label l)) (label_bytes ws) (w.items ∷ [])
 
-    rest : take (length (u ∷ us) - 1) us ≡ us
-    rest = let same : length (u ∷ us) - 1 ≡ length us = omega arith in rw same (take-length us)
-
     inside : i < length us
-    inside = rw (← rest) h
+    inside = rw (← behind u us) h
 
     here : v ≡ get_or us i v
-    here = e ∙ ap (λ l. get_or l i v) rest
+    here = e ∙ ap (λ l. get_or l i v) (behind u us)
 
     front : (n : ℕ) → take (n + 1) (u ∷ us) ≡ u ∷ take n us
     front n = rw add-one refl

@@ -134,16 +134,12 @@ fn plain_text(label: &[u8]) -> Option<&str>
     ensures { IfSome result (λ text. text.now ≡ piece_text (printed_label label.now)) }
 {
     match label {
-        [first, rest @ ..] if is_plain(true, *first) && are_plain(rest) => { text_of(label) }
+        [first, rest @ ..] if is_plain(true, *first) && are_plain(rest) => {
+            // Each byte is a letter, a digit, `-`, `_` or `*`, so all are ASCII.
+            Some(unsafe { str::from_utf8_unchecked(label) })
+        }
         _ => None,
     }
-}
-
-// The bytes as a text.
-fn text_of(bytes: &[u8]) -> Option<&str>
-    ensures { IfSome result (λ text. text.now ≡ bytes.now) }
-{
-    str::from_utf8(bytes).ok()
 }
 
 // Whether these bytes stand for themselves behind the first one of a label.
