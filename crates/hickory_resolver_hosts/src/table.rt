@@ -7,7 +7,7 @@ ghost use Rattle.hickory_resolver_hosts.specs.Table.{hosts_of, place_in, put_hos
 
 use crate::host::HostLookups;
 use crate::hosts_error::HostsError;
-use crate::owners::{Owners, add_owners, new_addresses, remove_owners};
+use crate::owners::{Owners, add_owners, remove_owners};
 use hickory_proto_core::{Name, RecordType};
 use hickory_resolver_lookup::Lookup;
 use indexmap::IndexMap;
@@ -32,8 +32,7 @@ pub fn insert_indexed<S: BuildHasher>(
 {
     let alloc = *names.allocator();
     let place = place_of(names, &name);
-    let added = new_addresses(alloc, owners, place, record_type, lookup.answers())?;
-    add_owners(owners, &added, place)?;
+    let added = add_owners(alloc, owners, place, record_type, lookup.answers())?;
     let inserted = insert(names, place, name, record_type, lookup, now);
     if inserted.is_err() {
         remove_owners(owners, &added, place);

@@ -5,4 +5,5 @@ use Rattle.hickory_resolver_hosts.proofs.owners.remove_owners.Given as goal
 
 abbrev pub invariant-loop-address : goal.invariant-loop-address
 invariant-loop-address l =
-    (a : Address) (i : ℕ) → is_owner l.owners a i ≡ is_owner l.initial.owners a i && not (is_among a (take l.address-index l.addresses) && (l.place == i))
+    (a : Address) (i : ℕ) → is_owner l.owners a i
+    ≡ is_owner l.initial.owners a i && not (is_among a (take l.address-index l.addresses) && (l.place == i))

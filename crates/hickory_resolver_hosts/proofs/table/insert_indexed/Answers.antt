@@ -1,4 +1,4 @@
-use Rattle.std.proofs.Common.{◌||◌, ◌&&◌, ◌==◌, not, ap, sym, ◌∙◌}
+use Rattle.std.proofs.Common.{◌&&◌, ◌==◌, not, ap, sym, ◌∙◌}
 use Rattle.hickory_proto_core.specs.Records.{data_of_address}
 use Rattle.hickory_resolver_hosts.specs.Index.{is_among, is_owner}
 use Rattle.hickory_resolver_hosts.specs.Table.{has_address_at, is_given}
@@ -9,21 +9,29 @@ use Rattle.hickory_resolver_hosts.proofs.table.insert_indexed.Goals as goal
 
 pub returns-clause-ok : goal.returns-clause-ok
 returns-clause-ok g c =
-    on_ok c.insert-inserted.result (λ e. e ∙ put_is_insert c.args.name c.args.record_type c.args.lookup c.args.now c.args.names.now.entries c.requires.as_fqdn c.place_of-place.ensures.unique) c.insert-inserted.ensures.ok
+    on_ok c.insert-inserted.result (λ e. e
+    ∙ put_is_insert c.args.name c.args.record_type c.args.lookup c.args.now c.args.names.now.entries c.requires.as_fqdn
+    c.place_of-place.ensures.unique) c.insert-inserted.ensures.ok
 
 pub returns-clause-indexed : goal.returns-clause-indexed
 returns-clause-indexed g c = λ a i. elim c.if-is_err.branch [
   | then-is_err w ↦
       let same = err_from _ (sym c.is_err.ensures.value ∙ w.if-is_err.true) c.insert-inserted.ensures.unchanged in
       ap (λ m. is_owner m a i) w.owners-is
-      ∙ restored c.args.owners.now c.add_owners.new.owners w.remove_owners.new.owners c.in_ok-added.added.items c.place_of-place.result a i
-      (new_is_apart c.args.owners.now c.place_of-place.result c.in_ok-added.added.items a _ (c.in_ok-added.ensures a))
-      (c.in_ok-add_owners.ensures.ok a i ∙ ap (λ xs. is_owner c.args.owners.now a i || (is_among a xs && (c.place_of-place.result == i))) c.deref.ensures.value)
-      (w.remove_owners.ensures a i ∙ ap (λ xs. is_owner c.add_owners.new.owners a i && not (is_among a xs && (c.place_of-place.result == i))) w.deref-then-is_err.ensures.value)
+      ∙ restored c.args.owners.now c.add_owners.new.owners w.remove_owners.new.owners (is_among a c.in_ok-added.added.items)
+      c.place_of-place.result a i
+      (new_is_apart c.args.owners.now c.place_of-place.result c.in_ok-added.added.items a _ (c.in_ok-added.ensures.added a))
+      (c.in_ok-added.ensures.ok a i)
+      (w.remove_owners.ensures a i
+      ∙ ap (λ xs. is_owner c.add_owners.new.owners a i && not (is_among a xs && (c.place_of-place.result == i)))
+      w.deref.ensures.value)
       ∙ c.requires.indexed a i ∙ ap (λ hosts. has_address_at hosts (data_of_address a) i) (sym same)
   | else-is_err w ↦
       let after = ok_from _ (sym c.is_err.ensures.value ∙ w.if-is_err.false) c.insert-inserted.ensures.ok in
       ap (λ m. is_owner m a i) w.owners-is
-      ∙ indexed_after _ _ c.args.owners.now c.add_owners.new.owners c.args.name c.args.record_type c.args.lookup c.args.now c.place_of-place.result c.deref.result.now c.requires.indexed
-      c.place_of-place.ensures.place after c.in_ok-add_owners.ensures.ok (λ b. ap (is_among b) c.deref.ensures.value ∙ c.in_ok-added.ensures b ∙ ap (λ rs. is_given c.args.record_type rs b && not (is_owner c.args.owners.now b c.place_of-place.result)) c.answers.ensures) a i
+      ∙ indexed_after _ _ c.args.owners.now c.add_owners.new.owners c.args.name c.args.record_type c.args.lookup c.args.now
+      c.place_of-place.result c.in_ok-added.added.items c.requires.indexed
+      c.place_of-place.ensures.place after c.in_ok-added.ensures.ok (λ b. c.in_ok-added.ensures.added b
+      ∙ ap (λ rs. is_given c.args.record_type rs b && not (is_owner c.args.owners.now b c.place_of-place.result))
+      c.answers.ensures) a i
 ]
