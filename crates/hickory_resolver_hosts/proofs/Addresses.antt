@@ -1,38 +1,27 @@
 -- Which addresses records give, and the index after they are told to it.
 use Rattle.std.proofs.Common.{◌≡◌, ℕ, ◌<◌, ◌+◌, Bool, true, false, not, ◌||◌, ◌&&◌, ◌==◌, List, [], ◌∷◌, ◌++◌, Option, Result, Ok, Err, OnOk, OnErr, is_err, is_ok, cond, length, take, get_or, Some, refl, sym, ap, ap₂, ◌∙◌, true≢false}
-use Rattle.std.proofs.lemmas.Cmp.{nat_list_eq_equiv}
 use Rattle.std.specs.Bool.{then_some}
 use Rattle.std.specs.Option.{option_map_or}
 use Rattle.std.specs.declared.net.IpAddr.{IpAddr}
 use Rattle.std.specs.declared.net.IpAddr.TheVariants.{V4, V6}
-use Rattle.std.specs.Net.Addr.{ipv4_octets, ipv6_segments}
-use Rattle.std.proofs.lemmas.Map.Text.{is_eq-slice_cmp}
 use Rattle.std.proofs.lemmas.List.Folds.{list_any_more, list_any-append}
 use Rattle.std.proofs.lemmas.Bool.{eqb-true, eq-eqb}
 use Rattle.hickory_proto_core.specs.Records.{RecordValue, data_eq, data_of, data_of_address, address_of}
 use Rattle.hickory_proto_core.specs.records.record_data.RData.{RData}
 use Rattle.hickory_proto_core.specs.records.record_data.RData.TheVariants.{A, AAAA, CNAME, NS, PTR, SOA, SRV, MX, TXT, Unknown}
 use Rattle.hickory_proto_core.specs.codes.record_type.RecordType.{RecordType}
-use Rattle.hickory_resolver_hosts.specs.Index.{same_address, is_among, is_owner, OwnerPlaces}
+use Rattle.hickory_resolver_hosts.specs.Index.{same_address, is_among, is_owner}
+use Rattle.hickory_resolver_hosts.specs.declared.owners.Owners.{Owners}
 use Rattle.hickory_resolver_hosts.specs.Table.{gives, is_given, is_of_family}
 use Rattle.hickory_resolver_hosts.proofs.Index.{owner_alike}
 
-pub and_true : (x : Bool) → x && true ≡ x
+and_true : (x : Bool) → x && true ≡ x
 and_true true = refl
 and_true false = refl
 
 pub and_false : (x : Bool) → x && false ≡ false
 and_false true = refl
 and_false false = refl
-
--- addresses are equal where their data are
-same_address_data : (k a : IpAddr) → same_address k a ≡ data_eq (data_of_address a) (data_of_address k)
-same_address_data (V4 k) (V4 a) = is_eq-slice_cmp (ipv4_octets k) (ipv4_octets a)
-    ∙ nat_list_eq_equiv.symm (ipv4_octets k) (ipv4_octets a) ∙ sym (and_true _)
-same_address_data (V4 k) (V6 a) = refl
-same_address_data (V6 k) (V4 a) = refl
-same_address_data (V6 k) (V6 a) = is_eq-slice_cmp (ipv6_segments k) (ipv6_segments a)
-    ∙ nat_list_eq_equiv.symm (ipv6_segments k) (ipv6_segments a) ∙ sym (and_true _)
 
 -- the data of an address
 data_of_found : (d : RData) (k : IpAddr) → address_of d ≡ Some k → data_of d ≡ data_of_address k
@@ -48,7 +37,8 @@ data_of_found (TXT x) k h = cc
 data_of_found (Unknown a b) k h = cc
 
 -- equal addresses are of one family
-same_family : (t : RecordType) (k a : IpAddr) → same_address k a ≡ true → is_of_family t a ≡ is_of_family t k
+same_family : (t : RecordType) (k a : IpAddr) → data_eq (data_of_address a) (data_of_address k) ≡ true
+    → is_of_family t a ≡ is_of_family t k
 same_family t (V4 k) (V4 a) h = refl
 same_family t (V4 k) (V6 a) h = cc
 same_family t (V6 k) (V4 a) h = cc
@@ -56,26 +46,25 @@ same_family t (V6 k) (V6 a) h = refl
 
 -- what a record of an address gives
 gives_found : (t : RecordType) (r : RecordValue) (k a : IpAddr) → r.rdata ≡ data_of_address k
-    → gives t a r ≡ is_of_family t k && same_address k a
-gives_found t r k a is = by (same_address k a) refl
+    → gives t a r ≡ is_of_family t k && data_eq (data_of_address a) (data_of_address k)
+gives_found t r k a is =
+    ap (λ d. is_of_family t a && data_eq (data_of_address a) d) is
+    ∙ by (data_eq (data_of_address a) (data_of_address k)) (same_family t k a)
   where
-    here : data_eq (data_of_address a) r.rdata ≡ same_address k a
-    here = ap (data_eq (data_of_address a)) is ∙ sym (same_address_data k a)
-
-    by : (b : Bool) → same_address k a ≡ b → gives t a r ≡ is_of_family t k && same_address k a
-    by true e = ap₂ (λ f s. f && s) (same_family t k a e) here
-    by false e =
-        ap (λ s. is_of_family t a && s) (here ∙ e) ∙ and_false (is_of_family t a) ∙ sym (and_false (is_of_family t k))
-        ∙ ap (λ s. is_of_family t k && s) (sym e)
+    by : (b : Bool) → (b ≡ true → is_of_family t a ≡ is_of_family t k) → is_of_family t a && b ≡ is_of_family t k && b
+    by true same = ap (λ f. f && true) (same refl)
+    by false same = and_false (is_of_family t a) ∙ sym (and_false (is_of_family t k))
 
 pub given_if : (t : RecordType) (r : RecordValue) (d : RData) (k : IpAddr) (o : Option IpAddr) → r.rdata ≡ data_of d
-    → address_of d ≡ Some k → o ≡ then_some (is_of_family t k) k
-    → (a : IpAddr) → option_map_or (λ x. same_address x a) o false ≡ gives t a r
+    → address_of d ≡ Some k → o ≡ then_some (is_of_family t k) k → (a : IpAddr)
+    → option_map_or (λ x. data_eq (data_of_address a) (data_of_address x)) o false ≡ gives t a r
 given_if t r d k o is found says a =
-    ap (λ x. option_map_or (λ y. same_address y a) x false) says ∙ by (is_of_family t k)
+    ap (λ x. option_map_or (λ y. data_eq (data_of_address a) (data_of_address y)) x false) says ∙ by (is_of_family t k)
     ∙ sym (gives_found t r k a (is ∙ data_of_found d k found))
   where
-    by : (b : Bool) → option_map_or (λ x. same_address x a) (then_some b k) false ≡ b && same_address k a
+    by : (b : Bool)
+        → option_map_or (λ x. data_eq (data_of_address a) (data_of_address x)) (then_some b k) false
+        ≡ b && data_eq (data_of_address a) (data_of_address k)
     by true = refl
     by false = refl
 
@@ -92,26 +81,26 @@ or_false true = refl
 or_false false = refl
 
 -- an address is new where an equal one is
-new_alike : (m : OwnerPlaces) (k a : IpAddr) (place : ℕ) (g new : Bool) → same_address k a ≡ g → new ≡ not (is_owner m k place)
+new_alike : (m : Owners) (k a : IpAddr) (place : ℕ) (g new : Bool) → same_address k a ≡ g → new ≡ not (is_owner m k place)
     → g && new ≡ g && not (is_owner m a place)
 new_alike m k a place true new same says = says ∙ ap not (owner_alike m k a place same)
 new_alike m k a place false new same says = refl
 
 -- the list of new addresses after one address, which is new or not
-pub noted : (m : OwnerPlaces) (k a : IpAddr) (place : ℕ) (g : Bool) (xs : List IpAddr) → same_address k a ≡ g
+pub noted : (m : Owners) (k a : IpAddr) (place : ℕ) (g : Bool) (xs : List IpAddr) → same_address k a ≡ g
     → true ≡ not (is_owner m k place)
     → is_among a (xs ++ k ∷ []) ≡ is_among a xs || (g && not (is_owner m a place))
 noted m k a place g xs same says =
     among_push xs k a ∙ ap (λ x. is_among a xs || x) (same ∙ sym (and_true g) ∙ new_alike m k a place g true same says)
 
-pub not_noted : (m : OwnerPlaces) (k a : IpAddr) (place : ℕ) (g : Bool) (xs : List IpAddr) → same_address k a ≡ g
+pub not_noted : (m : Owners) (k a : IpAddr) (place : ℕ) (g : Bool) (xs : List IpAddr) → same_address k a ≡ g
     → false ≡ not (is_owner m k place)
     → is_among a xs ≡ is_among a xs || (g && not (is_owner m a place))
 not_noted m k a place g xs same says =
     sym (or_false (is_among a xs)) ∙ ap (λ x. is_among a xs || x) (sym (and_false g) ∙ new_alike m k a place g false same says)
 
 -- a step of the list of new addresses
-pub added_more : (before now : OwnerPlaces) (place : ℕ) (t : RecordType) (rs : List RecordValue) (i : ℕ) (d r : RecordValue)
+pub added_more : (before now : Owners) (place : ℕ) (t : RecordType) (rs : List RecordValue) (i : ℕ) (d r : RecordValue)
     (xs new : List IpAddr) (a : IpAddr) → i < length rs → r ≡ get_or rs i d
     → is_among a xs ≡ is_given t (take i rs) a && not (is_owner before a place)
     → is_owner now a place ≡ is_owner before a place || (is_among a xs && (place == place))
@@ -133,7 +122,7 @@ added_more before now place t rs i d r xs new a short is was owners says =
     by false e false false h = refl
 
 -- a step of the index that is told of addresses
-pub owners_more : (before now after : OwnerPlaces) (place : ℕ) (g : Bool) (xs new : List IpAddr) (a : IpAddr) (i : ℕ)
+pub owners_more : (before now after : Owners) (place : ℕ) (g : Bool) (xs new : List IpAddr) (a : IpAddr) (i : ℕ)
     → is_owner now a i ≡ is_owner before a i || (is_among a xs && (place == i))
     → is_among a new ≡ is_among a xs || (g && not (is_owner now a place))
     → is_owner after a i ≡ is_owner now a i || (g && (place == i))
@@ -152,7 +141,7 @@ owners_more before now after place g xs new a i was noted says =
         ∙ ap (λ v. (e && not v) && true) (sym (same refl ∙ is))
 
 -- the index that forgets what it was told
-pub restored : (before now after : OwnerPlaces) (told : Bool) (place : ℕ) (a : IpAddr) (i : ℕ)
+pub restored : (before now after : Owners) (told : Bool) (place : ℕ) (a : IpAddr) (i : ℕ)
     → (told ≡ true → is_owner before a place ≡ false)
     → is_owner now a i ≡ is_owner before a i || (told && (place == i))
     → is_owner after a i ≡ is_owner now a i && not (told && (place == i))
@@ -170,7 +159,7 @@ restored before now after told place a i apart was says =
     by false false p apart = refl
 
 -- an address that is new was not there, nor any equal one
-pub apart_alike : (m : OwnerPlaces) (k a : IpAddr) (place : ℕ) → true ≡ not (is_owner m k place) → same_address k a ≡ true
+pub apart_alike : (m : Owners) (k a : IpAddr) (place : ℕ) → true ≡ not (is_owner m k place) → same_address k a ≡ true
     → is_owner m a place ≡ false
 apart_alike m k a place says same = sym (owner_alike m k a place same) ∙ by (is_owner m k place) says
   where

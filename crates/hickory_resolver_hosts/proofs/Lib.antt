@@ -1,4 +1,5 @@
 pub mod Index
+pub mod Bits
 pub mod Addresses
 pub mod Places
 pub mod InOrder

@@ -19,10 +19,12 @@ use Rattle.hickory_proto_core.specs.Records.{RecordValue, DataValue, a_data, aaa
 use Rattle.hickory_proto_core.specs.codes.record_type.RecordType.{RecordType}
 use Rattle.hickory_resolver_model.specs.Lookup.{LookupValue}
 use Rattle.hickory_resolver_model.specs.Hosts.{Host, address_type, append, family, has_address, has_answer, insert_host, is_host, as_fqdn, no_addresses, with_lookup}
-use Rattle.hickory_resolver_hosts.specs.Index.{OwnerPlaces, is_owner, is_among}
+use Rattle.hickory_resolver_hosts.specs.Index.{is_owner, is_among, EachAddress}
+use Rattle.hickory_resolver_hosts.specs.declared.owners.Owners.{Owners}
 use Rattle.hickory_resolver_hosts.specs.Table.{host_at, hosts_of, no_lookups, place_in, put_host, has_address_at, IsIndexed, is_given}
 use Rattle.hickory_resolver_hosts.specs.declared.host.HostLookups.{HostLookups}
 use Rattle.hickory_resolver_hosts.proofs.Addresses.{and_false}
+use Rattle.hickory_resolver_hosts.proofs.Index.{and_with_true, or_with_false}
 
 abbrev Entries : Type 0
 Entries = List (NameValue × HostLookups)
@@ -140,14 +142,6 @@ put_is_insert n t l now es full apart =
 abbrev Adds : (Host → Host) → DataValue → Bool → Type 0
 Adds f d more = (h : Host) → has_address d (f h) ≡ has_address d h || more
 
-or_with_false : (x : Bool) → x ≡ x || false
-or_with_false true = refl
-or_with_false false = refl
-
-and_with_true : (x : Bool) → x ≡ x && true
-and_with_true true = refl
-and_with_true false = refl
-
 zero_suc : (i : ℕ) → (zero == suc i) ≡ false
 zero_suc i = eqb-zero-suc i
 
@@ -228,20 +222,22 @@ index_step false true more false same = and_false (more && false) ∙ sym (and_f
 index_step false false more here same = ap (λ x. x && here) (sym (and_with_true more))
 
 -- the index after it is told of a look-up
-pub indexed_after : (before after : List Host) (m k : OwnerPlaces) (n : NameValue) (t : RecordType) (l : LookupValue) (now place : ℕ) (added : List IpAddr) → IsIndexed before m
+pub indexed_after : (before after : List Host) (m k : Owners) (n : NameValue) (t : RecordType) (l : LookupValue)
+    (now place : ℕ) (added : List IpAddr) → IsIndexed before m
     → place ≡ place_in n before → after ≡ put_host (with_lookup n t l now) n before
-    → ((a : IpAddr) (i : ℕ) → is_owner k a i ≡ is_owner m a i || (is_among a added && (place == i)))
-    → ((a : IpAddr) → is_among a added ≡ is_given t l.message.answers a && not (is_owner m a place))
+    → EachAddress (λ a. (i : ℕ) → is_owner k a i ≡ is_owner m a i || (is_among a added && (place == i)))
+    → EachAddress (λ a. is_among a added ≡ is_given t l.message.answers a && not (is_owner m a place))
     → IsIndexed after k
-indexed_after before after m k n t l now place added indexed place_is after_is owners among a i =
-    owners a i ∙ ap (λ x. is_owner m a i || (x && (place == i))) (among a)
+indexed_after before after m k n t l now place added indexed place_is after_is owners among a is i =
+    owners a is i ∙ ap (λ x. is_owner m a i || (x && (place == i))) (among a is)
     ∙ index_step (is_owner m a i) (is_owner m a place) (is_given t l.message.answers a) (place == i) (λ here. ap (is_owner m a) (sym (eqb-true place i here)))
-    ∙ ap₂ (λ x p. x || (is_given t l.message.answers a && (p == i))) (indexed a i) place_is
+    ∙ ap₂ (λ x p. x || (is_given t l.message.answers a && (p == i))) (indexed a is i) place_is
     ∙ sym (has_after (with_lookup n t l now) n (data_of_address a) (is_given t l.message.answers a) before (lookup_adds n t l now a) i)
     ∙ ap (λ hosts. has_address_at hosts (data_of_address a) i) (sym after_is)
 
 -- what is new was not there
-pub new_is_apart : (m : OwnerPlaces) (place : ℕ) (added : List IpAddr) (a : IpAddr) (given : Bool) → is_among a added ≡ given && not (is_owner m a place) → is_among a added ≡ true → is_owner m a place ≡ false
+pub new_is_apart : (m : Owners) (place : ℕ) (added : List IpAddr) (a : IpAddr) (given : Bool)
+    → is_among a added ≡ given && not (is_owner m a place) → is_among a added ≡ true → is_owner m a place ≡ false
 new_is_apart m place added a given says among = by given (is_owner m a place) (sym says ∙ among)
   where
     by : (g o : Bool) → g && not o ≡ true → o ≡ false

@@ -13,8 +13,9 @@ use Rattle.hickory_proto_core.specs.records.query.Query.{Query}
 use Rattle.hickory_resolver_model.specs.Bounds.{day}
 use Rattle.hickory_resolver_model.specs.Lookup.{LookupValue}
 use Rattle.hickory_resolver_model.specs.Hosts.{Host, StandsFor, address_type, has_address, is_host, as_fqdn, pointer_lookup, pointers}
-use Rattle.hickory_resolver_hosts.specs.Index.{OwnerPlaces, is_owner}
+use Rattle.hickory_resolver_hosts.specs.Index.{is_owner, EachAddress}
 use Rattle.hickory_resolver_hosts.specs.declared.host.HostLookups.{HostLookups}
+use Rattle.hickory_resolver_hosts.specs.declared.owners.Owners.{Owners}
 
 abbrev pub host_at : NameValue → HostLookups → Host
 host_at n h = record { name = n; a = h.a; aaaa = h.aaaa }
@@ -41,10 +42,9 @@ abbrev pub has_address_at : List Host → DataValue → ℕ → Bool
 has_address_at hosts address place = option_map_or (has_address address) (slice_get hosts place) false
 
 -- the index says of each address which hosts have it
-abbrev pub IsIndexed : List Host → OwnerPlaces → Type 0
-IsIndexed hosts index =
-    (address : IpAddr) (place : ℕ)
-    → is_owner index address place ≡ has_address_at hosts (data_of_address address) place
+abbrev pub IsIndexed : List Host → Owners → Type 0
+IsIndexed hosts index = EachAddress (λ address. (place : ℕ)
+    → is_owner index address place ≡ has_address_at hosts (data_of_address address) place)
 
 -- an address is of the family of a type: IPv4 for A, IPv6 for every other type
 abbrev pub is_of_family : RecordType → IpAddr → Bool

@@ -13,7 +13,6 @@ use hickory_proto_core::{Name, NetError, Query, Record, RecordType};
 use hickory_resolver_lookup::Lookup;
 use indexmap::IndexMap;
 use std::alloc::Global;
-use std::collections::BTreeSet;
 use std::hash::{BuildHasher, BuildHasherDefault, FoldHasher};
 use std::marker::Model;
 
@@ -53,7 +52,7 @@ impl<S: BuildHasher> Hosts<S> {
     {
         Hosts {
             names: IndexMap::with_hasher(alloc, hasher),
-            owners: BTreeSet::new(alloc),
+            owners: Owners::new(alloc),
         }
     }
 

@@ -1,38 +1,79 @@
 //! The index from an address to the places of the names that have it.
 ghost use Rattle.std.specs.Prelude.{◌≡◌, ℕ, false, not, ◌||◌, ◌&&◌, ◌==◌, IfOk, OnOk, OnErr};
 ghost use Rattle.std.specs.declared.net.IpAddr.{IpAddr as Address};
+ghost use Rattle.std.specs.Net.Addr.{ipv4_bits, ipv4_octets, ipv6_bits, ipv6_octets};
 ghost use Rattle.std.specs.Option.{option_map_or};
 ghost use Rattle.hickory_proto_core.specs.Codes.{type_code};
-ghost use Rattle.hickory_proto_core.specs.Records.{data_of_address};
+ghost use Rattle.hickory_proto_core.specs.Records.{data_eq, data_of_address};
 ghost use Rattle.hickory_resolver_model.specs.Hosts.{address_type};
 ghost use Rattle.hickory_resolver_hosts.specs.Index.{is_among, is_owner, same_address};
+ghost use Rattle.hickory_resolver_hosts.specs.Index.{AreOctets, EachAddress, HasOctets};
 ghost use Rattle.hickory_resolver_hosts.specs.Table.{gives, is_given, is_of_family};
 
 use hickory_proto_core::{Record, RecordType};
 use std::alloc::{AllocError, Global};
 use std::collections::BTreeSet;
-use std::net::IpAddr;
+use std::net::{IpAddr, Ipv4Addr, Ipv6Addr};
 
-/// The pairs of an address and the place of a name that has it, in ascending order.
-pub type Owners = BTreeSet<(IpAddr, usize)>;
-
-/// The name at this place has the address from now on. Says whether it did not have it before. A refused call
-/// changes nothing.
-pub fn add_owner(owners: &mut Owners, address: IpAddr, place: usize) -> Result<bool, AllocError>
-    ensures added { IfOk result (λ added. added ≡ not (is_owner owners.old address place)) }
-    ensures ok { OnOk result ((a : Address) (i : ℕ) →
-        is_owner owners.new a i ≡ is_owner owners.old a i || (same_address address a && (place == i))) }
-    ensures err { OnErr result ((a : Address) (i : ℕ) → is_owner owners.new a i ≡ is_owner owners.old a i) }
-{
-    Ok(owners.insert((address, place))?)
+/// The places of the names that have each address, by its bits, in ascending order.
+#[derive(Drop)]
+pub struct Owners {
+    pub(crate) v4: BTreeSet<(u32, usize)>,
+    pub(crate) v6: BTreeSet<(u128, usize)>,
 }
 
-/// The name at this place does not have the address any more.
-pub fn remove_owner(owners: &mut Owners, address: IpAddr, place: usize)
-    ensures { (a : Address) (i : ℕ) →
-        is_owner owners.new a i ≡ is_owner owners.old a i && not (same_address address a && (place == i)) }
+impl Owners {
+    /// No place has any address. Takes no memory.
+    pub fn new(alloc: Global) -> Owners
+        ensures { (a : Address) (i : ℕ) → is_owner result a i ≡ false }
+    {
+        Owners {
+            v4: BTreeSet::new(alloc),
+            v6: BTreeSet::new(alloc),
+        }
+    }
+
+    /// The name at this place has the address from now on. Says whether it did not have it before. A refused
+    /// call changes nothing.
+    pub fn add(&mut self, address: IpAddr, place: usize) -> Result<bool, AllocError>
+        ensures address { HasOctets address }
+        ensures added { IfOk result (λ added. added ≡ not (is_owner self.old address place)) }
+        ensures ok { OnOk result ((a : Address) (i : ℕ) →
+            is_owner self.new a i ≡ is_owner self.old a i || (same_address address a && (place == i))) }
+        ensures err { OnErr result ((a : Address) (i : ℕ) → is_owner self.new a i ≡ is_owner self.old a i) }
+    {
+        match address {
+            IpAddr::V4(address) => Ok(self.v4.insert((bits_v4(address), place))?),
+            IpAddr::V6(address) => Ok(self.v6.insert((bits_v6(address), place))?),
+        }
+    }
+
+    /// The name at this place does not have the address any more.
+    pub fn remove(&mut self, address: IpAddr, place: usize)
+        ensures { (a : Address) (i : ℕ) →
+            is_owner self.new a i ≡ is_owner self.old a i && not (same_address address a && (place == i)) }
+    {
+        match address {
+            IpAddr::V4(address) => self.v4.remove(&(bits_v4(address), place)),
+            IpAddr::V6(address) => self.v6.remove(&(bits_v6(address), place)),
+        };
+    }
+}
+
+/// The bits of an IPv4 address, which has four octets.
+pub fn bits_v4(address: Ipv4Addr) -> u32
+    ensures bits { result ≡ ipv4_bits address }
+    ensures octets { AreOctets 4 (ipv4_octets address) }
 {
-    owners.remove(&(address, place));
+    u32::from_be_bytes(address.octets())
+}
+
+/// The bits of an IPv6 address, which has sixteen octets.
+pub fn bits_v6(address: Ipv6Addr) -> u128
+    ensures bits { result ≡ ipv6_bits address }
+    ensures octets { AreOctets 16 (ipv6_octets address) }
+{
+    u128::from_be_bytes(address.octets())
 }
 
 /// The name at this place has the addresses that records of a type give from now on. Gives those that it did
@@ -44,11 +85,12 @@ pub fn add_owners(
     record_type: RecordType,
     records: &[Record],
 ) -> Result<Vec<IpAddr>, AllocError>
-    ensures added { IfOk result (λ added. (a : Address) →
-        is_among a added.items ≡ is_given record_type records.now a && not (is_owner owners.old a place)) }
-    ensures ok { IfOk result (λ added. (a : Address) (i : ℕ) →
-        is_owner owners.new a i ≡ is_owner owners.old a i || (is_among a added.items && (place == i))) }
-    ensures err { OnErr result ((a : Address) (i : ℕ) → is_owner owners.new a i ≡ is_owner owners.old a i) }
+    ensures added { IfOk result (λ added. EachAddress (λ a.
+        is_among a added.items ≡ is_given record_type records.now a && not (is_owner owners.old a place))) }
+    ensures ok { IfOk result (λ added. EachAddress (λ a. (i : ℕ) →
+        is_owner owners.new a i ≡ is_owner owners.old a i || (is_among a added.items && (place == i)))) }
+    ensures err { OnErr result (EachAddress (λ a. (i : ℕ) →
+        is_owner owners.new a i ≡ is_owner owners.old a i)) }
 {
     let mut added = Vec::new(alloc);
     for entry in records {
@@ -69,20 +111,21 @@ fn add_record(
     record_type: RecordType,
     entry: &Record,
 ) -> Result<(), AllocError>
-    ensures added { OnOk result ((a : Address) →
+    ensures added { OnOk result (EachAddress (λ a.
         is_among a added.new.items ≡ is_among a added.old.items
-        || (gives record_type a entry.now && not (is_owner owners.old a place))) }
-    ensures ok { OnOk result ((a : Address) (i : ℕ) →
+        || (gives record_type a entry.now && not (is_owner owners.old a place)))) }
+    ensures ok { OnOk result (EachAddress (λ a. (i : ℕ) →
         is_owner owners.new a i ≡ is_owner owners.old a i
-        || (gives record_type a entry.now && (place == i))) }
-    ensures err { OnErr result ((a : Address) (i : ℕ) → is_owner owners.new a i ≡ is_owner owners.old a i) }
+        || (gives record_type a entry.now && (place == i)))) }
+    ensures err { OnErr result (EachAddress (λ a. (i : ℕ) →
+        is_owner owners.new a i ≡ is_owner owners.old a i)) }
     ensures unchanged { OnErr result (added.new.items ≡ added.old.items) }
 {
     let Some(address) = given_address(record_type, entry) else {
         return Ok(());
     };
-    if add_owner(owners, address, place)? && added.push(address).is_err() {
-        remove_owner(owners, address, place);
+    if owners.add(address, place)? && added.push(address).is_err() {
+        owners.remove(address, place);
         return Err(AllocError);
     }
     Ok(())
@@ -91,7 +134,8 @@ fn add_record(
 // The address that a record of a type gives.
 fn given_address(record_type: RecordType, entry: &Record) -> Option<IpAddr>
     ensures { (a : Address) →
-        option_map_or (λ k. same_address k a) result false ≡ gives record_type a entry.now }
+        option_map_or (λ k. data_eq (data_of_address a) (data_of_address k)) result false
+        ≡ gives record_type a entry.now }
 {
     let address = entry.rdata.ip_addr()?;
     is_of_family(record_type, address).then_some(address)
@@ -110,6 +154,6 @@ pub fn remove_owners(owners: &mut Owners, addresses: &[IpAddr], place: usize)
         is_owner owners.new a i ≡ is_owner owners.old a i && not (is_among a addresses.now && (place == i)) }
 {
     for address in addresses {
-        remove_owner(owners, *address, place);
+        owners.remove(*address, place);
     }
 }

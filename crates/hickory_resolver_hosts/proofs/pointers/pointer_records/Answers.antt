@@ -1,32 +1,37 @@
-use Rattle.std.proofs.Common.{◌≡◌, ◌++◌, length, ap, sym, ◌∙◌}
+use Rattle.std.proofs.Common.{filter, length, sym, ap, ◌∙◌}
+use Rattle.std.specs.declared.net.IpAddr.TheVariants.{V4, V6}
 use Rattle.std.proofs.lemmas.List.{length-map}
-use Rattle.std.specs.List.{filter_map}
-use Rattle.hickory_resolver_hosts.specs.Table.{host_at, hosts_of, pointer_at}
-use Rattle.hickory_resolver_hosts.proofs.Index.{from_least}
-use Rattle.hickory_resolver_hosts.proofs.InOrder.{turn_some, turn_none, pointed, not_pointed, pointers_between}
+use Rattle.hickory_proto_core.specs.Records.{data_of_address}
+use Rattle.hickory_resolver_model.specs.Hosts.{has_address, pointers}
+use Rattle.hickory_resolver_hosts.specs.Index.{has_owner}
+use Rattle.hickory_resolver_hosts.specs.Table.{host_at, hosts_of}
+use Rattle.hickory_resolver_hosts.proofs.InOrder.{if_ok, pointers_between}
 use Rattle.hickory_resolver_hosts.proofs.pointers.pointer_records.Goals as goal
 
-pub range-pair-items-requires : goal.range-pair-items-requires
-range-pair-items-requires g c = from_least c.args.address c.len.result
-
-pub loop-pair-init : goal.loop-pair-init
-loop-pair-init g c =
+pub returns-in-V4-clause-ok : goal.returns-in-V4-clause-ok
+returns-in-V4-clause-ok g c =
     let es = c.args.names.now.entries in
-    let count : c.len.result ≡ length (hosts_of es) = c.len.ensures.len ∙ sym (length-map es (λ e. host_at e.0 e.1)) in
-    ap (λ rs. rs ++ filter_map (λ q. pointer_at c.args.owner.now (hosts_of es) q.1) c.into_iter-pair-iterator.result) c.new-records.ensures.items
-    ∙ pointers_between c.args.owner.now (hosts_of es) c.args.owners.now c.args.address c.len.result c.into_iter-pair-iterator.result c.requires count
-    (c.into_iter-pair-iterator.ensures.into_iter_gives ∙ c.range-pair-items.ensures.between tt) c.range-pair-items.ensures.ordered
+    let owners = c.args.owners.now.v4 in
+    let bits = c.bits_v4.result in
+    let address = V4 c.in-V4.address in
+    let pairs = pointers_between c.args.owner.now (hosts_of es) owners bits (length es) (data_of_address address)
+    (λ i. ap (λ b. has_owner owners b i) c.bits_v4.ensures.bits ∙ c.requires address c.bits_v4.ensures.octets i)
+    (sym (length-map es (λ e. host_at e.0 e.1))) c.pointers_of.ensures.ordered in
+    if_ok c.pointers_of.result
+    (λ records is. is ∙ pairs
+    ∙ ap (λ a. pointers c.args.owner.now (filter (has_address (data_of_address a)) (hosts_of es))) (sym c.in-V4.is))
+    c.pointers_of.ensures.ok
 
-pub loop-pair-preserved-in_ok-push : goal.loop-pair-preserved-in_ok-push
-loop-pair-preserved-in_ok-push g c =
+pub returns-in-V6-clause-ok : goal.returns-in-V6-clause-ok
+returns-in-V6-clause-ok g c =
     let es = c.args.names.now.entries in
-    let place = c.in-Some.pair.now.1 in
-    turn_some (λ q. pointer_at c.args.owner.now (hosts_of es) q.1) c.loop-pair.records.items c.push.new.self.items _ c.loop-pair.pair-iterator c.next.new.self c.in-Some.pair.now c.in_ok-pointer_record.field-0 c.in-Some.ensures.steps
-    (pointed c.args.owner.now c.in-Some-get_index.name.now c.in-Some-get_index.field-0-1.now es place c.in_ok-pointer_record.field-0 c.in-Some-get_index.ensures.entry c.in_ok-pointer_record.ensures.ok)
-    c.in_ok-push.ensures.items c.loop-pair.invariant
-
-pub loop-pair-preserved : goal.loop-pair-preserved
-loop-pair-preserved g c =
-    let es = c.args.names.now.entries in
-    turn_none (λ q. pointer_at c.args.owner.now (hosts_of es) q.1) c.loop-pair.records.items _ c.loop-pair.pair-iterator c.next.new.self c.in-Some.pair.now c.in-Some.ensures.steps
-    (not_pointed c.args.owner.now es c.in-Some.pair.now.1 c.in_default.ensures.entry) c.loop-pair.invariant
+    let owners = c.args.owners.now.v6 in
+    let bits = c.bits_v6.result in
+    let address = V6 c.in-V6.address in
+    let pairs = pointers_between c.args.owner.now (hosts_of es) owners bits (length es) (data_of_address address)
+    (λ i. ap (λ b. has_owner owners b i) c.bits_v6.ensures.bits ∙ c.requires address c.bits_v6.ensures.octets i)
+    (sym (length-map es (λ e. host_at e.0 e.1))) c.pointers_of-in-V6.ensures.ordered in
+    if_ok c.pointers_of-in-V6.result
+    (λ records is. is ∙ pairs
+    ∙ ap (λ a. pointers c.args.owner.now (filter (has_address (data_of_address a)) (hosts_of es))) (sym c.in-V6.is))
+    c.pointers_of-in-V6.ensures.ok

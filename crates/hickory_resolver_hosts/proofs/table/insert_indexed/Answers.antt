@@ -14,24 +14,24 @@ returns-clause-ok g c =
     c.place_of-place.ensures.unique) c.insert-inserted.ensures.ok
 
 pub returns-clause-indexed : goal.returns-clause-indexed
-returns-clause-indexed g c = λ a i. elim c.if-is_err.branch [
+returns-clause-indexed g c = λ a is i. elim c.if-is_err.branch [
   | then-is_err w ↦
       let same = err_from _ (sym c.is_err.ensures.value ∙ w.if-is_err.true) c.insert-inserted.ensures.unchanged in
       ap (λ m. is_owner m a i) w.owners-is
       ∙ restored c.args.owners.now c.add_owners.new.owners w.remove_owners.new.owners (is_among a c.in_ok-added.added.items)
       c.place_of-place.result a i
-      (new_is_apart c.args.owners.now c.place_of-place.result c.in_ok-added.added.items a _ (c.in_ok-added.ensures.added a))
-      (c.in_ok-added.ensures.ok a i)
+      (new_is_apart c.args.owners.now c.place_of-place.result c.in_ok-added.added.items a _ (c.in_ok-added.ensures.added a is))
+      (c.in_ok-added.ensures.ok a is i)
       (w.remove_owners.ensures a i
       ∙ ap (λ xs. is_owner c.add_owners.new.owners a i && not (is_among a xs && (c.place_of-place.result == i)))
       w.deref.ensures.value)
-      ∙ c.requires.indexed a i ∙ ap (λ hosts. has_address_at hosts (data_of_address a) i) (sym same)
+      ∙ c.requires.indexed a is i ∙ ap (λ hosts. has_address_at hosts (data_of_address a) i) (sym same)
   | else-is_err w ↦
       let after = ok_from _ (sym c.is_err.ensures.value ∙ w.if-is_err.false) c.insert-inserted.ensures.ok in
       ap (λ m. is_owner m a i) w.owners-is
       ∙ indexed_after _ _ c.args.owners.now c.add_owners.new.owners c.args.name c.args.record_type c.args.lookup c.args.now
       c.place_of-place.result c.in_ok-added.added.items c.requires.indexed
-      c.place_of-place.ensures.place after c.in_ok-added.ensures.ok (λ b. c.in_ok-added.ensures.added b
+      c.place_of-place.ensures.place after c.in_ok-added.ensures.ok (λ b there. c.in_ok-added.ensures.added b there
       ∙ ap (λ rs. is_given c.args.record_type rs b && not (is_owner c.args.owners.now b c.place_of-place.result))
-      c.answers.ensures) a i
+      c.answers.ensures) a is i
 ]
