@@ -1,14 +1,14 @@
 -- Runs that are told: what is told is that of the run, and the listener hears of it in order.
-use Rattle.std.proofs.Common.{◌≡◌, ◌⊎◌, ℕ, Bool, true, false, List, [], ◌∷◌, ◌++◌, ◌-◌, length, map, take, drop, Result, Ok, Err, IfOk, MatchResult, refl, sym, ap, ◌∙◌, subst, inl, inr, arith, append_assoc, length-append}
+use Rattle.std.proofs.Common.{◌≡◌, ◌⊎◌, Bool, true, false, List, [], ◌∷◌, ◌++◌, ◌-◌, length, map, take, drop, Result, Ok, Err, IfOk, MatchResult, refl, sym, ap, ◌∙◌, subst, inl, inr, arith, append_assoc, length-append}
 use Rattle.std.proofs.lemmas.List.{append-nil}
 use Rattle.hickory_proto_core.specs.Handles.{Step, RecordedValue}
-use Rattle.hickory_proto_core.specs.Recorded.{RecordedStep, IsRecorded, recorded_leads}
+use Rattle.hickory_proto_core.specs.Recorded.{RecordedStep, recorded_leads}
 use Rattle.hickory_proto_core.specs.declared.recorded.Exchange.{Exchange}
 use Rattle.hickory_resolver_config.specs.Resolver.{ResolverConfigValue, OptionsValue}
 use Rattle.hickory_resolver_model.specs.Hosts.{Host}
 use Rattle.hickory_resolver_model.specs.Resolver.{ResolverValue, new_resolver, settings}
-use Rattle.hickory_resolver_model.specs.Run.{RequestValue, StepValue, ends_run, settings_of}
-use Rattle.hickory_resolver.specs.Serving.{MakesStep, AnswersAll}
+use Rattle.hickory_resolver_model.specs.Run.{RequestValue, StepValue, settings_of}
+use Rattle.hickory_resolver.specs.Serving.{AnswersAll}
 use Rattle.hickory_resolver.specs.Telling.{Told, Hears, HearsAll, told_of, MakesTold, TellsAll, Tells, ToldSoFar, IsToldRun}
 use Rattle.hickory_resolver.proofs.Serving.{KeepsRequest, is_run, resolver_is}
 

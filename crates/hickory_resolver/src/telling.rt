@@ -113,8 +113,11 @@ fn tell<R: DnsHandle + Recording, S: BuildHasher, L: Listener>(
 {
     let before = exchange_count(resolver);
     let step = serve(resolver, request);
-    listener.hear(request, kept_behind(resolver, before), &step)?;
-    Ok(step.reply.ends_run())
+    let heard = listener.hear(request, kept_behind(resolver, before), &step);
+    let is_last = step.reply.ends_run();
+    drop(step);
+    heard?;
+    Ok(is_last)
 }
 
 // The exchanges that the handle has kept behind so many.

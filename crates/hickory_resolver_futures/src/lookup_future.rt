@@ -36,7 +36,7 @@ impl LookupFuture {
 
     /// As `lookup`; for the first name that is attempted, the table of hosts is asked before the client.
     pub fn lookup_with_hosts<H: DnsHandle, S: BuildHasher, T: BuildHasher>(
-        mut names: Vec<Name>,
+        names: Vec<Name>,
         record_type: RecordType,
         options: DnsRequestOptions,
         client: &mut CachingClient<H, S>,
@@ -46,6 +46,7 @@ impl LookupFuture {
         ensures { LooksUp H.step options hosts.now now (name_plan record_type) true (reverse names.items)
             client.old result client.new }
     {
+        let mut names = names;
         let Some(name) = names.pop() else {
             return Err(NetError::from("can not lookup for no names"));
         };
