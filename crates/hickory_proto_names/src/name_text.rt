@@ -1,5 +1,6 @@
 //! The text of names (RFC 1035, sections 2.3.1 and 5.1).
 ghost use Rattle.std.specs.Prelude.{◌≡◌, ◌≤◌, ◌++◌, ◌∷◌, ◌⊎◌, [], length, take, IfOk, IfErr, IfSome, IfNone, IsTrue, OnOk, IsOkUnless, MatchOption, Some, None, false};
+ghost use Rattle.std.specs.Fmt.{WritesOnOk};
 ghost use Rattle.std.specs.List.{list_all};
 ghost use Rattle.std.specs.String.{string_bytes};
 ghost use Rattle.hickory_proto_names.specs.Name.{label_bytes};
@@ -88,7 +89,7 @@ impl fmt::Display for Name {
     ghost output = { λ n. Some (name_text n) };
 
     fn fmt<W: fmt::Write>(&self, f: &mut fmt::Formatter<W>) -> fmt::Result {
-        write!(f, "{}", LabelsText(self.labels()))?;
+        write_labels(f, self.labels())?;
         if self.is_fqdn() {
             f.write_str(".")?;
         }
@@ -96,36 +97,27 @@ impl fmt::Display for Name {
     }
 }
 
-// Labels that print as their texts with a dot between each two.
-#[derive(Clone, Copy)]
-struct LabelsText<'a>(&'a [Vec<u8>]);
-
-impl fmt::Display for LabelsText<'_> {
-    ghost output = { λ l. Some (labels_text (label_bytes l.0.now)) };
-
-    fn fmt<W: fmt::Write>(&self, f: &mut fmt::Formatter<W>) -> fmt::Result {
-        if let [first, rest @ ..] = self.0 {
-            write!(f, "{}", LabelText(first))?;
-            for label in rest {
-                write!(f, ".{}", LabelText(label))?;
-            }
+// Writes the texts of the labels with a dot between each two.
+fn write_labels<W: fmt::Write>(f: &mut fmt::Formatter<W>, labels: &[Vec<u8>]) -> fmt::Result
+    ensures { WritesOnOk W.write_str_gives f.old result (labels_text (label_bytes labels.now)) f.new }
+{
+    if let [first, rest @ ..] = labels {
+        write_label(f, first)?;
+        for label in rest {
+            f.write_str(".")?;
+            write_label(f, label)?;
         }
-        Ok(())
     }
+    Ok(())
 }
 
-// A label that prints as its text.
-#[derive(Clone, Copy)]
-struct LabelText<'a>(&'a [u8]);
-
-impl fmt::Display for LabelText<'_> {
-    ghost output = { λ l. Some (piece_text (printed_label l.0.now)) };
-
-    fn fmt<W: fmt::Write>(&self, f: &mut fmt::Formatter<W>) -> fmt::Result {
-        match plain_text(self.0) {
-            Some(text) => f.write_str(text),
-            None => write!(f, "{}", EscapedText(self.0)),
-        }
+// Writes the text of a label.
+fn write_label<W: fmt::Write>(f: &mut fmt::Formatter<W>, label: &[u8]) -> fmt::Result
+    ensures { WritesOnOk W.write_str_gives f.old result (piece_text (printed_label label.now)) f.new }
+{
+    match plain_text(label) {
+        Some(text) => f.write_str(text),
+        None => write!(f, "{}", EscapedText(label)),
     }
 }
 
