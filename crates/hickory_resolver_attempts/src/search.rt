@@ -83,7 +83,8 @@ fn with_raw_first(alloc: Global, name: Name, joined: &[Name]) -> Result<Vec<Name
 
 // Those that the name was joined to, and then the name, fully qualified.
 fn with_raw_last(alloc: Global, name: Name, joined: Vec<Name>) -> Result<Vec<Name>, AllocError>
-    ensures { IfOk result (λ names. names.items ≡ keep_last (joined.items ++ record name { fqdn = true } ∷ [])) }
+    ensures { IfOk result (λ names. names.items
+        ≡ keep_last (joined.items ++ record name { fqdn = true } ∷ [])) }
 {
     let (mut name, mut found) = (name, joined);
     name.set_fqdn(true);

@@ -68,17 +68,13 @@ given_if t r d k o is found says a =
     by true = refl
     by false = refl
 
-among_push : (xs : List IpAddr) (k a : IpAddr) → is_among a (xs ++ k ∷ []) ≡ is_among a xs || same_address k a
-among_push xs k a = list_any-append (λ x. same_address x a) xs (k ∷ [])
-    ∙ ap (λ x. is_among a xs || x) (or_false (same_address k a))
-  where
-    or_false : (x : Bool) → x || false ≡ x
-    or_false true = refl
-    or_false false = refl
-
 or_false : (x : Bool) → x || false ≡ x
 or_false true = refl
 or_false false = refl
+
+among_push : (xs : List IpAddr) (k a : IpAddr) → is_among a (xs ++ k ∷ []) ≡ is_among a xs || same_address k a
+among_push xs k a = list_any-append (λ x. same_address x a) xs (k ∷ [])
+    ∙ ap (λ x. is_among a xs || x) (or_false (same_address k a))
 
 -- an address is new where an equal one is
 new_alike : (m : Owners) (k a : IpAddr) (place : ℕ) (g new : Bool) → same_address k a ≡ g → new ≡ not (is_owner m k place)

@@ -19,7 +19,7 @@ AreOctets n xs = (length xs ≡ n) × ((k : ℕ) → slice_index xs k < 256)
 abbrev pub HasOctets : IpAddr → Type 0
 HasOctets a = MatchIp a (λ x. AreOctets 4 (ipv4_octets x)) (λ x. AreOctets 16 (ipv6_octets x))
 
--- a fact of every address
+-- a fact of every address that has its four or sixteen octets, as each one in code has
 abbrev pub EachAddress : (IpAddr → Type 0) → Type 0
 EachAddress P = (a : IpAddr) → HasOctets a → P a
 

@@ -15,11 +15,13 @@ use std::alloc::{AllocError, Global};
 use std::collections::BTreeSet;
 use std::net::{IpAddr, Ipv4Addr, Ipv6Addr};
 
-/// The places of the names that have each address, by its bits, in ascending order.
+/// The places of the names that have each address, in ascending order.
 #[derive(Drop)]
 pub struct Owners {
-    pub(crate) v4: BTreeSet<(u32, usize)>,
-    pub(crate) v6: BTreeSet<(u128, usize)>,
+    /// Those of IPv4 addresses, each behind the bits of its address.
+    pub v4: BTreeSet<(u32, usize)>,
+    /// Those of IPv6 addresses, in the same way.
+    pub v6: BTreeSet<(u128, usize)>,
 }
 
 impl Owners {
@@ -33,8 +35,8 @@ impl Owners {
         }
     }
 
-    /// The name at this place has the address from now on. Says whether it did not have it before. A refused
-    /// call changes nothing.
+    /// From now on the name at this place has the address, of four octets or sixteen. Says whether it did not
+    /// have it before. A refused call changes nothing.
     pub fn add(&mut self, address: IpAddr, place: usize) -> Result<bool, AllocError>
         ensures address { HasOctets address }
         ensures added { IfOk result (λ added. added ≡ not (is_owner self.old address place)) }
@@ -76,7 +78,7 @@ pub fn bits_v6(address: Ipv6Addr) -> u128
     u128::from_be_bytes(address.octets())
 }
 
-/// The name at this place has the addresses that records of a type give from now on. Gives those that it did
+/// From now on the name at this place has the addresses that records of a type give. Gives those that it did
 /// not have before. A refused call changes nothing.
 pub fn add_owners(
     alloc: Global,
@@ -102,8 +104,8 @@ pub fn add_owners(
     Ok(added)
 }
 
-// The name at this place has the address that a record of a type gives, and `added` too where it is new. A
-// refused call changes nothing.
+// From now on the name at this place has the address that a record of a type gives, if it gives one. It is put
+// behind `added` where it is new. A refused call changes nothing.
 fn add_record(
     owners: &mut Owners,
     added: &mut Vec<IpAddr>,
