@@ -1,5 +1,5 @@
 //! The names that are attempted for a name.
-use hickory_proto_core::{Name, NameError, NetError};
+use hickory_proto_core::{Name, NameError};
 use hickory_resolver_attempts::attempts;
 use std::alloc::Global;
 
@@ -25,8 +25,8 @@ fn found(
     let search = names(alloc, search)?;
     let domain = domain_of(alloc, domain)?;
     let name = Name::from_ascii(alloc, name)?;
-    let names = attempts(alloc, name, ndots, domain.as_ref(), &search);
-    shown(alloc, names)
+    let names = attempts(alloc, name, ndots, domain.as_ref(), &search)?;
+    joined(alloc, &names)
 }
 
 fn names(alloc: Global, texts: &[&str]) -> Result<Vec<Name>, NameError> {
@@ -41,16 +41,6 @@ fn domain_of(alloc: Global, text: &str) -> Result<Option<Name>, NameError> {
     match text {
         "-" => Ok(None),
         _ => Ok(Some(Name::from_ascii(alloc, text)?)),
-    }
-}
-
-fn shown(alloc: Global, names: Result<Vec<Name>, NetError>) -> Result<String, NameError> {
-    match names {
-        Ok(names) => joined(alloc, &names),
-        Err(error) => {
-            drop(error);
-            Err(NameError::OutOfMemory)
-        }
     }
 }
 
