@@ -1,9 +1,11 @@
 -- Which addresses records give, and the index after they are told to it.
-use Rattle.std.proofs.Common.{◌≡◌, ℕ, ◌<◌, ◌+◌, Bool, true, false, not, ◌||◌, ◌&&◌, ◌==◌, List, [], ◌∷◌, ◌++◌, Option, Result, Ok, Err, OnOk, OnErr, is_err, is_ok, cond, length, take, get_or, Some, refl, sym, ap, ap₂, ◌∙◌, true≢false}
+use Rattle.std.proofs.Common.{◌≡◌, ℕ, ◌<◌, ◌+◌, Bool, true, false, not, ◌||◌, ◌&&◌, ◌==◌, List, [], ◌∷◌, ◌++◌, Option, Result, Ok, Err, OnOk, OnErr, is_err, is_ok, cond, length, take, drop, get_or, Some, refl, sym, ap, ap₂, ◌∙◌, true≢false}
 use Rattle.std.specs.Bool.{then_some}
+use Rattle.std.specs.List.{list_any}
 use Rattle.std.specs.Option.{option_map_or}
 use Rattle.std.specs.declared.net.IpAddr.{IpAddr}
 use Rattle.std.specs.declared.net.IpAddr.TheVariants.{V4, V6}
+use Rattle.std.proofs.lemmas.List.{take-append-drop}
 use Rattle.std.proofs.lemmas.List.Folds.{list_any_more, list_any-append}
 use Rattle.std.proofs.lemmas.Bool.{eqb-true, eq-eqb}
 use Rattle.hickory_proto_core.specs.Records.{RecordValue, data_eq, data_of, data_of_address, address_of}
@@ -153,6 +155,58 @@ restored before now after told place a i apart was says =
     by false true true apart = refl
     by false true false apart = refl
     by false false p apart = refl
+
+-- one more record, of those that give addresses
+pub given_more : (t : RecordType) (rs : List RecordValue) (i : ℕ) (d r : RecordValue) (a : IpAddr) → i < length rs
+    → r ≡ get_or rs i d → is_given t (take (i + 1) rs) a ≡ is_given t (take i rs) a || gives t a r
+given_more t rs i d r a short is =
+    list_any_more (gives t a) rs i d short ∙ ap (λ x. is_given t (take i rs) a || gives t a x) (sym is)
+
+-- what the first records give, all give
+pub given_front : (t : RecordType) (rs : List RecordValue) (i : ℕ) (a : IpAddr) → is_given t (take i rs) a ≡ true
+    → is_given t rs a ≡ true
+given_front t rs i a h =
+    sym (ap (list_any (gives t a)) (take-append-drop i rs)) ∙ list_any-append (gives t a) (take i rs) (drop i rs)
+    ∙ ap (λ b. b || is_given t (drop i rs) a) h
+
+-- an index that is told, and one that forgets, of one more record
+pub told_more : (o x e h : Bool) → (o || (x && h)) || (e && h) ≡ o || ((x || e) && h)
+told_more true x e h = refl
+told_more false true true true = refl
+told_more false true true false = refl
+told_more false true false true = refl
+told_more false true false false = refl
+told_more false false e h = refl
+
+pub forgot_more : (o x e h : Bool) → (o && not (x && h)) && not (e && h) ≡ o && not ((x || e) && h)
+forgot_more false x e h = refl
+forgot_more true true true true = refl
+forgot_more true true true false = refl
+forgot_more true true false true = refl
+forgot_more true true false false = refl
+forgot_more true false e h = refl
+
+not_both : (h : Bool) → h && not h ≡ false
+not_both true = refl
+not_both false = refl
+
+-- the index of a place that had no address, once it forgets at least what it was told of it
+pub undone : (before now after : Owners) (told all : Bool) (place : ℕ) (a : IpAddr) (i : ℕ)
+    → is_owner before a place ≡ false → (told ≡ true → all ≡ true)
+    → is_owner now a i ≡ is_owner before a i || (told && (place == i))
+    → is_owner after a i ≡ is_owner now a i && not (all && (place == i))
+    → is_owner after a i ≡ is_owner before a i
+undone before now after told all place a i none more was says =
+    says ∙ ap (λ x. x && not (all && (place == i))) was
+    ∙ by (is_owner before a i) told all (place == i) (λ here. ap (is_owner before a) (sym (eqb-true place i here)) ∙ none) more
+  where
+    by : (o x g h : Bool) → (h ≡ true → o ≡ false) → (x ≡ true → g ≡ true) → (o || (x && h)) && not (g && h) ≡ o
+    by true x g true apart more = absurd (true≢false (apart refl))
+    by true x true false apart more = refl
+    by true x false false apart more = refl
+    by false true true h apart more = not_both h
+    by false true false h apart more = absurd (true≢false (sym (more refl)))
+    by false false g h apart more = refl
 
 -- an address that is new was not there, nor any equal one
 pub apart_alike : (m : Owners) (k a : IpAddr) (place : ℕ) → true ≡ not (is_owner m k place) → same_address k a ≡ true

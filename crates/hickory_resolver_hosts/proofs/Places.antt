@@ -1,13 +1,13 @@
 -- A table that gets a look-up: the names in their places, the hosts, and the index.
-use Rattle.std.proofs.Common.{◌≡◌, ℕ, ◌<◌, ◌≤◌, ◌+◌, zero, suc, nat_lt, Bool, true, false, cond, not, ◌||◌, ◌&&◌, ◌==◌, List, [], ◌∷◌, ◌++◌, length, map, position, find, option_and_then, slice_get, Option, None, Some, refl, sym, ap, ap₂, ◌∙◌, arith, if◌then◌else◌}
+use Rattle.std.proofs.Common.{◌≡◌, ℕ, ◌+◌, zero, suc, Bool, true, false, cond, not, ◌||◌, ◌&&◌, ◌==◌, List, [], ◌∷◌, ◌++◌, length, map, find, option_and_then, slice_get, Option, None, Some, refl, sym, ap, ap₂, ◌∙◌, arith, if◌then◌else◌}
 use Rattle.std.specs.Bool.{beq}
-use Rattle.std.specs.List.{list_any, position_or_len, prefix_len, IsDistinct, AllByRecursion}
+use Rattle.std.specs.List.{list_any, position_or_len, IsDistinct, AllByRecursion}
 use Rattle.std.specs.Map.{keys_of, values_of, lookup}
 use Rattle.std.specs.Option.{option_map_or}
 use Rattle.std.specs.declared.net.IpAddr.{IpAddr}
 use Rattle.std.specs.declared.net.IpAddr.TheVariants.{V4, V6}
 use Rattle.std.proofs.lemmas.List.Folds.{list_any-append}
-use Rattle.std.proofs.lemmas.Bool.{eqb-true, ltb-true}
+use Rattle.std.proofs.lemmas.Bool.{eqb-true}
 use Rattle.std.proofs.Math.Dec.{eqb-suc-zero, eqb-zero-suc}
 use Rattle.std.proofs.lemmas.Bool.Decides.{nat_tests}
 use Rattle.indexmap.specs.IndexMap.{insert_entry}
@@ -38,40 +38,6 @@ place_is n (e ∷ es) = by (place_is n es) (name_eq n e.0)
         → cond b zero (suc (place_in n (hosts_of es))) ≡ cond (not b) (1 + position_or_len (name_eq n) (keys_of es)) 0
     by rest true = refl
     by rest false = omega arith
-
-prefix_short : {X : Type 0} (p : X → Bool) (xs : List X) → prefix_len p xs ≤ length xs
-prefix_short p [] = omega arith
-prefix_short p (x ∷ xs) = by (prefix_short p xs) (p x)
-  where
-    by : prefix_len p xs ≤ length xs → (b : Bool) → cond b (1 + prefix_len p xs) 0 ≤ suc (length xs)
-    by rest true = omega arith
-    by rest false = omega arith
-
-length_keys : (es : Entries) → length (keys_of es) ≡ length es
-length_keys [] = refl
-length_keys (e ∷ es) = ap suc (length_keys es)
-
-pub place_found : (n : NameValue) (es : Entries) (i : ℕ) → Some i ≡ position (name_eq n) (keys_of es) → i ≡ place_in n (hosts_of es)
-place_found n es i h = by (nat_lt (position_or_len (name_eq n) (keys_of es)) (length (keys_of es))) h ∙ sym (place_is n es)
-  where
-    by : (b : Bool) → Some i ≡ cond b (Some (position_or_len (name_eq n) (keys_of es))) None → i ≡ position_or_len (name_eq n) (keys_of es)
-    by true e = cc
-    by false e = absurd cc
-
-pub place_missing : (n : NameValue) (es : Entries) → None ≡ position (name_eq n) (keys_of es) → length es ≡ place_in n (hosts_of es)
-place_missing n es h = by (nat_lt (position_or_len (name_eq n) (keys_of es)) (length (keys_of es))) refl h
-  where
-    short : position_or_len (name_eq n) (keys_of es) ≤ length (keys_of es)
-    short = prefix_short (λ x. not (name_eq n x)) (keys_of es)
-
-    by : (b : Bool) → nat_lt (position_or_len (name_eq n) (keys_of es)) (length (keys_of es)) ≡ b → None ≡ cond b (Some (position_or_len (name_eq n) (keys_of es))) None
-        → length es ≡ place_in n (hosts_of es)
-    by true e f = absurd cc
-    by false e f =
-        let all = length_keys es in
-        let is = place_is n es in
-        let least = short in
-        grind (arith, nat_tests)
 
 -- the look-ups at the place of a name are changed
 pub put_at_place : (f : Host → Host) (n : NameValue) (es : Entries) (i : ℕ) (old new : HostLookups) → i ≡ place_in n (hosts_of es) → slice_get (values_of es) i ≡ Some old
@@ -235,6 +201,22 @@ indexed_after before after m k n t l now place added indexed place_is after_is o
     ∙ sym (has_after (with_lookup n t l now) n (data_of_address a) (is_given t l.message.answers a) before (lookup_adds n t l now a) i)
     ∙ ap (λ hosts. has_address_at hosts (data_of_address a) i) (sym after_is)
 
+-- the index after it is told of the first look-up of a name
+pub first_indexed : (before after : List Host) (m k : Owners) (n : NameValue) (t : RecordType) (l : LookupValue) (now place : ℕ)
+    → IsIndexed before m → place ≡ place_in n before → after ≡ put_host (with_lookup n t l now) n before
+    → EachAddress (λ a. (i : ℕ) → is_owner k a i ≡ is_owner m a i || (is_given t l.message.answers a && (place == i)))
+    → IsIndexed after k
+first_indexed before after m k n t l now place indexed place_is after_is owners a is i =
+    owners a is i ∙ ap₂ (λ x p. x || (is_given t l.message.answers a && (p == i))) (indexed a is i) place_is
+    ∙ sym (has_after (with_lookup n t l now) n (data_of_address a) (is_given t l.message.answers a) before (lookup_adds n t l now a) i)
+    ∙ ap (λ hosts. has_address_at hosts (data_of_address a) i) (sym after_is)
+
+-- no name stands behind the last
+pub none_past : (es : Entries) (d : DataValue) (i : ℕ) → i ≡ length es → has_address_at (hosts_of es) d i ≡ false
+none_past [] d i is = refl
+none_past (e ∷ es) d zero is = absurd (omega arith)
+none_past (e ∷ es) d (suc i) is = none_past es d i (omega arith)
+
 -- what is new was not there
 pub new_is_apart : (m : Owners) (place : ℕ) (added : List IpAddr) (a : IpAddr) (given : Bool)
     → is_among a added ≡ given && not (is_owner m a place) → is_among a added ≡ true → is_owner m a place ≡ false
@@ -244,26 +226,6 @@ new_is_apart m place added a given says among = by given (is_owner m a place) (s
     by true true e = sym e
     by true false e = refl
     by false o e = absurd cc
-
-place_short : (n : NameValue) (es : Entries) → place_in n (hosts_of es) ≤ length es
-place_short n [] = omega arith
-place_short n (e ∷ es) = by (place_short n es) (name_eq n e.0)
-  where
-    by : place_in n (hosts_of es) ≤ length es → (b : Bool) → cond b zero (suc (place_in n (hosts_of es))) ≤ suc (length es)
-    by rest true = omega arith
-    by rest false = omega arith
-
--- where no name stands at its place, the place is behind the last
-pub place_past : (n : NameValue) (es : Entries) (i : ℕ) → i ≡ place_in n (hosts_of es) → (i < length es → ⊥) → place_in n (hosts_of es) ≡ length es
-place_past n es i is none = by (nat_lt i (length es)) refl
-  where
-    by : (b : Bool) → nat_lt i (length es) ≡ b → place_in n (hosts_of es) ≡ length es
-    by true e = absurd (none (ltb-true i (length es) e))
-    by false e = let short = place_short n es in grind (arith, nat_tests)
-
--- a host of which nothing is known
-pub empty_host : (n : NameValue) (h : HostLookups) → h.a ≡ None → h.aaaa ≡ None → host_at n h ≡ no_lookups n
-empty_host n h a aaaa = ap₂ (λ x y. record { name = n; a = x; aaaa = y }) a aaaa
 
 -- the look-ups of a name
 pub found_family : (t : RecordType) (n m : NameValue) (es : Entries) (o : Option HostLookups) → o ≡ lookup (name_eq n) es

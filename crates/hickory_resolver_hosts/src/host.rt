@@ -1,9 +1,9 @@
 //! The look-ups of one name.
-ghost use Rattle.std.specs.Prelude.{◌≡◌, None, IfOk, OnOk, OnErr, IsOkUnless, option_copied};
+ghost use Rattle.std.specs.Prelude.{◌≡◌, IfOk, OnOk, OnErr, IsOkUnless, option_copied};
 ghost use Rattle.hickory_proto_core.specs.Name.{NameValue};
 ghost use Rattle.hickory_resolver_model.specs.Hosts.{append, family, no_addresses, with_lookup};
 ghost use Rattle.std.specs.Option.{option_map_or};
-ghost use Rattle.hickory_resolver_hosts.specs.Table.{host_at};
+ghost use Rattle.hickory_resolver_hosts.specs.Table.{host_at, no_lookups};
 
 use hickory_proto_core::{Name, NetError, Query, RecordType};
 use hickory_resolver_lookup::Lookup;
@@ -17,14 +17,21 @@ pub struct HostLookups {
 }
 
 impl HostLookups {
-    /// Nothing.
-    pub fn empty() -> HostLookups
-        ensures a { result.a ≡ None }
-        ensures aaaa { result.aaaa ≡ None }
+    /// What a name has once it gets its first look-up, of a type, at this moment (seconds).
+    pub fn first(name: Name, record_type: RecordType, lookup: Lookup, now: u64) -> HostLookups
+        ensures { (n : NameValue) → host_at n result ≡ with_lookup name record_type lookup now (no_lookups n) }
     {
-        HostLookups {
-            a: None,
-            aaaa: None,
+        let known = Some(lookup.into_answer_to(Query::query(name, record_type), now));
+        if record_type.code() == 1 {
+            HostLookups {
+                a: known,
+                aaaa: None,
+            }
+        } else {
+            HostLookups {
+                a: None,
+                aaaa: known,
+            }
         }
     }
 

@@ -50,9 +50,10 @@ impl Owners {
         }
     }
 
-    /// The name at this place does not have the address any more.
+    /// The name at this place does not have the address, of four octets or sixteen, any more.
     pub fn remove(&mut self, address: IpAddr, place: usize)
-        ensures { (a : Address) (i : ℕ) →
+        ensures address { HasOctets address }
+        ensures removed { (a : Address) (i : ℕ) →
             is_owner self.new a i ≡ is_owner self.old a i && not (same_address address a && (place == i)) }
     {
         match address {
@@ -76,6 +77,71 @@ pub fn bits_v6(address: Ipv6Addr) -> u128
     ensures octets { AreOctets 16 (ipv6_octets address) }
 {
     u128::from_be_bytes(address.octets())
+}
+
+/// From now on the name at this place, which has no address yet, has those that records of a type give. A
+/// refused call changes nothing. As `add_owners`, without a list of what is new.
+pub fn add_first_owners(
+    owners: &mut Owners,
+    place: usize,
+    record_type: RecordType,
+    records: &[Record],
+) -> Result<(), AllocError>
+    requires { EachAddress (λ a. is_owner owners.old a place ≡ false) }
+    ensures ok { OnOk result (EachAddress (λ a. (i : ℕ) →
+        is_owner owners.new a i ≡ is_owner owners.old a i || (is_given record_type records.now a && (place == i)))) }
+    ensures err { OnErr result (EachAddress (λ a. (i : ℕ) →
+        is_owner owners.new a i ≡ is_owner owners.old a i)) }
+{
+    for entry in records {
+        if add_given(owners, place, record_type, entry).is_err() {
+            remove_given(owners, place, record_type, records);
+            return Err(AllocError);
+        }
+    }
+    Ok(())
+}
+
+// From now on the name at this place has the address that a record of a type gives, if it gives one. A refused
+// call changes nothing.
+fn add_given(
+    owners: &mut Owners,
+    place: usize,
+    record_type: RecordType,
+    entry: &Record,
+) -> Result<(), AllocError>
+    ensures ok { OnOk result (EachAddress (λ a. (i : ℕ) →
+        is_owner owners.new a i ≡ is_owner owners.old a i
+        || (gives record_type a entry.now && (place == i)))) }
+    ensures err { OnErr result (EachAddress (λ a. (i : ℕ) →
+        is_owner owners.new a i ≡ is_owner owners.old a i)) }
+{
+    if let Some(address) = given_address(record_type, entry) {
+        owners.add(address, place)?;
+    }
+    Ok(())
+}
+
+// The name at this place does not have the addresses any more that records of a type give.
+fn remove_given(owners: &mut Owners, place: usize, record_type: RecordType, records: &[Record])
+    ensures { EachAddress (λ a. (i : ℕ) →
+        is_owner owners.new a i
+        ≡ is_owner owners.old a i && not (is_given record_type records.now a && (place == i))) }
+{
+    for entry in records {
+        remove_record(owners, place, record_type, entry);
+    }
+}
+
+// The name at this place does not have the address any more that a record of a type gives.
+fn remove_record(owners: &mut Owners, place: usize, record_type: RecordType, entry: &Record)
+    ensures { EachAddress (λ a. (i : ℕ) →
+        is_owner owners.new a i
+        ≡ is_owner owners.old a i && not (gives record_type a entry.now && (place == i))) }
+{
+    if let Some(address) = given_address(record_type, entry) {
+        owners.remove(address, place);
+    }
 }
 
 /// From now on the name at this place has the addresses that records of a type give. Gives those that it did

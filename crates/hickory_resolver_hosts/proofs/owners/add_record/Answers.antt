@@ -11,7 +11,7 @@ returns-then-is_err-clause-err c = λ a is i.
     restored c.args.owners.now c.add.new.self c.remove.new.self (same_address c.in-Some.address a) c.args.place a
     i
     (apart_alike c.args.owners.now c.in-Some.address a c.args.place (sym c.if-branch.true ∙ c.in_ok-add.ensures.added))
-    (c.in_ok-add.ensures.ok a i) (c.remove.ensures a i)
+    (c.in_ok-add.ensures.ok a i) (c.remove.ensures.removed a i)
 
 pub returns-clause-added : goal.returns-clause-added
 returns-clause-added c = λ a is. elim c.else-branch.branch [

@@ -1,37 +1,74 @@
-use Rattle.std.proofs.Common.{◌&&◌, ◌==◌, not, ap, sym, ◌∙◌}
+use Rattle.std.proofs.Common.{◌||◌, ◌&&◌, ◌==◌, length, sym, ap, ◌∙◌}
+use Rattle.indexmap.specs.Entry.{entry_index}
+use Rattle.indexmap.specs.IndexMap.{insert_index, insert_entry}
+use Rattle.hickory_proto_core.specs.Name.{name_eq}
 use Rattle.hickory_proto_core.specs.Records.{data_of_address}
-use Rattle.hickory_resolver_hosts.specs.Index.{is_among, is_owner}
-use Rattle.hickory_resolver_hosts.specs.Table.{has_address_at, is_given}
-use Rattle.hickory_resolver_hosts.proofs.Addresses.{err_from, ok_from, on_ok, restored}
-use Rattle.hickory_resolver_hosts.proofs.Places.{indexed_after, new_is_apart, put_is_insert}
-use Rattle.hickory_resolver_hosts.proofs.table.insert_indexed.Goals.{then-is_err, else-is_err}
+use Rattle.hickory_resolver_model.specs.Hosts.{with_lookup}
+use Rattle.hickory_resolver_hosts.specs.Index.{is_owner}
+use Rattle.hickory_resolver_hosts.specs.Table.{hosts_of, place_in, put_host, is_given}
+use Rattle.hickory_resolver_hosts.proofs.Addresses.{ok_from, on_ok}
+use Rattle.hickory_resolver_hosts.proofs.Places.{first_indexed, none_past, place_is, put_behind, put_is_insert}
 use Rattle.hickory_resolver_hosts.proofs.table.insert_indexed.Goals as goal
+
+pub join-requires-clause-place : goal.join-requires-clause-place
+join-requires-clause-place g c =
+    let lent = rw c.in-Occupied.is at c.in_ok-entry.ensures.same_map in
+    let stays = rw c.in-Occupied.is at c.in_ok-entry.ensures.unchanged in
+    let at = rw c.in-Occupied.is at c.in_ok-entry.ensures.index in
+    c.index-place.ensures ∙ at ∙ ap (λ k. insert_index name_eq c.args.names.now k) c.in_ok-clone.ensures.ok
+    ∙ sym (place_is c.args.name c.args.names.now.entries)
+    ∙ ap (λ es. place_in c.args.name (hosts_of es)) (sym (ap (λ m. m.entries) (c.names-in-Occupied-1.given.1 (sym lent)) ∙ stays))
 
 pub returns-clause-ok : goal.returns-clause-ok
 returns-clause-ok g c =
-    on_ok c.insert-inserted.result (λ e. e
+    let lent = rw c.in-Occupied.is at c.in_ok-entry.ensures.same_map in
+    let stays = rw c.in-Occupied.is at c.in_ok-entry.ensures.unchanged in
+    on_ok c.join.result (λ e. e
+    ∙ ap (λ es. put_host (with_lookup c.args.name c.args.record_type c.args.lookup c.args.now) c.args.name (hosts_of es))
+    (ap (λ m. m.entries) (c.names-in-Occupied-1.given.1 (sym lent)) ∙ stays)
     ∙ put_is_insert c.args.name c.args.record_type c.args.lookup c.args.now c.args.names.now.entries c.requires.as_fqdn
-    c.place_of-place.ensures.unique) c.insert-inserted.ensures.ok
+    c.in_ok-entry.ensures.unique) c.join.ensures.ok
 
-pub returns-clause-indexed : goal.returns-clause-indexed
-returns-clause-indexed g c = λ a is i. elim c.if-is_err.branch [
-  | then-is_err w ↦
-      let same = err_from _ (sym c.is_err.ensures.value ∙ w.if-is_err.true) c.insert-inserted.ensures.unchanged in
-      ap (λ m. is_owner m a i) w.owners-is
-      ∙ restored c.args.owners.now c.add_owners.new.owners w.remove_owners.new.owners (is_among a c.in_ok-added.added.items)
-      c.place_of-place.result a i
-      (new_is_apart c.args.owners.now c.place_of-place.result c.in_ok-added.added.items a _ (c.in_ok-added.ensures.added a is))
-      (c.in_ok-added.ensures.ok a is i)
-      (w.remove_owners.ensures a i
-      ∙ ap (λ xs. is_owner c.add_owners.new.owners a i && not (is_among a xs && (c.place_of-place.result == i)))
-      w.deref.ensures.value)
-      ∙ c.requires.indexed a is i ∙ ap (λ hosts. has_address_at hosts (data_of_address a) i) (sym same)
-  | else-is_err w ↦
-      let after = ok_from _ (sym c.is_err.ensures.value ∙ w.if-is_err.false) c.insert-inserted.ensures.ok in
-      ap (λ m. is_owner m a i) w.owners-is
-      ∙ indexed_after _ _ c.args.owners.now c.add_owners.new.owners c.args.name c.args.record_type c.args.lookup c.args.now
-      c.place_of-place.result c.in_ok-added.added.items c.requires.indexed
-      c.place_of-place.ensures.place after c.in_ok-added.ensures.ok (λ b there. c.in_ok-added.ensures.added b there
-      ∙ ap (λ rs. is_given c.args.record_type rs b && not (is_owner c.args.owners.now b c.place_of-place.result))
-      c.answers.ensures) a is i
-]
+pub returns-in-Vacant-clause-ok : goal.returns-in-Vacant-clause-ok
+unfolding entry_index
+returns-in-Vacant-clause-ok g c =
+    let lent = rw c.in-Vacant.is at c.in_ok-entry.ensures.same_map in
+    let stays = rw c.in-Vacant.is at c.in_ok-entry.ensures.unchanged in
+    let at = rw c.in-Vacant.is at c.in_ok-entry.ensures.index in
+    let puts = rw c.in-Vacant.is at c.in_ok-entry.ensures.update in
+    let w = c.insert_entry-entry.ensures in
+    let last = place_is c.args.name c.args.names.now.entries
+    ∙ sym (at ∙ ap (λ k. insert_index name_eq c.args.names.now k) c.in_ok-clone.ensures.ok) ∙ ap length stays in
+    ap (λ m. hosts_of m.entries) (c.names-in-Vacant-1.given.1 (sym (w.0 ∙ lent)) ∙ w.1)
+    ∙ ap hosts_of (puts.1 c.first.result ∙ ap (λ k. insert_entry name_eq c.args.names.now.entries k c.first.result) c.in_ok-clone.ensures.ok)
+    ∙ put_behind (with_lookup c.args.name c.args.record_type c.args.lookup c.args.now) c.args.name c.args.names.now.entries
+    c.first.result last (c.first.ensures c.args.name)
+    ∙ put_is_insert c.args.name c.args.record_type c.args.lookup c.args.now c.args.names.now.entries c.requires.as_fqdn
+    c.in_ok-entry.ensures.unique
+
+pub returns-in-Vacant-clause-indexed : goal.returns-in-Vacant-clause-indexed
+unfolding entry_index
+returns-in-Vacant-clause-indexed g c =
+    let lent = rw c.in-Vacant.is at c.in_ok-entry.ensures.same_map in
+    let stays = rw c.in-Vacant.is at c.in_ok-entry.ensures.unchanged in
+    let at = rw c.in-Vacant.is at c.in_ok-entry.ensures.index in
+    let puts = rw c.in-Vacant.is at c.in_ok-entry.ensures.update in
+    let w = c.insert_entry-entry.ensures in
+    let place = at ∙ ap (λ k. insert_index name_eq c.args.names.now k) c.in_ok-clone.ensures.ok
+    ∙ sym (place_is c.args.name c.args.names.now.entries) in
+    let after = ap (λ m. hosts_of m.entries) (c.names-in-Vacant-1.given.1 (sym (w.0 ∙ lent)) ∙ w.1)
+    ∙ ap hosts_of (puts.1 c.first.result ∙ ap (λ k. insert_entry name_eq c.args.names.now.entries k c.first.result) c.in_ok-clone.ensures.ok)
+    ∙ put_behind (with_lookup c.args.name c.args.record_type c.args.lookup c.args.now) c.args.name c.args.names.now.entries
+    c.first.result (sym place ∙ ap length stays) (c.first.ensures c.args.name) in
+    let told = ok_from _ (sym c.is_err.ensures.value ∙ c.if-is_err.false) c.add_first_owners.ensures.ok in
+    first_indexed _ _ c.args.owners.now c.add_first_owners.new.owners c.args.name c.args.record_type c.args.lookup c.args.now
+    c.index-place-in-Vacant.result c.requires.indexed (c.index-place-in-Vacant.ensures ∙ place) after
+    (λ a is i. told a is i
+    ∙ ap (λ rs. is_owner c.args.owners.now a i || (is_given c.args.record_type rs a && (c.index-place-in-Vacant.result == i))) c.answers.ensures)
+
+pub add_first_owners-requires : goal.add_first_owners-requires
+unfolding entry_index
+add_first_owners-requires g c = λ a is.
+    c.requires.indexed a is c.index-place-in-Vacant.result
+    ∙ none_past c.args.names.now.entries (data_of_address a) c.index-place-in-Vacant.result
+    (c.index-place-in-Vacant.ensures ∙ ap length (rw c.in-Vacant.is at c.in_ok-entry.ensures.unchanged))
