@@ -187,29 +187,27 @@ index_step false true more true same = let e : false ≡ true = same refl in cc
 index_step false true more false same = and_false (more && false) ∙ sym (and_false more)
 index_step false false more here same = ap (λ x. x && here) (sym (and_with_true more))
 
--- the index after it is told of a look-up
+-- the index after it is told of all addresses of a look-up
+pub told_indexed : (before after : List Host) (m k : Owners) (n : NameValue) (t : RecordType) (l : LookupValue) (now place : ℕ)
+    → IsIndexed before m → place ≡ place_in n before → after ≡ put_host (with_lookup n t l now) n before
+    → EachAddress (λ a. (i : ℕ) → is_owner k a i ≡ is_owner m a i || (is_given t l.message.answers a && (place == i)))
+    → IsIndexed after k
+told_indexed before after m k n t l now place indexed place_is after_is owners a is i =
+    owners a is i ∙ ap₂ (λ x p. x || (is_given t l.message.answers a && (p == i))) (indexed a is i) place_is
+    ∙ sym (has_after (with_lookup n t l now) n (data_of_address a) (is_given t l.message.answers a) before (lookup_adds n t l now a) i)
+    ∙ ap (λ hosts. has_address_at hosts (data_of_address a) i) (sym after_is)
+
+-- the index after it is told of those addresses of a look-up that are new
 pub indexed_after : (before after : List Host) (m k : Owners) (n : NameValue) (t : RecordType) (l : LookupValue)
     (now place : ℕ) (added : List IpAddr) → IsIndexed before m
     → place ≡ place_in n before → after ≡ put_host (with_lookup n t l now) n before
     → EachAddress (λ a. (i : ℕ) → is_owner k a i ≡ is_owner m a i || (is_among a added && (place == i)))
     → EachAddress (λ a. is_among a added ≡ is_given t l.message.answers a && not (is_owner m a place))
     → IsIndexed after k
-indexed_after before after m k n t l now place added indexed place_is after_is owners among a is i =
-    owners a is i ∙ ap (λ x. is_owner m a i || (x && (place == i))) (among a is)
-    ∙ index_step (is_owner m a i) (is_owner m a place) (is_given t l.message.answers a) (place == i) (λ here. ap (is_owner m a) (sym (eqb-true place i here)))
-    ∙ ap₂ (λ x p. x || (is_given t l.message.answers a && (p == i))) (indexed a is i) place_is
-    ∙ sym (has_after (with_lookup n t l now) n (data_of_address a) (is_given t l.message.answers a) before (lookup_adds n t l now a) i)
-    ∙ ap (λ hosts. has_address_at hosts (data_of_address a) i) (sym after_is)
-
--- the index after it is told of the first look-up of a name
-pub first_indexed : (before after : List Host) (m k : Owners) (n : NameValue) (t : RecordType) (l : LookupValue) (now place : ℕ)
-    → IsIndexed before m → place ≡ place_in n before → after ≡ put_host (with_lookup n t l now) n before
-    → EachAddress (λ a. (i : ℕ) → is_owner k a i ≡ is_owner m a i || (is_given t l.message.answers a && (place == i)))
-    → IsIndexed after k
-first_indexed before after m k n t l now place indexed place_is after_is owners a is i =
-    owners a is i ∙ ap₂ (λ x p. x || (is_given t l.message.answers a && (p == i))) (indexed a is i) place_is
-    ∙ sym (has_after (with_lookup n t l now) n (data_of_address a) (is_given t l.message.answers a) before (lookup_adds n t l now a) i)
-    ∙ ap (λ hosts. has_address_at hosts (data_of_address a) i) (sym after_is)
+indexed_after before after m k n t l now place added indexed place_is after_is owners among =
+    told_indexed before after m k n t l now place indexed place_is after_is (λ a is i. owners a is i
+    ∙ ap (λ x. is_owner m a i || (x && (place == i))) (among a is)
+    ∙ index_step (is_owner m a i) (is_owner m a place) (is_given t l.message.answers a) (place == i) (λ here. ap (is_owner m a) (sym (eqb-true place i here))))
 
 -- no name stands behind the last
 pub none_past : (es : Entries) (d : DataValue) (i : ℕ) → i ≡ length es → has_address_at (hosts_of es) d i ≡ false

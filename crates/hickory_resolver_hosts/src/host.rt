@@ -17,7 +17,8 @@ pub struct HostLookups {
 }
 
 impl HostLookups {
-    /// What a name has once it gets its first look-up, of a type, at this moment (seconds).
+    /// What a name has after its first look-up, which is of this type, at this moment (seconds). The look-up
+    /// gets the question of this name.
     pub fn first(name: Name, record_type: RecordType, lookup: Lookup, now: u64) -> HostLookups
         ensures { (n : NameValue) → host_at n result ≡ with_lookup name record_type lookup now (no_lookups n) }
     {

@@ -50,7 +50,7 @@ impl Owners {
         }
     }
 
-    /// The name at this place does not have the address, of four octets or sixteen, any more.
+    /// From now on the name at this place does not have the address, which has four octets or sixteen.
     pub fn remove(&mut self, address: IpAddr, place: usize)
         ensures address { HasOctets address }
         ensures removed { (a : Address) (i : ℕ) →
@@ -80,7 +80,8 @@ pub fn bits_v6(address: Ipv6Addr) -> u128
 }
 
 /// From now on the name at this place, which has no address yet, has those that records of a type give. A
-/// refused call changes nothing. As `add_owners`, without a list of what is new.
+/// refused call changes nothing: it takes out all that the records give, and so needs no list of those that are
+/// new, as `add_owners` does.
 pub fn add_first_owners(
     owners: &mut Owners,
     place: usize,
@@ -122,7 +123,7 @@ fn add_given(
     Ok(())
 }
 
-// The name at this place does not have the addresses any more that records of a type give.
+// From now on the name at this place has none of the addresses that records of a type give.
 fn remove_given(owners: &mut Owners, place: usize, record_type: RecordType, records: &[Record])
     ensures { EachAddress (λ a. (i : ℕ) →
         is_owner owners.new a i
@@ -133,7 +134,7 @@ fn remove_given(owners: &mut Owners, place: usize, record_type: RecordType, reco
     }
 }
 
-// The name at this place does not have the address any more that a record of a type gives.
+// From now on the name at this place does not have the address that a record of a type gives, if it gives one.
 fn remove_record(owners: &mut Owners, place: usize, record_type: RecordType, entry: &Record)
     ensures { EachAddress (λ a. (i : ℕ) →
         is_owner owners.new a i

@@ -12,7 +12,8 @@ use indexmap::IndexMap;
 use indexmap::map::Entry;
 use std::hash::BuildHasher;
 
-/// Puts in one more look-up for a fully qualified name, and tells the index. A refused call changes nothing.
+/// Puts in one more look-up for a fully qualified name, and its addresses into the index by address. A refused
+/// call changes nothing.
 pub fn insert_indexed<S: BuildHasher>(
     names: &mut IndexMap<Name, HostLookups, S>,
     owners: &mut Owners,
@@ -34,9 +35,11 @@ pub fn insert_indexed<S: BuildHasher>(
         Entry::Vacant(entry) => {
             let place = entry.index();
             if add_first_owners(owners, place, record_type, lookup.answers()).is_err() {
+                // Gives the map back, unchanged.
                 drop(entry.into_key());
                 return Err(HostsError::OutOfMemory);
             }
+            // There is room, so this cannot fail.
             let _entry = entry.insert_entry(HostLookups::first(name, record_type, lookup, now));
             return Ok(());
         }
@@ -74,7 +77,7 @@ fn join<S: BuildHasher>(
     joined
 }
 
-// Adds a look-up to those of the name, which stands at this place.
+// As `join`, without the index.
 fn add<S: BuildHasher>(
     names: &mut IndexMap<Name, HostLookups, S>,
     place: usize,

@@ -7,7 +7,7 @@ use Rattle.hickory_resolver_model.specs.Hosts.{with_lookup}
 use Rattle.hickory_resolver_hosts.specs.Index.{is_owner}
 use Rattle.hickory_resolver_hosts.specs.Table.{hosts_of, place_in, put_host, is_given}
 use Rattle.hickory_resolver_hosts.proofs.Addresses.{ok_from, on_ok}
-use Rattle.hickory_resolver_hosts.proofs.Places.{first_indexed, none_past, place_is, put_behind, put_is_insert}
+use Rattle.hickory_resolver_hosts.proofs.Places.{told_indexed, none_past, place_is, put_behind, put_is_insert}
 use Rattle.hickory_resolver_hosts.proofs.table.insert_indexed.Goals as goal
 
 pub join-requires-clause-place : goal.join-requires-clause-place
@@ -61,7 +61,7 @@ returns-in-Vacant-clause-indexed g c =
     ∙ put_behind (with_lookup c.args.name c.args.record_type c.args.lookup c.args.now) c.args.name c.args.names.now.entries
     c.first.result (sym place ∙ ap length stays) (c.first.ensures c.args.name) in
     let told = ok_from _ (sym c.is_err.ensures.value ∙ c.if-is_err.false) c.add_first_owners.ensures.ok in
-    first_indexed _ _ c.args.owners.now c.add_first_owners.new.owners c.args.name c.args.record_type c.args.lookup c.args.now
+    told_indexed _ _ c.args.owners.now c.add_first_owners.new.owners c.args.name c.args.record_type c.args.lookup c.args.now
     c.index-place-in-Vacant.result c.requires.indexed (c.index-place-in-Vacant.ensures ∙ place) after
     (λ a is i. told a is i
     ∙ ap (λ rs. is_owner c.args.owners.now a i || (is_given c.args.record_type rs a && (c.index-place-in-Vacant.result == i))) c.answers.ensures)
