@@ -1,4 +1,5 @@
 pub mod FieldLists
+pub mod FirstBytes
 pub mod LineLists
 pub mod Counts
 pub mod Allowed

@@ -51,12 +51,12 @@ IsRecordLine has_reply section fields result =
 -- the directive of a word
 abbrev pub directive_named : List ℕ → Option Directive
 directive_named word =
+    if is_text (codes "at") word then Some directive.Request else (
     if is_text (codes "reply") word then Some directive.Reply else (
     if is_text (codes "fail") word then Some directive.Fail else (
     if is_text (codes "answer") word then Some (directive.Record Answer) else (
     if is_text (codes "authority") word then Some (directive.Record Authority) else (
     if is_text (codes "additional") word then Some (directive.Record Additional) else (
-    if is_text (codes "at") word then Some directive.Request else (
     if is_text (codes "option") word then Some (directive.Configuration kind.Option) else (
     if is_text (codes "domain") word then Some (directive.Configuration kind.Domain) else (
     if is_text (codes "search") word then Some (directive.Configuration kind.Search) else (

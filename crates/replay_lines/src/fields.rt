@@ -4,6 +4,8 @@ ghost use Rattle.std.specs.List.{take_while};
 ghost use Rattle.std.specs.Str.Lines.{strip_carriage_return, lines};
 ghost use Rattle.replay_lines.specs.Fields.{is_blank, is_plain, is_allowed, is_skipped};
 
+use memchr::memchr;
+
 /// The lines of a script, without their ends: each but the last is ended by LF, and a CR before that
 /// belongs to the end. Where nothing stands behind the last LF there is no further line.
 #[derive(Drop)]
@@ -57,7 +59,7 @@ fn split_line(script: &[u8]) -> (&[u8], &[u8])
 fn line_len(script: &[u8]) -> Option<usize>
     ensures { result ≡ position (λ byte. byte == 10) script.now }
 {
-    script.iter().position(|b| *b == b'\n')
+    memchr(b'\n', script)
 }
 
 fn without_return(line: &[u8]) -> &[u8]
@@ -161,5 +163,5 @@ pub fn is_blank(byte: u8) -> bool
 pub fn is_allowed(byte: u8) -> bool
     ensures { result ≡ is_allowed byte }
 {
-    byte == b'\t' || (b' '..=b'~').contains(&byte)
+    (b' '..=b'~').contains(&byte) || byte == b'\t'
 }

@@ -56,10 +56,8 @@ fn read_text(line: &[u8]) -> Result<&str, ScriptFault>
     if !is_all_allowed(line) {
         return Err(ScriptFault::BadByte);
     }
-    match str::from_utf8(line) {
-        Ok(text) => Ok(text),
-        Err(_) => Err(ScriptFault::BadByte),
-    }
+    // Each byte is one of ASCII.
+    Ok(unsafe { str::from_utf8_unchecked(line) })
 }
 
 fn is_all_allowed(line: &[u8]) -> bool
@@ -101,12 +99,12 @@ impl Directive {
         ensures { result ≡ directive_named word.now }
     {
         match word {
+            "at" => Some(Directive::Request),
             "reply" => Some(Directive::Reply),
             "fail" => Some(Directive::Fail),
             "answer" => Some(Directive::Record(Section::Answer)),
             "authority" => Some(Directive::Record(Section::Authority)),
             "additional" => Some(Directive::Record(Section::Additional)),
-            "at" => Some(Directive::Request),
             "option" => Some(Directive::Configuration(SettingKind::Option)),
             "domain" => Some(Directive::Configuration(SettingKind::Domain)),
             "search" => Some(Directive::Configuration(SettingKind::Search)),
