@@ -1,3 +1,4 @@
+pub mod Boxes
 pub mod Index
 pub mod Bits
 pub mod Addresses

@@ -1,8 +1,9 @@
 -- What a table of hosts keeps, and what its index says of that.
-use Rattle.std.specs.Prelude.{◌≡◌, ℕ, Bool, false, ◌&&◌, ◌==◌, List, [], ◌∷◌, map, slice_get, filter, option_and_then, Option, None, zero, suc, if◌then◌else◌}
+use Rattle.std.specs.Prelude.{◌≡◌, ℕ, Bool, false, ◌&&◌, ◌==◌, List, [], ◌∷◌, map, slice_get, filter, option_and_then, Option, None, Some, zero, suc, if◌then◌else◌}
 use Rattle.std.specs.Bool.{beq}
 use Rattle.std.specs.List.{list_any}
 use Rattle.std.specs.Option.{option_map, option_map_or}
+use Rattle.std.specs.declared.boxed.Box.{Box}
 use Rattle.std.specs.declared.net.IpAddr.{IpAddr}
 use Rattle.hickory_proto_core.specs.Name.{NameValue}
 use Rattle.hickory_proto_core.specs.Codes.{type_code}
@@ -12,13 +13,17 @@ use Rattle.hickory_proto_core.specs.codes.dns_class.DNSClass.TheVariants as clas
 use Rattle.hickory_proto_core.specs.records.query.Query.{Query}
 use Rattle.hickory_resolver_model.specs.Bounds.{day}
 use Rattle.hickory_resolver_model.specs.Lookup.{LookupValue}
-use Rattle.hickory_resolver_model.specs.Hosts.{Host, StandsFor, address_type, has_address, is_host, as_fqdn, pointer_lookup, pointers}
+use Rattle.hickory_resolver_model.specs.Hosts.{Host, StandsFor, address_type, has_address, is_host, is_ipv4_type, as_fqdn, pointer_lookup, pointers}
 use Rattle.hickory_resolver_hosts.specs.Index.{is_owner, EachAddress}
 use Rattle.hickory_resolver_hosts.specs.declared.host.HostLookups.{HostLookups}
 use Rattle.hickory_resolver_hosts.specs.declared.owners.Owners.{Owners}
 
+-- what a box has, if there is one
+abbrev pub unboxed : {T Z : Type 0} → Option (Box T Z) → Option T
+unboxed b = option_map (λ x. x.value) b
+
 abbrev pub host_at : NameValue → HostLookups → Host
-host_at n h = record { name = n; a = h.a; aaaa = h.aaaa }
+host_at n h = record { name = n; a = unboxed h.a; aaaa = unboxed h.aaaa }
 
 abbrev pub hosts_of : List (NameValue × HostLookups) → List Host
 hosts_of entries = map (λ e. host_at e.0 e.1) entries
@@ -26,6 +31,10 @@ hosts_of entries = map (λ e. host_at e.0 e.1) entries
 -- a name of which nothing is known
 abbrev pub no_lookups : NameValue → Host
 no_lookups n = record { name = n; a = None; aaaa = None }
+
+-- a host whose look-up of a type is this one
+abbrev pub put_family : RecordType → LookupValue → Host → Host
+put_family t l h = if is_ipv4_type t then record h { a = Some l } else record h { aaaa = Some l }
 
 -- the place of a name: where it is, or behind the last where it is not there
 abbrev pub place_in : NameValue → List Host → ℕ

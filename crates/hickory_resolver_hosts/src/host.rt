@@ -3,26 +3,26 @@ ghost use Rattle.std.specs.Prelude.{◌≡◌, IfOk, OnOk, OnErr, IsOkUnless, op
 ghost use Rattle.hickory_proto_core.specs.Name.{NameValue};
 ghost use Rattle.hickory_resolver_model.specs.Hosts.{append, family, no_addresses, with_lookup};
 ghost use Rattle.std.specs.Option.{option_map_or};
-ghost use Rattle.hickory_resolver_hosts.specs.Table.{host_at, no_lookups};
+ghost use Rattle.hickory_resolver_hosts.specs.Table.{host_at, no_lookups, put_family, unboxed};
 
 use hickory_proto_core::{Name, NetError, Query, RecordType};
 use hickory_resolver_lookup::Lookup;
-use std::alloc::Global;
+use std::alloc::{AllocError, Global};
 
-/// What is known of a name: the look-up of its IPv4 addresses, and that of its IPv6 addresses.
+/// What is known of a name: the look-up of its IPv4 addresses, and that of its IPv6 addresses. They are boxed,
+/// so that a table that grows has little to move.
 #[derive(Drop)]
 pub struct HostLookups {
-    pub a: Option<Lookup>,
-    pub aaaa: Option<Lookup>,
+    pub a: Option<Box<Lookup>>,
+    pub aaaa: Option<Box<Lookup>>,
 }
 
 impl HostLookups {
-    /// What a name has after its first look-up, which is of this type, at this moment (seconds). The look-up
-    /// gets the question of this name.
-    pub fn first(name: Name, record_type: RecordType, lookup: Lookup, now: u64) -> HostLookups
-        ensures { (n : NameValue) → host_at n result ≡ with_lookup name record_type lookup now (no_lookups n) }
+    /// What a name has whose only look-up is this one, of this type.
+    pub fn only(record_type: RecordType, lookup: Box<Lookup>) -> HostLookups
+        ensures { (n : NameValue) → host_at n result ≡ put_family record_type lookup.value (no_lookups n) }
     {
-        let known = Some(lookup.into_answer_to(Query::query(name, record_type), now));
+        let known = Some(lookup);
         if record_type.code() == 1 {
             HostLookups {
                 a: known,
@@ -41,9 +41,9 @@ impl HostLookups {
         ensures { (n : NameValue) → option_copied result ≡ family record_type (host_at n self.now) }
     {
         if record_type.code() == 1 {
-            self.a.as_ref()
+            self.a.as_deref()
         } else {
-            self.aaaa.as_ref()
+            self.aaaa.as_deref()
         }
     }
 
@@ -70,22 +70,37 @@ impl HostLookups {
     }
 }
 
+#[tactic(auto, using(crate::proofs::Boxes::same_box))]
 fn add_lookup(
     alloc: Global,
-    kept: &mut Option<Lookup>,
+    kept: &mut Option<Box<Lookup>>,
     name: Name,
     record_type: RecordType,
     lookup: Lookup,
     now: u64,
 ) -> Result<(), NetError>
-    ensures ok { OnOk result
-        (kept.new ≡ Some (append (option_map_or (λ k. k) kept.old (no_addresses name record_type now)) lookup)) }
+    ensures ok { OnOk result (unboxed kept.new
+        ≡ Some (append (option_map_or (λ k. k) (unboxed kept.old) (no_addresses name record_type now)) lookup)) }
     ensures unchanged { OnErr result (kept.new ≡ kept.old) }
     ensures err { IsOkUnless result NetError.OutOfMemory }
 {
     if let Some(joined) = kept {
         return joined.append_in_place(lookup);
     }
-    *kept = Some(lookup.into_answer_to(Query::query(name, record_type), now));
+    *kept = Some(first_lookup(alloc, name, record_type, lookup, now)?);
     Ok(())
+}
+
+/// The first look-up of a type, with the question of this name, at this moment (seconds).
+pub fn first_lookup(
+    alloc: Global,
+    name: Name,
+    record_type: RecordType,
+    lookup: Lookup,
+    now: u64,
+) -> Result<Box<Lookup>, AllocError>
+    ensures { IfOk result (λ first. first.value ≡ append (no_addresses name record_type now) lookup) }
+{
+    let query = Query::query(name, record_type);
+    Ok(Box::new(alloc, lookup.into_answer_to(query, now))?)
 }

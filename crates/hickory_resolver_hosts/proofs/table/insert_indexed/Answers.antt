@@ -1,12 +1,11 @@
-use Rattle.std.proofs.Common.{◌||◌, ◌&&◌, ◌==◌, length, sym, ap, ◌∙◌}
+use Rattle.std.proofs.Common.{length, sym, ap, ◌∙◌}
 use Rattle.indexmap.specs.Entry.{entry_index}
 use Rattle.indexmap.specs.IndexMap.{insert_index, insert_entry}
 use Rattle.hickory_proto_core.specs.Name.{name_eq}
 use Rattle.hickory_proto_core.specs.Records.{data_of_address}
 use Rattle.hickory_resolver_model.specs.Hosts.{with_lookup}
-use Rattle.hickory_resolver_hosts.specs.Index.{is_owner}
-use Rattle.hickory_resolver_hosts.specs.Table.{hosts_of, place_in, put_host, is_given}
-use Rattle.hickory_resolver_hosts.proofs.Addresses.{ok_from, on_ok}
+use Rattle.hickory_resolver_hosts.specs.Table.{hosts_of, place_in, put_host}
+use Rattle.hickory_resolver_hosts.proofs.Addresses.{on_ok}
 use Rattle.hickory_resolver_hosts.proofs.Places.{told_indexed, none_past, place_is, put_behind, put_is_insert}
 use Rattle.hickory_resolver_hosts.proofs.table.insert_indexed.Goals as goal
 
@@ -40,9 +39,9 @@ returns-in-Vacant-clause-ok g c =
     let last = place_is c.args.name c.args.names.now.entries
     ∙ sym (at ∙ ap (λ k. insert_index name_eq c.args.names.now k) c.in_ok-clone.ensures.ok) ∙ ap length stays in
     ap (λ m. hosts_of m.entries) (c.names-in-Vacant-1.given.1 (sym (w.0 ∙ lent)) ∙ w.1)
-    ∙ ap hosts_of (puts.1 c.first.result ∙ ap (λ k. insert_entry name_eq c.args.names.now.entries k c.first.result) c.in_ok-clone.ensures.ok)
+    ∙ ap hosts_of (puts.1 c.in-Ok.first ∙ ap (λ k. insert_entry name_eq c.args.names.now.entries k c.in-Ok.first) c.in_ok-clone.ensures.ok)
     ∙ put_behind (with_lookup c.args.name c.args.record_type c.args.lookup c.args.now) c.args.name c.args.names.now.entries
-    c.first.result last (c.first.ensures c.args.name)
+    c.in-Ok.first last (c.in-Ok.ensures.ok c.args.name)
     ∙ put_is_insert c.args.name c.args.record_type c.args.lookup c.args.now c.args.names.now.entries c.requires.as_fqdn
     c.in_ok-entry.ensures.unique
 
@@ -57,18 +56,15 @@ returns-in-Vacant-clause-indexed g c =
     let place = at ∙ ap (λ k. insert_index name_eq c.args.names.now k) c.in_ok-clone.ensures.ok
     ∙ sym (place_is c.args.name c.args.names.now.entries) in
     let after = ap (λ m. hosts_of m.entries) (c.names-in-Vacant-1.given.1 (sym (w.0 ∙ lent)) ∙ w.1)
-    ∙ ap hosts_of (puts.1 c.first.result ∙ ap (λ k. insert_entry name_eq c.args.names.now.entries k c.first.result) c.in_ok-clone.ensures.ok)
+    ∙ ap hosts_of (puts.1 c.in-Ok.first ∙ ap (λ k. insert_entry name_eq c.args.names.now.entries k c.in-Ok.first) c.in_ok-clone.ensures.ok)
     ∙ put_behind (with_lookup c.args.name c.args.record_type c.args.lookup c.args.now) c.args.name c.args.names.now.entries
-    c.first.result (sym place ∙ ap length stays) (c.first.ensures c.args.name) in
-    let told = ok_from _ (sym c.is_err.ensures.value ∙ c.if-is_err.false) c.add_first_owners.ensures.ok in
-    told_indexed _ _ c.args.owners.now c.add_first_owners.new.owners c.args.name c.args.record_type c.args.lookup c.args.now
-    c.index-place-in-Vacant.result c.requires.indexed (c.index-place-in-Vacant.ensures ∙ place) after
-    (λ a is i. told a is i
-    ∙ ap (λ rs. is_owner c.args.owners.now a i || (is_given c.args.record_type rs a && (c.index-place-in-Vacant.result == i))) c.answers.ensures)
+    c.in-Ok.first (sym place ∙ ap length stays) (c.in-Ok.ensures.ok c.args.name) in
+    told_indexed _ _ c.args.owners.now c.first.new.owners c.args.name c.args.record_type c.args.lookup c.args.now
+    c.index-place-in-Vacant.result c.requires.indexed (c.index-place-in-Vacant.ensures ∙ place) after c.in-Ok.ensures.told
 
-pub add_first_owners-requires : goal.add_first_owners-requires
+pub first-requires : goal.first-requires
 unfolding entry_index
-add_first_owners-requires g c = λ a is.
+first-requires g c = λ a is.
     c.requires.indexed a is c.index-place-in-Vacant.result
     ∙ none_past c.args.names.now.entries (data_of_address a) c.index-place-in-Vacant.result
     (c.index-place-in-Vacant.ensures ∙ ap length (rw c.in-Vacant.is at c.in_ok-entry.ensures.unchanged))
