@@ -1,7 +1,7 @@
 //! Look-ups of several names, one after another.
-ghost use Rattle.std.specs.Prelude.{◌≡◌, List, [], false, true, reverse};
+ghost use Rattle.std.specs.Prelude.{◌≡◌, ℕ, List, [], None, false, true, reverse, IsTrue};
 ghost use Rattle.hickory_resolver_model.specs.Calls.{One, stops};
-ghost use Rattle.hickory_resolver_model.specs.Hosts.{Host};
+ghost use Rattle.hickory_resolver_model.specs.Hosts.{Host, IsStatic};
 ghost use Rattle.hickory_resolver_model.specs.Resolver.{LooksUp};
 ghost use Rattle.hickory_resolver_model.specs.Run.{name_plan};
 ghost use Rattle.hickory_resolver_futures.specs.Attempting.{Attempts, GoesOn};
@@ -67,10 +67,21 @@ pub(crate) fn attempt_with_hosts<H: DnsHandle, S: BuildHasher, T: BuildHasher>(
     ensures { Attempts H.step options hosts.now now (One record_type) true name client.old result client.new }
 {
     let question = Query::query(name, record_type);
-    match hosts.lookup_static_host(&question, now)? {
-        Some(found) => Ok(found),
-        None => client.lookup(question, options, now),
+    if has_none(hosts, &question) {
+        return client.lookup(question, options, now);
     }
+    if let Some(found) = hosts.lookup_static_host(&question, now)? {
+        return Ok(found);
+    }
+    client.lookup(question, options, now)
+}
+
+// Whether it is known at once that a table has nothing for a question: it has no names. Of a question for PTR
+// records it is never known, since the table first reads which address its name stands for.
+fn has_none<T: BuildHasher>(hosts: &Hosts<T>, question: &Query) -> bool
+    ensures { IsTrue result → (now : ℕ) → IsStatic question.now now hosts.now None }
+{
+    hosts.is_empty() && question.query_type != RecordType::PTR
 }
 
 // The attempts after this result, at the other names.

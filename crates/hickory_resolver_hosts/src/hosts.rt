@@ -1,5 +1,5 @@
 //! The table of hosts.
-ghost use Rattle.std.specs.Prelude.{◌≡◌, ◌⊎◌, [], find, option_and_then, IfOk, OnOk, OnErr, IsOkUnless};
+ghost use Rattle.std.specs.Prelude.{◌≡◌, ◌⊎◌, ◌==◌, [], find, length, option_and_then, IfOk, OnOk, OnErr, IsOkUnless};
 ghost use Rattle.hickory_proto_core.specs.Codes.{type_code};
 ghost use Rattle.hickory_resolver_model.specs.Hosts.{family, insert_host, is_host, as_fqdn, pointer_lookup, IsStatic};
 ghost use Rattle.hickory_resolver_hosts.specs.Table.{HasPointers};
@@ -94,6 +94,13 @@ impl<S: BuildHasher> Hosts<S> {
             12 => self.pointers(query, now),
             _ => Ok(None),
         }
+    }
+
+    /// Whether the table has no names.
+    pub fn is_empty(&self) -> bool
+        ensures { result ≡ (length self.now == 0) }
+    {
+        self.names.is_empty()
     }
 
     pub(crate) fn alloc(&self) -> Global {
