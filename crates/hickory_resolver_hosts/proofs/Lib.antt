@@ -6,6 +6,7 @@ pub mod Places
 pub mod InOrder
 pub mod Texts
 pub mod LinesRead
+pub mod FirstLine
 pub mod FileRead
 pub mod Whole
 pub mod Fields

@@ -1,5 +1,5 @@
 //! What the lines of a file of hosts say.
-ghost use Rattle.std.specs.Prelude.{◌≡◌, ◌≢◌, ◌==◌, map, IfOk, OnOk, OnErr, IsOkUnless, MatchOption, MatchResult};
+ghost use Rattle.std.specs.Prelude.{◌≡◌, ◌≢◌, ◌==◌, ◌<◌, ◌+◌, ◌∷◌, [], length, take, drop, IfSome, OnOk, OnErr, IsOkUnless, MatchOption, MatchResult};
 ghost use Rattle.std.specs.Char.{to_ascii_lowercase};
 ghost use Rattle.std.specs.List.{before_first, list_all};
 ghost use Rattle.std.specs.Str.{chars, IsUtf8};
@@ -7,15 +7,16 @@ ghost use Rattle.std.specs.Str.Iter.{split_whitespace_rest};
 ghost use Rattle.hickory_proto_core.specs.Name.{NameValue};
 ghost use Rattle.hickory_proto_core.specs.NameText.{Spells};
 ghost use Rattle.hickory_proto_core.specs.Records.{DataValue, data_of_address};
-ghost use Rattle.hickory_resolver_model.specs.Hosts.{IsAddressField, insert_host, as_fqdn, one_address, address_type, file_lines, without_mark};
+ghost use Rattle.hickory_resolver_model.specs.Hosts.{IsAddressField, insert_host, as_fqdn, one_address, address_type, without_mark};
 ghost use Rattle.hickory_resolver_hosts.specs.Reading.{AreNamesRead, IsBytesRead, IsLineRead, IsNameField};
-ghost use Rattle.hickory_resolver_hosts.specs.Text.{words};
+ghost use Rattle.hickory_resolver_hosts.specs.Text.{lines_of, words};
 
 use crate::hosts::Hosts;
 use crate::hosts_error::HostsError;
 use hickory_proto_core::{Name, NameError, Query, RData, RecordType, read_ip};
 use hickory_resolver_lookup::Lookup;
-use std::alloc::{AllocError, Global};
+use memchr::memchr;
+use std::alloc::Global;
 use std::hash::BuildHasher;
 use std::net::IpAddr;
 use std::str;
@@ -30,18 +31,31 @@ pub fn insert_lines<S: BuildHasher>(
 ) -> Result<(), HostsError>
     ensures { IsBytesRead now bytes.now hosts.old result hosts.new }
 {
-    let lines = lines(alloc, bytes)?;
-    for line in &lines {
+    let mut rest = without_mark(bytes);
+    while let Some((line, next)) = split_line(rest) {
         insert_line(alloc, hosts, line, now)?;
+        rest = next;
     }
-    Ok(())
+    insert_line(alloc, hosts, rest, now)
 }
 
-// The lines of a file, each ended by LF.
-fn lines(alloc: Global, bytes: &[u8]) -> Result<Vec<&[u8]>, AllocError>
-    ensures { IfOk result (λ found. map (λ line. line.now) found.items ≡ file_lines bytes.now) }
+// The first line, and what stands behind its LF. None where there is no LF.
+fn split_line(bytes: &[u8]) -> Option<(&[u8], &[u8])>
+    ensures short { IfSome result (λ split. length split.1.now < length bytes.now) }
+    ensures lines { MatchOption result (lines_of bytes.now ≡ bytes.now ∷ [])
+        (λ split. lines_of bytes.now ≡ split.0.now ∷ lines_of split.1.now) }
 {
-    without_mark(bytes).split(|b| *b == b'\n').collect(alloc)
+    let end = line_len(bytes)?;
+    Some((&bytes[..end], &bytes[end + 1..]))
+}
+
+// How many bytes stand before the first LF, if there is one.
+fn line_len(bytes: &[u8]) -> Option<usize>
+    ensures short { IfSome result (λ end. end < length bytes.now) }
+    ensures lines { MatchOption result (lines_of bytes.now ≡ bytes.now ∷ [])
+        (λ end. lines_of bytes.now ≡ take end bytes.now ∷ lines_of (drop (end + 1) bytes.now)) }
+{
+    memchr(b'\n', bytes)
 }
 
 // The bytes without the byte order mark U+FEFF that they may begin with.
