@@ -369,8 +369,8 @@ fn labels_cmp(a: &[Vec<u8>], b: &[Vec<u8>]) -> Ordering
     a.len().cmp(&b.len())
 }
 
-// Feeds the length, and then the bytes in lower case in one piece. All of the buffer is put in lower case,
-// which takes less time than some number of bytes does.
+// Feeds a hasher the label's length, and then its bytes in lower case in one piece. The whole buffer is put in
+// lower case: since its length is fixed, that takes less time than to do so for the label's bytes alone.
 fn hash_label<H: Hasher>(label: &[u8], state: &mut H)
     requires { length label.now ≤ 63 }
     ensures { state.new ≡ fold H.write state.old (fed_label (lower_label label.now)) }

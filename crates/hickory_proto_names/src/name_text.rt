@@ -60,12 +60,13 @@ impl Name {
     }
 }
 
-// The longest text of a name without escapes: all of the 255 bytes on the wire but the root's. A label has
-// its length before it there, and a dot behind it in the text.
+// The longest text that a name without escapes can have. A name takes at most 255 bytes on the wire (RFC 1035,
+// section 2.3.4). There a label has its length before it, and in the text it has a dot behind it; only the byte
+// for the root has nothing in the text.
 const MAX_PLAIN_TEXT: usize = 254;
 
-// The name that the text spells. A text that is a name's only if it has escapes is scanned before any of it
-// is kept.
+// The name that the text spells. A longer text can be that of a name only if it has escapes. It is scanned for
+// a fault first, so that a long text with a fault takes no memory.
 fn read_name(alloc: Global, text: &str) -> Result<Name, NameError>
     ensures ok { IfOk result (λ n. Spells text.now n) }
     ensures err { IfErr result (λ e. (e ≡ NameError.OutOfMemory) ⊎ HasFault text.now e) }

@@ -28,28 +28,6 @@ makes_room-leaving capacity next q ps order o h placed apart pos none leaving = 
     by (inl l) = subst (MakesRoom capacity next q ps) (sym (leaving.0 l)) (makes_room-none next ps h apart capacity q none l)
     by (inr l) = makes_room-any next ps h apart capacity q order o pos none l placed (leaving.1 l)
 
-stands-first : (ps : List Pair) (order : Order) (t : Turn) (q : Query) → IsPlaced ps order → get turn_cmp order t ≡ Some q → (p : Pair) × StandsAt ps t p
-stands-first ps order t q placed is = by (numbered ps t.1) refl
-  where
-    by : (o : Option Pair) → numbered ps t.1 ≡ o → (p : Pair) × StandsAt ps t p
-    by None e = let n : Some q ≡ None = sym is ∙ placed t ∙ ap (query_at t.0) e in cc
-    by (Some p) e = by_deadline (p.1.valid_until == t.0) refl
-      where
-        there : Some q ≡ query_at t.0 (Some p)
-        there = sym is ∙ placed t ∙ ap (query_at t.0) e
-
-        by_deadline : (b : Bool) → (p.1.valid_until == t.0) ≡ b → (p : Pair) × StandsAt ps t p
-        by_deadline true d = (p, record { number = e; valid_until = eqb-true p.1.valid_until t.0 d })
-        by_deadline false d = let n : Some q ≡ None = there ∙ ap (λ b. if b then Some p.0 else None) d in cc
-
-pub some-leaving : (capacity : ℕ) (ps : List Pair) (order : Order) (o : Option Turn) → IsPlaced ps order → IsLeaving capacity ps order o → IsSomeTurn ps o
-some-leaving capacity ps order None placed leaving = tt
-some-leaving capacity ps order (Some t) placed leaving = by (cases_lt (length ps) capacity)
-  where
-    by : (length ps < capacity) ⊎ (capacity ≤ length ps) → (p : Pair) × StandsAt ps t p
-    by (inl l) = let n = leaving.0 l in cc
-    by (inr l) = let first = leaving.1 l in stands-first ps order t first.0.0 placed first.0.1
-
 pub frees-room : (capacity next : ℕ) (q : Query) (ps : List Pair) (o : Option Turn) → IsNumbered next ps → MakesRoom capacity next q ps o → Frees q ps o
 frees-room capacity next q ps o h room rs apart gone = none-left capacity next q ps rs o h apart room gone
 

@@ -175,12 +175,14 @@ IsSpelledAt q ps i t = (k : Kept) × (slice_get ps i ≡ Some (q, k)) × (t ≡ 
 
 -- The pair p has come in, under the number n, and what stood at the turn has left, if there is one. The pairs
 -- may stand in another order.
-pub record IsStored (turn : Option Turn) (n : ℕ) (ps : List Pair) (old : Order) (p : Pair) (qs : List Pair) (new : Order) : Type 0 where
+pub record IsStored
+    (turn : Option Turn) (n : ℕ) (ps : List Pair) (old : Order) (p : Pair) (qs : List Pair) (new : Order) : Type 0 where
   pub rest : List Pair
   pub between : Order
   pub gone : Gone turn ps rest
   pub moved : IsPermutation (rest ++ p ∷ []) qs
-  pub added : (u : Turn) → get turn_cmp between u ≡ cond (is_at (turn_cmp (p.1.valid_until, n)) u) (Some p.0) (get turn_cmp old u)
+  pub added : (u : Turn)
+      → get turn_cmp between u ≡ cond (is_at (turn_cmp (p.1.valid_until, n)) u) (Some p.0) (get turn_cmp old u)
   pub turn_gone : TurnGone turn between new
 
 -- the same of a pair whose question had one, which has left

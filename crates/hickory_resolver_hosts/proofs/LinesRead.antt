@@ -79,11 +79,6 @@ none_left (f ∷ fs) h = absurd (omega arith)
 pub names_all : (now : ℕ) (d : DataValue) (fs : List (List ℕ)) (k : ℕ) (before after : List Host) → k ≡ length fs → AreSoFar now d (take k fs) before after → AreNamesRead now d fs before (Ok tt) after
 names_all now d fs k before after done sofar = (sofar.0, subst (λ gs. AreNames gs sofar.0) (take_whole k fs done) sofar.1, sofar.2)
 
--- memory runs out at a name of a line
-pub names_failed : (now : ℕ) (d : DataValue) (fs : List (List ℕ)) (k : ℕ) (error : HostsError) (before middle after : List Host) → error ≡ OutOfMemory → after ≡ middle
-    → AreSoFar now d (take k fs) before middle → AreNamesRead now d fs before (Err error) after
-names_failed now d fs k error before middle after out same sofar = (out, (k, sofar.0, sofar.1, same ∙ sofar.2))
-
 -- the texts of addresses are ASCII
 both_ascii : (xs ys : List ℕ) → list_all is_ascii xs ≡ true → list_all is_ascii ys ≡ true → list_all is_ascii (xs ++ ys) ≡ true
 both_ascii [] ys h k = k
@@ -142,10 +137,6 @@ pub no_address_field : (bytes : List ℕ) → IsUtf8 bytes → ((a : IpAddr) →
 no_address_field bytes u none d h =
     let same : chars bytes ≡ bytes = text_of_ascii bytes u (address_ascii (chars bytes) h.0 h.1) in
     none h.0 (subst (λ t. IsAddressText t h.0) same h.1)
-
--- a line that is read
-pub line_out : (now : ℕ) (line : List ℕ) (hosts : List Host) → IsUtf8 line → IsLineRead now line hosts (Err OutOfMemory) hosts
-line_out now line hosts u = ([], (u, (0, refl)), refl)
 
 pub line_empty : (now : ℕ) (line : List ℕ) (hosts : List Host) → IsUtf8 line → line_fields line ≡ [] → IsLineRead now line hosts (Ok tt) hosts
 line_empty now line hosts u none = (u, ([], subst (λ fs. AreLinePairs fs []) (sym none) refl, refl))

@@ -1,6 +1,6 @@
 //! What the lines of a file of hosts say.
-ghost use Rattle.std.specs.Prelude.{◌≡◌, ◌≢◌, ◌==◌, ◌<◌, ◌+◌, ◌∷◌, [], length, take, drop, IfSome, OnOk, OnErr, IsOkUnless, MatchOption, MatchResult};
-ghost use Rattle.std.specs.Char.{to_ascii_lowercase};
+ghost use Rattle.std.specs.Prelude.{◌≡◌, ◌≢◌, ◌==◌, ◌<◌, ◌+◌, ◌∷◌, [], ◌&&◌, not, length, take, drop, IfSome, OnOk, OnErr, IsOkUnless, MatchOption, MatchResult};
+ghost use Rattle.std.specs.Char.{is_ascii, to_ascii_lowercase};
 ghost use Rattle.std.specs.List.{before_first, list_all};
 ghost use Rattle.std.specs.Str.{chars, IsUtf8};
 ghost use Rattle.std.specs.Str.Iter.{split_whitespace_rest};
@@ -76,10 +76,10 @@ fn insert_line<S: BuildHasher>(
 ) -> Result<(), HostsError>
     ensures { IsLineRead now line.now hosts.old result hosts.new }
 {
-    let Ok(text) = str::from_utf8(line) else {
+    let Some(text) = text_of(line) else {
         return Err(HostsError::InvalidData);
     };
-    let mut fields = without_comment(text).split_whitespace();
+    let mut fields = text.split_whitespace();
     let Some(first) = fields.next() else {
         return Ok(());
     };
@@ -87,6 +87,26 @@ fn insert_line<S: BuildHasher>(
         Some(address) => insert_names(alloc, hosts, address, fields, now),
         None => Ok(()),
     }
+}
+
+// What stands in a line before its comment, if the line is UTF-8.
+fn text_of(line: &[u8]) -> Option<&str>
+    ensures { MatchOption result (IsUtf8 line.now → ⊥)
+        (λ text. IsUtf8 line.now × IsUtf8 text.now × (chars text.now ≡ before_first (λ c. c == 35) (chars line.now))) }
+{
+    if is_ascii_without_comment(line) {
+        // Each byte is one of ASCII.
+        return Some(unsafe { str::from_utf8_unchecked(line) });
+    }
+    let text = str::from_utf8(line).ok()?;
+    Some(without_comment(text))
+}
+
+// Whether a line is ASCII without a `#`.
+fn is_ascii_without_comment(line: &[u8]) -> bool
+    ensures { result ≡ list_all (λ b. is_ascii b && not (b == 35)) line.now }
+{
+    line.iter().all(|b| b.is_ascii() && *b != b'#')
 }
 
 // The address that a field is.
@@ -131,22 +151,22 @@ fn insert_names<S: BuildHasher>(
 fn host_name(alloc: Global, field: &str) -> Result<Option<Name>, HostsError>
     ensures { MatchResult result (IsNameField (chars field.now)) (λ error. error ≡ HostsError.OutOfMemory) }
 {
+    if is_lower_ascii(field) {
+        return name_of(alloc, field);
+    }
     if !field.is_ascii() {
         return Ok(None);
-    }
-    if is_lower(field) {
-        return name_of(alloc, field);
     }
     let mut text = String::from_str(alloc, field)?;
     text.make_ascii_lowercase();
     name_of(alloc, &text)
 }
 
-// Whether no byte of the text is another one in lower case.
-fn is_lower(text: &str) -> bool
-    ensures { result ≡ list_all (λ b. to_ascii_lowercase b == b) text.now }
+// Whether a text is ASCII in lower case.
+fn is_lower_ascii(text: &str) -> bool
+    ensures { result ≡ list_all (λ b. is_ascii b && to_ascii_lowercase b == b) text.now }
 {
-    text.bytes().all(|b| b.to_ascii_lowercase() == b)
+    text.bytes().all(|b| b.is_ascii() && b.to_ascii_lowercase() == b)
 }
 
 // The name that a text spells, if it spells one.
