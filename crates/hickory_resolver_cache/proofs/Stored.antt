@@ -1,6 +1,6 @@
 -- A store that has one pair come in and another leave.
-use Rattle.std.proofs.Common.{◌≡◌, ℕ, ◌+◌, ◌<◌, ◌≤◌, suc, zero, Bool, true, false, cond, ◌==◌, nat_eq, List, [], ◌∷◌, ◌++◌, length, Option, None, Some, refl, sym, ap, ◌∙◌, subst, arith, slice_get, get_or, is_some, position, remove, ◌⊎◌, inl, inr, if◌then◌else◌}
-use Rattle.std.proofs.lemmas.Bool.{cases_lt, eqb-true}
+use Rattle.std.proofs.Common.{◌≡◌, ℕ, ◌+◌, ◌<◌, ◌≤◌, suc, zero, Bool, true, false, cond, nat_eq, List, [], ◌∷◌, ◌++◌, length, Option, None, Some, refl, sym, ap, ◌∙◌, subst, arith, slice_get, get_or, is_some, position, remove, ◌⊎◌, inl, inr}
+use Rattle.std.proofs.lemmas.Bool.{cases_lt}
 use Rattle.std.proofs.lemmas.List.{get_or-map, length-map}
 use Rattle.std.proofs.lemmas.List.Quantifiers.{position-Some}
 use Rattle.std.proofs.lemmas.List.Sorted.{IsPermutation-cons, IsPermutation-remove, IsPermutation-to_front}
@@ -14,7 +14,7 @@ use Rattle.hickory_proto_core.specs.records.query.Query.{Query}
 use Rattle.hickory_proto_core.specs.Query.{query_eq}
 use Rattle.hickory_resolver_cache.specs.declared.kept.Kept.{Kept}
 use Rattle.hickory_resolver_model.specs.Cache.{insert_entry}
-use Rattle.hickory_resolver_cache.specs.Turns.{Pair, Turn, Order, turn_cmp, stored_entry, by_number, numbered, entries_of, query_at, IsNumbered, IsPlaced, IsKept, IsSameList, StandsAt, TurnGone, IsTurnOf, IsSomeTurn, IsLeaving, MakesRoom, Frees, IsOwnPlace, IsSpelledAt, IsStored}
+use Rattle.hickory_resolver_cache.specs.Turns.{Pair, Turn, Order, turn_cmp, stored_entry, by_number, numbered, entries_of, IsNumbered, IsPlaced, IsKept, IsSameList, TurnGone, IsTurnOf, IsLeaving, MakesRoom, Frees, IsOwnPlace, IsSpelledAt, IsStored}
 use Rattle.hickory_resolver_cache.proofs.Listed.{numbered-at}
 use Rattle.hickory_resolver_cache.proofs.Store.{makes_room-own, makes_room-none, makes_room-any, none-left, kept-store, entries-insert_entry}
 use Rattle.hickory_resolver_cache.proofs.Renumbered.{kept-same, same_list-permuted}

@@ -166,7 +166,8 @@ fn host_name(alloc: Global, field: &str) -> Result<Option<Name>, HostsError>
 fn is_lower_ascii(text: &str) -> bool
     ensures { result ≡ list_all (λ b. is_ascii b && to_ascii_lowercase b == b) text.now }
 {
-    text.bytes().all(|b| b.is_ascii() && b.to_ascii_lowercase() == b)
+    text.bytes()
+        .all(|b| b.is_ascii() && b.to_ascii_lowercase() == b)
 }
 
 // The name that a text spells, if it spells one.
