@@ -3,7 +3,6 @@ ghost use Rattle.std.specs.Prelude.{◌≡◌, ◌⊎◌};
 ghost use Rattle.hickory_resolver_model.specs.Cache.{age, aged_outcome};
 
 use crate::aging::{age, age_error, age_message};
-use crate::outcome::KeptOutcome;
 use hickory_proto_core::{Message, NetError};
 
 /// When an outcome was stored and until when it is current (seconds), the number of its store, and the outcome.
@@ -13,7 +12,7 @@ pub struct Kept {
     pub original_time: u64,
     pub valid_until: u64,
     pub number: u64,
-    pub result: KeptOutcome,
+    pub result: Result<Message, NetError>,
 }
 
 impl Kept {
@@ -23,14 +22,14 @@ impl Kept {
             ⊎ (result ≡ Err NetError.OutOfMemory) }
     {
         let seconds = age(self.original_time, now);
-        match self.result.as_result() {
+        match &self.result {
             Ok(message) => {
-                let mut copy = Clone::clone(message)?;
+                let mut copy = message.clone()?;
                 age_message(&mut copy, seconds);
                 Ok(copy)
             }
             Err(error) => {
-                let mut copy = Clone::clone(error)?;
+                let mut copy = error.clone()?;
                 age_error(&mut copy, seconds);
                 Err(copy)
             }

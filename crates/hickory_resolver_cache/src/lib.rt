@@ -4,7 +4,6 @@
 mod aging;
 mod entry;
 mod kept;
-mod outcome;
 mod renumber;
 pub mod response_cache;
 mod spelling;
