@@ -1,17 +1,17 @@
 -- Lists of labels as vectors and as lists of bytes.
-use Rattle.std.proofs.Common.{◌≡◌, ℕ, suc, zero, Fits, w8, ◌+◌, ◌*◌, ◌<◌, ◌≤◌, Bool, true, false, ◌&&◌, ◌||◌, List, [], ◌∷◌, ◌++◌, map, reverse, length, get_or, drop, sum_by, nat_lt, nat_eq, None, Some, if◌then◌else◌, sym, refl, ap, ap₂, ◌∙◌, Ordering, Equal, nat_cmp, arith, drop-cons, add-one, min, ◌-◌, Less, Greater, ⊎_elim}
+use Rattle.std.proofs.Common.{◌≡◌, ℕ, suc, Fits, w8, ◌+◌, ◌*◌, ◌<◌, ◌≤◌, Bool, true, false, ◌&&◌, ◌||◌, List, [], ◌∷◌, ◌++◌, map, reverse, length, get_or, drop, sum_by, nat_lt, nat_eq, None, Some, if◌then◌else◌, sym, refl, ap, ap₂, ◌∙◌, Ordering, Equal, nat_cmp, arith, drop-cons, add-one, min, ◌-◌, Less, Greater, ⊎_elim}
 use Rattle.std.proofs.lemmas.Bool.{ltb-false, eqb-false, or_parts, cases_order, and_from, lt-ltb}
 use Rattle.std.proofs.lemmas.Bool.Decides.{nat_tests}
 use Rattle.std.proofs.lemmas.List.{reverse-append, map-append, drop_all, drop-map, length-map, length-reverse, get_or-reverse}
 use Rattle.std.proofs.lemmas.List.Sums.{sum_by-cons}
 use Rattle.std.specs.List.{ends_with}
-use Rattle.std.specs.List.{list_any, AllZip, flat_map}
+use Rattle.std.specs.List.{list_any, AllZip}
 use Rattle.std.specs.Cmp.Lexicographic.{pointwise, slice_cmp}
 use Rattle.std.specs.Ordering.{ordering_then}
 use Rattle.std.specs.Global.{Vec}
 use Rattle.std.proofs.lemmas.List.Elements.{same_from_all_zip}
 use Rattle.hickory_proto_names.specs.declared.name_error.NameError.TheVariants.{EmptyLabel, LabelTooLong, NameTooLong}
-use Rattle.hickory_proto_names.specs.Name.{label_bytes, label_fault, is_bytes, wire_len, is_empty_label, is_long_label, lower_label, fed_label, labels_eq, labels_cmp, lower_labels}
+use Rattle.hickory_proto_names.specs.Name.{label_bytes, label_fault, is_bytes, wire_len, is_empty_label, is_long_label, lower_label, labels_eq, labels_cmp, lower_labels}
 
 pub list_any-map : {X Y : Type 0} (p : Y → Bool) (q : X → Bool) (f : X → Y) → ((x : X) → q x ≡ p (f x)) → (xs : List X) → list_any q xs ≡ list_any p (map f xs)
 list_any-map p q f same [] = refl
@@ -162,30 +162,10 @@ no_fault false true c h = cc
 no_fault false false true h = cc
 no_fault false false false h = (refl, refl, refl)
 
--- no label has more than 63 bytes
-pub short_label : (vs : List (Vec ℕ)) (i : ℕ) (v : Vec ℕ) → label_fault (label_bytes vs) ≡ None → i < length vs → v ≡ get_or vs i v → length v.items ≤ 63
-short_label vs i v valid in_range is =
-    let none = no_fault (list_any is_empty_label (label_bytes vs)) (list_any is_long_label (label_bytes vs)) (nat_lt 255 (wire_len (label_bytes vs))) valid in
-    let fine = list_any-map is_long_label (λ w. is_long_label w.items) (λ w. w.items) (λ w. refl) vs ∙ none.1 in
-    ltb-false 63 (length v.items) (ap (λ w. is_long_label w.items) is ∙ list_any_false _ vs i v in_range fine)
-  where
-    list_any_false : (p : Vec ℕ → Bool) (ws : List (Vec ℕ)) (k : ℕ) (d : Vec ℕ) → k < length ws → list_any p ws ≡ false → p (get_or ws k d) ≡ false
-    list_any_false p [] k d h e = absurd (omega arith)
-    list_any_false p (w ∷ ws) zero d h e = (or_parts _ _ e).0
-    list_any_false p (w ∷ ws) (suc k) d h e = list_any_false p ws k d (omega arith) (or_parts _ _ e).1
-
 pub label_count : (ls : List (List ℕ)) → label_fault ls ≡ None → length ls ≤ 127
 label_count ls h =
     let none = no_fault (list_any is_empty_label ls) (list_any is_long_label ls) (nat_lt 255 (wire_len ls)) h in
     omega (arith, two_each ls none.0, ltb-false 255 (wire_len ls) none.2)
-
-pub long_lower : (vs : List (Vec ℕ)) → length (lower_labels (label_bytes vs)) ≡ length vs
-long_lower vs = length-map (label_bytes vs) lower_label ∙ length-map vs (λ v. v.items)
-
--- what the loop over the labels feeds a hasher
-pub fed_labels : (vs : List (Vec ℕ)) → flat_map (λ v. fed_label (lower_label v.items)) vs ≡ flat_map fed_label (lower_labels (label_bytes vs))
-fed_labels [] = refl
-fed_labels (v ∷ vs) = ap (λ l. fed_label (lower_label v.items) ++ l) (fed_labels vs)
 
 pub then_other : (o p : Ordering) → (o ≡ Equal → ⊥) → o ≡ ordering_then o p
 then_other Less p h = refl

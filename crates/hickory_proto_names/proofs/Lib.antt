@@ -3,6 +3,7 @@ pub mod ArpaLabels
 pub mod ArpaMade
 pub mod ArpaNames
 pub mod ArpaNets
+pub mod CanonicalForms
 pub mod Labels
 pub mod NameMeasure
 pub mod NameOnce

@@ -8,4 +8,4 @@ use Rattle.hickory_proto_names.specs.Name.{label_bytes}
 -- the bytes of each label
 abbrev pub kept_labels : Kept → List (List ℕ)
 kept_labels (Own labels) = label_bytes labels.items
-kept_labels (Shared labels) = label_bytes (arc_value labels).items
+kept_labels (Shared labels) = arc_value labels

@@ -67,13 +67,18 @@ name_cmp =
     then_cmp (on (λ n. n.fqdn) bool_cmp)
     (on (λ n. reverse (lower_labels n.labels)) (slice_cmp (slice_cmp nat_cmp)))
 
--- what a label in lower case feeds a hasher: its length, and then its bytes in one piece
-abbrev pub fed_label : List ℕ → List (List ℕ)
-fed_label l = fed.usize (length l) ++ l ∷ []
+-- labels on the wire: each with its length before it, and the root's length of 0 at the end (RFC 1035, section 3.1)
+abbrev pub wire_form : List (List ℕ) → List ℕ
+wire_form [] = 0 ∷ []
+wire_form (l ∷ ls) = length l ∷ l ++ wire_form ls
 
--- what a name feeds a hasher
+-- their canonical form: the one on the wire, in lower case (RFC 4034, section 6.2)
+abbrev pub canonical_form : List (List ℕ) → List ℕ
+canonical_form labels = wire_form (lower_labels labels)
+
+-- what a name feeds a hasher: its mark, and then its canonical form in one piece
 abbrev pub name_hash_input : NameValue → List (List ℕ)
-name_hash_input n = fed.bool n.fqdn ++ fed.slice fed_label (lower_labels n.labels)
+name_hash_input n = fed.bool n.fqdn ++ canonical_form n.labels ∷ []
 
 -- the zone's labels end the name's; the marks aren't looked at
 abbrev pub is_zone_of : NameValue → NameValue → Bool

@@ -1,5 +1,5 @@
 -- The laws of the equality, the order and the hash of names.
-use Rattle.std.specs.Prelude.{◌≡◌, ℕ, Bool, true, false, List, ◌++◌, reverse, nat_eq, Decides}
+use Rattle.std.specs.Prelude.{◌≡◌, ℕ, Bool, true, false, List, [], ◌∷◌, ◌++◌, reverse, nat_eq, Decides}
 use Rattle.std.specs.Bool.{beq}
 use Rattle.std.proofs.Common.{sym, ap, ◌∙◌, refl}
 use Rattle.std.proofs.lemmas.Bool.{and_parts}
@@ -9,7 +9,7 @@ use Rattle.std.specs.Cmp.{booleans_Decides, both_tied, unsigned_ties, nat_cmp_to
 use Rattle.std.specs.Cmp.Lexicographic.{pointwise, pointwise_decides, bytes_decides, slice_cmp, lists_ties, lists_total, lists_equiv}
 use Rattle.std.specs.Ordering.{bool_cmp, nat_cmp, eq_by_cmp, is_eq, as_partial_cmp}
 use Rattle.std.specs.Hash as fed
-use Rattle.hickory_proto_names.specs.Name.{NameValue, name_eq, name_cmp, name_hash_input, fed_label, lower_labels}
+use Rattle.hickory_proto_names.specs.Name.{NameValue, name_eq, name_cmp, name_hash_input, lower_labels, wire_form}
 
 -- the lists are equal where the test says so
 pub label_lists_Decides : (xs ys : List (List ℕ)) → Decides (pointwise (pointwise nat_eq) xs ys) (xs ≡ ys)
@@ -61,7 +61,7 @@ same_from_name_eq x y h =
 pub name_respects_eq : (x y : NameValue) → name_eq x y ≡ true → name_hash_input x ≡ name_hash_input y
 name_respects_eq x y h =
     let same = same_from_name_eq x y h in
-    λ i. fed.bool (same.0 i) ++ fed.slice fed_label (same.1 i)
+    λ i. fed.bool (same.0 i) ++ wire_form (same.1 i) ∷ []
 
 pub name_equiv : IsEquivalence name_eq
 name_equiv =

@@ -1,13 +1,14 @@
 //! The labels of a name.
-ghost use Rattle.std.specs.Prelude.{◌≡◌, IfOk, length};
-ghost use Rattle.hickory_proto_names.specs.Name.{label_bytes};
+ghost use Rattle.std.specs.Prelude.{◌≡◌, IfOk, IfSome, None, length};
+ghost use Rattle.hickory_proto_names.specs.Name.{canonical_form, label_bytes, label_fault};
 
+use crate::canonical::SharedLabels;
 use std::alloc::{AllocError, Global};
 use std::fmt;
 use std::marker::Model;
 use std::sync::Arc;
 
-// A list of labels. A copy shares the memory of its source where that is shared already.
+// A list of labels without a fault. A copy shares the memory of its source where that is shared already.
 #[derive(Drop)]
 pub(crate) struct LabelList {
     kept: Kept,
@@ -16,21 +17,25 @@ pub(crate) struct LabelList {
 #[derive(Drop)]
 enum Kept {
     Own(Vec<Vec<u8>>),
-    Shared(Arc<Vec<Vec<u8>>>),
+    Shared(Arc<SharedLabels>),
 }
 
 impl Model for LabelList {
-    ghost use Rattle.std.specs.Prelude.{List, ℕ};
+    ghost use Rattle.std.specs.Prelude.{◌≡◌, List, None, ℕ};
     ghost use Rattle.hickory_proto_names.specs.LabelList.{kept_labels};
+    ghost use Rattle.hickory_proto_names.specs.Name.{label_fault};
 
     ghost Value = { List (List ℕ) };
 
     ghost view = { λ l. kept_labels l.kept };
+
+    ghost invariant = { λ l. label_fault (kept_labels l.kept) ≡ None };
 }
 
 impl LabelList {
     // Takes no memory.
     pub(crate) fn own(labels: Vec<Vec<u8>>) -> LabelList
+        requires { label_fault (label_bytes labels.items) ≡ None }
         ensures { result ≡ label_bytes labels.items }
     {
         LabelList {
@@ -39,9 +44,11 @@ impl LabelList {
     }
 
     pub(crate) fn shared(labels: Vec<Vec<u8>>) -> Result<LabelList, AllocError>
+        requires { label_fault (label_bytes labels.items) ≡ None }
         ensures { IfOk result (λ ls. ls ≡ label_bytes labels.items) }
     {
-        let labels = Arc::new(*labels.allocator(), labels)?;
+        let alloc = *labels.allocator();
+        let labels = Arc::new(alloc, SharedLabels::new(labels)?)?;
         Ok(LabelList {
             kept: Kept::Shared(labels),
         })
@@ -57,10 +64,20 @@ impl LabelList {
         }
     }
 
+    // The canonical form, where it is kept: that of labels that are shared.
+    pub(crate) fn canonical(&self) -> Option<&[u8]>
+        ensures { IfSome result (λ form. form.now ≡ canonical_form self.now) }
+    {
+        match &self.kept {
+            Kept::Own(_) => None,
+            Kept::Shared(labels) => Some(labels.canonical()),
+        }
+    }
+
     pub(crate) fn allocator(&self) -> Global {
         match &self.kept {
             Kept::Own(labels) => *labels.allocator(),
-            Kept::Shared(labels) => *labels.allocator(),
+            Kept::Shared(labels) => labels.allocator(),
         }
     }
 
@@ -84,7 +101,10 @@ impl LabelList {
         let LabelList { kept } = self;
         match kept {
             Kept::Own(labels) => Ok(labels),
-            Kept::Shared(labels) => Arc::unwrap_or_clone(labels),
+            Kept::Shared(labels) => match Arc::try_unwrap(labels) {
+                Ok(labels) => Ok(labels.into_labels()),
+                Err(labels) => labels.to_labels(),
+            },
         }
     }
 }

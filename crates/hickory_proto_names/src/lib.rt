@@ -3,6 +3,7 @@
 #![tactic(auto)]
 
 pub mod arpa;
+mod canonical;
 pub mod into_name;
 pub mod ip;
 mod label_list;

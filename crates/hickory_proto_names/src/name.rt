@@ -3,8 +3,9 @@ ghost use Rattle.std.specs.Prelude.{◌≡◌, ◌≤◌, ◌<◌, ◌+◌, min,
 ghost use Rattle.std.specs.List.{list_any};
 ghost use Rattle.std.specs.Cmp.Lexicographic.{pointwise, slice_cmp};
 ghost use Rattle.std.specs.Ordering.{nat_cmp};
-ghost use Rattle.hickory_proto_names.specs.Name.{NameValue, label_bytes, label_fault, lower_label, lower_labels, fed_label, labels_eq, labels_cmp, is_empty_label, is_long_label, wire_len, is_bytes, are_bytes, num_labels_of, appended_name, append_fault, trimmed_name, base_of, localhost, is_zone_of};
+ghost use Rattle.hickory_proto_names.specs.Name.{NameValue, label_bytes, label_fault, lower_label, lower_labels, labels_eq, labels_cmp, is_empty_label, is_long_label, wire_len, is_bytes, are_bytes, num_labels_of, appended_name, append_fault, trimmed_name, base_of, localhost, is_zone_of};
 
+use crate::canonical::canonical_form;
 use crate::label_list::LabelList;
 use crate::name_error::NameError;
 use std::alloc::{AllocError, Global};
@@ -227,7 +228,7 @@ impl PartialEq for Name {
     ghost laws = { partial_equiv_from_equiv name_equiv };
 
     fn eq(&self, other: &Name) -> bool {
-        self.fqdn == other.fqdn && labels_eq(self.labels(), other.labels())
+        self.fqdn == other.fqdn && same_labels(&self.labels, &other.labels)
     }
 }
 
@@ -283,10 +284,9 @@ impl Hash for Name {
 
     fn hash<H: Hasher>(&self, state: &mut H) {
         self.fqdn.hash(state);
-        let labels = self.labels();
-        labels.len().hash(state);
-        for label in labels {
-            hash_label(label, state);
+        match self.labels.canonical() {
+            Some(form) => state.write(form),
+            None => state.write(canonical_form(self.labels()).as_slice()),
         }
     }
 }
@@ -334,6 +334,16 @@ fn label_eq(a: &[u8], b: &[u8]) -> bool
     a == b || a.eq_ignore_ascii_case(b)
 }
 
+// Whether the labels are equal without ASCII case. Where both have their canonical form, one comparison tells.
+fn same_labels(a: &LabelList, b: &LabelList) -> bool
+    ensures { result ≡ labels_eq a.now b.now }
+{
+    match (a.canonical(), b.canonical()) {
+        (Some(a), Some(b)) => a == b,
+        _ => labels_eq(a.as_slice(), b.as_slice()),
+    }
+}
+
 fn labels_eq(a: &[Vec<u8>], b: &[Vec<u8>]) -> bool
     ensures { result ≡ labels_eq (label_bytes a.now) (label_bytes b.now) }
 {
@@ -367,17 +377,4 @@ fn labels_cmp(a: &[Vec<u8>], b: &[Vec<u8>]) -> Ordering
         }
     }
     a.len().cmp(&b.len())
-}
-
-// Feeds a hasher the label's length, and then its bytes in lower case in one piece. The whole buffer is put in
-// lower case: since its length is fixed, that takes less time than to do so for the label's bytes alone.
-fn hash_label<H: Hasher>(label: &[u8], state: &mut H)
-    requires { length label.now ≤ 63 }
-    ensures { state.new ≡ fold H.write state.old (fed_label (lower_label label.now)) }
-{
-    let mut buffer = [0; 64];
-    buffer[..label.len()].copy_from_slice(label);
-    buffer.make_ascii_lowercase();
-    label.len().hash(state);
-    state.write(&buffer[..label.len()]);
 }

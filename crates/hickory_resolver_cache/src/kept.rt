@@ -24,12 +24,12 @@ impl Kept {
         let seconds = age(self.original_time, now);
         match &self.result {
             Ok(message) => {
-                let mut copy = message.clone()?;
+                let mut copy = Clone::clone(message)?;
                 age_message(&mut copy, seconds);
                 Ok(copy)
             }
             Err(error) => {
-                let mut copy = error.clone()?;
+                let mut copy = Clone::clone(error)?;
                 age_error(&mut copy, seconds);
                 Err(copy)
             }

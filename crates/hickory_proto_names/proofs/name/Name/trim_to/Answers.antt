@@ -4,6 +4,15 @@ use Rattle.hickory_proto_names.specs.Name.{label_bytes, label_fault, are_bytes, 
 use Rattle.hickory_proto_names.proofs.NameParts.{label_bytes-appended, last-labels, trimmed-enough, drop-valid, drop-bytes}
 use Rattle.hickory_proto_names.proofs.name.Name.trim_to.Goals as goal
 
+pub shared-requires : goal.shared-requires
+shared-requires c =
+    let vs = c.labels-all.result.now in
+    let all = c.labels-all.ensures in
+    let more = c.in_ok-extend_with_clones.ensures.items in
+    let last = ap₂ (λ a b. label_bytes a ++ b) c.new-labels.ensures.items (last-labels vs vs _ c.args.n refl refl) in
+    let same = label_bytes-appended _ _ _ more.0 more.1 more.2 ∙ last in
+    ap label_fault same ∙ drop-valid _ (label_bytes vs) (ap label_fault all.labels ∙ all.valid)
+
 pub invariant_of-result : goal.invariant_of-result
 invariant_of-result c =
     let vs = c.labels-all.result.now in
