@@ -1,9 +1,11 @@
 //! What a cache holds.
-ghost use Rattle.std.specs.Prelude.{◌≡◌};
+ghost use Rattle.std.specs.Prelude.{◌≡◌, IfOk};
 ghost use Rattle.hickory_resolver_model.specs.Cache.{Entry, entry_of, positive_entry, negative_entry};
 
+use crate::outcome::KeptOutcome;
 use hickory_proto_core::{DnsError, Message, NetError, NoRecords, Query};
 use hickory_resolver_lookup::TtlConfig;
+use std::alloc::{AllocError, Global};
 use std::marker::Model;
 
 /// An outcome that is kept for a question, when it was stored, and until when it is current (seconds).
@@ -26,6 +28,48 @@ impl Model for CacheEntry {
       original_time = e.original_time;
       valid_until = e.valid_until;
     } };
+}
+
+/// The same as it is kept: its error is boxed.
+#[derive(Drop)]
+pub struct KeptEntry {
+    pub query: Query,
+    pub result: KeptOutcome,
+    pub original_time: u64,
+    pub valid_until: u64,
+}
+
+impl Model for KeptEntry {
+    ghost use Rattle.hickory_resolver_model.specs.Cache.{Entry};
+
+    ghost Value = { Entry };
+
+    ghost view = { λ e. record {
+      query = e.query;
+      result = e.result;
+      original_time = e.original_time;
+      valid_until = e.valid_until;
+    } };
+}
+
+impl CacheEntry {
+    // The entry as it is kept.
+    pub fn into_kept(self, alloc: Global) -> Result<KeptEntry, AllocError>
+        ensures { IfOk result (λ kept. kept ≡ self) }
+    {
+        let CacheEntry {
+            query,
+            result,
+            original_time,
+            valid_until,
+        } = self;
+        Ok(KeptEntry {
+            query,
+            result: KeptOutcome::new(alloc, result)?,
+            original_time,
+            valid_until,
+        })
+    }
 }
 
 // The entry that an outcome becomes at a moment, where it is kept.

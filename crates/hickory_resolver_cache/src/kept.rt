@@ -3,6 +3,7 @@ ghost use Rattle.std.specs.Prelude.{◌≡◌, ◌⊎◌};
 ghost use Rattle.hickory_resolver_model.specs.Cache.{age, aged_outcome};
 
 use crate::aging::{age, age_error, age_message};
+use crate::outcome::KeptOutcome;
 use hickory_proto_core::{Message, NetError};
 
 /// When an outcome was stored and until when it is current (seconds), the number of its store, and the outcome.
@@ -12,7 +13,7 @@ pub struct Kept {
     pub original_time: u64,
     pub valid_until: u64,
     pub number: u64,
-    pub result: Result<Message, NetError>,
+    pub result: KeptOutcome,
 }
 
 impl Kept {
@@ -22,7 +23,7 @@ impl Kept {
             ⊎ (result ≡ Err NetError.OutOfMemory) }
     {
         let seconds = age(self.original_time, now);
-        match &self.result {
+        match self.result.as_result() {
             Ok(message) => {
                 let mut copy = Clone::clone(message)?;
                 age_message(&mut copy, seconds);

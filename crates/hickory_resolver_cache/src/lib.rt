@@ -4,6 +4,7 @@
 mod aging;
 mod entry;
 mod kept;
+mod outcome;
 mod renumber;
 pub mod response_cache;
 mod spelling;

@@ -1,12 +1,13 @@
 //! Numbers given anew, where they have run out.
-ghost use Rattle.std.specs.Prelude.{◌≡◌, ◌<◌, ◌+◌, ◌^◌, IfOk, OnOk, OnErr, IsOkUnless, IsPermutation};
+ghost use Rattle.std.specs.Prelude.{◌≡◌, ◌<◌, ◌+◌, ◌^◌, IfOk, OnOk, OnErr, IsPermutation};
 ghost use Rattle.std.specs.List.Sorted.{IsSortedByKey};
 ghost use Rattle.std.specs.Ordering.{nat_cmp};
 ghost use Rattle.hickory_resolver_cache.specs.Turns.{IsNumbered, IsOrderOf, IsPlaced, IsSameList, renumbered};
 
 use crate::kept::Kept;
 use crate::turns::{Index, Order};
-use hickory_proto_core::{NetError, Query};
+use hickory_proto_core::Query;
+use std::alloc::AllocError;
 use std::collections::BTreeMap;
 use std::hash::BuildHasher;
 
@@ -16,14 +17,13 @@ pub fn next_number<S: BuildHasher>(
     index: &mut Index<S>,
     order: &mut Order,
     next_number: u64,
-) -> Result<u64, NetError>
+) -> Result<u64, AllocError>
     requires numbers { IsNumbered next_number index.old.entries }
     requires placed { IsPlaced index.old.entries order.old }
     ensures ok { IfOk result (λ n. IsSameList index.old.entries next_number index.new.entries n order.new) }
     ensures more { IfOk result (λ n. n + 1 < 2 ^ 64) }
     ensures refused { OnErr result
         (IsSameList index.old.entries next_number index.new.entries next_number order.new) }
-    ensures err { IsOkUnless result NetError.OutOfMemory }
 {
     if next_number < u64::MAX {
         return Ok(next_number);
@@ -35,10 +35,9 @@ pub fn next_number<S: BuildHasher>(
     Ok(index.len() as u64)
 }
 
-fn sort_by_number<S: BuildHasher>(index: &mut Index<S>) -> Result<(), NetError>
+fn sort_by_number<S: BuildHasher>(index: &mut Index<S>) -> Result<(), AllocError>
     ensures sorted { OnOk result (IsSortedByKey (λ p. p.1.number) nat_cmp index.new.entries) }
     ensures reordered { IsPermutation index.old.entries index.new.entries }
-    ensures err { IsOkUnless result NetError.OutOfMemory }
 {
     index.sort_unstable_by_key(
         |_query: &Query, kept: &Kept| -> u64
@@ -49,14 +48,13 @@ fn sort_by_number<S: BuildHasher>(index: &mut Index<S>) -> Result<(), NetError>
 }
 
 // The turns of the entries, if each had its place in the index as its number.
-fn order_of<S: BuildHasher>(index: &Index<S>) -> Result<Order, NetError>
+fn order_of<S: BuildHasher>(index: &Index<S>) -> Result<Order, AllocError>
     ensures ok { IfOk result (λ order. IsOrderOf index.now.entries order) }
-    ensures err { IsOkUnless result NetError.OutOfMemory }
 {
     let mut order = BTreeMap::new(*index.allocator());
     for i in 0..index.len() {
         let (query, kept) = index.get_index(i).unwrap();
-        order.insert((kept.valid_until, i as u64), query.clone()?)?;
+        order.insert((kept.valid_until, i as u64), Clone::clone(query)?)?;
     }
     Ok(order)
 }

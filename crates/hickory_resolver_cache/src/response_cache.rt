@@ -209,11 +209,12 @@ impl<S: BuildHasher> ResponseCache<S> {
             drop(entry);
             return Ok(());
         }
+        let entry = entry.into_kept(self.allocator())?;
         match next_number(&mut self.index, &mut self.order, self.next_number) {
             Ok(number) => self.next_number = number,
             Err(error) => {
                 drop(entry);
-                return Err(error);
+                return Err(NetError::from(error));
             }
         }
         store(

@@ -1,5 +1,5 @@
 //! The two maps of a cache: entries by question, and questions by deadline and number.
-ghost use Rattle.std.specs.Prelude.{◌≡◌, ◌<◌, ◌≤◌, ◌+◌, ◌∷◌, ◌++◌, [], nat_eq, None, Some, cond, OnOk, OnErr, IsOkUnless};
+ghost use Rattle.std.specs.Prelude.{◌≡◌, ◌<◌, ◌≤◌, ◌+◌, ◌∷◌, ◌++◌, [], nat_eq, None, Some, cond, OnOk, OnErr};
 ghost use Rattle.std.specs.List.{IsDistinct};
 ghost use Rattle.std.specs.Map.{keys_of};
 ghost use Rattle.std.specs.BTreeMap.{get as turn_get, is_at};
@@ -8,11 +8,12 @@ ghost use Rattle.hickory_proto_core.specs.Query.{query_eq};
 ghost use Rattle.hickory_resolver_model.specs.Cache.{insert_entry};
 ghost use Rattle.hickory_resolver_cache.specs.Turns.{Turn, by_number, entries_of, pair_of, turn_cmp, IsKept, IsNumbered, IsPlaced, IsSameList, Gone, TurnGone, IsTaken, IsTurnOf, IsSomeTurn, IsFirstTurn, IsLeaving, IsOwnPlace, IsSpelledAt, Frees, IsStored, Replaces};
 
-use crate::entry::CacheEntry;
+use crate::entry::KeptEntry;
 use crate::kept::Kept;
 use crate::spelling::is_same_spelling;
-use hickory_proto_core::{NetError, Query};
+use hickory_proto_core::Query;
 use indexmap::IndexMap;
+use std::alloc::AllocError;
 use std::collections::BTreeMap;
 use std::hash::BuildHasher;
 
@@ -29,8 +30,8 @@ pub fn store<S: BuildHasher>(
     order: &mut Order,
     capacity: u64,
     number: u64,
-    entry: CacheEntry,
-) -> Result<(), NetError>
+    entry: KeptEntry,
+) -> Result<(), AllocError>
     requires some { 0 < capacity }
     requires kept { IsKept capacity number index.old.entries order.old }
     ensures kept { OnOk result (IsKept capacity (number + 1) index.new.entries order.new) }
@@ -38,7 +39,6 @@ pub fn store<S: BuildHasher>(
         (entries_of index.new.entries (number + 1)
         ≡ insert_entry capacity (entries_of index.old.entries number) entry) }
     ensures refused { OnErr result (IsSameList index.old.entries number index.new.entries number order.new) }
-    ensures err { IsOkUnless result NetError.OutOfMemory }
 {
     let Some(place) = index.get_index_of(&entry.query) else {
         let turn = leaving(index, order, capacity);
@@ -54,8 +54,8 @@ fn replace<S: BuildHasher>(
     order: &mut Order,
     place: usize,
     number: u64,
-    entry: CacheEntry,
-) -> Result<(), NetError>
+    entry: KeptEntry,
+) -> Result<(), AllocError>
     requires numbers { IsNumbered number index.old.entries }
     requires placed { IsPlaced index.old.entries order.old }
     requires unique { IsUnique query_eq index.old }
@@ -63,7 +63,6 @@ fn replace<S: BuildHasher>(
     ensures ok { OnOk result
         (Replaces number index.old.entries order.old (pair_of entry number) index.new.entries order.new) }
     ensures refused { OnErr result (IsSameList index.old.entries number index.new.entries number order.new) }
-    ensures err { IsOkUnless result NetError.OutOfMemory }
 {
     let (query, kept) = index.get_index(place).unwrap();
     let turn = (kept.valid_until, kept.number);
@@ -82,17 +81,16 @@ fn rewrite<S: BuildHasher>(
     turn: (u64, u64),
     place: usize,
     number: u64,
-    entry: CacheEntry,
-) -> Result<(), NetError>
+    entry: KeptEntry,
+) -> Result<(), AllocError>
     requires numbers { IsNumbered number index.old.entries }
     requires placed { IsPlaced index.old.entries order.old }
     requires own { IsSpelledAt entry.query index.old.entries place turn }
     ensures ok { OnOk result
         (IsStored (Some turn) number index.old.entries order.old (pair_of entry number) index.new.entries order.new) }
     ensures refused { OnErr result (IsSameList index.old.entries number index.new.entries number order.new) }
-    ensures err { IsOkUnless result NetError.OutOfMemory }
 {
-    let CacheEntry {
+    let KeptEntry {
         query,
         result,
         original_time,
@@ -117,8 +115,8 @@ fn exchange<S: BuildHasher>(
     order: &mut Order,
     turn: Option<(u64, u64)>,
     number: u64,
-    entry: CacheEntry,
-) -> Result<(), NetError>
+    entry: KeptEntry,
+) -> Result<(), AllocError>
     requires numbers { IsNumbered number index.old.entries }
     requires placed { IsPlaced index.old.entries order.old }
     requires turn { IsSomeTurn index.old.entries turn }
@@ -126,7 +124,6 @@ fn exchange<S: BuildHasher>(
     ensures ok { OnOk result
         (IsStored turn number index.old.entries order.old (pair_of entry number) index.new.entries order.new) }
     ensures refused { OnErr result (IsSameList index.old.entries number index.new.entries number order.new) }
-    ensures err { IsOkUnless result NetError.OutOfMemory }
 {
     add_turn(index, order, (entry.valid_until, number), &entry.query)?;
     take_out(index, order, turn);
@@ -141,27 +138,26 @@ fn add_turn<S: BuildHasher>(
     order: &mut Order,
     turn: (u64, u64),
     query: &Query,
-) -> Result<(), NetError>
+) -> Result<(), AllocError>
     ensures entries { index.new.entries ≡ index.old.entries }
     ensures room { OnOk result (0 < spare index.new) }
     ensures added { OnOk result ((u : Turn) →
         turn_get turn_cmp order.new u ≡ cond (is_at (turn_cmp turn) u) (Some query.now) (turn_get turn_cmp order.old u)) }
     ensures unchanged { OnErr result ((u : Turn) → turn_get turn_cmp order.new u ≡ turn_get turn_cmp order.old u) }
-    ensures err { IsOkUnless result NetError.OutOfMemory }
 {
     index.reserve(1)?;
-    let copy = query.clone()?;
+    let copy = Clone::clone(query)?;
     order.insert(turn, copy)?;
     Ok(())
 }
 
 // Puts an entry last, by this number, where there is room and none for its question.
-fn insert_entry<S: BuildHasher>(index: &mut Index<S>, entry: CacheEntry, number: u64)
+fn insert_entry<S: BuildHasher>(index: &mut Index<S>, entry: KeptEntry, number: u64)
     requires room { 0 < spare index.old }
     requires new { get query_eq index.old entry.query ≡ None }
     ensures { index.new.entries ≡ index.old.entries ++ pair_of entry number ∷ [] }
 {
-    let CacheEntry {
+    let KeptEntry {
         query,
         result,
         original_time,

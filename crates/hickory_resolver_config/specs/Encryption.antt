@@ -11,3 +11,7 @@ is_enabled (Enabled config) = true
 abbrev pub max_concurrent_probes : OpportunisticEncryption → Option ℕ
 max_concurrent_probes Disabled = None
 max_concurrent_probes (Enabled config) = Some config.max_concurrent_probes
+
+-- where nothing is said, servers are not tried
+abbrev pub default_encryption : OpportunisticEncryption
+default_encryption = Disabled

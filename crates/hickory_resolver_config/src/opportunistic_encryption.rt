@@ -49,9 +49,9 @@ impl OpportunisticEncryption {
 
 impl Default for OpportunisticEncryption {
     ghost use Rattle.std.specs.Prelude.{◌≡◌};
-    ghost use Rattle.hickory_resolver_config.specs.declared.opportunistic_encryption.OpportunisticEncryption.TheVariants.{Disabled};
+    ghost use Rattle.hickory_resolver_config.specs.Encryption.{default_encryption};
 
-    ghost is_default = { λ o. o ≡ Disabled };
+    ghost is_default = { λ o. o ≡ default_encryption };
 
     fn default() -> OpportunisticEncryption {
         OpportunisticEncryption::Disabled
