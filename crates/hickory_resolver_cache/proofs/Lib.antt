@@ -7,3 +7,4 @@ mod Renumbered
 mod Stored
 mod Spelled
 mod Laws
+mod KeptEntries

@@ -1,6 +1,6 @@
 //! What a cache holds.
-ghost use Rattle.std.specs.Prelude.{◌≡◌, IfOk};
-ghost use Rattle.hickory_resolver_model.specs.Cache.{Entry, entry_of, positive_entry, negative_entry};
+ghost use Rattle.std.specs.Prelude.{◌≡◌, IfOk, IsOk, IsNone};
+ghost use Rattle.hickory_resolver_model.specs.Cache.{entry_of, positive_entry, negative_entry};
 
 use crate::outcome::KeptOutcome;
 use hickory_proto_core::{DnsError, Message, NetError, NoRecords, Query};
@@ -12,7 +12,7 @@ use std::marker::Model;
 #[derive(Drop)]
 pub struct CacheEntry {
     pub query: Query,
-    pub result: Result<Message, NetError>,
+    pub result: KeptOutcome,
     pub original_time: u64,
     pub valid_until: u64,
 }
@@ -30,63 +30,24 @@ impl Model for CacheEntry {
     } };
 }
 
-/// The same as it is kept: its error is boxed.
-#[derive(Drop)]
-pub struct KeptEntry {
-    pub query: Query,
-    pub result: KeptOutcome,
-    pub original_time: u64,
-    pub valid_until: u64,
-}
-
-impl Model for KeptEntry {
-    ghost use Rattle.hickory_resolver_model.specs.Cache.{Entry};
-
-    ghost Value = { Entry };
-
-    ghost view = { λ e. record {
-      query = e.query;
-      result = e.result;
-      original_time = e.original_time;
-      valid_until = e.valid_until;
-    } };
-}
-
-impl CacheEntry {
-    // The entry as it is kept.
-    pub fn into_kept(self, alloc: Global) -> Result<KeptEntry, AllocError>
-        ensures { IfOk result (λ kept. kept ≡ self) }
-    {
-        let CacheEntry {
-            query,
-            result,
-            original_time,
-            valid_until,
-        } = self;
-        Ok(KeptEntry {
-            query,
-            result: KeptOutcome::new(alloc, result)?,
-            original_time,
-            valid_until,
-        })
-    }
-}
-
-// The entry that an outcome becomes at a moment, where it is kept.
+// The entry that an outcome becomes at a moment, where it is kept. Only a negative answer takes memory.
 pub fn entry_of(
+    alloc: Global,
     config: &TtlConfig,
     query: Query,
     outcome: Result<Message, NetError>,
     now: u64,
-) -> Option<CacheEntry>
-    ensures { result ≡ entry_of config.now query outcome now }
+) -> Result<Option<CacheEntry>, AllocError>
+    ensures entry { IfOk result (λ entry. entry ≡ entry_of config.now query outcome now) }
+    ensures not_kept { IsNone (entry_of config.now query outcome now) → IsOk result }
 {
     match outcome {
-        Ok(message) => Some(positive_entry(config, query, message, now)),
+        Ok(message) => Ok(Some(positive_entry(config, query, message, now))),
         Err(NetError::Dns(DnsError::NoRecordsFound(negative))) => {
-            Some(negative_entry(config, query, negative, now))
+            let entry = negative_entry(alloc, config, query, negative, now)?;
+            Ok(Some(entry))
         }
-        Err(_) => None,
+        Err(_) => Ok(None),
     }
 }
 
@@ -97,20 +58,26 @@ fn positive_entry(config: &TtlConfig, query: Query, mut message: Message, now: u
     let lifetime = config.positive_lifetime(&query, &message);
     CacheEntry {
         query,
-        result: Ok(message),
+        result: KeptOutcome::answer(message),
         original_time: now,
         valid_until: now.saturating_add(lifetime),
     }
 }
 
-fn negative_entry(config: &TtlConfig, query: Query, negative: NoRecords, now: u64) -> CacheEntry
-    ensures { result ≡ negative_entry config.now query negative now }
+fn negative_entry(
+    alloc: Global,
+    config: &TtlConfig,
+    query: Query,
+    negative: NoRecords,
+    now: u64,
+) -> Result<CacheEntry, AllocError>
+    ensures { IfOk result (λ entry. entry ≡ negative_entry config.now query negative now) }
 {
     let lifetime = config.negative_lifetime(&query, &negative);
-    CacheEntry {
+    Ok(CacheEntry {
         query,
-        result: Err(NetError::from(negative)),
+        result: KeptOutcome::failure(alloc, NetError::from(negative))?,
         original_time: now,
         valid_until: now.saturating_add(lifetime),
-    }
+    })
 }

@@ -28,15 +28,22 @@ impl Model for KeptOutcome {
 }
 
 impl KeptOutcome {
-    // The outcome, with its error moved into a box.
-    pub fn new(alloc: Global, outcome: Result<Message, NetError>) -> Result<KeptOutcome, AllocError>
-        ensures { IfOk result (λ kept. kept ≡ outcome) }
+    // An answer as it is kept.
+    pub fn answer(message: Message) -> KeptOutcome
+        ensures { result ≡ Ok message }
     {
-        let form = match outcome {
-            Ok(message) => Form::Answer(message),
-            Err(error) => Form::Failure(Box::new(alloc, error)?),
-        };
-        Ok(KeptOutcome { form })
+        KeptOutcome {
+            form: Form::Answer(message),
+        }
+    }
+
+    // An error as it is kept, moved into a box.
+    pub fn failure(alloc: Global, error: NetError) -> Result<KeptOutcome, AllocError>
+        ensures { IfOk result (λ kept. kept ≡ Err error) }
+    {
+        Ok(KeptOutcome {
+            form: Form::Failure(Box::new(alloc, error)?),
+        })
     }
 
     // The outcome where it lies.

@@ -1,7 +1,8 @@
 //! A bounded cache of outcomes by question.
-ghost use Rattle.std.specs.Prelude.{◌≡◌, ◌≤◌, ◌<◌, [], length, option_copied, IsTrue, IsOk, IfSome, IsNone, OnOk, OnErr, IsOkUnless, if◌then◌else◌};
+ghost use Rattle.std.specs.Prelude.{◌≡◌, ◌≤◌, ◌<◌, [], length, option_copied, IsTrue, IsOk, IfSome, IsNone, OnOk, OnErr, IfOk, IsOkUnless, if◌then◌else◌};
 ghost use Rattle.std.specs.Option.{option_map};
 ghost use Rattle.hickory_resolver_model.specs.Cache.{CacheValue, IsCache, IsGot, IsNewest, NeverLater, OutlivesNoAnswer, current, without_query, entry_of, not_after_current, insert_entry, store, store_clamped};
+ghost use Rattle.hickory_resolver_cache.specs.Outcome.{kept_entry};
 ghost use Rattle.hickory_resolver_cache.specs.Turns.{shown, shown_entry};
 
 use crate::entry::{CacheEntry, entry_of};
@@ -88,7 +89,7 @@ impl<S: BuildHasher> ResponseCache<S> {
             (0 < self.old.capacity
             → IfSome (entry_of self.old.config query outcome now) (λ e. IsNewest e self.new.entries)) }
     {
-        match entry_of(&self.ttl_config, query, outcome, now) {
+        match self.entry_of(query, outcome, now)? {
             Some(entry) => self.insert_entry(entry),
             None => Ok(()),
         }
@@ -118,7 +119,7 @@ impl<S: BuildHasher> ResponseCache<S> {
     {
         // `len` is called for its clause that the entries are for different questions.
         let _len = self.len();
-        let Some(entry) = entry_of(&self.ttl_config, query, outcome, now) else {
+        let Some(entry) = self.entry_of(query, outcome, now)? else {
             return Ok(());
         };
         if clamp_valid_until {
@@ -195,21 +196,34 @@ impl<S: BuildHasher> ResponseCache<S> {
         }
     }
 
+    // The entry that an outcome becomes at a moment, where it is kept. A cache without room keeps none.
+    fn entry_of(
+        &self,
+        query: Query,
+        outcome: Result<Message, NetError>,
+        now: u64,
+    ) -> Result<Option<CacheEntry>, NetError>
+        ensures entry { IfOk result (λ entry. entry ≡ kept_entry self.now query outcome now) }
+        ensures err { IsOkUnless result NetError.OutOfMemory }
+        ensures not_kept { IsNone (kept_entry self.now query outcome now) → IsOk result }
+    {
+        if self.capacity == 0 {
+            return Ok(None);
+        }
+        let entry = entry_of(self.allocator(), &self.ttl_config, query, outcome, now)?;
+        Ok(entry)
+    }
+
     // Puts an entry in as the newest. A refused call changes nothing.
     fn insert_entry(&mut self, entry: CacheEntry) -> Result<(), NetError>
-        requires { OutlivesNoAnswer self.old.config entry }
+        requires some { 0 < self.old.capacity }
+        requires timely { OutlivesNoAnswer self.old.config entry }
         ensures ok { OnOk result (self.new ≡ record self.old {
           entries = insert_entry self.old.capacity self.old.entries entry;
         }) }
         ensures unchanged { OnErr result (self.new ≡ self.old) }
         ensures err { IsOkUnless result NetError.OutOfMemory }
-        ensures no_capacity { self.old.capacity ≡ 0 → IsOk result }
     {
-        if self.capacity == 0 {
-            drop(entry);
-            return Ok(());
-        }
-        let entry = entry.into_kept(self.allocator())?;
         match next_number(&mut self.index, &mut self.order, self.next_number) {
             Ok(number) => self.next_number = number,
             Err(error) => {

@@ -8,7 +8,7 @@ ghost use Rattle.hickory_proto_core.specs.Query.{query_eq};
 ghost use Rattle.hickory_resolver_model.specs.Cache.{insert_entry};
 ghost use Rattle.hickory_resolver_cache.specs.Turns.{Turn, by_number, entries_of, pair_of, turn_cmp, IsKept, IsNumbered, IsPlaced, IsSameList, Gone, TurnGone, IsTaken, IsTurnOf, IsSomeTurn, IsFirstTurn, IsLeaving, IsOwnPlace, IsSpelledAt, Frees, IsStored, Replaces};
 
-use crate::entry::KeptEntry;
+use crate::entry::CacheEntry;
 use crate::kept::Kept;
 use crate::spelling::is_same_spelling;
 use hickory_proto_core::Query;
@@ -30,7 +30,7 @@ pub fn store<S: BuildHasher>(
     order: &mut Order,
     capacity: u64,
     number: u64,
-    entry: KeptEntry,
+    entry: CacheEntry,
 ) -> Result<(), AllocError>
     requires some { 0 < capacity }
     requires kept { IsKept capacity number index.old.entries order.old }
@@ -54,7 +54,7 @@ fn replace<S: BuildHasher>(
     order: &mut Order,
     place: usize,
     number: u64,
-    entry: KeptEntry,
+    entry: CacheEntry,
 ) -> Result<(), AllocError>
     requires numbers { IsNumbered number index.old.entries }
     requires placed { IsPlaced index.old.entries order.old }
@@ -81,7 +81,7 @@ fn rewrite<S: BuildHasher>(
     turn: (u64, u64),
     place: usize,
     number: u64,
-    entry: KeptEntry,
+    entry: CacheEntry,
 ) -> Result<(), AllocError>
     requires numbers { IsNumbered number index.old.entries }
     requires placed { IsPlaced index.old.entries order.old }
@@ -90,7 +90,7 @@ fn rewrite<S: BuildHasher>(
         (IsStored (Some turn) number index.old.entries order.old (pair_of entry number) index.new.entries order.new) }
     ensures refused { OnErr result (IsSameList index.old.entries number index.new.entries number order.new) }
 {
-    let KeptEntry {
+    let CacheEntry {
         query,
         result,
         original_time,
@@ -115,7 +115,7 @@ fn exchange<S: BuildHasher>(
     order: &mut Order,
     turn: Option<(u64, u64)>,
     number: u64,
-    entry: KeptEntry,
+    entry: CacheEntry,
 ) -> Result<(), AllocError>
     requires numbers { IsNumbered number index.old.entries }
     requires placed { IsPlaced index.old.entries order.old }
@@ -152,12 +152,12 @@ fn add_turn<S: BuildHasher>(
 }
 
 // Puts an entry last, by this number, where there is room and none for its question.
-fn insert_entry<S: BuildHasher>(index: &mut Index<S>, entry: KeptEntry, number: u64)
+fn insert_entry<S: BuildHasher>(index: &mut Index<S>, entry: CacheEntry, number: u64)
     requires room { 0 < spare index.old }
     requires new { get query_eq index.old entry.query ≡ None }
     ensures { index.new.entries ≡ index.old.entries ++ pair_of entry number ∷ [] }
 {
-    let KeptEntry {
+    let CacheEntry {
         query,
         result,
         original_time,

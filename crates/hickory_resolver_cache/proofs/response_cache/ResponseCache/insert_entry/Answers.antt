@@ -15,9 +15,8 @@ invariant_of-self-2 g c =
     let rs = c.next_number.new.index.entries in
     let same = subst (λ (r : Result ℕ AllocError). IfOk r (λ n. IsSameList c.self.inside.index.entries c.self.inside.next_number rs n c.next_number.new.order)) c.in-Ok.is c.next_number.ensures.ok in
     let before = sound-same config cap c.self.inside.next_number number c.self.inside.index.entries rs c.next_number.new.order c.self.invariant same in
-    let own = subst (OutlivesNoAnswer config) (sym c.in_ok-entry.ensures)
-    (subst (λ (v : CacheValue). OutlivesNoAnswer v.config c.args.entry) (sym c.self.view_is) c.requires) in
+    let own = subst (λ (v : CacheValue). OutlivesNoAnswer v.config c.args.entry) (sym c.self.view_is) c.requires.timely in
     record {
       kept = c.in_ok-store.ensures.kept;
-      timely = subst (AllByRecursion (OutlivesNoAnswer config)) (sym c.in_ok-store.ensures.entries) (timely-insert_entry config cap (entries_of rs number) c.in_ok-entry.entry before.timely own);
+      timely = subst (AllByRecursion (OutlivesNoAnswer config)) (sym c.in_ok-store.ensures.entries) (timely-insert_entry config cap (entries_of rs number) c.args.entry before.timely own);
     }

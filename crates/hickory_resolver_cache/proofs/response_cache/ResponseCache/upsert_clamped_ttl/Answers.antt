@@ -1,6 +1,7 @@
 use Rattle.std.proofs.Common.{◌∙◌, ap, subst, sym}
 use Rattle.std.proofs.lemmas.Result.{on_ok_weaker}
-use Rattle.hickory_resolver_model.specs.Cache.{CacheValue, OutlivesNoAnswer, insert_entry}
+use Rattle.hickory_resolver_model.specs.Cache.{OutlivesNoAnswer, insert_entry}
+use Rattle.hickory_resolver_cache.proofs.KeptEntries.{kept_entry-some}
 use Rattle.hickory_resolver_cache.proofs.Laws.{entry_of-query, never_later-same, never_later-stored}
 use Rattle.hickory_resolver_cache.proofs.Timely.{timely-entry, timely-limited}
 use Rattle.hickory_resolver_cache.proofs.response_cache.ResponseCache.upsert_clamped_ttl.Goals as goal
@@ -10,22 +11,29 @@ returns-in_default-clause-no_later g c _ = never_later-same c.args.query c.args.
 
 pub insert_entry-requires : goal.insert_entry-requires
 insert_entry-requires g c =
-    let es = c.args.self.now.entries in
-    let own = subst (λ (v : CacheValue). OutlivesNoAnswer v.config c.in-Some.entry) c.self.view_is
-    (timely-entry c.self.inside.ttl_config c.args.query c.args.outcome c.args.now c.in-Some.entry (sym c.in-Some.is ∙ c.entry_of.ensures)) in
-    subst (OutlivesNoAnswer c.args.self.now.config) (sym c.not_after_current-entry.ensures) (timely-limited c.args.self.now.config es c.args.now c.in-Some.entry own)
+    let old = c.args.self.now in
+    let some = kept_entry-some old c.args.query c.args.outcome c.args.now c.in-Some.entry (sym c.in-Some.is ∙ c.in_ok-entry.ensures.entry) in
+    let own = timely-entry old.config c.args.query c.args.outcome c.args.now c.in-Some.entry some.1 in
+    record {
+      some = some.0;
+      timely = subst (OutlivesNoAnswer old.config) (sym c.not_after_current-entry.ensures) (timely-limited old.config old.entries c.args.now c.in-Some.entry own);
+    }
 
 pub insert_entry-requires-2 : goal.insert_entry-requires-2
 insert_entry-requires-2 g c =
-    subst (λ (v : CacheValue). OutlivesNoAnswer v.config c.in-Some.entry) c.self.view_is
-    (timely-entry c.self.inside.ttl_config c.args.query c.args.outcome c.args.now c.in-Some.entry (sym c.in-Some.is ∙ c.entry_of.ensures))
+    let old = c.args.self.now in
+    let some = kept_entry-some old c.args.query c.args.outcome c.args.now c.in-Some.entry (sym c.in-Some.is ∙ c.in_ok-entry.ensures.entry) in
+    record {
+      some = some.0;
+      timely = timely-entry old.config c.args.query c.args.outcome c.args.now c.in-Some.entry some.1;
+    }
 
 pub returns-then-clamp_valid_until-clause-no_later :
     goal.returns-then-clamp_valid_until-clause-no_later
 returns-then-clamp_valid_until-clause-no_later g c =
-    let es = c.args.self.now.entries in
-    let cap = c.args.self.now.capacity in
-    let own = entry_of-query c.self.inside.ttl_config c.args.query c.args.outcome c.args.now c.in-Some.entry (sym c.in-Some.is ∙ c.entry_of.ensures) in
+    let old = c.args.self.now in
+    let some = kept_entry-some old c.args.query c.args.outcome c.args.now c.in-Some.entry (sym c.in-Some.is ∙ c.in_ok-entry.ensures.entry) in
+    let own = entry_of-query old.config c.args.query c.args.outcome c.args.now c.in-Some.entry some.1 in
     on_ok_weaker c.insert_entry.result
-    (λ stored _. never_later-stored cap c.args.now c.args.query es c.insert_entry.new.self.entries c.in-Some.entry c.len-len.ensures.cache.apart own (ap (λ v. v.entries) stored ∙ ap (λ e. insert_entry cap es e) c.not_after_current-entry.ensures))
+    (λ stored _. never_later-stored old.capacity c.args.now c.args.query old.entries c.insert_entry.new.self.entries c.in-Some.entry c.len-len.ensures.cache.apart own (ap (λ v. v.entries) stored ∙ ap (λ e. insert_entry old.capacity old.entries e) c.not_after_current-entry.ensures))
     c.insert_entry.ensures.ok
