@@ -24,6 +24,7 @@ impl Model for Zone {
 }
 
 impl Zone {
+    /// A zone of these records, with this SOA record for its negative answers, that nothing was asked of yet.
     pub fn new(alloc: Global, soa: Record, records: Vec<Record>) -> Zone {
         Zone {
             alloc,

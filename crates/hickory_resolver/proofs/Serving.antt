@@ -19,7 +19,7 @@ use Rattle.hickory_resolver_model.specs.Hosts.{Host}
 use Rattle.hickory_resolver_model.specs.Lookup.{LookupResult}
 use Rattle.hickory_resolver_model.specs.Calls.{SubLookup, IsSubLookupFor, asks_of_sub_lookups}
 use Rattle.hickory_resolver_model.specs.Resolver.{ResolverValue, AnswersName, AnswersHost, after_clear_lookup, new_resolver, settings}
-use Rattle.hickory_resolver_model.specs.Run.{Settings, setting_at, RequestValue, Lookup, LookupIp, ClearLookup, Clear, StepReply, LookedUp, Cleared, StepValue, ends_run, after_clear, name_call, address_call, IsCall, IsUnserved, IsServed, Stage, IsStage, AreStages, exchanges_of, moment_of, settings_of, IsRun}
+use Rattle.hickory_resolver_model.specs.Run.{Settings, call_context_at, RequestValue, Lookup, LookupIp, ClearLookup, Clear, StepReply, LookedUp, Cleared, StepValue, ends_run, after_clear, name_call, address_call, IsCall, IsUnserved, IsServed, Stage, IsStage, AreStages, exchanges_of, moment_of, settings_of, IsRun}
 use Rattle.hickory_resolver_theorems.specs.Keeping.{IsServedOver}
 use Rattle.hickory_resolver.specs.Serving.{Answered, MakesStep, AnswersAll, AnsweredSoFar, Serves, KeptSoFar, ServesAll}
 
@@ -28,19 +28,19 @@ use Rattle.hickory_resolver.specs.Serving.{Answered, MakesStep, AnswersAll, Answ
 -- the law that what is served over what was answered is served over what was kept
 abbrev pub KeepsRequest : Type 0
 KeepsRequest = (s : Settings) (before : CacheValue) (request : RequestValue) (parts : List SubLookup) (reply : StepReply) (after : CacheValue) (kept : List Exchange)
-    → IsServed (λ now. IsSubLookupFor (setting_at s now)) s before request parts reply after → RecordedAs (asks_of_sub_lookups parts) kept → IsServedOver s before request kept reply after
+    → IsServed (λ now. IsSubLookupFor (call_context_at s now)) s before request parts reply after → RecordedAs (asks_of_sub_lookups parts) kept → IsServedOver s before request kept reply after
 
 module _ {R : Type 0} (step : Step R) (before : ResolverValue R) where
   -- a look-up of a name that is read
   name_served : (text : List ℕ) (t : RecordType) (now : ℕ) (name : Result NameValue NameError) (parts : List SubLookup) (reply : LookupResult) (after : CacheValue) → IsReadName text name
-      → IsCall (IsSubLookupFor (setting_at (settings before) now)) (settings before) before.client.cache (name_call t name) parts reply after ⊎ IsUnserved before.client.cache parts reply after
-      → IsServed (λ at. IsSubLookupFor (setting_at (settings before) at)) (settings before) before.client.cache (Lookup text t now) parts (LookedUp reply) after
+      → IsCall (IsSubLookupFor (call_context_at (settings before) now)) (settings before) before.client.cache (name_call t name) parts reply after ⊎ IsUnserved before.client.cache parts reply after
+      → IsServed (λ at. IsSubLookupFor (call_context_at (settings before) at)) (settings before) before.client.cache (Lookup text t now) parts (LookedUp reply) after
   name_served text t now (Ok n) parts reply after given (inl is) = inl (Ok n, given.ok, is)
   name_served text t now (Err e) parts reply after given (inl is) = by given.err
     where
-      by : (e ≡ name_error.OutOfMemory) ⊎ IsReading text (Err e) → IsServed (λ at. IsSubLookupFor (setting_at (settings before) at)) (settings before) before.client.cache (Lookup text t now) parts (LookedUp reply) after
+      by : (e ≡ name_error.OutOfMemory) ⊎ IsReading text (Err e) → IsServed (λ at. IsSubLookupFor (call_context_at (settings before) at)) (settings before) before.client.cache (Lookup text t now) parts (LookedUp reply) after
       by (inl out) =
-          let P : NameError → Type 0 = λ x. IsCall (IsSubLookupFor (setting_at (settings before) now)) (settings before) before.client.cache (name_call t (Err x)) parts reply after in
+          let P : NameError → Type 0 = λ x. IsCall (IsSubLookupFor (call_context_at (settings before) now)) (settings before) before.client.cache (name_call t (Err x)) parts reply after in
           inr (subst P out is)
       by (inr fault) = inl (Err e, fault, is)
   name_served text t now (Ok n) parts reply after given (inr is) = inr is
@@ -52,7 +52,7 @@ module _ {R : Type 0} (step : Step R) (before : ResolverValue R) where
 
   -- a request that asks nothing
   answered_unasked : (request : RequestValue) (reply : StepReply) (cache : CacheValue) (after : ResolverValue R) → after ≡ record before { client = record before.client { cache = cache } }
-      → IsServed (λ now. IsSubLookupFor (setting_at (settings before) now)) (settings before) before.client.cache request [] reply cache → Answered step request before reply after
+      → IsServed (λ now. IsSubLookupFor (call_context_at (settings before) now)) (settings before) before.client.cache request [] reply cache → Answered step request before reply after
   answered_unasked request reply cache after e served = subst (λ r. Answered step request before reply r) (sym e) (record {
     parts = [];
     led = refl;
@@ -84,8 +84,8 @@ module _ {R : Type 0} (step : Step R) (before : ResolverValue R) where
   pub answered_host : (text : List ℕ) (now : ℕ) (reply : LookupResult) (after : ResolverValue R) → AnswersHost step (IsReadAddress text) (IsReadName text) now before reply after → Answered step (LookupIp text now) before (LookedUp reply) after
   answered_host text now reply after (address, spells, name, given, inl (live, a)) = record { parts = a.parts; led = a.led; served = by a.is; option_stays = a.option_stays; others_stay = a.others_stay }
     where
-      by : IsCall (IsSubLookupFor (setting_at (settings before) now)) (settings before) before.client.cache (address_call (settings before) address name now) a.parts reply after.client.cache ⊎ IsUnserved before.client.cache a.parts reply after.client.cache
-          → IsServed (λ at. IsSubLookupFor (setting_at (settings before) at)) (settings before) before.client.cache (LookupIp text now) a.parts (LookedUp reply) after.client.cache
+      by : IsCall (IsSubLookupFor (call_context_at (settings before) now)) (settings before) before.client.cache (address_call (settings before) address name now) a.parts reply after.client.cache ⊎ IsUnserved before.client.cache a.parts reply after.client.cache
+          → IsServed (λ at. IsSubLookupFor (call_context_at (settings before) at)) (settings before) before.client.cache (LookupIp text now) a.parts (LookedUp reply) after.client.cache
       by (inl is) = inl (record { address = address; name = name }, (spells, read_name text name given live), is)
       by (inr is) = inr is
   answered_host text now reply after (address, spells, name, given, inr (out, e, same)) = answered_unasked (LookupIp text now) (LookedUp reply) before.client.cache after same (inr (refl, e, refl))
@@ -121,7 +121,7 @@ module _ {H : Type 0} (step : Step H) (before : ResolverValue (RecordedValue H))
   -- what was answered is turned into what was kept
   serves_kept : (law : KeepsRequest) (request : RequestValue) (parts : List SubLookup) (reply : StepReply) (after : ResolverValue (RecordedValue H))
       → Leads (RecordedStep step) (settings before).requests before.client.handle (asks_of_sub_lookups parts) after.client.handle
-      → IsServed (λ now. IsSubLookupFor (setting_at (settings before) now)) (settings before) before.client.cache request parts reply after.client.cache
+      → IsServed (λ now. IsSubLookupFor (call_context_at (settings before) now)) (settings before) before.client.cache request parts reply after.client.cache
       → after.client.preserve_intermediates ≡ before.client.preserve_intermediates → after ≡ record before { client = after.client } → Serves step request before reply after
   serves_kept law request parts reply after led served option_stays others_stay = record {
     parts = over.parts;
@@ -201,7 +201,7 @@ module _ {H : Type 0} (step : Step H) (first : ResolverValue (RecordedValue H)) 
 
       is_stage : IsStage (settings first) stage after.client.cache
       is_stage = record {
-        served = subst (λ s. IsServed (λ now. IsSubLookupFor (setting_at s now)) s resolver.client.cache request m.serves.parts made.reply after.client.cache) same_settings m.serves.served;
+        served = subst (λ s. IsServed (λ now. IsSubLookupFor (call_context_at s now)) s resolver.client.cache request m.serves.parts made.reply after.client.cache) same_settings m.serves.served;
         piece_is = refl;
         now_is = m.now_is;
         count_is = m.count_is;

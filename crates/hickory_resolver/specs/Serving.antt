@@ -5,7 +5,7 @@ use Rattle.hickory_proto_core.specs.Handles.{Step, Leads, RecordedValue}
 use Rattle.hickory_resolver_model.specs.Cache.{CacheValue}
 use Rattle.hickory_resolver_model.specs.Calls.{SubLookup, IsSubLookupFor, asks_of_sub_lookups}
 use Rattle.hickory_resolver_model.specs.Resolver.{ResolverValue, settings}
-use Rattle.hickory_resolver_model.specs.Run.{setting_at, RequestValue, StepReply, StepValue, ends_run, IsServed, Stage, AreStages, exchanges_of, moment_of}
+use Rattle.hickory_resolver_model.specs.Run.{call_context_at, RequestValue, StepReply, StepValue, ends_run, IsServed, Stage, AreStages, exchanges_of, moment_of}
 
 -- ---- over any handle
 
@@ -18,7 +18,7 @@ pub record Answered
   pub parts : List SubLookup
   pub led : Leads step (settings before).requests before.client.handle (asks_of_sub_lookups parts)
       after.client.handle
-  pub served : IsServed (λ now. IsSubLookupFor (setting_at (settings before) now)) (settings before)
+  pub served : IsServed (λ now. IsSubLookupFor (call_context_at (settings before) now)) (settings before)
       before.client.cache request parts reply after.client.cache
   pub option_stays : after.client.preserve_intermediates ≡ before.client.preserve_intermediates
   pub others_stay : after ≡ record before { client = after.client }
@@ -63,7 +63,7 @@ pub record Serves
       after.client.handle.handle
   pub exchanges_are : after.client.handle.exchanges
       ≡ before.client.handle.exchanges ++ asks_of_sub_lookups parts
-  pub served : IsServed (λ now. IsSubLookupFor (setting_at (settings before) now)) (settings before)
+  pub served : IsServed (λ now. IsSubLookupFor (call_context_at (settings before) now)) (settings before)
       before.client.cache request parts reply after.client.cache
   pub option_stays : after.client.preserve_intermediates ≡ before.client.preserve_intermediates
   pub others_stay : after ≡ record before { client = after.client }

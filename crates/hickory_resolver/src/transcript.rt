@@ -42,6 +42,7 @@ pub struct Step {
     pub now: u64,
     /// How many questions were sent for it: those of its look-ups, as the handle kept them.
     pub exchanges: usize,
+    /// What it is answered.
     pub reply: Reply,
 }
 

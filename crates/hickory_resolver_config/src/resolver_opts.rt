@@ -28,11 +28,13 @@ pub struct ResolverOpts {
     pub cache_size: u64,
     /// Whether the system's table of hosts is asked. No effect: a table is handed in.
     pub use_hosts_file: ResolveHosts,
-    /// For how many seconds a positive answer is kept at the least; 0 where it is left out.
+    /// For how many seconds a positive answer is kept at the least, and the least TTL of its records, kept or not;
+    /// 0 where it is left out.
     pub positive_min_ttl: Option<u64>,
     /// For how many seconds a negative answer is kept at the least; 0 where it is left out.
     pub negative_min_ttl: Option<u64>,
-    /// For how many seconds a positive answer is kept at the greatest; a day where it is left out.
+    /// For how many seconds a positive answer is kept at the greatest, and the greatest TTL of its records, kept or
+    /// not; a day where it is left out.
     pub positive_max_ttl: Option<u64>,
     /// For how many seconds a negative answer is kept at the greatest; a day where it is left out.
     pub negative_max_ttl: Option<u64>,

@@ -9,11 +9,11 @@ use Rattle.hickory_proto_core.specs.codes.record_type.RecordType.{RecordType}
 use Rattle.hickory_proto_core.specs.declared.dns_request.DnsRequestOptions.{DnsRequestOptions}
 use Rattle.hickory_proto_core.specs.records.net_error.NetError.TheVariants.{Message, OutOfMemory}
 use Rattle.hickory_resolver_model.specs.Cache.{CacheValue}
-use Rattle.hickory_resolver_model.specs.Lookup.{LookupValue, LookupResult}
+use Rattle.hickory_resolver_model.specs.Lookup.{LookupValue, LookupResult, question_of}
 use Rattle.hickory_resolver_model.specs.Hosts.{Host, IsStatic}
 use Rattle.hickory_resolver_model.specs.Client.{ClientValue, IsLookup}
-use Rattle.hickory_resolver_model.specs.Calls.{Plan, One, Static, Client, SubLookup, SubLookupRelation, IsSubLookupFor, CallPlan, Says, IsAttempt, AreAttempts, IsLastReply, question_of, takes_memory, stops, asks_of_sub_lookups}
-use Rattle.hickory_resolver_model.specs.Resolver.{setting_of, LooksUp}
+use Rattle.hickory_resolver_model.specs.Calls.{Plan, One, Static, Client, SubLookup, SubLookupRelation, IsSubLookupFor, CallPlan, Says, IsAttempt, AreAttempts, IsLastReply, takes_memory, stops, asks_of_sub_lookups}
+use Rattle.hickory_resolver_model.specs.Resolver.{call_context_of, LooksUp}
 use Rattle.hickory_resolver_futures.specs.Attempting.{Attempts, AreFurther, GoesOn}
 
 -- ---- one attempt
@@ -60,8 +60,8 @@ pub record SoFar
   pub led : Leads step options before.handle (asks_of_sub_lookups parts) client.handle
   pub option_stays : client.preserve_intermediates ≡ before.preserve_intermediates
   pub on : (more : List SubLookup) (result : LookupResult) (after : CacheValue)
-      → AreFurther (IsSubLookupFor (setting_of before hosts now)) plan client.cache left latest more result after
-      → AreFurther (IsSubLookupFor (setting_of before hosts now)) plan before.cache names last (parts ++ more) result after
+      → AreFurther (IsSubLookupFor (call_context_of before hosts now)) plan client.cache left latest more result after
+      → AreFurther (IsSubLookupFor (call_context_of before hosts now)) plan before.cache names last (parts ++ more) result after
 
 module _ {H : Type 0} (step : Step H) (options : DnsRequestOptions) (hosts : List Host) (now : ℕ) (plan : CallPlan) (names : List NameValue) (last : LookupResult) (before : ClientValue H) where
   pub so_far_none : SoFar step options hosts now plan names last before names last before
@@ -83,28 +83,28 @@ module _ {H : Type 0} (step : Step H) (options : DnsRequestOptions) (hosts : Lis
         turned : reverse all ≡ n ∷ reverse left
         turned = ap (λ ns. reverse ns) are ∙ reverse-append left (n ∷ [])
 
-        same : setting_of client hosts now ≡ setting_of before hosts now
+        same : call_context_of client hosts now ≡ call_context_of before hosts now
         same = ap (λ b. record { now = now; preserve_intermediates = b; hosts = hosts }) s.option_stays
 
-        here : IsAttempt (IsSubLookupFor (setting_of before hosts now)) plan.hosts_for_all client.cache n plan.types a.parts result after.cache
+        here : IsAttempt (IsSubLookupFor (call_context_of before hosts now)) plan.hosts_for_all client.cache n plan.types a.parts result after.cache
         here = subst (λ setting. IsAttempt (IsSubLookupFor setting) plan.hosts_for_all client.cache n plan.types a.parts result after.cache) same a.is
 
         on : (more : List SubLookup) (r : LookupResult) (c : CacheValue)
-            → AreFurther (IsSubLookupFor (setting_of before hosts now)) plan after.cache (reverse left) result more r c
-            → AreFurther (IsSubLookupFor (setting_of before hosts now)) plan before.cache names last ((s.parts ++ a.parts) ++ more) r c
+            → AreFurther (IsSubLookupFor (call_context_of before hosts now)) plan after.cache (reverse left) result more r c
+            → AreFurther (IsSubLookupFor (call_context_of before hosts now)) plan before.cache names last ((s.parts ++ a.parts) ++ more) r c
         on more r c further =
-            let next : AreFurther (IsSubLookupFor (setting_of before hosts now)) plan client.cache (n ∷ reverse left) latest (a.parts ++ more) r c =
+            let next : AreFurther (IsSubLookupFor (call_context_of before hosts now)) plan client.cache (n ∷ reverse left) latest (a.parts ++ more) r c =
             inr (live, (a.parts, more, result, after.cache, refl, here, further)) in
-            let next_of : AreFurther (IsSubLookupFor (setting_of before hosts now)) plan client.cache (reverse all) latest (a.parts ++ more) r c =
-            subst (λ ns. AreFurther (IsSubLookupFor (setting_of before hosts now)) plan client.cache ns latest (a.parts ++ more) r c) (sym turned) next in
-            subst (λ ps. AreFurther (IsSubLookupFor (setting_of before hosts now)) plan before.cache names last ps r c) (sym (append_assoc s.parts a.parts more)) (s.on (a.parts ++ more) r c next_of)
+            let next_of : AreFurther (IsSubLookupFor (call_context_of before hosts now)) plan client.cache (reverse all) latest (a.parts ++ more) r c =
+            subst (λ ns. AreFurther (IsSubLookupFor (call_context_of before hosts now)) plan client.cache ns latest (a.parts ++ more) r c) (sym turned) next in
+            subst (λ ps. AreFurther (IsSubLookupFor (call_context_of before hosts now)) plan before.cache names last ps r c) (sym (append_assoc s.parts a.parts more)) (s.on (a.parts ++ more) r c next_of)
 
     module _ (left : List NameValue) (s : SoFar step options hosts now plan names last before left latest client) where
-      ended : AreFurther (IsSubLookupFor (setting_of before hosts now)) plan client.cache left latest [] latest client.cache → GoesOn step options hosts now plan names last before latest client
+      ended : AreFurther (IsSubLookupFor (call_context_of before hosts now)) plan client.cache left latest [] latest client.cache → GoesOn step options hosts now plan names last before latest client
       ended over = record {
         parts = s.parts;
         led = s.led;
-        are = subst (λ ps. AreFurther (IsSubLookupFor (setting_of before hosts now)) plan before.cache names last ps latest client.cache) (append-nil s.parts) (s.on [] latest client.cache over);
+        are = subst (λ ps. AreFurther (IsSubLookupFor (call_context_of before hosts now)) plan before.cache names last ps latest client.cache) (append-nil s.parts) (s.on [] latest client.cache over);
         option_stays = s.option_stays;
       }
 
@@ -114,7 +114,7 @@ module _ {H : Type 0} (step : Step H) (options : DnsRequestOptions) (hosts : Lis
 
       -- no name is left, and there is no last resort
       pub so_far_over : plan.literal ≡ None → stops latest ≡ false → left ≡ [] → GoesOn step options hosts now plan names last before latest client
-      so_far_over plain live none = ended (subst (λ ns. AreFurther (IsSubLookupFor (setting_of before hosts now)) plan client.cache ns latest [] latest client.cache) (sym none) (inr (live, (refl, subst (λ o. IsLastReply o (λ x. x ≡ latest) latest) (sym plain) refl, refl))))
+      so_far_over plain live none = ended (subst (λ ns. AreFurther (IsSubLookupFor (call_context_of before hosts now)) plan client.cache ns latest [] latest client.cache) (sym none) (inr (live, (refl, subst (λ o. IsLastReply o (λ x. x ≡ latest) latest) (sym plain) refl, refl))))
 
 -- ---- whole look-ups
 
@@ -130,11 +130,11 @@ module _ {H : Type 0} (step : Step H) (options : DnsRequestOptions) (hosts : Lis
       → LooksUp step options hosts now plan plan.hosts_for_all names before result after
   looks_up plan plain names text says g = record { parts = g.parts; led = g.led; are = by g.are; option_stays = g.option_stays }
     where
-      by : AreFurther (IsSubLookupFor (setting_of before hosts now)) plan before.cache names (Err (Message text)) g.parts result after.cache
-          → AreAttempts (IsSubLookupFor (setting_of before hosts now)) plan plan.hosts_for_all before.cache names (Says plan.no_names) g.parts result after.cache
+      by : AreFurther (IsSubLookupFor (call_context_of before hosts now)) plan before.cache names (Err (Message text)) g.parts result after.cache
+          → AreAttempts (IsSubLookupFor (call_context_of before hosts now)) plan plan.hosts_for_all before.cache names (Says plan.no_names) g.parts result after.cache
       by (inl (stopped, none, e, same)) = let clash : false ≡ true = stopped in cc
       by (inr (live, are)) =
-          weaker (IsSubLookupFor (setting_of before hosts now)) plan plain plan.hosts_for_all before.cache names (λ x. x ≡ Err (Message text)) (Says plan.no_names) g.parts result after.cache
+          weaker (IsSubLookupFor (call_context_of before hosts now)) plan plain plan.hosts_for_all before.cache names (λ x. x ≡ Err (Message text)) (Says plan.no_names) g.parts result after.cache
           (λ r e. subst (Says plan.no_names) (sym e) says) are
 
   -- with the hosts, for the first name
@@ -144,7 +144,7 @@ module _ {H : Type 0} (step : Step H) (options : DnsRequestOptions) (hosts : Lis
     parts = a.parts ++ g.parts;
     led = subst (λ xs. Leads step options before.handle xs after.handle) (sym (asks-append a.parts g.parts))
         (Leads-append step options before.handle mid.handle after.handle (asks_of_sub_lookups a.parts) (asks_of_sub_lookups g.parts) a.led g.led);
-    are = subst (λ ns. AreAttempts (IsSubLookupFor (setting_of before hosts now)) plan true before.cache ns (Says plan.no_names) (a.parts ++ g.parts) result after.cache) (sym turned)
+    are = subst (λ ns. AreAttempts (IsSubLookupFor (call_context_of before hosts now)) plan true before.cache ns (Says plan.no_names) (a.parts ++ g.parts) result after.cache) (sym turned)
         (a.parts, g.parts, first, mid.cache, refl, a.is, further);
     option_stays = g.option_stays ∙ a.option_stays;
   }
@@ -152,8 +152,8 @@ module _ {H : Type 0} (step : Step H) (options : DnsRequestOptions) (hosts : Lis
       turned : reverse all ≡ n ∷ reverse left
       turned = ap (λ ns. reverse ns) are ∙ reverse-append left (n ∷ [])
 
-      same : setting_of mid hosts now ≡ setting_of before hosts now
+      same : call_context_of mid hosts now ≡ call_context_of before hosts now
       same = ap (λ b. record { now = now; preserve_intermediates = b; hosts = hosts }) a.option_stays
 
-      further : AreFurther (IsSubLookupFor (setting_of before hosts now)) plan mid.cache (reverse left) first g.parts result after.cache
+      further : AreFurther (IsSubLookupFor (call_context_of before hosts now)) plan mid.cache (reverse left) first g.parts result after.cache
       further = subst (λ setting. AreFurther (IsSubLookupFor setting) plan mid.cache (reverse left) first g.parts result after.cache) same g.are

@@ -6,11 +6,11 @@ use Rattle.hickory_proto_core.specs.codes.record_type.RecordType.{RecordType}
 use Rattle.hickory_proto_core.specs.declared.dns_request.DnsRequestOptions.{DnsRequestOptions}
 use Rattle.hickory_proto_core.specs.records.net_error.NetError.TheVariants.{Message, Timeout, Proto, Dns, NoOutcome, Bounds, OutOfMemory}
 use Rattle.hickory_resolver_model.specs.Cache.{CacheValue}
-use Rattle.hickory_resolver_model.specs.Lookup.{LookupValue, LookupResult}
+use Rattle.hickory_resolver_model.specs.Lookup.{LookupValue, LookupResult, question_of}
 use Rattle.hickory_resolver_model.specs.Hosts.{Host}
 use Rattle.hickory_resolver_model.specs.Client.{ClientValue}
-use Rattle.hickory_resolver_model.specs.Calls.{Plan, One, Both, SubLookup, SubLookupRelation, IsSubLookupFor, Says, IsAttempt, AreSubLookups, AreAttempts, IsLastReply, IsAttemptResult, question_of, next_type, joins_results, takes_memory, both_results, has_answers, is_out_of_memory, stops, asks_of_sub_lookups}
-use Rattle.hickory_resolver_model.specs.Resolver.{setting_of, LooksUp}
+use Rattle.hickory_resolver_model.specs.Calls.{Plan, One, Both, SubLookup, SubLookupRelation, IsSubLookupFor, Says, IsAttempt, AreSubLookups, AreAttempts, IsLastReply, IsAttemptResult, next_type, joins_results, takes_memory, both_results, has_answers, is_out_of_memory, stops, asks_of_sub_lookups}
+use Rattle.hickory_resolver_model.specs.Resolver.{call_context_of, LooksUp}
 use Rattle.hickory_resolver_model.specs.Run.{address_plan}
 use Rattle.std.specs.Option.{is_some}
 use Rattle.hickory_resolver_config.specs.declared.strategies.LookupIpStrategy.{LookupIpStrategy}
@@ -98,7 +98,7 @@ module _ {H : Type 0} (step : Step H) (options : DnsRequestOptions) (hosts : Lis
   attempt_first r after over a = record {
     parts = a.parts;
     led = a.led;
-    is = first_alone (IsSubLookupFor (setting_of before hosts now)) looked n plan t begins before.cache a.parts r after.cache a.is over;
+    is = first_alone (IsSubLookupFor (call_context_of before hosts now)) looked n plan t begins before.cache a.parts r after.cache a.is over;
     option_stays = a.option_stays;
   }
 
@@ -109,14 +109,14 @@ module _ {H : Type 0} (step : Step H) (options : DnsRequestOptions) (hosts : Lis
     parts = a.parts ++ b.parts;
     led = subst (λ xs. Leads step options before.handle xs after.handle) (sym (asks-append a.parts b.parts))
         (Leads-append step options before.handle mid.handle after.handle (asks_of_sub_lookups a.parts) (asks_of_sub_lookups b.parts) a.led b.led);
-    is = second_after (IsSubLookupFor (setting_of before hosts now)) looked n plan t begins u before.cache mid.cache after.cache a.parts b.parts r k result goes live made out a.is here;
+    is = second_after (IsSubLookupFor (call_context_of before hosts now)) looked n plan t begins u before.cache mid.cache after.cache a.parts b.parts r k result goes live made out a.is here;
     option_stays = b.option_stays ∙ a.option_stays;
   }
     where
-      same : setting_of mid hosts now ≡ setting_of before hosts now
+      same : call_context_of mid hosts now ≡ call_context_of before hosts now
       same = ap (λ b. record { now = now; preserve_intermediates = b; hosts = hosts }) a.option_stays
 
-      here : IsAttempt (IsSubLookupFor (setting_of before hosts now)) looked mid.cache n (One u) b.parts k after.cache
+      here : IsAttempt (IsSubLookupFor (call_context_of before hosts now)) looked mid.cache n (One u) b.parts k after.cache
       here = subst (λ setting. IsAttempt (IsSubLookupFor setting) looked mid.cache n (One u) b.parts k after.cache) same b.is
 
 -- a result after which another type is asked is not out of memory
@@ -182,7 +182,7 @@ pub looks_up_or_last_resort : {H : Type 0} (step : Step H) (options : DnsRequest
 looks_up_or_last_resort step options hosts now strategy literal names before after reply result l final = record {
   parts = l.parts;
   led = l.led;
-  are = with_last_resort (IsSubLookupFor (setting_of before hosts now)) strategy literal reply result final true before.cache names
+  are = with_last_resort (IsSubLookupFor (call_context_of before hosts now)) strategy literal reply result final true before.cache names
       (Says (address_plan strategy None).no_names) l.parts after.cache (said_goes_on (address_plan strategy None).no_names) l.are;
   option_stays = l.option_stays;
 }

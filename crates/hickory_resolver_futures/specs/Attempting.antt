@@ -8,7 +8,7 @@ use Rattle.hickory_resolver_model.specs.Lookup.{LookupValue, LookupResult}
 use Rattle.hickory_resolver_model.specs.Hosts.{Host}
 use Rattle.hickory_resolver_model.specs.Client.{ClientValue}
 use Rattle.hickory_resolver_model.specs.Calls.{Plan, SubLookup, SubLookupRelation, CallPlan, IsSubLookupFor, IsAttempt, AreAttempts, IsLastReply, stops, asks_of_sub_lookups}
-use Rattle.hickory_resolver_model.specs.Resolver.{setting_of}
+use Rattle.hickory_resolver_model.specs.Resolver.{call_context_of}
 
 -- a client makes an attempt at a name: the exchanges of its sub-look-ups led the handle
 pub record Attempts
@@ -18,7 +18,7 @@ pub record Attempts
   pub parts : List SubLookup
   pub led : Leads step options before.handle (asks_of_sub_lookups parts) after.handle
   pub is :
-      IsAttempt (IsSubLookupFor (setting_of before hosts now)) looked before.cache n plan parts result
+      IsAttempt (IsSubLookupFor (call_context_of before hosts now)) looked before.cache n plan parts result
       after.cache
   pub option_stays : after.preserve_intermediates ≡ before.preserve_intermediates
 
@@ -39,7 +39,7 @@ pub record GoesOn
   pub parts : List SubLookup
   pub led : Leads step options before.handle (asks_of_sub_lookups parts) after.handle
   pub are :
-      AreFurther (IsSubLookupFor (setting_of before hosts now)) plan before.cache names last parts result
+      AreFurther (IsSubLookupFor (call_context_of before hosts now)) plan before.cache names last parts result
       after.cache
   pub option_stays : after.preserve_intermediates ≡ before.preserve_intermediates
 

@@ -57,7 +57,8 @@ impl<S: BuildHasher> Hosts<S> {
     }
 
     /// Joins a look-up of A or AAAA records to what the name, made fully qualified, has of that type, at this
-    /// moment (seconds). A new name comes last. A refused call changes nothing.
+    /// moment (seconds). That the type is one of these two is up to the caller. A new name comes last. A refused call
+    /// is out of memory, and changes nothing.
     pub fn insert(
         &mut self,
         name: Name,

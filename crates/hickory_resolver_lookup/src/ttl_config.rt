@@ -119,7 +119,8 @@ impl TtlConfig {
         })
     }
 
-    // Clamps the TTL of each record of a message by the bounds of the record's own type.
+    /// Clamps the TTL of each record of a message, in seconds, by the positive bounds of the record's own type (RFC
+    /// 2181, section 8).
     pub fn clamp(&self, message: &mut Message)
         ensures { message.new ≡ clamped_message self.now message.old }
     {
@@ -128,7 +129,8 @@ impl TtlConfig {
         self.clamp_records(&mut message.additionals);
     }
 
-    // For how many seconds an answer whose TTLs are clamped may be kept.
+    /// For how many seconds an answer whose TTLs are clamped may be kept: the least TTL of the records that it lives
+    /// by, within the positive bounds of the asked type (RFC 2181, section 8).
     pub fn positive_lifetime(&self, query: &Query, message: &Message) -> u64
         ensures { result ≡ positive_lifetime self.now query.now message.now }
     {
@@ -137,7 +139,8 @@ impl TtlConfig {
         clamp(bounds, least.unwrap_or(bounds.0))
     }
 
-    // For how many seconds a negative answer may be kept.
+    /// For how many seconds a negative answer may be kept: its TTL, or the least bound where it has none, within the
+    /// negative bounds of the asked type (RFC 2308, section 5).
     pub fn negative_lifetime(&self, query: &Query, negative: &NoRecords) -> u64
         ensures { result ≡ negative_lifetime self.now query.now negative.now }
     {

@@ -14,18 +14,18 @@ use Rattle.hickory_proto_core.specs.declared.recorded.Exchange.{Exchange}
 use Rattle.hickory_proto_core.specs.records.net_error.NetError.TheVariants.{Message, OutOfMemory}
 use Rattle.hickory_resolver_model.specs.Bounds.{day}
 use Rattle.hickory_resolver_model.specs.Cache.{CacheValue}
-use Rattle.hickory_resolver_model.specs.Lookup.{LookupValue, LookupResult, answers_for_day}
+use Rattle.hickory_resolver_model.specs.Lookup.{LookupValue, LookupResult, question_of, answers_for_day}
 use Rattle.hickory_resolver_model.specs.Hops.{LookupContext, IsReply}
 use Rattle.hickory_resolver_model.specs.Hosts.{Host, append, IsStatic}
 
 -- where a call starts, the cache aside: the moment, whether intermediate records are preserved, and the table
 -- of hosts
-pub record Setting : Type 0 where
+pub record CallContext : Type 0 where
   pub now : ℕ
   pub preserve_intermediates : Bool
   pub hosts : List Host
 
-abbrev pub start_at : Setting → CacheValue → LookupContext
+abbrev pub start_at : CallContext → CacheValue → LookupContext
 start_at s cache = record { cache = cache; now = s.now; preserve_intermediates = s.preserve_intermediates }
 
 -- a question of a call is answered by the table of hosts, or by the client
@@ -41,7 +41,7 @@ pub record SubLookup : Type 0 where
 
 -- the table of hosts is looked at for this question, and has it; a copy may find no memory
 pub record IsStaticSubLookup
-    (s : Setting) (looked : Bool) (before : CacheValue) (p : SubLookup) (after : CacheValue)
+    (s : CallContext) (looked : Bool) (before : CacheValue) (p : SubLookup) (after : CacheValue)
     : Type 0 where
   pub asks_hosts : looked ≡ true
   pub found : LookupValue
@@ -52,16 +52,16 @@ pub record IsStaticSubLookup
 
 -- the table is not looked at, or has nothing, and the client's look-up is the hops'
 pub record IsClientSubLookup
-    (s : Setting) (looked : Bool) (before : CacheValue) (p : SubLookup) (after : CacheValue)
+    (s : CallContext) (looked : Bool) (before : CacheValue) (p : SubLookup) (after : CacheValue)
     : Type 0 where
   pub not_static : (looked ≡ false) ⊎ IsStatic p.question s.now s.hosts None
   pub reply : IsReply (start_at s before) p.question p.asks p.result after
 
-abbrev pub IsSubLookupBy : Source → Setting → Bool → CacheValue → SubLookup → CacheValue → Type 0
+abbrev pub IsSubLookupBy : Source → CallContext → Bool → CacheValue → SubLookup → CacheValue → Type 0
 IsSubLookupBy Static s looked before p after = IsStaticSubLookup s looked before p after
 IsSubLookupBy Client s looked before p after = IsClientSubLookup s looked before p after
 
-abbrev pub IsSubLookup : Setting → Bool → CacheValue → SubLookup → CacheValue → Type 0
+abbrev pub IsSubLookup : CallContext → Bool → CacheValue → SubLookup → CacheValue → Type 0
 IsSubLookup s looked before p after = IsSubLookupBy p.source s looked before p after
 
 -- how a question of a call is answered, over the cache that the part before left; the flag says whether the
@@ -70,7 +70,7 @@ abbrev pub SubLookupRelation : Type 1
 SubLookupRelation = Bool → CacheValue → Query → SubLookup → CacheValue → Type 0
 
 -- by the table of hosts or by the client
-abbrev pub IsSubLookupFor : Setting → SubLookupRelation
+abbrev pub IsSubLookupFor : CallContext → SubLookupRelation
 IsSubLookupFor s looked before q p after = (p.question ≡ q) × IsSubLookup s looked before p after
 
 -- which types are looked up for a name: one; both; or the second where the first has no answers
@@ -78,9 +78,6 @@ pub data Plan : Type 0 where
   One : RecordType → Plan
   Both : RecordType → RecordType → Plan
   Fallback : RecordType → RecordType → Plan
-
-abbrev pub question_of : NameValue → RecordType → Query
-question_of n t = record { name = n; query_type = t; query_class = class.IN }
 
 abbrev pub has_answers : LookupResult → Bool
 has_answers (Ok l) = not (is_empty l.message.answers)

@@ -26,7 +26,7 @@ pub record LookupContext : Type 0 where
 abbrev pub GoesUpstream : LookupContext → Query → Type 0
 GoesUpstream s q = (special_use_result q s.now ≡ None) × (current q s.now s.cache.entries ≡ None)
 
--- what a response of class Answer is worth to a hop
+-- what a response of the kind Answer is worth to a hop
 abbrev pub kind_verdict : LookupContext → Hop → ResponseKind → Option Verdict
 kind_verdict s hop (Answer response) = Some (verdict s.preserve_intermediates hop response)
 kind_verdict s hop (Negative none) = None

@@ -20,7 +20,7 @@ use Rattle.hickory_proto_core.specs.codes.record_type.RecordType.{RecordType}
 use Rattle.hickory_proto_core.specs.codes.record_type.RecordType.TheVariants as type
 use Rattle.hickory_proto_core.specs.codes.dns_class.DNSClass.TheVariants as class
 use Rattle.hickory_resolver_model.specs.Bounds.{day}
-use Rattle.hickory_resolver_model.specs.Lookup.{LookupValue, answers_for_day}
+use Rattle.hickory_resolver_model.specs.Lookup.{LookupValue, question_of, answers_for_day}
 
 -- a name and what is known of it
 pub record Host : Type 0 where
@@ -46,7 +46,7 @@ append l k =
 
 -- what a name has at first: an answer without records
 abbrev pub no_addresses : NameValue → RecordType → ℕ → LookupValue
-no_addresses n t now = answers_for_day (record { name = n; query_type = t; query_class = class.IN }) [] now
+no_addresses n t now = answers_for_day (question_of n t) [] now
 
 -- the family of a type: A is the first, every other type the second
 abbrev pub is_ipv4_type : RecordType → Bool
@@ -80,7 +80,7 @@ address_type _ = type.AAAA
 -- one address of a name, for a day
 abbrev pub one_address : NameValue → DataValue → ℕ → LookupValue
 one_address n address now =
-    answers_for_day (record { name = n; query_type = address_type address; query_class = class.IN })
+    answers_for_day (question_of n (address_type address))
     (record { name = n; dns_class = class.IN; ttl = day; rdata = address } ∷ []) now
 
 -- the table with these pairs of a name and an address put in, in order

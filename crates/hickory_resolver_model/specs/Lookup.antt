@@ -1,9 +1,12 @@
 -- What a look-up gives: a message with a question, and until when it may be used.
 use Rattle.std.specs.Prelude.{ℕ, Bool, ◌&&◌, ◌==◌, List, [], ◌∷◌, ◌++◌, map, Result, unwrap_or}
 use Rattle.std.specs.Cmp.{IsEquivalence, and_equiv, on_equiv, nat_eq_equiv}
+use Rattle.hickory_proto_core.specs.Name.{NameValue}
 use Rattle.hickory_proto_core.specs.Messages.{MessageValue, response_metadata, message_eq, message_equiv}
 use Rattle.hickory_proto_core.specs.Records.{RecordValue}
 use Rattle.hickory_proto_core.specs.codes.op_code.OpCode.TheVariants as op
+use Rattle.hickory_proto_core.specs.codes.record_type.RecordType.{RecordType}
+use Rattle.hickory_proto_core.specs.codes.dns_class.DNSClass.TheVariants as class
 use Rattle.hickory_proto_core.specs.records.query.Query.{Query}
 use Rattle.hickory_proto_core.specs.records.net_error.NetError.{NetError}
 use Rattle.hickory_resolver_model.specs.Bounds.{ConfigValue, day, least, clamped_message, positive_lifetime}
@@ -12,6 +15,10 @@ use Rattle.hickory_resolver_model.specs.Cache.{saturating_sum}
 pub record LookupValue : Type 0 where
   pub message : MessageValue
   pub valid_until : ℕ
+
+-- the question for a name and a type, in the class of the Internet
+abbrev pub question_of : NameValue → RecordType → Query
+question_of n t = record { name = n; query_type = t; query_class = class.IN }
 
 -- a fresh response to a question, with these answers
 abbrev pub response_to : Query → List RecordValue → MessageValue

@@ -16,12 +16,12 @@ use Rattle.hickory_resolver_model.specs.Options.{bounds_of}
 use Rattle.hickory_resolver_model.specs.Lookup.{LookupResult}
 use Rattle.hickory_resolver_model.specs.Hosts.{Host}
 use Rattle.hickory_resolver_model.specs.Client.{ClientValue}
-use Rattle.hickory_resolver_model.specs.Calls.{Setting, SubLookup, CallPlan, IsSubLookupFor, Says, AreAttempts, asks_of_sub_lookups}
-use Rattle.hickory_resolver_model.specs.Run.{Settings, settings_of, setting_at, first_cache, Call, IsCall, IsUnserved, name_call, address_call, after_clear}
+use Rattle.hickory_resolver_model.specs.Calls.{CallContext, SubLookup, CallPlan, IsSubLookupFor, Says, AreAttempts, asks_of_sub_lookups}
+use Rattle.hickory_resolver_model.specs.Run.{Settings, settings_of, call_context_at, first_cache, Call, IsCall, IsUnserved, name_call, address_call, after_clear}
 
 -- where a call of a client starts, over a table of hosts
-abbrev pub setting_of : {H : Type 0} → ClientValue H → List Host → ℕ → Setting
-setting_of client hosts now =
+abbrev pub call_context_of : {H : Type 0} → ClientValue H → List Host → ℕ → CallContext
+call_context_of client hosts now =
     record { now = now; preserve_intermediates = client.preserve_intermediates; hosts = hosts }
 
 -- A client looks these names up: the exchanges of the sub-look-ups led its handle, each with these options;
@@ -36,7 +36,7 @@ pub record LooksUp
   pub led : Leads step options before.handle (asks_of_sub_lookups parts) after.handle
   pub are : AreAttempts
       (IsSubLookupFor
-      (setting_of before hosts now)) plan looked before.cache names
+      (call_context_of before hosts now)) plan looked before.cache names
       (Says plan.no_names) parts result after.cache
   pub option_stays : after.preserve_intermediates ≡ before.preserve_intermediates
 
@@ -78,7 +78,7 @@ pub record AnswersCall
   pub led : Leads step (settings before).requests before.client.handle (asks_of_sub_lookups parts)
       after.client.handle
   pub is :
-      IsCall (IsSubLookupFor (setting_at (settings before) now)) (settings before) before.client.cache call
+      IsCall (IsSubLookupFor (call_context_at (settings before) now)) (settings before) before.client.cache call
       parts result after.client.cache
       ⊎ IsUnserved before.client.cache parts result after.client.cache
   pub option_stays : after.client.preserve_intermediates ≡ before.client.preserve_intermediates

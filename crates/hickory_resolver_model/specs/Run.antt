@@ -19,11 +19,11 @@ use Rattle.hickory_resolver_config.specs.declared.strategies.LookupIpStrategy.{L
 use Rattle.hickory_resolver_config.specs.declared.strategies.LookupIpStrategy.TheVariants.{Ipv4Only, Ipv6Only, Ipv4AndIpv6, Ipv6AndIpv4, Ipv6thenIpv4, Ipv4thenIpv6}
 use Rattle.hickory_resolver_model.specs.Bounds.{BoundsValue}
 use Rattle.hickory_resolver_model.specs.Cache.{CacheValue, without_query}
-use Rattle.hickory_resolver_model.specs.Lookup.{LookupValue, LookupResult}
+use Rattle.hickory_resolver_model.specs.Lookup.{LookupValue, LookupResult, question_of}
 use Rattle.hickory_resolver_model.specs.Hosts.{Host}
 use Rattle.hickory_resolver_model.specs.Attempts.{Search, attempts}
 use Rattle.hickory_resolver_model.specs.Options.{search_of, bounds_of, request_options_of}
-use Rattle.hickory_resolver_model.specs.Calls.{Setting, Plan, One, Both, Fallback, SubLookup, SubLookupRelation, IsSubLookupFor, CallPlan, Says, AreAttempts, no_name, literal_at_once, literal_at_last, asks_of_sub_lookups, question_of, is_out_of_memory}
+use Rattle.hickory_resolver_model.specs.Calls.{CallContext, Plan, One, Both, Fallback, SubLookup, SubLookupRelation, IsSubLookupFor, CallPlan, Says, AreAttempts, no_name, literal_at_once, literal_at_last, asks_of_sub_lookups, is_out_of_memory}
 
 -- which addresses a look-up of addresses asks for
 abbrev pub plan_of : LookupIpStrategy → Plan
@@ -63,8 +63,8 @@ abbrev pub first_cache : Settings → CacheValue
 first_cache s =
     record { capacity = s.capacity; config = record { default = s.bounds; by_type = [] }; entries = [] }
 
-abbrev pub setting_at : Settings → ℕ → Setting
-setting_at s now = record { now = now; preserve_intermediates = s.preserve_intermediates; hosts = s.hosts }
+abbrev pub call_context_at : Settings → ℕ → CallContext
+call_context_at s now = record { now = now; preserve_intermediates = s.preserve_intermediates; hosts = s.hosts }
 
 -- requests: names and hosts are texts, moments are seconds
 pub data RequestValue : Type 0 where
@@ -196,7 +196,7 @@ pub record Stage : Type 0 where
 pub record IsStage (s : Settings) (stage : Stage) (after : CacheValue) : Type 0 where
   pub served : IsServed
       (λ now. IsSubLookupFor
-      (setting_at s now)) s stage.before stage.request stage.parts stage.step.reply after
+      (call_context_at s now)) s stage.before stage.request stage.parts stage.step.reply after
   pub piece_is : stage.piece ≡ asks_of_sub_lookups stage.parts
   pub now_is : stage.step.now ≡ moment_of stage.request
   pub count_is : stage.step.exchanges ≡ length stage.piece

@@ -71,7 +71,5 @@ special_use_result q now =
     then (if is_loopback_name q.name
     then Some (option_map_or (λ rdata. Ok (one_record q rdata now))
     (loopback_data (type_code q.query_type)) (Err (no_records q NoError)))
-    else (if is_zone_of (full_name (codes "invalid" ∷ [])) q.name then Some (Err (no_records q NXDomain))
-    else (if is_zone_of (full_name (codes "onion" ∷ [])) q.name then Some (Err (no_records q NXDomain))
-    else None)))
+    else (if is_nonexistent_name q.name then Some (Err (no_records q NXDomain)) else None))
     else None

@@ -6,8 +6,8 @@ use Rattle.hickory_proto_core.specs.names.name_error.NameError.{NameError}
 use Rattle.hickory_proto_core.specs.records.query.Query.{Query}
 use Rattle.hickory_proto_core.specs.codes.record_type.RecordType.{RecordType}
 use Rattle.hickory_resolver_model.specs.Cache.{CacheValue}
-use Rattle.hickory_resolver_model.specs.Lookup.{LookupResult}
-use Rattle.hickory_resolver_model.specs.Calls.{SubLookup, SubLookupRelation, Plan, AreSubLookups, CallPlan, AreAttempts, question_of}
+use Rattle.hickory_resolver_model.specs.Lookup.{LookupResult, question_of}
+use Rattle.hickory_resolver_model.specs.Calls.{SubLookup, SubLookupRelation, Plan, AreSubLookups, CallPlan, AreAttempts}
 use Rattle.hickory_resolver_model.specs.Run.{Settings, GivenName, IsGivenBy, Call, AtOnce, Attempt, name_call, address_call, IsCall, IsUnserved}
 
 -- parts that answer some questions, from one cache to another

@@ -1,9 +1,9 @@
 -- No record of the asked type that a look-up gives or stores outlives what was received.
-use Rattle.std.proofs.Common.{◌≡◌, ◌⊎◌, ◌≤◌, ℕ, ◌+◌, ◌-◌, Bool, true, false, ◌&&◌, ◌==◌, List, [], ◌∷◌, ◌++◌, map, min, reverse, ◌||◌, codes, Option, Some, None, Ok, Err, refl, sym, ap, ◌∙◌, subst, arith, inl, inr, if◌then◌else◌}
+use Rattle.std.proofs.Common.{◌≡◌, ◌⊎◌, ◌≤◌, ℕ, ◌+◌, ◌-◌, Bool, true, false, ◌&&◌, ◌==◌, List, [], ◌++◌, map, min, reverse, ◌||◌, Option, Some, None, Ok, Err, refl, sym, ap, ◌∙◌, subst, arith, inl, inr, if◌then◌else◌}
 use Rattle.std.proofs.lemmas.Bool.{and_parts, leb-true, eqb-true}
 use Rattle.std.specs.List.{AllByRecursion}
 use Rattle.std.specs.Option.{option_map_or}
-use Rattle.hickory_proto_core.specs.Name.{NameValue, name_eq, is_zone_of}
+use Rattle.hickory_proto_core.specs.Name.{name_eq}
 use Rattle.hickory_proto_core.specs.Codes.{type_code, class_code, response_code}
 use Rattle.hickory_proto_core.specs.Records.{RecordValue, DataValue}
 use Rattle.hickory_proto_core.specs.Messages.{MessageValue}
@@ -17,7 +17,7 @@ use Rattle.hickory_proto_core.specs.records.net_error.DnsError.TheVariants.{Resp
 use Rattle.hickory_resolver_model.specs.Bounds.{ConfigValue, clamped_record, greatest_ttl}
 use Rattle.hickory_resolver_model.specs.Cache.{CacheValue, Entry, current, is_for, is_current, age, aged_record, aged_records, aged_outcome, aged_message}
 use Rattle.hickory_resolver_model.specs.Lookup.{LookupResult, hit_lookup, hit_seconds}
-use Rattle.hickory_resolver_model.specs.SpecialUse.{special_use_result, is_loopback_name, loopback_data, one_record, no_records, full_name}
+use Rattle.hickory_resolver_model.specs.SpecialUse.{special_use_result, is_loopback_name, is_nonexistent_name, loopback_data, one_record, no_records}
 use Rattle.hickory_resolver_model.specs.AliasWalk.{Walk, walk_of}
 use Rattle.hickory_resolver_model.specs.Verdict.{Hop, Exists, CnameChain, NoMatch, is_accepted, found_message, next_hop, all_records, with_ttl_at_most}
 use Rattle.hickory_resolver_model.specs.Hops.{LookupContext, ChainEnd, Special, Hit, Asked, IsChainEnd, HopList, Store, IsReply, asks_of, hit_result, verdict_result, kind_result, result_of, verdict_stores, kind_stores, last_stores, earlier_store, stores_of, after_stores}
@@ -32,14 +32,8 @@ use Rattle.hickory_resolver_theorems.proofs.Stores.{StoresArrived, stores-fresh,
 
 special_use_result-fresh : (config : ConfigValue) (sources : List Dated) (q : Query) (now : ℕ) (reply : LookupResult) → special_use_result q now ≡ Some reply → IsFreshReply config sources (type_code q.query_type) now reply
 special_use_result-fresh config sources q now reply h =
-    by (class_code q.query_class == 1) (is_loopback_name q.name) refl (loopback_data (type_code q.query_type)) refl (is_zone_of invalid q.name) (is_zone_of onion q.name) h
+    by (class_code q.query_class == 1) (is_loopback_name q.name) refl (loopback_data (type_code q.query_type)) refl (is_nonexistent_name q.name) h
   where
-    invalid : NameValue
-    invalid = full_name (codes "invalid" ∷ [])
-
-    onion : NameValue
-    onion = full_name (codes "onion" ∷ [])
-
     code : ℕ
     code = type_code q.query_type
 
@@ -49,15 +43,14 @@ special_use_result-fresh config sources q now reply h =
     record_is : is_loopback_name q.name ≡ true → (rdata : DataValue) → loopback_data code ≡ Some rdata → IsFreshReply config sources code now (Ok (one_record q rdata now))
     record_is zone rdata e = ((λ same. inl (refl, zone, ap loopback_data same ∙ e)), tt)
 
-    by : (internet loopback : Bool) → is_loopback_name q.name ≡ loopback → (rdata : Option DataValue) → loopback_data code ≡ rdata → (a b : Bool)
-        → (if internet then (if loopback then Some (on_data rdata) else (if a then Some (Err (no_records q NXDomain)) else (if b then Some (Err (no_records q NXDomain)) else None))) else None) ≡ Some reply
+    by : (internet loopback : Bool) → is_loopback_name q.name ≡ loopback → (rdata : Option DataValue) → loopback_data code ≡ rdata → (nonexistent : Bool)
+        → (if internet then (if loopback then Some (on_data rdata) else (if nonexistent then Some (Err (no_records q NXDomain)) else None)) else None) ≡ Some reply
         → IsFreshReply config sources code now reply
-    by false loopback z rdata e a b k = cc
-    by true true z (Some rdata) e a b k = let same : Ok (one_record q rdata now) ≡ reply = cc in subst (IsFreshReply config sources code now) same (record_is z rdata e)
-    by true true z None e a b k = let same : Err (no_records q NoError) ≡ reply = cc in subst (IsFreshReply config sources code now) same tt
-    by true false z rdata e true b k = let same : Err (no_records q NXDomain) ≡ reply = cc in subst (IsFreshReply config sources code now) same tt
-    by true false z rdata e false true k = let same : Err (no_records q NXDomain) ≡ reply = cc in subst (IsFreshReply config sources code now) same tt
-    by true false z rdata e false false k = cc
+    by false loopback z rdata e nonexistent k = cc
+    by true true z (Some rdata) e nonexistent k = let same : Ok (one_record q rdata now) ≡ reply = cc in subst (IsFreshReply config sources code now) same (record_is z rdata e)
+    by true true z None e nonexistent k = let same : Err (no_records q NoError) ≡ reply = cc in subst (IsFreshReply config sources code now) same tt
+    by true false z rdata e true k = let same : Err (no_records q NXDomain) ≡ reply = cc in subst (IsFreshReply config sources code now) same tt
+    by true false z rdata e false k = cc
 
 -- ---- hits
 

@@ -9,11 +9,11 @@ use Rattle.hickory_proto_core.specs.names.name_error.NameError.{NameError}
 use Rattle.hickory_proto_core.specs.declared.recorded.Exchange.{Exchange}
 use Rattle.hickory_proto_core.specs.records.net_error.NetError.TheVariants.{OutOfMemory}
 use Rattle.hickory_resolver_model.specs.Cache.{CacheValue, is_for, without_query}
-use Rattle.hickory_resolver_model.specs.Lookup.{LookupResult}
+use Rattle.hickory_resolver_model.specs.Lookup.{LookupResult, question_of}
 use Rattle.hickory_resolver_model.specs.Hosts.{IsStatic}
-use Rattle.hickory_resolver_model.specs.Calls.{Setting, Source, Static, Client, SubLookup, SubLookupRelation, IsSubLookupBy, IsSubLookupFor, start_at, Plan, One, Both, Fallback, question_of, has_answers, is_out_of_memory, both_results, next_type, attempt_result, IsAttemptResult, AreSubLookups, results_of, IsAttempt, stops, CallPlan, Says, AreAttempts, asks_of_sub_lookups}
+use Rattle.hickory_resolver_model.specs.Calls.{CallContext, Source, Static, Client, SubLookup, SubLookupRelation, IsSubLookupBy, IsSubLookupFor, start_at, Plan, One, Both, Fallback, has_answers, is_out_of_memory, both_results, next_type, attempt_result, IsAttemptResult, AreSubLookups, results_of, IsAttempt, stops, CallPlan, Says, AreAttempts, asks_of_sub_lookups}
 use Rattle.hickory_resolver_model.specs.Attempts.{attempts}
-use Rattle.hickory_resolver_model.specs.Run.{Settings, setting_at, RequestValue, Lookup, LookupIp, ClearLookup, Clear, StepReply, LookedUp, Cleared, ends_run, drop_each, after_clear, Call, AtOnce, Attempt, name_call, address_call, IsCall, IsServed, StepValue, Stage, IsStage, AreStages, exchanges_of, Run}
+use Rattle.hickory_resolver_model.specs.Run.{Settings, call_context_at, RequestValue, Lookup, LookupIp, ClearLookup, Clear, StepReply, LookedUp, Cleared, ends_run, drop_each, after_clear, Call, AtOnce, Attempt, name_call, address_call, IsCall, IsServed, StepValue, Stage, IsStage, AreStages, exchanges_of, Run}
 use Rattle.hickory_resolver_theorems.specs.Cacheless.{IsTable, ResolvesTo, IsConsistentWith, AreConsistentWith}
 use Rattle.hickory_resolver_theorems.specs.WithoutTimes.{without_times}
 use Rattle.hickory_resolver_theorems.specs.Statements.{IsWhatItResolvesTo, AreWhatTheyResolveTo, ResolvesWithinEight, CachelessSubLookup, IsCacheless, IsAsWithoutCache, AreAsWithoutCache, Headline}
@@ -22,7 +22,7 @@ use Rattle.hickory_resolver_theorems.proofs.Transparent.{transparent}
 use Rattle.hickory_resolver_theorems.proofs.Runs.{first_clauses}
 
 -- what a run is seen under: a table without equal questions, and the option off
-pub record Seen (table : TableValue) (t : Setting) : Type 0 where
+pub record Seen (table : TableValue) (t : CallContext) : Type 0 where
   pub apart : IsTable table
   pub off : t.preserve_intermediates ≡ false
 
@@ -33,10 +33,10 @@ asks-append (p ∷ ps) qs = ap (λ xs. p.asks ++ xs) (asks-append ps qs) ∙ sym
 -- ---- a part
 
 -- a part is out of memory, or the cacheless resolver's, at whatever cache; and the entries after it are meant
-abbrev PartAlike : TableValue → Setting → Bool → CacheValue → Query → SubLookup → CacheValue → Type 0
+abbrev PartAlike : TableValue → CallContext → Bool → CacheValue → Query → SubLookup → CacheValue → Type 0
 PartAlike table t looked c q p after = ((is_out_of_memory p.result ≡ true) ⊎ CachelessSubLookup table t looked c q p c) × AreWhatTheyResolveTo table after
 
-part-alike : (table : TableValue) (t : Setting) (looked : Bool) (c before : CacheValue) (q : Query) (p : SubLookup) (after : CacheValue) → Seen table t → AreWhatTheyResolveTo table before → ResolvesWithinEight table p → AreConsistentWith table p.asks → IsSubLookupFor t looked before q p after → PartAlike table t looked c q p after
+part-alike : (table : TableValue) (t : CallContext) (looked : Bool) (c before : CacheValue) (q : Query) (p : SubLookup) (after : CacheValue) → Seen table t → AreWhatTheyResolveTo table before → ResolvesWithinEight table p → AreConsistentWith table p.asks → IsSubLookupFor t looked before q p after → PartAlike table t looked c q p after
 part-alike table t looked c before q p after seen meant has tells (for, is) = by p.source refl is
   where
     by : (source : Source) → p.source ≡ source → IsSubLookupBy source t looked before p after → PartAlike table t looked c q p after
@@ -67,7 +67,7 @@ part-alike table t looked c before q p after seen meant has tells (for, is) = by
             )
 
 -- where it is not out of memory
-cacheless : (table : TableValue) (t : Setting) (looked : Bool) (c : CacheValue) (q : Query) (p : SubLookup) → is_out_of_memory p.result ≡ false → (is_out_of_memory p.result ≡ true) ⊎ CachelessSubLookup table t looked c q p c → CachelessSubLookup table t looked c q p c
+cacheless : (table : TableValue) (t : CallContext) (looked : Bool) (c : CacheValue) (q : Query) (p : SubLookup) → is_out_of_memory p.result ≡ false → (is_out_of_memory p.result ≡ true) ⊎ CachelessSubLookup table t looked c q p c → CachelessSubLookup table t looked c q p c
 cacheless table t looked c q p live (inl out) = let clash : false ≡ true = sym live ∙ out in cc
 cacheless table t looked c q p live (inr is) = is
 
@@ -103,7 +103,7 @@ goes-on (Fallback t v) (x ∷ []) r u h = let clash : None ≡ Some u = h in cc
 goes-on (Fallback t v) (x ∷ y ∷ ys) r u h = let clash : None ≡ Some u = h in cc
 
 -- the sub-look-ups of an attempt: the last one ran out of memory, or they are the cacheless resolver's
-subs-alike : (table : TableValue) (t : Setting) (looked : Bool) (n : NameValue) (plan : Plan) (c before : CacheValue) (results : List LookupResult) (ps : List SubLookup) (after : CacheValue) → Seen table t → AreWhatTheyResolveTo table before
+subs-alike : (table : TableValue) (t : CallContext) (looked : Bool) (n : NameValue) (plan : Plan) (c before : CacheValue) (results : List LookupResult) (ps : List SubLookup) (after : CacheValue) → Seen table t → AreWhatTheyResolveTo table before
     → AllByRecursion (ResolvesWithinEight table) ps → AreConsistentWith table (asks_of_sub_lookups ps) → AreSubLookups (IsSubLookupFor t) looked n plan before results ps after
     → ((last_is_out ps ≡ true) ⊎ AreSubLookups (CachelessSubLookup table t) looked n plan c results ps c) × AreWhatTheyResolveTo table after
 subs-alike table t looked n plan c before results [] after seen meant has tells same = (inr refl, subst (AreWhatTheyResolveTo table) (sym same) meant)
@@ -149,7 +149,7 @@ out-result Answers looked n (One t) before (p ∷ q ∷ x ∷ xs) after (a, b, n
 out-result Answers looked n (Both t u) before (p ∷ q ∷ x ∷ xs) after (a, b, next, is, (v, m, on, second, (w, k, more, third, rest))) out = let clash : None ≡ Some w = more in cc
 out-result Answers looked n (Fallback t u) before (p ∷ q ∷ x ∷ xs) after (a, b, next, is, (v, m, on, second, (w, k, more, third, rest))) out = let clash : None ≡ Some w = more in cc
 
-attempt-alike : (table : TableValue) (t : Setting) (looked : Bool) (c before : CacheValue) (n : NameValue) (plan : Plan) (parts : List SubLookup) (r : LookupResult) (after : CacheValue) → Seen table t → AreWhatTheyResolveTo table before → AllByRecursion (ResolvesWithinEight table) parts → AreConsistentWith table (asks_of_sub_lookups parts)
+attempt-alike : (table : TableValue) (t : CallContext) (looked : Bool) (c before : CacheValue) (n : NameValue) (plan : Plan) (parts : List SubLookup) (r : LookupResult) (after : CacheValue) → Seen table t → AreWhatTheyResolveTo table before → AllByRecursion (ResolvesWithinEight table) parts → AreConsistentWith table (asks_of_sub_lookups parts)
     → IsAttempt (IsSubLookupFor t) looked before n plan parts r after → ((is_out_of_memory r ≡ true) ⊎ IsAttempt (CachelessSubLookup table t) looked c n plan parts r c) × AreWhatTheyResolveTo table after
 attempt-alike table t looked c before n plan parts r after seen meant has tells attempt = (by there.0 attempt.result_is, there.1)
   where
@@ -165,7 +165,7 @@ attempt-alike table t looked c before n plan parts r after seen meant has tells 
 
 -- ---- attempts
 
-attempts-alike : (table : TableValue) (t : Setting) (plan : CallPlan) (looked : Bool) (c before : CacheValue) (names : List NameValue) (last : LookupResult → Type 0) (parts : List SubLookup) (r : LookupResult) (after : CacheValue) → Seen table t → AreWhatTheyResolveTo table before
+attempts-alike : (table : TableValue) (t : CallContext) (plan : CallPlan) (looked : Bool) (c before : CacheValue) (names : List NameValue) (last : LookupResult → Type 0) (parts : List SubLookup) (r : LookupResult) (after : CacheValue) → Seen table t → AreWhatTheyResolveTo table before
     → AllByRecursion (ResolvesWithinEight table) parts → AreConsistentWith table (asks_of_sub_lookups parts) → AreAttempts (IsSubLookupFor t) plan looked before names last parts r after
     → ((is_out_of_memory r ≡ true) ⊎ AreAttempts (CachelessSubLookup table t) plan looked c names last parts r c) × AreWhatTheyResolveTo table after
 attempts-alike table t plan looked c before [] last parts r after seen meant has tells (none, fallback, same) = (inr (none, fallback, refl), subst (AreWhatTheyResolveTo table) (sym same) meant)
@@ -201,36 +201,36 @@ attempts-alike table t plan looked c before (n ∷ ns) last parts r after seen m
 abbrev ServedAlike : TableValue → Settings → CacheValue → RequestValue → StepReply → CacheValue → Type 0
 ServedAlike table s c request reply after = ((ends_run reply ≡ true) ⊎ IsCacheless table s c request reply) × AreWhatTheyResolveTo table after
 
-call-alike : (table : TableValue) (s : Settings) (c before : CacheValue) (now : ℕ) (call : Call) (parts : List SubLookup) (reply : LookupResult) (after : CacheValue) → Seen table (setting_at s now) → AreWhatTheyResolveTo table before → AllByRecursion (ResolvesWithinEight table) parts → AreConsistentWith table (asks_of_sub_lookups parts)
-    → IsCall (IsSubLookupFor (setting_at s now)) s before call parts reply after
-    → ((is_out_of_memory reply ≡ true) ⊎ IsCall (CachelessSubLookup table (setting_at s now)) s c call parts reply c) × AreWhatTheyResolveTo table after
+call-alike : (table : TableValue) (s : Settings) (c before : CacheValue) (now : ℕ) (call : Call) (parts : List SubLookup) (reply : LookupResult) (after : CacheValue) → Seen table (call_context_at s now) → AreWhatTheyResolveTo table before → AllByRecursion (ResolvesWithinEight table) parts → AreConsistentWith table (asks_of_sub_lookups parts)
+    → IsCall (IsSubLookupFor (call_context_at s now)) s before call parts reply after
+    → ((is_out_of_memory reply ≡ true) ⊎ IsCall (CachelessSubLookup table (call_context_at s now)) s c call parts reply c) × AreWhatTheyResolveTo table after
 call-alike table s c before now (AtOnce answer) parts reply after seen meant has tells (none, e, same) = (inr (none, e, refl), subst (AreWhatTheyResolveTo table) (sym same) meant)
 call-alike table s c before now (Attempt n plan) parts reply after seen meant has tells tries =
-    attempts-alike table (setting_at s now) plan true c before (attempts s.search n) (Says plan.no_names) parts reply after seen meant has tells tries
+    attempts-alike table (call_context_at s now) plan true c before (attempts s.search n) (Says plan.no_names) parts reply after seen meant has tells tries
 
-name-alike : (table : TableValue) (s : Settings) (c before : CacheValue) (text : List ℕ) (u : RecordType) (now : ℕ) (parts : List SubLookup) (reply : LookupResult) (after : CacheValue) → Seen table (setting_at s now) → AreWhatTheyResolveTo table before → AllByRecursion (ResolvesWithinEight table) parts → AreConsistentWith table (asks_of_sub_lookups parts)
-    → IsServed (λ at. IsSubLookupFor (setting_at s at)) s before (Lookup text u now) parts (LookedUp reply) after → ServedAlike table s c (Lookup text u now) (LookedUp reply) after
+name-alike : (table : TableValue) (s : Settings) (c before : CacheValue) (text : List ℕ) (u : RecordType) (now : ℕ) (parts : List SubLookup) (reply : LookupResult) (after : CacheValue) → Seen table (call_context_at s now) → AreWhatTheyResolveTo table before → AllByRecursion (ResolvesWithinEight table) parts → AreConsistentWith table (asks_of_sub_lookups parts)
+    → IsServed (λ at. IsSubLookupFor (call_context_at s at)) s before (Lookup text u now) parts (LookedUp reply) after → ServedAlike table s c (Lookup text u now) (LookedUp reply) after
 name-alike table s c before text u now parts reply after seen meant has tells (inl (name, said, is)) = (by there.0, there.1)
   where
-    there : ((is_out_of_memory reply ≡ true) ⊎ IsCall (CachelessSubLookup table (setting_at s now)) s c (name_call u name) parts reply c) × AreWhatTheyResolveTo table after
+    there : ((is_out_of_memory reply ≡ true) ⊎ IsCall (CachelessSubLookup table (call_context_at s now)) s c (name_call u name) parts reply c) × AreWhatTheyResolveTo table after
     there = call-alike table s c before now (name_call u name) parts reply after seen meant has tells is
 
-    by : (is_out_of_memory reply ≡ true) ⊎ IsCall (CachelessSubLookup table (setting_at s now)) s c (name_call u name) parts reply c → (is_out_of_memory reply ≡ true) ⊎ IsCacheless table s c (Lookup text u now) (LookedUp reply)
+    by : (is_out_of_memory reply ≡ true) ⊎ IsCall (CachelessSubLookup table (call_context_at s now)) s c (name_call u name) parts reply c → (is_out_of_memory reply ≡ true) ⊎ IsCacheless table s c (Lookup text u now) (LookedUp reply)
     by (inl out) = inl out
     by (inr alike) = inr (parts, reply, inl (name, said, alike), refl)
 name-alike table s c before text u now parts reply after seen meant has tells (inr (none, e, same)) = (inl (ap is_out_of_memory e), subst (AreWhatTheyResolveTo table) (sym same) meant)
 
-addresses-alike : (table : TableValue) (s : Settings) (c before : CacheValue) (text : List ℕ) (now : ℕ) (parts : List SubLookup) (reply : LookupResult) (after : CacheValue) → Seen table (setting_at s now) → AreWhatTheyResolveTo table before → AllByRecursion (ResolvesWithinEight table) parts → AreConsistentWith table (asks_of_sub_lookups parts)
-    → IsServed (λ at. IsSubLookupFor (setting_at s at)) s before (LookupIp text now) parts (LookedUp reply) after → ServedAlike table s c (LookupIp text now) (LookedUp reply) after
+addresses-alike : (table : TableValue) (s : Settings) (c before : CacheValue) (text : List ℕ) (now : ℕ) (parts : List SubLookup) (reply : LookupResult) (after : CacheValue) → Seen table (call_context_at s now) → AreWhatTheyResolveTo table before → AllByRecursion (ResolvesWithinEight table) parts → AreConsistentWith table (asks_of_sub_lookups parts)
+    → IsServed (λ at. IsSubLookupFor (call_context_at s at)) s before (LookupIp text now) parts (LookedUp reply) after → ServedAlike table s c (LookupIp text now) (LookedUp reply) after
 addresses-alike table s c before text now parts reply after seen meant has tells (inl (given, said, is)) = (by there.0, there.1)
   where
     call : Call
     call = address_call s given.address given.name now
 
-    there : ((is_out_of_memory reply ≡ true) ⊎ IsCall (CachelessSubLookup table (setting_at s now)) s c call parts reply c) × AreWhatTheyResolveTo table after
+    there : ((is_out_of_memory reply ≡ true) ⊎ IsCall (CachelessSubLookup table (call_context_at s now)) s c call parts reply c) × AreWhatTheyResolveTo table after
     there = call-alike table s c before now call parts reply after seen meant has tells is
 
-    by : (is_out_of_memory reply ≡ true) ⊎ IsCall (CachelessSubLookup table (setting_at s now)) s c call parts reply c → (is_out_of_memory reply ≡ true) ⊎ IsCacheless table s c (LookupIp text now) (LookedUp reply)
+    by : (is_out_of_memory reply ≡ true) ⊎ IsCall (CachelessSubLookup table (call_context_at s now)) s c call parts reply c → (is_out_of_memory reply ≡ true) ⊎ IsCacheless table s c (LookupIp text now) (LookedUp reply)
     by (inl out) = inl out
     by (inr alike) = inr (parts, reply, inl (given, said, alike), refl)
 addresses-alike table s c before text now parts reply after seen meant has tells (inr (none, e, same)) = (inl (ap is_out_of_memory e), subst (AreWhatTheyResolveTo table) (sym same) meant)
@@ -244,7 +244,7 @@ clear-meant table s before u (Ok n) after meant e = subst (AreWhatTheyResolveTo 
 clear-meant table s before u (Err fault) after meant e = subst (AreWhatTheyResolveTo table) (sym e) meant
 
 served-alike : (table : TableValue) (s : Settings) (c before : CacheValue) (request : RequestValue) (parts : List SubLookup) (reply : StepReply) (after : CacheValue) → IsTable table → s.preserve_intermediates ≡ false → AreWhatTheyResolveTo table before → AllByRecursion (ResolvesWithinEight table) parts → AreConsistentWith table (asks_of_sub_lookups parts)
-    → IsServed (λ now. IsSubLookupFor (setting_at s now)) s before request parts reply after → ServedAlike table s c request reply after
+    → IsServed (λ now. IsSubLookupFor (call_context_at s now)) s before request parts reply after → ServedAlike table s c request reply after
 served-alike table s c before (Lookup text u now) parts (LookedUp reply) after apart off meant has tells is = name-alike table s c before text u now parts reply after (record { apart = apart; off = off }) meant has tells is
 served-alike table s c before (LookupIp text now) parts (LookedUp reply) after apart off meant has tells is = addresses-alike table s c before text now parts reply after (record { apart = apart; off = off }) meant has tells is
 served-alike table s c before (ClearLookup text u now) parts (Cleared (Ok x)) after apart off meant has tells (none, (name, said, is)) = (inr tt, clear-meant table s before u name after meant is)

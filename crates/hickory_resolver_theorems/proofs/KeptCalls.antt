@@ -8,8 +8,8 @@ use Rattle.hickory_proto_core.specs.declared.recorded.Exchange.{Exchange}
 use Rattle.hickory_resolver_model.specs.Attempts.{attempts}
 use Rattle.hickory_resolver_model.specs.Cache.{CacheValue}
 use Rattle.hickory_resolver_model.specs.Lookup.{LookupResult}
-use Rattle.hickory_resolver_model.specs.Calls.{Setting, Source, Static, Client, SubLookup, IsSubLookupBy, IsSubLookupFor, Plan, IsAttemptResult, AreSubLookups, results_of, stops, CallPlan, Says, AreAttempts, asks_of_sub_lookups, start_at}
-use Rattle.hickory_resolver_model.specs.Run.{Settings, setting_at, RequestValue, Lookup, LookupIp, ClearLookup, Clear, StepReply, LookedUp, Cleared, Call, AtOnce, Attempt, name_call, address_call, IsCall, IsServed}
+use Rattle.hickory_resolver_model.specs.Calls.{CallContext, Source, Static, Client, SubLookup, IsSubLookupBy, IsSubLookupFor, Plan, IsAttemptResult, AreSubLookups, results_of, stops, CallPlan, Says, AreAttempts, asks_of_sub_lookups, start_at}
+use Rattle.hickory_resolver_model.specs.Run.{Settings, call_context_at, RequestValue, Lookup, LookupIp, ClearLookup, Clear, StepReply, LookedUp, Cleared, Call, AtOnce, Attempt, name_call, address_call, IsCall, IsServed}
 use Rattle.hickory_resolver_theorems.specs.Keeping.{IsServedOver}
 use Rattle.hickory_resolver_theorems.proofs.Kept.{kept_reply}
 
@@ -38,7 +38,7 @@ asks-append (p ∷ ps) qs = ap (λ xs. p.asks ++ xs) (asks-append ps qs) ∙ sym
 no_asks : (ps : List SubLookup) (kept : List Exchange) → ps ≡ [] → RecordedAs (asks_of_sub_lookups ps) kept → [] ≡ kept
 no_asks ps kept none r = sym (subst (λ qs. RecordedAs (asks_of_sub_lookups qs) kept) none r)
 
-module _ (t : Setting) where
+module _ (t : CallContext) where
   -- ---- a sub-look-up
 
   kept_part : (looked : Bool) (before : CacheValue) (q : Query) (p : SubLookup) (after : CacheValue) (kept : List Exchange) → RecordedAs p.asks kept → IsSubLookupFor t looked before q p after
@@ -117,18 +117,18 @@ module _ (s : Settings) (before : CacheValue) where
   record KeptCall (now : ℕ) (call : Call) (result : LookupResult) (after : CacheValue) (kept : List Exchange) : Type 0 where
     parts : List SubLookup
     asks_are : asks_of_sub_lookups parts ≡ kept
-    is : IsCall (IsSubLookupFor (setting_at s now)) s before call parts result after
+    is : IsCall (IsSubLookupFor (call_context_at s now)) s before call parts result after
 
   kept_call : (now : ℕ) (call : Call) (ps : List SubLookup) (result : LookupResult) (after : CacheValue) (kept : List Exchange) → RecordedAs (asks_of_sub_lookups ps) kept
-      → IsCall (IsSubLookupFor (setting_at s now)) s before call ps result after → KeptCall now call result after kept
+      → IsCall (IsSubLookupFor (call_context_at s now)) s before call ps result after → KeptCall now call result after kept
   kept_call now (AtOnce answer) ps result after kept r (none, e, same) = record { parts = []; asks_are = no_asks ps kept none r; is = (refl, e, same) }
   kept_call now (Attempt n plan) ps result after kept r are =
-      let k = kept_attempts (setting_at s now) plan true before (attempts s.search n) (Says plan.no_names) ps result after kept r are in
+      let k = kept_attempts (call_context_at s now) plan true before (attempts s.search n) (Says plan.no_names) ps result after kept r are in
       record { parts = k.parts; asks_are = k.asks_are; is = k.are }
 
   -- ---- a request
 
-  pub kept_request : (request : RequestValue) (ps : List SubLookup) (reply : StepReply) (after : CacheValue) (kept : List Exchange) → IsServed (λ now. IsSubLookupFor (setting_at s now)) s before request ps reply after
+  pub kept_request : (request : RequestValue) (ps : List SubLookup) (reply : StepReply) (after : CacheValue) (kept : List Exchange) → IsServed (λ now. IsSubLookupFor (call_context_at s now)) s before request ps reply after
       → RecordedAs (asks_of_sub_lookups ps) kept → IsServedOver s before request kept reply after
   kept_request (Lookup text t now) ps (LookedUp reply) after kept (inl (name, said, is)) r =
       let k = kept_call now (name_call t name) ps reply after kept r is in

@@ -22,7 +22,7 @@ use Rattle.hickory_proto_core.specs.records.net_error.NetError.TheVariants.{Dns}
 use Rattle.hickory_proto_core.specs.records.net_error.DnsError.TheVariants.{NoRecordsFound}
 use Rattle.hickory_resolver_model.specs.Bounds.{ConfigValue, clamped_message, clamped_record}
 use Rattle.hickory_resolver_model.specs.Lookup.{LookupResult}
-use Rattle.hickory_resolver_model.specs.SpecialUse.{special_use_result, loopback_zones, is_loopback_name, loopback_data, one_record, no_records, full_name}
+use Rattle.hickory_resolver_model.specs.SpecialUse.{special_use_result, loopback_zones, is_loopback_name, is_nonexistent_name, loopback_data, one_record, no_records, full_name}
 use Rattle.hickory_resolver_model.specs.AliasWalk.{walk_of}
 use Rattle.hickory_resolver_model.specs.Verdict.{Hop, Verdict, Exists, CnameChain, NoMatch, next_hop, verdict, first_hop}
 use Rattle.hickory_resolver_model.specs.Hops.{LookupContext, kind_verdict, kind_result, verdict_result}
@@ -47,12 +47,12 @@ abbrev onion : NameValue
 onion = full_name (codes "onion" ∷ [])
 
 -- what a special name comes to, from the question in lower case
-abbrev special_by : Query → Bool → Bool → Option DataValue → Bool → Bool → Option WithoutTimes
-special_by q internet loopback rdata a b =
-    if internet then (if loopback then Some (loopback_core q rdata) else (if a then Some (negative_for q NXDomain) else (if b then Some (negative_for q NXDomain) else None))) else None
+abbrev special_by : Query → Bool → Bool → Option DataValue → Bool → Option WithoutTimes
+special_by q internet loopback rdata nonexistent =
+    if internet then (if loopback then Some (loopback_core q rdata) else (if nonexistent then Some (negative_for q NXDomain) else None)) else None
 
 abbrev special_core : Query → Option WithoutTimes
-special_core q = special_by q (class_code q.query_class == 1) (is_loopback_name q.name) (loopback_data (type_code q.query_type)) (is_zone_of invalid q.name) (is_zone_of onion q.name)
+special_core q = special_by q (class_code q.query_class == 1) (is_loopback_name q.name) (loopback_data (type_code q.query_type)) (is_nonexistent_name q.name)
 
 in_zone-folded_name : (zone n : NameValue) → is_zone_of zone (folded_name n) ≡ is_zone_of zone n
 in_zone-folded_name zone n = ap (λ xs. ends_with (pointwise nat_eq) xs (lower_labels zone.labels)) (lowers-twice n.labels)
@@ -62,26 +62,24 @@ any-same p q same [] = refl
 any-same p q same (x ∷ xs) = ap₂ (λ a b. a || b) (same x) (any-same p q same xs)
 
 special_use_result-folded_name : (q : Query) (now : ℕ) → option_map without_times (special_use_result q now) ≡ special_core (folded_query q)
-special_use_result-folded_name q now = by (class_code q.query_class == 1) (is_loopback_name q.name) (loopback_data (type_code q.query_type)) (is_zone_of invalid q.name) (is_zone_of onion q.name) ∙ sym same
+special_use_result-folded_name q now = by (class_code q.query_class == 1) (is_loopback_name q.name) (loopback_data (type_code q.query_type)) (is_nonexistent_name q.name) ∙ sym same
   where
-    same : special_core (folded_query q) ≡ special_by (folded_query q) (class_code q.query_class == 1) (is_loopback_name q.name) (loopback_data (type_code q.query_type)) (is_zone_of invalid q.name) (is_zone_of onion q.name)
+    same : special_core (folded_query q) ≡ special_by (folded_query q) (class_code q.query_class == 1) (is_loopback_name q.name) (loopback_data (type_code q.query_type)) (is_nonexistent_name q.name)
     same =
         let cq = query_class-folded_name q in
         let tq = query_type-folded_name q in
         let zones = any-same (λ zone. is_zone_of zone (folded_name q.name)) (λ zone. is_zone_of zone q.name) (λ zone. in_zone-folded_name zone q.name) loopback_zones in
-        let a = in_zone-folded_name invalid q.name in
-        let b = in_zone-folded_name onion q.name in
-        λ i. special_by (folded_query q) (cq i == 1) (zones i) (loopback_data (tq i)) (a i) (b i)
+        let nonexistent = ap₂ (λ a b. a || b) (in_zone-folded_name invalid q.name) (in_zone-folded_name onion q.name) in
+        λ i. special_by (folded_query q) (cq i == 1) (zones i) (loopback_data (tq i)) (nonexistent i)
 
-    by : (internet loopback : Bool) (rdata : Option DataValue) (a b : Bool)
-        → option_map without_times (if internet then (if loopback then Some (option_map_or (λ r. Ok (one_record q r now)) rdata (Err (no_records q NoError))) else (if a then Some (Err (no_records q NXDomain)) else (if b then Some (Err (no_records q NXDomain)) else None))) else None)
-        ≡ special_by (folded_query q) internet loopback rdata a b
-    by false loopback rdata a b = refl
-    by true true None a b = refl
-    by true true (Some r) a b = refl
-    by true false rdata true b = refl
-    by true false rdata false true = refl
-    by true false rdata false false = refl
+    by : (internet loopback : Bool) (rdata : Option DataValue) (nonexistent : Bool)
+        → option_map without_times (if internet then (if loopback then Some (option_map_or (λ r. Ok (one_record q r now)) rdata (Err (no_records q NoError))) else (if nonexistent then Some (Err (no_records q NXDomain)) else None)) else None)
+        ≡ special_by (folded_query q) internet loopback rdata nonexistent
+    by false loopback rdata nonexistent = refl
+    by true true None nonexistent = refl
+    by true true (Some r) nonexistent = refl
+    by true false rdata true = refl
+    by true false rdata false = refl
 
 -- equal questions are special alike, at whatever moments
 pub special_use_result-same : (p q : Query) (now later : ℕ) → folded_query p ≡ folded_query q → option_map without_times (special_use_result p now) ≡ option_map without_times (special_use_result q later)

@@ -22,11 +22,11 @@ use Rattle.hickory_proto_core.specs.codes.record_type.RecordType.TheVariants as 
 use Rattle.hickory_proto_core.specs.names.name_error.NameError.{NameError}
 use Rattle.hickory_proto_core.specs.records.net_error.NetError.TheVariants.{OutOfMemory}
 use Rattle.hickory_resolver_model.specs.Cache.{CacheValue}
-use Rattle.hickory_resolver_model.specs.Lookup.{LookupValue, LookupResult}
+use Rattle.hickory_resolver_model.specs.Lookup.{LookupValue, LookupResult, question_of}
 use Rattle.hickory_resolver_model.specs.Hosts.{Host, as_fqdn, family, is_host, has_address, pointers, pointer_lookup, StandsFor, static_answer, IsStatic}
-use Rattle.hickory_resolver_model.specs.Calls.{Setting, SubLookup, Plan, One, Both, Fallback, question_of, has_answers, is_out_of_memory, both_results, next_type, attempt_result, IsAttemptResult, AreSubLookups, results_of, IsAttempt, IsStaticSubLookup, stops, CallPlan, IsLastReply, Says, AreAttempts}
+use Rattle.hickory_resolver_model.specs.Calls.{CallContext, SubLookup, Plan, One, Both, Fallback, has_answers, is_out_of_memory, both_results, next_type, attempt_result, IsAttemptResult, AreSubLookups, results_of, IsAttempt, IsStaticSubLookup, stops, CallPlan, IsLastReply, Says, AreAttempts}
 use Rattle.hickory_resolver_model.specs.Attempts.{attempts}
-use Rattle.hickory_resolver_model.specs.Run.{Settings, setting_at, RequestValue, Lookup, LookupIp, ClearLookup, Clear, Call, AtOnce, Attempt, name_call, address_call, IsCall}
+use Rattle.hickory_resolver_model.specs.Run.{Settings, call_context_at, RequestValue, Lookup, LookupIp, ClearLookup, Clear, Call, AtOnce, Attempt, name_call, address_call, IsCall}
 use Rattle.hickory_resolver_theorems.specs.AttemptLaws.{some_attempt}
 use Rattle.hickory_resolver_theorems.specs.WithoutTimes.{WithoutTimes, sections, without_times, record_without_times}
 use Rattle.hickory_resolver_theorems.specs.Statements.{IsCachelessSubLookup, CachelessSubLookup, IsOneCacheless}
@@ -159,11 +159,11 @@ found-meets a b l k e (inl ok) (inr out) = inr (inl (ap is_out_of_memory out))
 found-meets a b l k e (inl ok) (inl too) = inr (inr (ap without_times (ok ∙ ap Ok e ∙ sym too)))
 
 -- where the table is looked at and has something, nothing else is asked
-never : (t : Setting) (looked : Bool) (q : Query) (found : LookupValue) → looked ≡ true → IsStatic q t.now t.hosts (Some found) → (looked ≡ false) ⊎ IsStatic q t.now t.hosts None → ⊥
+never : (t : CallContext) (looked : Bool) (q : Query) (found : LookupValue) → looked ≡ true → IsStatic q t.now t.hosts (Some found) → (looked ≡ false) ⊎ IsStatic q t.now t.hosts None → ⊥
 never t looked q found asks has (inl not_looked) = absurd (let clash : true ≡ false = sym asks ∙ not_looked in cc)
 never t looked q found asks has (inr none) = absurd (let clash : Some found ≡ None = same-static q t.now t.hosts (Some found) None has none in cc)
 
-part-once : (table : TableValue) (t : Setting) (looked : Bool) (q : Query) (c d e f : CacheValue) (p u : SubLookup) → CachelessSubLookup table t looked c q p d → CachelessSubLookup table t looked e q u f → Meet p.result u.result
+part-once : (table : TableValue) (t : CallContext) (looked : Bool) (q : Query) (c d e f : CacheValue) (p u : SubLookup) → CachelessSubLookup table t looked c q p d → CachelessSubLookup table t looked e q u f → Meet p.result u.result
 part-once table t looked q c d e f p u (for, is) (for_too, is_too) = by is is_too
   where
     has-at : (x : SubLookup) → x.question ≡ q → (found : LookupValue) → IsStatic x.question t.now t.hosts (Some found) → IsStatic q t.now t.hosts (Some found)
@@ -178,7 +178,7 @@ part-once table t looked q c d e f p u (for, is) (for_too, is_too) = by is is_to
 -- ---- an attempt
 
 -- what was answered to a question, out of memory aside
-record Answered (table : TableValue) (t : Setting) (looked : Bool) (q : Query) (r : LookupResult) : Type 0 where
+record Answered (table : TableValue) (t : CallContext) (looked : Bool) (q : Query) (r : LookupResult) : Type 0 where
   before : CacheValue
   after : CacheValue
   part : SubLookup
@@ -186,12 +186,12 @@ record Answered (table : TableValue) (t : Setting) (looked : Bool) (q : Query) (
   result_is : part.result ≡ r
   live : is_out_of_memory r ≡ false
 
-answered-once : (table : TableValue) (t : Setting) (looked : Bool) (q : Query) (a b : LookupResult) → Answered table t looked q a → Answered table t looked q b → Same a b
+answered-once : (table : TableValue) (t : CallContext) (looked : Bool) (q : Query) (a b : LookupResult) → Answered table t looked q a → Answered table t looked q b → Same a b
 answered-once table t looked q a b x y =
     meet a b x.live y.live (subst (Meet a) y.result_is (subst (λ r. Meet r y.part.result) x.result_is (part-once table t looked q x.before x.after y.before y.after x.part y.part x.is y.is)))
 
 -- the results that an attempt is made of, by what it looks up
-abbrev Made : TableValue → Setting → Bool → NameValue → Plan → LookupResult → Type 0
+abbrev Made : TableValue → CallContext → Bool → NameValue → Plan → LookupResult → Type 0
 Made table t looked n (One u) r = Answered table t looked (question_of n u) r
 Made table t looked n (Both u v) r =
     (a : LookupResult) × (b : LookupResult) × Answered table t looked (question_of n u) a × Answered table t looked (question_of n v) b × (r ≡ both_results a b)
@@ -199,7 +199,7 @@ Made table t looked n (Fallback u v) r =
     (Answered table t looked (question_of n u) r × (has_answers r ≡ true))
     ⊎ ((a : LookupResult) × Answered table t looked (question_of n u) a × (has_answers a ≡ false) × Answered table t looked (question_of n v) r)
 
-made-once : (table : TableValue) (t : Setting) (looked : Bool) (n : NameValue) (plan : Plan) (r k : LookupResult) → Made table t looked n plan r → Made table t looked n plan k → Same r k
+made-once : (table : TableValue) (t : CallContext) (looked : Bool) (n : NameValue) (plan : Plan) (r k : LookupResult) → Made table t looked n plan r → Made table t looked n plan k → Same r k
 made-once table t looked n (One u) r k x y = answered-once table t looked (question_of n u) r k x y
 made-once table t looked n (Both u v) r k (a, b, x, y, e) (c, d, z, w, f) =
     ap without_times e ∙ same-both a b c d (answered-once table t looked (question_of n u) a c x z) (answered-once table t looked (question_of n v) b d y w) ∙ sym (ap without_times f)
@@ -219,7 +219,7 @@ or-left true b h k = refl
 or-left false b h k = let clash : true ≡ false = sym h ∙ k in cc
 
 -- an attempt that is over, out of memory aside, is made of answers
-made : (table : TableValue) (t : Setting) (looked : Bool) (n : NameValue) (plan : Plan) (before : CacheValue) (ps : List SubLookup) (r : LookupResult) (after : CacheValue) → AreSubLookups (CachelessSubLookup table t) looked n plan before [] ps after
+made : (table : TableValue) (t : CallContext) (looked : Bool) (n : NameValue) (plan : Plan) (before : CacheValue) (ps : List SubLookup) (r : LookupResult) (after : CacheValue) → AreSubLookups (CachelessSubLookup table t) looked n plan before [] ps after
     → next_type plan (results_of ps) ≡ None → r ≡ attempt_result plan (results_of ps) → is_out_of_memory r ≡ false → Made table t looked n plan r
 made table t looked n (One u) before [] r after are over e live = let clash : Some u ≡ None = over in cc
 made table t looked n (Both u v) before [] r after are over e live = let clash : Some u ≡ None = over in cc
@@ -273,7 +273,7 @@ made table t looked n (Fallback u v) before (p ∷ q ∷ []) r after (w, mid, ne
 made table t looked n (Both u v) before (p ∷ q ∷ y ∷ ys) r after (w, mid, next, is, (x, m, more, second, (z, k, third, it, rest))) over e live = let clash : None ≡ Some z = third in cc
 made table t looked n (Fallback u v) before (p ∷ q ∷ y ∷ ys) r after (w, mid, next, is, (x, m, more, second, (z, k, third, it, rest))) over e live = let clash : None ≡ Some z = third in cc
 
-made-of : (table : TableValue) (t : Setting) (looked : Bool) (n : NameValue) (plan : Plan) (before : CacheValue) (ps : List SubLookup) (r : LookupResult) (after : CacheValue) → IsAttempt (CachelessSubLookup table t) looked before n plan ps r after → is_out_of_memory r ≡ false → Made table t looked n plan r
+made-of : (table : TableValue) (t : CallContext) (looked : Bool) (n : NameValue) (plan : Plan) (before : CacheValue) (ps : List SubLookup) (r : LookupResult) (after : CacheValue) → IsAttempt (CachelessSubLookup table t) looked before n plan ps r after → is_out_of_memory r ≡ false → Made table t looked n plan r
 made-of table t looked n plan before ps r after attempt live = by attempt.result_is
   where
     by : IsAttemptResult plan (results_of ps) r → Made table t looked n plan r
@@ -283,12 +283,12 @@ made-of table t looked n plan before ps r after attempt live = by attempt.result
 -- ---- attempts
 
 -- where a call goes on behind an attempt, or ends with it
-abbrev Goes : TableValue → Setting → CallPlan → CacheValue → List NameValue → LookupResult → List SubLookup → LookupResult → CacheValue → Type 0
+abbrev Goes : TableValue → CallContext → CallPlan → CacheValue → List NameValue → LookupResult → List SubLookup → LookupResult → CacheValue → Type 0
 Goes table t plan mid ns result back r after =
     ((stops result ≡ true) × (back ≡ []) × (r ≡ result) × (after ≡ mid))
     ⊎ ((stops result ≡ false) × AreAttempts (CachelessSubLookup table t) plan plan.hosts_for_all mid ns (λ x. x ≡ result) back r after)
 
-goes-live : (table : TableValue) (t : Setting) (plan : CallPlan) (mid : CacheValue) (ns : List NameValue) (result : LookupResult) (back : List SubLookup) (r : LookupResult) (after : CacheValue) → is_out_of_memory r ≡ false → Goes table t plan mid ns result back r after → is_out_of_memory result ≡ false
+goes-live : (table : TableValue) (t : CallContext) (plan : CallPlan) (mid : CacheValue) (ns : List NameValue) (result : LookupResult) (back : List SubLookup) (r : LookupResult) (after : CacheValue) → is_out_of_memory r ≡ false → Goes table t plan mid ns result back r after → is_out_of_memory result ≡ false
 goes-live table t plan mid ns result back r after live (inl (stopped, none, e, same)) = sym (ap is_out_of_memory e) ∙ live
 goes-live table t plan mid ns result back r after live (inr (on, rest)) = (or-parts (has_answers result) (is_out_of_memory result) on).1
 
@@ -302,7 +302,7 @@ last-once (Some l) first second r k known live alive (inr out) y = let clash : f
 last-once (Some l) first second r k known live alive (inl e) (inr out) = let clash : false ≡ true = sym alive ∙ ap is_out_of_memory out in cc
 last-once (Some l) first second r k known live alive (inl e) (inl f) = ap without_times (e ∙ sym f)
 
-tries-once : (table : TableValue) (t : Setting) (plan : CallPlan) (looked : Bool) (c d : CacheValue) (names : List NameValue) (first second : LookupResult → Type 0) (ps qs : List SubLookup) (r k : LookupResult) (e f : CacheValue)
+tries-once : (table : TableValue) (t : CallContext) (plan : CallPlan) (looked : Bool) (c d : CacheValue) (names : List NameValue) (first second : LookupResult → Type 0) (ps qs : List SubLookup) (r k : LookupResult) (e f : CacheValue)
     → (names ≡ [] → first r → second k → Same r k) → is_out_of_memory r ≡ false → is_out_of_memory k ≡ false
     → AreAttempts (CachelessSubLookup table t) plan looked c names first ps r e → AreAttempts (CachelessSubLookup table t) plan looked d names second qs k f → Same r k
 tries-once table t plan looked c d [] first second ps qs r k e f known live alive (none, last, same) (nothing, final, unchanged) = last-once plan.literal first second r k (known refl) live alive last final
@@ -328,21 +328,21 @@ tries-once table t plan looked c d (n ∷ ns) first second ps qs r k e f known l
 -- ---- a request
 
 call-once : (table : TableValue) (s : Settings) (now : ℕ) (call : Call) (c d e f : CacheValue) (ps qs : List SubLookup) (r k : LookupResult) → is_out_of_memory r ≡ false → is_out_of_memory k ≡ false
-    → IsCall (CachelessSubLookup table (setting_at s now)) s c call ps r e → IsCall (CachelessSubLookup table (setting_at s now)) s d call qs k f → Same r k
+    → IsCall (CachelessSubLookup table (call_context_at s now)) s c call ps r e → IsCall (CachelessSubLookup table (call_context_at s now)) s d call qs k f → Same r k
 call-once table s now (AtOnce answer) c d e f ps qs r k live alive (none, is, same) (nothing, is_too, unchanged) = ap without_times (is ∙ sym is_too)
 call-once table s now (Attempt n plan) c d e f ps qs r k live alive x y =
-    tries-once table (setting_at s now) plan true c d (attempts s.search n) (Says plan.no_names) (Says plan.no_names) ps qs r k e f (λ none _ _. absurd (some_attempt s.search n none)) live alive x y
+    tries-once table (call_context_at s now) plan true c d (attempts s.search n) (Says plan.no_names) (Says plan.no_names) ps qs r k e f (λ none _ _. absurd (some_attempt s.search n none)) live alive x y
 
 pub one_cacheless : (table : TableValue) (s : Settings) (cache : CacheValue) (request : RequestValue) → IsOneCacheless table s cache request
 one_cacheless table s cache (Lookup text u now) ps qs r k (inl (m, read, is)) (inl (n, again, is_too)) live alive =
     call-once table s now (name_call u m) cache cache cache cache ps qs r k live alive is
-    (subst (λ x. IsCall (CachelessSubLookup table (setting_at s now)) s cache (name_call u x) qs k cache) (same-name text n m again read) is_too)
+    (subst (λ x. IsCall (CachelessSubLookup table (call_context_at s now)) s cache (name_call u x) qs k cache) (same-name text n m again read) is_too)
 one_cacheless table s cache (Lookup text u now) ps qs r k (inr (none, out, same)) other live alive = let clash : false ≡ true = sym live ∙ ap is_out_of_memory out in cc
 one_cacheless table s cache (Lookup text u now) ps qs r k (inl one) (inr (none, out, same)) live alive = let clash : false ≡ true = sym alive ∙ ap is_out_of_memory out in cc
 one_cacheless table s cache (LookupIp text now) ps qs r k (inl (g, (a, m), is)) (inl (h, (b, n), is_too)) live alive =
     call-once table s now (address_call s g.address g.name now) cache cache cache cache ps qs r k live alive is
-    (subst (λ x. IsCall (CachelessSubLookup table (setting_at s now)) s cache (address_call s x g.name now) qs k cache) (same-address text h.address g.address b a)
-    (subst (λ x. IsCall (CachelessSubLookup table (setting_at s now)) s cache (address_call s h.address x now) qs k cache) (same-name text h.name g.name n m) is_too))
+    (subst (λ x. IsCall (CachelessSubLookup table (call_context_at s now)) s cache (address_call s x g.name now) qs k cache) (same-address text h.address g.address b a)
+    (subst (λ x. IsCall (CachelessSubLookup table (call_context_at s now)) s cache (address_call s h.address x now) qs k cache) (same-name text h.name g.name n m) is_too))
 one_cacheless table s cache (LookupIp text now) ps qs r k (inr (none, out, same)) other live alive = let clash : false ≡ true = sym live ∙ ap is_out_of_memory out in cc
 one_cacheless table s cache (LookupIp text now) ps qs r k (inl one) (inr (none, out, same)) live alive = let clash : false ≡ true = sym alive ∙ ap is_out_of_memory out in cc
 one_cacheless table s cache (ClearLookup text u now) ps qs r k is other live alive = absurd is

@@ -1,4 +1,4 @@
--- The facts that are to stand on the client's look-up and on the run, each by its name.
+-- The facts that stand on the client's look-up and on the run, each by its name.
 use Rattle.std.specs.Prelude.{◌≡◌, ◌⊎◌, ◌≤◌, ℕ, ◌+◌, Bool, true, false, List, [], ◌∷◌, ◌++◌, length, Some, None, Ok, Err}
 use Rattle.std.specs.List.{AllByRecursion, Contains}
 use Rattle.std.specs.declared.net.IpAddr.{IpAddr}
@@ -17,13 +17,13 @@ use Rattle.hickory_proto_core.specs.Handles.{OutcomeValue}
 use Rattle.hickory_resolver_model.specs.Lookup.{LookupValue, LookupResult}
 use Rattle.hickory_resolver_model.specs.Hops.{LookupContext}
 use Rattle.hickory_resolver_model.specs.Hosts.{IsStatic}
-use Rattle.hickory_resolver_model.specs.Calls.{SubLookup, SubLookupRelation, Setting, Client, IsStaticSubLookup, is_out_of_memory, literal_at_once, literal_at_last}
-use Rattle.hickory_resolver_model.specs.Run.{Settings, setting_at, RequestValue, LookupIp, StepValue, StepReply, LookedUp, Cleared, ends_run, IsServed, Stage, exchanges_of, Run}
+use Rattle.hickory_resolver_model.specs.Calls.{SubLookup, SubLookupRelation, CallContext, Client, IsStaticSubLookup, is_out_of_memory, literal_at_once, literal_at_last}
+use Rattle.hickory_resolver_model.specs.Run.{Settings, call_context_at, RequestValue, LookupIp, StepValue, StepReply, LookedUp, Cleared, ends_run, IsServed, Stage, exchanges_of, Run}
 use Rattle.hickory_resolver_theorems.specs.Cacheless.{IsTable, ResolvesTo, AreConsistentWith}
 use Rattle.hickory_resolver_theorems.specs.WithoutTimes.{WithoutTimes, without_times, stored_without_times}
 use Rattle.hickory_resolver_theorems.specs.Covered.{Dated, dated_exchanges, IsCovered, IsLoopback}
 
--- ---- provenance: no record of the asked type outlives what was received (RFC 2181, section 8)
+-- ---- freshness: no record of the asked type outlives what was received (RFC 2181, section 8)
 
 -- the least TTL of a type is zero
 abbrev pub HasNoLeast : ConfigValue → ℕ → Type 0
@@ -150,7 +150,7 @@ ResolvesWithinEight table p =
 -- how the resolver without a cache answers a question: by the table of hosts, as any, or by the meaning of
 -- the question
 pub record IsCachelessSubLookup
-    (table : TableValue) (s : Setting) (looked : Bool) (q : Query) (p : SubLookup)
+    (table : TableValue) (s : CallContext) (looked : Bool) (q : Query) (p : SubLookup)
     : Type 0 where
   pub reply : WithoutTimes
   pub length_is : ℕ
@@ -158,7 +158,7 @@ pub record IsCachelessSubLookup
   pub means : ResolvesTo table q reply length_is
   pub result_is : without_times p.result ≡ reply
 
-abbrev pub CachelessSubLookup : TableValue → Setting → SubLookupRelation
+abbrev pub CachelessSubLookup : TableValue → CallContext → SubLookupRelation
 CachelessSubLookup table s looked before q p after =
     (p.question ≡ q) × (IsStaticSubLookup s looked before p after
     ⊎ (IsCachelessSubLookup table s looked q p × (after ≡ before)))
@@ -167,7 +167,7 @@ CachelessSubLookup table s looked before q p after =
 abbrev pub IsCacheless : TableValue → Settings → CacheValue → RequestValue → StepReply → Type 0
 IsCacheless table s cache request (LookedUp reply) =
     (parts : List SubLookup) × (cacheless : LookupResult)
-    × IsServed (λ now. CachelessSubLookup table (setting_at s now)) s cache request parts
+    × IsServed (λ now. CachelessSubLookup table (call_context_at s now)) s cache request parts
     (LookedUp cacheless) cache
     × (without_times reply ≡ without_times cacheless)
 IsCacheless table s cache request (Cleared done) = Unit {0}
@@ -176,8 +176,8 @@ IsCacheless table s cache request (Cleared done) = Unit {0}
 abbrev pub IsOneCacheless : TableValue → Settings → CacheValue → RequestValue → Type 0
 IsOneCacheless table s cache request =
     (parts others : List SubLookup) (a b : LookupResult)
-    → IsServed (λ now. CachelessSubLookup table (setting_at s now)) s cache request parts (LookedUp a) cache
-    → IsServed (λ now. CachelessSubLookup table (setting_at s now)) s cache request others (LookedUp b) cache
+    → IsServed (λ now. CachelessSubLookup table (call_context_at s now)) s cache request parts (LookedUp a) cache
+    → IsServed (λ now. CachelessSubLookup table (call_context_at s now)) s cache request others (LookedUp b) cache
     → is_out_of_memory a ≡ false → is_out_of_memory b ≡ false → without_times a ≡ without_times b
 
 -- the reply of a step is the cacheless resolver's, or out of memory

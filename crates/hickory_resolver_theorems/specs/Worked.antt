@@ -5,17 +5,16 @@ use Rattle.hickory_proto_core.specs.Records.{RecordValue, DataValue, a_data, aaa
 use Rattle.hickory_proto_core.specs.Messages.{MessageValue}
 use Rattle.hickory_proto_core.specs.Handles.{OutcomeValue}
 use Rattle.hickory_proto_core.specs.records.query.Query.{Query}
-use Rattle.hickory_proto_core.specs.codes.record_type.RecordType.{RecordType}
 use Rattle.hickory_proto_core.specs.codes.record_type.RecordType.TheVariants as type
 use Rattle.hickory_proto_core.specs.codes.dns_class.DNSClass.TheVariants as class
 use Rattle.hickory_proto_core.specs.codes.response_code.ResponseCode.TheVariants.{NoError, NXDomain}
 use Rattle.hickory_proto_core.specs.declared.recorded.Exchange.{Exchange}
-use Rattle.hickory_resolver_model.specs.Lookup.{response_to}
+use Rattle.hickory_resolver_model.specs.Lookup.{question_of, response_to}
 use Rattle.hickory_resolver_model.specs.Bounds.{BoundsValue, ConfigValue, no_bounds, bounds_fault, positive_lifetime}
 use Rattle.hickory_resolver_model.specs.Cache.{CacheValue, Entry, insert_entry, store, aged_result, current}
-use Rattle.hickory_resolver_model.specs.SpecialUse.{one_record, no_records, special_use_result}
+use Rattle.hickory_resolver_model.specs.SpecialUse.{full_name, one_record, no_records, special_use_result}
 use Rattle.hickory_resolver_model.specs.AliasWalk.{walk_of}
-use Rattle.hickory_resolver_model.specs.Verdict.{Hop, Exists, CnameChain, verdict}
+use Rattle.hickory_resolver_model.specs.Verdict.{Hop, first_hop, Exists, CnameChain, verdict}
 use Rattle.hickory_resolver_model.specs.Hops.{LookupContext}
 use Rattle.hickory_resolver_model.specs.Attempts.{Search, attempts}
 use Rattle.hickory_resolver_model.specs.Client.{empty_cache}
@@ -23,18 +22,12 @@ use Rattle.hickory_proto_core.specs.records.bounds_error.BoundsError.TheVariants
 
 -- ---- the things that the cases are about
 
-abbrev pub full : List (List ℕ) → NameValue
-full labels = record { labels = labels; fqdn = true }
-
 abbrev pub relative : List (List ℕ) → NameValue
 relative labels = record { labels = labels; fqdn = false }
 
 -- the fully qualified name of one label
 abbrev pub name : List ℕ → NameValue
-name label = full (label ∷ [])
-
-abbrev pub query : NameValue → RecordType → Query
-query n t = record { name = n; query_type = t; query_class = class.IN }
+name label = full_name (label ∷ [])
 
 abbrev pub rr : NameValue → ℕ → DataValue → RecordValue
 rr n ttl rdata = record { name = n; dns_class = class.IN; ttl = ttl; rdata = rdata }
@@ -47,7 +40,7 @@ abbrev pub response : Query → List RecordValue → MessageValue
 response q answers = response_to q answers
 
 abbrev pub asks_a : NameValue → Query
-asks_a n = query n type.A
+asks_a n = question_of n type.A
 
 abbrev pub exchange : Query → List RecordValue → Exchange
 exchange q answers = record { query = q; outcome = Ok (response q answers) }
@@ -132,7 +125,7 @@ pub record LifetimeCases : Type 0 where
   pub least_above_a_day : bounds_fault (record no_bounds {
     positive_min = Some 90000;
   }) ≡ Some PositiveReversed
-  -- bounds past 32 bits are reduced_bound to a day, and then they are reversed
+  -- bounds past 32 bits are reduced to a day, and then they are reversed
   pub reversed_once_reduced : bounds_fault (record no_bounds {
     positive_min = Some 100000;
     positive_max = Some 4294967296;
@@ -150,14 +143,14 @@ pub record LifetimeCases : Type 0 where
       (rr (name (codes "a")) 5 (cname_data (name (codes "b"))) ∷ rr (name (codes "b")) 86400 address ∷ []))
       ≡ 5
   -- for name servers the authorities count
-  pub authorities_count_for_servers : positive_lifetime default_config (query (name (codes "a")) type.NS)
-      (record (response (query (name (codes "a")) type.NS) []) {
+  pub authorities_count_for_servers : positive_lifetime default_config (question_of (name (codes "a")) type.NS)
+      (record (response (question_of (name (codes "a")) type.NS) []) {
         authorities = rr (name (codes "a")) 300
             (ns_data (name (codes "b"))) ∷ [];
       }) ≡ 300
   -- an answer to a question for every type lives no second
-  pub every_type_lives_no_second : positive_lifetime default_config (query (name (codes "a")) type.ANY)
-      (response (query (name (codes "a")) type.ANY) (rr (name (codes "a")) 100 address ∷ [])) ≡ 0
+  pub every_type_lives_no_second : positive_lifetime default_config (question_of (name (codes "a")) type.ANY)
+      (response (question_of (name (codes "a")) type.ANY) (rr (name (codes "a")) 100 address ∷ [])) ≡ 0
   pub counted_down : (ttl_at 0 stored_for_an_hour ≡ Some (3600 ∷ []))
       × (ttl_at 61 stored_for_an_hour ≡ Some (3539 ∷ [])) × (ttl_at 3600 stored_for_an_hour ≡ Some (0 ∷ []))
       × (ttl_at 3601 stored_for_an_hour ≡ None)
@@ -184,13 +177,13 @@ pub record AttemptCases : Type 0 where
   pub search_after_domain : attempts
       (below (Some (name (codes "x"))) (name (codes "y") ∷ name (codes "x") ∷ []))
       (relative (codes "www" ∷ []))
-      ≡ full (codes "www" ∷ codes "y" ∷ []) ∷ full (codes "www" ∷ codes "x" ∷ []) ∷ full (codes "www" ∷ [])
+      ≡ full_name (codes "www" ∷ codes "y" ∷ []) ∷ full_name (codes "www" ∷ codes "x" ∷ []) ∷ full_name (codes "www" ∷ [])
       ∷ []
   -- a raw name that is first is not compared
-  pub raw_name_first : attempts (below None (full [] ∷ [])) (relative (codes "a" ∷ codes "b" ∷ []))
-      ≡ full (codes "a" ∷ codes "b" ∷ []) ∷ full (codes "a" ∷ codes "b" ∷ []) ∷ []
+  pub raw_name_first : attempts (below None (full_name [] ∷ [])) (relative (codes "a" ∷ codes "b" ∷ []))
+      ≡ full_name (codes "a" ∷ codes "b" ∷ []) ∷ full_name (codes "a" ∷ codes "b" ∷ []) ∷ []
   pub localhost_is_first : attempts (below (Some (name (codes "x"))) []) (relative (codes "localhost" ∷ []))
-      ≡ localhost ∷ full (codes "localhost" ∷ codes "x" ∷ []) ∷ []
+      ≡ localhost ∷ full_name (codes "localhost" ∷ codes "x" ∷ []) ∷ []
   -- the address of an onion service is attempted alone, as it is
   pub onion_address_alone : attempts (below (Some (name (codes "x"))) [])
       (relative (replicate 56 120 ∷ codes "onion" ∷ []))
@@ -207,13 +200,13 @@ attempt_cases = record {
 -- ---- special names
 
 pub record SpecialCases : Type 0 where
-  pub invalid_is_not_there : special_use_result (asks_a (full (codes "x" ∷ codes "invalid" ∷ []))) 7
-      ≡ Some (Err (no_records (asks_a (full (codes "x" ∷ codes "invalid" ∷ []))) NXDomain))
-  pub localhost_has_its_address : special_use_result (asks_a (full (codes "my" ∷ codes "localhost" ∷ []))) 7
-      ≡ Some (Ok (one_record (asks_a (full (codes "my" ∷ codes "localhost" ∷ [])))
+  pub invalid_is_not_there : special_use_result (asks_a (full_name (codes "x" ∷ codes "invalid" ∷ []))) 7
+      ≡ Some (Err (no_records (asks_a (full_name (codes "x" ∷ codes "invalid" ∷ []))) NXDomain))
+  pub localhost_has_its_address : special_use_result (asks_a (full_name (codes "my" ∷ codes "localhost" ∷ []))) 7
+      ≡ Some (Ok (one_record (asks_a (full_name (codes "my" ∷ codes "localhost" ∷ [])))
       (a_data (127 ∷ 0 ∷ 0 ∷ 1 ∷ [])) 7))
   pub chaos_is_not_special : special_use_result (record {
-    name = full (codes "x" ∷ codes "invalid" ∷ []);
+    name = full_name (codes "x" ∷ codes "invalid" ∷ []);
     query_type = type.A;
     query_class = class.CH;
   }) 7 ≡ None
@@ -226,9 +219,6 @@ special_cases = record {
 }
 
 -- ---- the alias walk and the verdict
-
-abbrev pub first : Query → Hop
-first q = record { query = q; preserved = [] }
 
 abbrev pub alias_and_address : List RecordValue
 alias_and_address =
@@ -246,25 +236,25 @@ pub record AliasCases : Type 0 where
   }
   -- an alias and its address in one response: without intermediate records the address alone, as long as the
   -- alias; with them the response as it was sent
-  pub address_behind_an_alias : verdict false (first (asks_a (name (codes "a"))))
+  pub address_behind_an_alias : verdict false (first_hop (asks_a (name (codes "a"))))
       (response (asks_a (name (codes "a"))) alias_and_address)
       ≡ Exists (response (asks_a (name (codes "a"))) (rr (name (codes "b")) 5 address ∷ []))
-  pub alias_kept_with_its_address : verdict true (first (asks_a (name (codes "a"))))
+  pub alias_kept_with_its_address : verdict true (first_hop (asks_a (name (codes "a"))))
       (response (asks_a (name (codes "a"))) alias_and_address)
       ≡ Exists (response (asks_a (name (codes "a"))) alias_and_address)
-  pub alias_leads_on : verdict true (first (asks_a (name (codes "a"))))
+  pub alias_leads_on : verdict true (first_hop (asks_a (name (codes "a"))))
       (response (asks_a (name (codes "a"))) alias_alone) ≡ CnameChain (record {
         query = asks_a (name (codes "b"));
         preserved = alias_alone;
       })
   -- an SRV leads on, whoever owns it
-  pub service_leads_on : verdict false (first (query (name (codes "s")) type.SRV))
-      (response (query (name (codes "s")) type.SRV)
+  pub service_leads_on : verdict false (first_hop (question_of (name (codes "s")) type.SRV))
+      (response (question_of (name (codes "s")) type.SRV)
       (rr (name (codes "s")) 30 (cname_data (name (codes "t")))
       ∷ rr (name (codes "t")) 60 (srv_data 1 2 3 (name (codes "h"))) ∷ []))
-      ≡ CnameChain (record { query = query (name (codes "h")) type.SRV; preserved = [] })
+      ≡ CnameChain (record { query = question_of (name (codes "h")) type.SRV; preserved = [] })
   -- the next question of an alias of another class is asked in the class of the Internet
-  pub next_class_is_internet : verdict false (first (record {
+  pub next_class_is_internet : verdict false (first_hop (record {
     name = name (codes "a");
     query_type = type.A;
     query_class = class.CH;
@@ -312,7 +302,7 @@ after_loop = record (empty_cache 8) {
 }
 
 abbrev pub at_a : Hop
-at_a = first (asks_a (name (codes "a")))
+at_a = first_hop (asks_a (name (codes "a")))
 
 abbrev pub at_b : Hop
-at_b = first (asks_a (name (codes "b")))
+at_b = first_hop (asks_a (name (codes "b")))

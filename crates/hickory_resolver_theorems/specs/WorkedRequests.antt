@@ -21,13 +21,15 @@ use Rattle.hickory_proto_core.specs.codes.record_type.RecordType.TheVariants as 
 use Rattle.hickory_proto_core.specs.records.net_error.NetError.TheVariants.{Timeout, OutOfMemory}
 use Rattle.hickory_resolver_config.specs.declared.strategies.LookupIpStrategy.TheVariants.{Ipv4AndIpv6}
 use Rattle.hickory_resolver_model.specs.Cache.{CacheValue, Entry}
-use Rattle.hickory_resolver_model.specs.Lookup.{LookupValue}
+use Rattle.hickory_resolver_model.specs.Lookup.{LookupValue, question_of}
+use Rattle.hickory_resolver_model.specs.SpecialUse.{full_name}
+use Rattle.hickory_resolver_model.specs.Verdict.{first_hop}
 use Rattle.hickory_resolver_model.specs.Hops.{Asked, IsReply}
 use Rattle.hickory_resolver_model.specs.Hosts.{insert_pairs, StandsFor, IsStatic, static_answer}
 use Rattle.hickory_resolver_model.specs.Calls.{Static, Client, SubLookup, IsSubLookupFor}
-use Rattle.hickory_resolver_model.specs.Run.{Settings, setting_at, Lookup, LookupIp, ClearLookup, Clear, LookedUp, Cleared, IsServed, StepValue, Stage, Run}
+use Rattle.hickory_resolver_model.specs.Run.{Settings, call_context_at, Lookup, LookupIp, ClearLookup, Clear, LookedUp, Cleared, IsServed, StepValue, Stage, Run}
 use Rattle.hickory_resolver_model.specs.Client.{empty_cache}
-use Rattle.hickory_resolver_theorems.specs.Worked.{below, full, relative, name, query, asks_a, rr, address, response, exchange, first}
+use Rattle.hickory_resolver_theorems.specs.Worked.{below, relative, name, asks_a, rr, address, response, exchange}
 use Rattle.hickory_resolver_theorems.specs.WorkedRun.{a, spells_a, settings, requests, found, after_run, start, asked, asked_reply, not_static}
 
 -- ---- a clear, and a run that memory cuts short
@@ -46,7 +48,7 @@ abbrev pub below_b : Settings
 below_b = record settings { search = below None (name (codes "b") ∷ []) }
 
 abbrev pub a_below_b : NameValue
-a_below_b = full (codes "a" ∷ codes "b" ∷ [])
+a_below_b = full_name (codes "a" ∷ codes "b" ∷ [])
 
 -- the relative name `a`
 spells_relative : Spells (codes "a") (relative (codes "a" ∷ []))
@@ -70,7 +72,7 @@ timed_out_reply : IsReply (start (empty_cache 8) 0) (asks_a a_below_b) timed_out
 timed_out_reply = inl (record {
   hops = record {
     passed = [];
-    last_hop = first (asks_a a_below_b);
+    last_hop = first_hop (asks_a a_below_b);
     last = Asked (Err Timeout);
     leads = refl;
     short = omega arith;
@@ -111,7 +113,7 @@ abbrev pub ipv6_address : DataValue
 ipv6_address = aaaa_data (8193 ∷ 3512 ∷ 0 ∷ 0 ∷ 0 ∷ 0 ∷ 0 ∷ 1 ∷ [])
 
 abbrev pub asks_aaaa : Query
-asks_aaaa = query a type.AAAA
+asks_aaaa = question_of a type.AAAA
 
 abbrev pub ipv6_response : OutcomeValue
 ipv6_response = Ok (response asks_aaaa (rr a 7 ipv6_address ∷ []))
@@ -141,7 +143,7 @@ second_reply : IsReply (start after_run 0) asks_aaaa second_family.asks (Ok ipv6
 second_reply = inl (record {
   hops = record {
     passed = [];
-    last_hop = first asks_aaaa;
+    last_hop = first_hop asks_aaaa;
     last = Asked ipv6_response;
     leads = refl;
     short = omega arith;
@@ -163,7 +165,7 @@ abbrev pub with_hosts : Settings
 with_hosts = record settings { hosts = insert_pairs 0 ((a, address) ∷ []) [] }
 
 abbrev pub arpa : NameValue
-arpa = full (codes "1" ∷ codes "2" ∷ codes "0" ∷ codes "192" ∷ codes "in-addr" ∷ codes "arpa" ∷ [])
+arpa = full_name (codes "1" ∷ codes "2" ∷ codes "0" ∷ codes "192" ∷ codes "in-addr" ∷ codes "arpa" ∷ [])
 
 spells_arpa : Spells (codes "1.2.0.192.in-addr.arpa.") arpa
 spells_arpa = record {
@@ -192,7 +194,7 @@ stands_for = (
 )
 
 abbrev pub asks_ptr : Query
-asks_ptr = query arpa type.PTR
+asks_ptr = question_of arpa type.PTR
 
 -- usable for a day
 abbrev pub pointer : LookupValue
@@ -205,22 +207,22 @@ by_hosts = record { question = asks_ptr; source = Static; asks = []; result = Ok
 
 pub record RequestCases : Type 0 where
   -- a clear of one question, and of the whole cache
-  pub clears_a_name : IsServed (λ now. IsSubLookupFor (setting_at settings now)) settings after_run
+  pub clears_a_name : IsServed (λ now. IsSubLookupFor (call_context_at settings now)) settings after_run
       (ClearLookup (codes "a.") type.A 5) [] (Cleared (Ok tt)) (record after_run { entries = [] })
-  pub clears_another_type : IsServed (λ now. IsSubLookupFor (setting_at settings now)) settings after_run
+  pub clears_another_type : IsServed (λ now. IsSubLookupFor (call_context_at settings now)) settings after_run
       (ClearLookup (codes "a.") type.AAAA 5) [] (Cleared (Ok tt)) after_run
-  pub clears_all : IsServed (λ now. IsSubLookupFor (setting_at settings now)) settings after_run (Clear 5) []
+  pub clears_all : IsServed (λ now. IsSubLookupFor (call_context_at settings now)) settings after_run (Clear 5) []
       (Cleared (Ok tt)) (record after_run { entries = [] })
   -- the second look-up is not made where the first one found no memory
   pub ends_without_memory : Run settings (empty_cache 8) requests (cut_step ∷ []) [] (empty_cache 8)
   -- the name below the search domain is asked for first; it timed out, and the name itself is asked for
-  pub tries_below_a_domain : IsServed (λ now. IsSubLookupFor (setting_at below_b now)) below_b (empty_cache 8)
+  pub tries_below_a_domain : IsServed (λ now. IsSubLookupFor (call_context_at below_b now)) below_b (empty_cache 8)
       (Lookup (codes "a") type.A 0) (timed_out ∷ asked ∷ []) (LookedUp (Ok (found 10 10))) after_run
   -- the addresses of both families, in the order of the strategy
-  pub asks_both_families : IsServed (λ now. IsSubLookupFor (setting_at both_families now)) both_families
+  pub asks_both_families : IsServed (λ now. IsSubLookupFor (call_context_at both_families now)) both_families
       (empty_cache 8) (LookupIp (codes "a.") 0) (asked ∷ second_family ∷ []) (LookedUp (Ok both_found)) after_both
   -- the name of an address is found in the table of hosts, and nothing is asked
-  pub finds_a_pointer : IsServed (λ now. IsSubLookupFor (setting_at with_hosts now)) with_hosts (empty_cache 8)
+  pub finds_a_pointer : IsServed (λ now. IsSubLookupFor (call_context_at with_hosts now)) with_hosts (empty_cache 8)
       (Lookup (codes "1.2.0.192.in-addr.arpa.") type.PTR 3) (by_hosts ∷ []) (LookedUp (Ok pointer)) (empty_cache 8)
 
 pub request_cases : RequestCases

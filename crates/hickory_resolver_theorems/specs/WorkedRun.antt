@@ -7,14 +7,15 @@ use Rattle.hickory_proto_core.specs.codes.record_type.RecordType.TheVariants as 
 use Rattle.hickory_proto_core.specs.declared.recorded.Exchange.{Exchange}
 use Rattle.hickory_resolver_model.specs.Cache.{CacheValue}
 use Rattle.hickory_resolver_model.specs.Lookup.{LookupValue}
+use Rattle.hickory_resolver_model.specs.Verdict.{first_hop}
 use Rattle.hickory_resolver_model.specs.Hops.{LookupContext, Hit, Asked, IsReply}
 use Rattle.hickory_resolver_model.specs.Hosts.{IsStatic}
 use Rattle.hickory_resolver_model.specs.Calls.{Client, SubLookup, IsSubLookupFor}
 use Rattle.hickory_resolver_config.specs.declared.strategies.LookupIpStrategy.TheVariants.{Ipv4Only}
 use Rattle.hickory_resolver_model.specs.Bounds.{no_bounds}
-use Rattle.hickory_resolver_model.specs.Run.{Settings, setting_at, RequestValue, Lookup, LookedUp, IsServed, StepValue, Stage, Run}
+use Rattle.hickory_resolver_model.specs.Run.{Settings, call_context_at, RequestValue, Lookup, LookedUp, IsServed, StepValue, Stage, Run}
 use Rattle.hickory_resolver_model.specs.Client.{empty_cache}
-use Rattle.hickory_resolver_theorems.specs.Worked.{below, name, asks_a, rr, address, response, exchange, first}
+use Rattle.hickory_resolver_theorems.specs.Worked.{below, name, asks_a, rr, address, response, exchange}
 
 abbrev pub a : NameValue
 a = name (codes "a")
@@ -80,7 +81,7 @@ asked_reply = inl (record {
   hops =
       record {
         passed = [];
-        last_hop = first (asks_a a);
+        last_hop = first_hop (asks_a a);
         last = Asked (Ok (response (asks_a a) (rr a 10 address ∷ [])));
         leads = refl;
         short = omega arith;
@@ -96,7 +97,7 @@ hit_reply = inl (record {
   hops =
       record {
         passed = [];
-        last_hop = first (asks_a a);
+        last_hop = first_hop (asks_a a);
         last = Hit (record {
           query = asks_a a;
           result = Ok (response (asks_a a) (rr a 10 address ∷ []));
@@ -116,7 +117,7 @@ pub not_static : (now : ℕ) → IsStatic (asks_a a) now [] None
 not_static now = (None, λ asked. (let clash : false ≡ true = asked in cc), refl)
 
 -- each look-up is one attempt of one sub-look-up
-first_served : IsServed (λ now. IsSubLookupFor (setting_at settings now)) settings (empty_cache 8)
+first_served : IsServed (λ now. IsSubLookupFor (call_context_at settings now)) settings (empty_cache 8)
     (Lookup (codes "a.") type.A 0) (asked ∷ []) (LookedUp (Ok (found 10 10))) after_run
 first_served =
     inl (
@@ -148,7 +149,7 @@ first_served =
       ),
     )
 
-second_served : IsServed (λ now. IsSubLookupFor (setting_at settings now)) settings after_run
+second_served : IsServed (λ now. IsSubLookupFor (call_context_at settings now)) settings after_run
     (Lookup (codes "a.") type.A 4) (hit ∷ []) (LookedUp (Ok (found 6 10))) after_run
 second_served =
     inl (

@@ -12,7 +12,7 @@ ghost use Rattle.hickory_resolver_model.specs.Cache.{CacheValue, IsCache};
 ghost use Rattle.hickory_resolver_model.specs.Hops.{LookupContext, IsReply};
 ghost use Rattle.hickory_resolver_model.specs.Lookup.{LookupResult};
 ghost use Rattle.hickory_resolver_model.specs.Calls.{SubLookup, IsSubLookupFor, asks_of_sub_lookups};
-ghost use Rattle.hickory_resolver_model.specs.Run.{Settings, setting_at, RequestValue, StepReply, StepValue, IsServed, Run};
+ghost use Rattle.hickory_resolver_model.specs.Run.{Settings, call_context_at, RequestValue, StepReply, StepValue, IsServed, Run};
 ghost use Rattle.hickory_resolver_theorems.specs.Keeping.{IsServedOver};
 ghost use Rattle.hickory_resolver_theorems.specs.Statements.{IsFresh, IsTransparent, IsOneCacheless, Headline};
 ghost use Rattle.hickory_resolver_theorems.specs.Provenance.{HasProvenance};
@@ -40,8 +40,9 @@ pub fn eight_questions()
         (after : CacheValue) → IsReply s question asks result after → length asks ≤ 8 }
 {}
 
-/// A look-up that is what the hops say is fresh: no record of the asked type that it gives or stores outlives
-/// what was received.
+/// A look-up that is what the hops say is fresh: where the least TTL of the asked type is zero, and some dated
+/// exchanges cover the entries before it, no record of that type that it gives or stores outlives what those or its
+/// own exchanges brought.
 pub fn nothing_outlives()
     ensures { (s : LookupContext) (question : Query) (asks : List Exchange) (result : LookupResult)
         (after : CacheValue) → IsReply s question asks result after → IsFresh s question asks result after }
@@ -56,8 +57,9 @@ pub fn every_record_has_a_source()
         → IsReply s question asks result after → HasProvenance s question asks result after }
 {}
 
-/// A look-up that is what the hops say is transparent: under every table that tells its exchanges it comes to
-/// what its question means without a cache, and so does every entry that it leaves.
+/// A look-up that is what the hops say, and preserves no intermediate records, is transparent: under every table
+/// that tells its exchanges and means the entries before it, where its question means something that takes eight
+/// questions at most, it comes to that meaning without a cache, or out of memory, and the entries after it are meant.
 pub fn a_cache_changes_no_answer()
     ensures { (s : LookupContext) (question : Query) (asks : List Exchange) (result : LookupResult)
         (after : CacheValue) → IsReply s question asks result after
@@ -78,7 +80,7 @@ pub fn a_record_keeps_the_reply()
 pub fn a_record_keeps_the_request()
     ensures { (s : Settings) (before : CacheValue) (request : RequestValue) (parts : List SubLookup)
         (reply : StepReply) (after : CacheValue) (kept : List Exchange)
-        → IsServed (λ now. IsSubLookupFor (setting_at s now)) s before request parts reply after
+        → IsServed (λ now. IsSubLookupFor (call_context_at s now)) s before request parts reply after
         → RecordedAs (asks_of_sub_lookups parts) kept → IsServedOver s before request kept reply after }
 {}
 

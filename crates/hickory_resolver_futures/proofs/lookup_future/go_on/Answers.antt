@@ -1,6 +1,6 @@
 use Rattle.std.proofs.Common.{◌≡◌, rules, [], subst, inl, refl, sym, ap, ◌∙◌, reverse}
 use Rattle.hickory_proto_core.specs.records.query.Query.{Query}
-use Rattle.hickory_resolver_model.specs.Calls.{question_of}
+use Rattle.hickory_resolver_model.specs.Lookup.{question_of}
 use Rattle.hickory_resolver_model.specs.Client.{IsLookup}
 use Rattle.hickory_resolver_model.specs.Run.{name_plan}
 use Rattle.hickory_resolver_futures.proofs.Attempting.{attempt_asked, so_far_more, so_far_stopped, so_far_over}
