@@ -17,6 +17,7 @@ struct BareFigures {
     hash: u64,
     look_up: u64,
     copy: u64,
+    exchange: u64,
     turn: u64,
 }
 
@@ -38,6 +39,11 @@ pub fn print_times<R: Clock + Print>(
     print_row(rt, "bare: copy its message", [a.copy, b.copy, c.copy])?;
     print_row(
         rt,
+        "bare: a message in, another out",
+        [a.exchange, b.exchange, c.exchange],
+    )?;
+    print_row(
+        rt,
         "bare: a turn in, the first out",
         [a.turn, b.turn, c.turn],
     )?;
@@ -55,6 +61,7 @@ fn bare_figures<R: Clock>(
         hash: time_hashes(watch, Visits::new(alloc, 0, size))?,
         look_up: time_look_ups(alloc, watch, size)?,
         copy: time_copies(alloc, watch, size)?,
+        exchange: time_exchanges(alloc, watch, size)?,
         turn: time_turns(alloc, watch, size)?,
     })
 }
@@ -172,6 +179,64 @@ fn time_copies<R: Clock>(
         next: 0,
     };
     watch.best(&mut copies, BATCHES, OPERATIONS)
+}
+
+// Messages that come into a list, each in the place of another, which is let go of.
+#[derive(Drop)]
+struct Exchanges {
+    messages: Vec<Message>,
+    visits: Visits,
+    answers: Vec<(Query, Message)>,
+    size: u64,
+    next: u64,
+    ghost some: { 0 < size },
+}
+
+impl Exchanges {
+    // Puts a message where another stands, and gives how many answers the other had.
+    fn exchange(&mut self, message: Message) -> u64 {
+        let at = place(self.next, self.size) as usize;
+        self.next = self.next.wrapping_add(1);
+        match self.messages.get_mut(at) {
+            Some(other) => std::mem::replace(other, message).answers.len() as u64,
+            None => 0,
+        }
+    }
+}
+
+impl Subject for Exchanges {
+    fn prepare(&mut self) -> Result<(), NetError> {
+        self.visits.refill()?;
+        self.answers = self.visits.answers()?;
+        Ok(())
+    }
+
+    fn run(&mut self) -> Result<u64, NetError> {
+        let mut sum: u64 = 0;
+        for _ in 0..BATCH {
+            if let Some((_query, message)) = self.answers.pop() {
+                sum = sum.wrapping_add(self.exchange(message));
+            }
+        }
+        Ok(sum)
+    }
+}
+
+fn time_exchanges<R: Clock>(
+    alloc: Global,
+    watch: &mut Stopwatch<'_, R>,
+    size: u64,
+) -> anyhow::Result<u64>
+    requires { 0 < size }
+{
+    let mut exchanges = Exchanges {
+        messages: messages(alloc, size)?,
+        visits: Visits::new(alloc, size, size),
+        answers: Vec::new(alloc),
+        size,
+        next: 0,
+    };
+    watch.best(&mut exchanges, BATCHES, OPERATIONS)
 }
 
 // The answers for the first hosts.

@@ -231,7 +231,7 @@ fn serve_lookup_ip<R: DnsHandle, S: BuildHasher>(
     host: &str,
     now: u64,
 ) -> Result<LookupIp, NetError>
-    ensures { Answered R.step (served.LookupIp host.now now) resolver.old (served.LookedUp result) resolver.new }
+    ensures { Answered R.step (served.LookupIp host.now now) resolver.old (served.LookedUpIp result) resolver.new }
 {
     resolver.lookup_ip(host, now)
 }

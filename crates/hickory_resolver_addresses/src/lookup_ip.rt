@@ -1,5 +1,5 @@
 //! What a look-up of addresses gives.
-ghost use Rattle.std.specs.Prelude.{◌≡◌, IfOk, IsOkUnless};
+ghost use Rattle.std.specs.Prelude.{◌≡◌, ◌<◌, length, IfOk, IsOkUnless};
 ghost use Rattle.hickory_proto_core.specs.ResponseKind.{first_query};
 ghost use Rattle.hickory_resolver_model.specs.Lookup.{LookupValue};
 ghost use Rattle.hickory_resolver_addresses.specs.Addresses.{address_in, addresses_of};
@@ -38,9 +38,10 @@ impl LookupIp {
         }
     }
 
-    /// The first question.
+    /// The first question; there is one.
     pub fn query(&self) -> &Query
-        ensures { result.now ≡ first_query self.now.message.queries }
+        ensures first { result.now ≡ first_query self.now.message.queries }
+        ensures some { 0 < length self.now.message.queries }
     {
         self.lookup.query()
     }

@@ -314,6 +314,14 @@ taken-push next ps p old mid None h is placed some updates = tt
 taken-push next ps p old mid (Some t) h is placed some updates =
     (some.0, some.1, taken-from_stands (ps ++ p ∷ []) mid t some.0 (placed-push next ps p old mid h is placed updates) (stands-push next ps p t some.0 some.1))
 
+-- and when its pair has come in too
+pub taken-pushed : (next : ℕ) (ps : List Pair) (p : Pair) (old mid : Order) (o : Option Turn) → IsNumbered next ps → p.1.number ≡ next → IsPlaced ps old → IsSomeTurn ps o
+    → ((u : Turn) → get turn_cmp mid u ≡ cond (is_at (turn_cmp (p.1.valid_until, next)) u) (Some p.0) (get turn_cmp old u)) → IsTaken (ps ++ p ∷ []) mid o
+taken-pushed next ps p old mid None h is placed some updates = tt
+taken-pushed next ps p old mid (Some t) h is placed some updates =
+    let stays = stands-push next ps p t some.0 some.1 in
+    (some.0, stays, taken-from_stands (ps ++ p ∷ []) mid t some.0 (placed-push next ps p old mid h is placed updates) stays)
+
 pub insert_entry-room_for : (capacity : ℕ) (es : List Entry) (e : Entry) → 0 < capacity → room_for capacity e.query es ++ e ∷ [] ≡ insert_entry capacity es e
 insert_entry-room_for capacity es e pos = by (capacity == 0) refl
   where

@@ -3,7 +3,7 @@ use Rattle.std.proofs.Common.{◌≡◌, ℕ, ◌+◌, ◌<◌, ◌≤◌, suc, 
 use Rattle.std.proofs.lemmas.Bool.{cases_lt}
 use Rattle.std.proofs.lemmas.List.{get_or-map, length-map}
 use Rattle.std.proofs.lemmas.List.Quantifiers.{position-Some}
-use Rattle.std.proofs.lemmas.List.Sorted.{IsPermutation-cons, IsPermutation-remove, IsPermutation-to_front}
+use Rattle.std.proofs.lemmas.List.Sorted.{IsPermutation-cons, IsPermutation-refl, IsPermutation-remove, IsPermutation-sym, IsPermutation-to_front, IsPermutation-trans}
 use Rattle.std.proofs.lemmas.Option.{same_Some, get_or_from_slice_get, slice_get-get_or, slice_get_within}
 use Rattle.std.specs.List.{IsDistinct}
 use Rattle.std.specs.List.Sorted.{IsPermutation}
@@ -14,9 +14,10 @@ use Rattle.hickory_proto_core.specs.records.query.Query.{Query}
 use Rattle.hickory_proto_core.specs.Query.{query_eq}
 use Rattle.hickory_resolver_cache.specs.declared.kept.Kept.{Kept}
 use Rattle.hickory_resolver_model.specs.Cache.{insert_entry}
-use Rattle.hickory_resolver_cache.specs.Turns.{Pair, Turn, Order, turn_cmp, stored_entry, by_number, numbered, entries_of, IsNumbered, IsPlaced, IsKept, IsSameList, TurnGone, IsTurnOf, IsLeaving, MakesRoom, Frees, IsOwnPlace, IsSpelledAt, IsStored}
-use Rattle.hickory_resolver_cache.proofs.Listed.{numbered-at}
+use Rattle.hickory_resolver_cache.specs.Turns.{Pair, Turn, Order, turn_cmp, stored_entry, by_number, numbered, in_order, entries_of, IsNumbered, IsPlaced, IsKept, IsSameList, Gone, TurnGone, IsTurnOf, IsSomeTurn, IsLeaving, MakesRoom, Frees, IsOwnPlace, IsSpelledAt, IsStored}
+use Rattle.hickory_resolver_cache.proofs.Listed.{in_order-permutes, listed-same, numbered-at, stands}
 use Rattle.hickory_resolver_cache.proofs.Store.{makes_room-own, makes_room-none, makes_room-any, none-left, kept-store, entries-insert_entry}
+use Rattle.hickory_resolver_cache.proofs.TurnOrder.{gone-push, left, numbers-left, numbers-push}
 use Rattle.hickory_resolver_cache.proofs.Renumbered.{kept-same, same_list-permuted}
 
 -- ---- the turn that leaves
@@ -90,6 +91,43 @@ stored-rewrite n q ps i t k old between new apart own added turn_gone =
         IsPermutation-remove ps i p (slice_get_within ps i p own.1) (sym (get_or_from_slice_get ps i p p own.1)),
       );
       moved = moved-set ps i p k own.1;
+      added = added;
+      turn_gone = turn_gone;
+    }
+
+-- ---- a pair that comes in before another leaves
+
+-- what is left once a pair is gone is the same, whatever its order
+same-gone : (next : ℕ) (ps rs qs : List Pair) (o : Option Turn) → IsNumbered next ps → Gone o ps rs → Gone o ps qs → IsPermutation rs qs
+same-gone next ps rs qs None h gone too = subst (IsPermutation rs) (gone ∙ sym too) (IsPermutation-refl rs)
+same-gone next ps rs qs (Some t) h gone too =
+    IsPermutation-trans rs (in_order rs next) qs (in_order-permutes next rs (numbers-left next ps rs (Some t) h gone))
+    (subst (λ l. IsPermutation l qs) (sym alike) (IsPermutation-sym (in_order-permutes next qs (numbers-left next ps qs (Some t) h too))))
+  where
+    alike : in_order rs next ≡ in_order qs next
+    alike = listed-same (numbered rs) (numbered qs) next (λ n l. left ps rs t gone.0 h.apart gone.1 gone.2 n ∙ sym (left ps qs t too.0 h.apart too.1 too.2 n))
+
+pub stored-before : (next : ℕ) (ps qs : List Pair) (p : Pair) (old between new : Order) (o : Option Turn) → IsNumbered next ps → p.1.number ≡ next → IsSomeTurn ps o
+    → ((u : Turn) → get turn_cmp between u ≡ cond (is_at (turn_cmp (p.1.valid_until, next)) u) (Some p.0) (get turn_cmp old u)) → Gone o (ps ++ p ∷ []) qs → TurnGone o between new
+    → IsStored o next ps old p qs new
+stored-before next ps qs p old between new None h is some added gone turn_gone = record {
+  rest = ps;
+  between = between;
+  gone = refl;
+  moved = subst (IsPermutation (ps ++ p ∷ [])) (sym gone) (IsPermutation-refl (ps ++ p ∷ []));
+  added = added;
+  turn_gone = turn_gone;
+}
+stored-before next ps qs p old between new (Some t) h is some added gone turn_gone =
+    let at = stands ps t.1 some.0 some.1.number in
+    let rest = remove ps at.0 in
+    let left_out : Gone (Some t) ps rest =
+    (some.0, some.1, IsPermutation-remove ps at.0 some.0 (slice_get_within ps at.0 some.0 at.1) (sym (get_or_from_slice_get ps at.0 some.0 some.0 at.1))) in
+    record {
+      rest = rest;
+      between = between;
+      gone = left_out;
+      moved = same-gone (next + 1) (ps ++ p ∷ []) (rest ++ p ∷ []) qs (Some t) (numbers-push next ps p h is) (gone-push ps rest p (Some t) left_out) gone;
       added = added;
       turn_gone = turn_gone;
     }

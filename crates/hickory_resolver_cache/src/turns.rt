@@ -42,7 +42,7 @@ pub fn store<S: BuildHasher>(
 {
     let Some(place) = index.get_index_of(&entry.query) else {
         let turn = leaving(index, order, capacity);
-        return exchange(index, order, turn, number, entry);
+        return add(index, order, turn, number, entry);
     };
     replace(index, order, place, number, entry)
 }
@@ -69,7 +69,7 @@ fn replace<S: BuildHasher>(
     if is_same_spelling(query, &entry.query) {
         rewrite(index, order, turn, place, number, entry)
     } else {
-        exchange(index, order, Some(turn), number, entry)
+        exchange(index, order, turn, number, entry)
     }
 }
 
@@ -113,6 +113,31 @@ fn rewrite<S: BuildHasher>(
 fn exchange<S: BuildHasher>(
     index: &mut Index<S>,
     order: &mut Order,
+    turn: (u64, u64),
+    number: u64,
+    entry: CacheEntry,
+) -> Result<(), AllocError>
+    requires numbers { IsNumbered number index.old.entries }
+    requires placed { IsPlaced index.old.entries order.old }
+    requires turn { IsSomeTurn index.old.entries (Some turn) }
+    requires frees { Frees entry.query index.old.entries (Some turn) }
+    ensures ok { OnOk result
+        (IsStored (Some turn) number index.old.entries order.old (pair_of entry number) index.new.entries order.new) }
+    ensures refused { OnErr result (IsSameList index.old.entries number index.new.entries number order.new) }
+{
+    add_turn(index, order, number, &entry)?;
+    take_out(index, order, Some(turn));
+    insert_entry(index, entry, number);
+    Ok(())
+}
+
+// Puts an entry in as the newest, by this number, for a question that has none, and takes out what stands at
+// the turn, if there is one. The entry comes in before the other leaves: what the map then moves into the free
+// place is the pair that was just written. Room and the copy of its question come first: a refused call leaves
+// the entries and their turns as they were.
+fn add<S: BuildHasher>(
+    index: &mut Index<S>,
+    order: &mut Order,
     turn: Option<(u64, u64)>,
     number: u64,
     entry: CacheEntry,
@@ -120,34 +145,36 @@ fn exchange<S: BuildHasher>(
     requires numbers { IsNumbered number index.old.entries }
     requires placed { IsPlaced index.old.entries order.old }
     requires turn { IsSomeTurn index.old.entries turn }
-    requires frees { Frees entry.query index.old.entries turn }
+    requires new { get query_eq index.old entry.query ≡ None }
     ensures ok { OnOk result
         (IsStored turn number index.old.entries order.old (pair_of entry number) index.new.entries order.new) }
     ensures refused { OnErr result (IsSameList index.old.entries number index.new.entries number order.new) }
 {
-    add_turn(index, order, (entry.valid_until, number), &entry.query)?;
-    take_out(index, order, turn);
+    add_turn(index, order, number, &entry)?;
     insert_entry(index, entry, number);
+    take_out(index, order, turn);
     Ok(())
 }
 
-// Makes room for one more entry, and gives its question this turn. A refused call leaves the entries and
-// their turns as they were.
+// Makes room for one more entry, and gives the question of this one its turn, by this number. A refused call
+// leaves the entries and their turns as they were.
 fn add_turn<S: BuildHasher>(
     index: &mut Index<S>,
     order: &mut Order,
-    turn: (u64, u64),
-    query: &Query,
+    number: u64,
+    entry: &CacheEntry,
 ) -> Result<(), AllocError>
     ensures entries { index.new.entries ≡ index.old.entries }
     ensures room { OnOk result (0 < spare index.new) }
     ensures added { OnOk result ((u : Turn) →
-        turn_get turn_cmp order.new u ≡ cond (is_at (turn_cmp turn) u) (Some query.now) (turn_get turn_cmp order.old u)) }
+        turn_get turn_cmp order.new u
+        ≡ cond (is_at (turn_cmp (entry.now.valid_until, number)) u) (Some entry.now.query)
+        (turn_get turn_cmp order.old u)) }
     ensures unchanged { OnErr result ((u : Turn) → turn_get turn_cmp order.new u ≡ turn_get turn_cmp order.old u) }
 {
     index.reserve(1)?;
-    let copy = Clone::clone(query)?;
-    order.insert(turn, copy)?;
+    let query = Clone::clone(&entry.query)?;
+    order.insert((entry.valid_until, number), query)?;
     Ok(())
 }
 

@@ -1,11 +1,11 @@
 //! The look-ups of one name.
-ghost use Rattle.std.specs.Prelude.{◌≡◌, IfOk, OnOk, OnErr, IsOkUnless, option_copied};
+ghost use Rattle.std.specs.Prelude.{◌≡◌, IfOk, OnOk, OnErr, option_copied};
 ghost use Rattle.hickory_proto_core.specs.Name.{NameValue};
 ghost use Rattle.hickory_resolver_model.specs.Hosts.{append, family, no_addresses, with_lookup};
 ghost use Rattle.std.specs.Option.{option_map_or};
 ghost use Rattle.hickory_resolver_hosts.specs.Table.{host_at, no_lookups, put_family, unboxed};
 
-use hickory_proto_core::{Name, NetError, Query, RecordType};
+use hickory_proto_core::{Name, Query, RecordType};
 use hickory_resolver_lookup::Lookup;
 use std::alloc::{AllocError, Global};
 
@@ -56,11 +56,10 @@ impl HostLookups {
         record_type: RecordType,
         lookup: Lookup,
         now: u64,
-    ) -> Result<(), NetError>
+    ) -> Result<(), AllocError>
         ensures ok { OnOk result ((n : NameValue) →
             host_at n self.new ≡ with_lookup name record_type lookup now (host_at n self.old)) }
         ensures unchanged { OnErr result (self.new ≡ self.old) }
-        ensures err { IsOkUnless result NetError.OutOfMemory }
     {
         if record_type.code() == 1 {
             add_lookup(alloc, &mut self.a, name, record_type, lookup, now)
@@ -78,14 +77,16 @@ fn add_lookup(
     record_type: RecordType,
     lookup: Lookup,
     now: u64,
-) -> Result<(), NetError>
+) -> Result<(), AllocError>
     ensures ok { OnOk result (unboxed kept.new
         ≡ Some (append (option_map_or (λ k. k) (unboxed kept.old) (no_addresses name record_type now)) lookup)) }
     ensures unchanged { OnErr result (kept.new ≡ kept.old) }
-    ensures err { IsOkUnless result NetError.OutOfMemory }
 {
     if let Some(joined) = kept {
-        return joined.append_in_place(lookup);
+        return match joined.append_in_place(lookup) {
+            Ok(()) => Ok(()),
+            Err(_) => Err(AllocError),
+        };
     }
     *kept = Some(first_lookup(alloc, name, record_type, lookup, now)?);
     Ok(())

@@ -1,5 +1,4 @@
 //! Why a table of hosts does not grow.
-use hickory_proto_core::{NameError, NetError};
 use std::alloc::{AllocError, AllocFailed};
 use thiserror::Error;
 
@@ -35,31 +34,6 @@ impl From<AllocError> for HostsError {
     ghost from_gives = { λ _ error. error ≡ OutOfMemory };
 
     fn from(_: AllocError) -> HostsError {
-        HostsError::OutOfMemory
-    }
-}
-
-impl From<NetError> for HostsError {
-    ghost use Rattle.std.specs.Prelude.{◌≡◌};
-    ghost use Rattle.hickory_resolver_hosts.specs.declared.hosts_error.HostsError.TheVariants.{OutOfMemory};
-
-    ghost from_gives = { λ _ error. error ≡ OutOfMemory };
-
-    /// The only fault of a call that takes memory alone.
-    fn from(error: NetError) -> HostsError {
-        drop(error);
-        HostsError::OutOfMemory
-    }
-}
-
-impl From<NameError> for HostsError {
-    ghost use Rattle.std.specs.Prelude.{◌≡◌};
-    ghost use Rattle.hickory_resolver_hosts.specs.declared.hosts_error.HostsError.TheVariants.{OutOfMemory};
-
-    ghost from_gives = { λ _ error. error ≡ OutOfMemory };
-
-    /// The only fault of a copy of a name.
-    fn from(_: NameError) -> HostsError {
         HostsError::OutOfMemory
     }
 }

@@ -1,14 +1,14 @@
 //! A table of hosts: names with their addresses, and the files that it is read from.
 #![tactic(auto)]
 
-pub mod host;
+mod host;
 pub mod hosts;
 pub mod hosts_error;
-pub mod lines;
-pub mod owners;
-pub mod pointers;
-pub mod reading;
-pub mod table;
+mod lines;
+mod owners;
+mod pointers;
+mod reading;
+mod table;
 
 pub use hickory_resolver_watched::Watched;
 pub use hosts::Hosts;

@@ -209,10 +209,12 @@ fn insert_pair<S: BuildHasher>(
     ensures err { IsOkUnless result HostsError.OutOfMemory }
 {
     let record_type = address_type(address);
-    let mut owner = name.clone()?;
+    let mut owner = Clone::clone(&name)?;
     owner.set_fqdn(true);
     let query = Query::query(owner, record_type);
-    let lookup = Lookup::from_rdata(alloc, query, RData::from(address), now)?;
+    let Ok(lookup) = Lookup::from_rdata(alloc, query, RData::from(address), now) else {
+        return Err(HostsError::OutOfMemory);
+    };
     hosts.insert(name, record_type, lookup, now)
 }
 

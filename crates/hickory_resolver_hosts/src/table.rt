@@ -34,7 +34,7 @@ pub fn insert_indexed<S: BuildHasher>(
     ensures indexed { IsIndexed (hosts_of names.new.entries) owners.new }
 {
     let alloc = *names.allocator();
-    let place = match names.entry(name.clone()?)? {
+    let place = match names.entry(Clone::clone(&name)?)? {
         Entry::Occupied(entry) => entry.index(),
         Entry::Vacant(entry) => {
             let place = entry.index();

@@ -119,9 +119,10 @@ impl Lookup {
         Lookup::of_message(query, message, valid_until)
     }
 
-    /// The first question.
+    /// The first question; there is one.
     pub fn query(&self) -> &Query
-        ensures { result.now ≡ first_query self.now.message.queries }
+        ensures first { result.now ≡ first_query self.now.message.queries }
+        ensures some { 0 < length self.now.message.queries }
     {
         &self.message.queries[0]
     }

@@ -79,13 +79,15 @@ moment_of (LookupIp host now) = now
 moment_of (ClearLookup name t now) = now
 moment_of (Clear now) = now
 
--- what a request is answered: what a look-up came to, or whether a clear was done
+-- what a request is answered: what a look-up of a name or of addresses came to, or whether a clear was done
 pub data StepReply : Type 0 where
   LookedUp : LookupResult → StepReply
+  LookedUpIp : LookupResult → StepReply
   Cleared : Result (Unit {0}) NetError → StepReply
 
 abbrev pub ends_run : StepReply → Bool
 ends_run (LookedUp r) = is_out_of_memory r
+ends_run (LookedUpIp r) = is_out_of_memory r
 ends_run (Cleared (Ok u)) = false
 ends_run (Cleared (Err e)) = true
 
@@ -164,7 +166,7 @@ IsServed Answers s before (Lookup text t now) parts (LookedUp reply) after =
     ((name : Result NameValue NameError) × IsReading text name
     × IsCall (Answers now) s before (name_call t name) parts reply after)
     ⊎ IsUnserved before parts reply after
-IsServed Answers s before (LookupIp text now) parts (LookedUp reply) after =
+IsServed Answers s before (LookupIp text now) parts (LookedUpIp reply) after =
     ((given : GivenName) × IsGivenBy text given
     × IsCall (Answers now) s before (address_call s given.address given.name now) parts reply after)
     ⊎ IsUnserved before parts reply after

@@ -14,9 +14,9 @@ use Rattle.hickory_resolver_model.specs.Cache.{CacheValue}
 use Rattle.hickory_resolver_model.specs.Lookup.{LookupValue, LookupResult}
 use Rattle.hickory_resolver_model.specs.Calls.{Client, SubLookup, SubLookupRelation, Plan, One, Both, Fallback, is_out_of_memory, both_results, attempt_result, IsAttemptResult, results_of, stops, CallPlan, IsLastReply, Says, AreAttempts, no_name, literal_at_once, literal_at_last}
 use Rattle.hickory_resolver_model.specs.Attempts.{attempts}
-use Rattle.hickory_resolver_model.specs.Run.{Settings, RequestValue, Lookup, LookupIp, ClearLookup, Clear, StepReply, LookedUp, Cleared, name_plan, address_plan, AtOnce, Attempt, name_call, address_call, IsCall, IsServed, Stage}
+use Rattle.hickory_resolver_model.specs.Run.{Settings, RequestValue, Lookup, LookupIp, ClearLookup, Clear, StepReply, LookedUp, LookedUpIp, Cleared, name_plan, address_plan, AtOnce, Attempt, name_call, address_call, IsCall, IsServed, Stage}
 use Rattle.hickory_resolver_theorems.specs.Covered.{Dated, IsCovered, IsLoopback}
-use Rattle.hickory_resolver_theorems.specs.Statements.{HasNoLeast, IsFreshRecord, IsFreshReply, IsFreshSubLookup, IsFreshAnswer, IsLiteral, AreFreshAnswers}
+use Rattle.hickory_resolver_theorems.specs.Statements.{HasNoLeast, IsFreshRecord, IsFreshReply, IsFreshSubLookup, IsFreshAnswer, IsLiteral, HasFreshAnswers, AreFreshAnswers}
 use Rattle.hickory_resolver_theorems.proofs.Lists.{all-weaker, all-append, all-has, has-all, has-left, has-right, contains-from_recursion, ContainsByRecursion}
 
 -- ---- answers of sub-look-ups
@@ -171,10 +171,16 @@ told-unserved request parts reply e = told-error request parts reply (Err OutOfM
 told : (Answers : ℕ → SubLookupRelation) (s : Settings) (before : CacheValue) (request : RequestValue) (parts : List SubLookup) (reply : LookupResult) (after : CacheValue) → IsServed Answers s before request parts (LookedUp reply) after → IsTold request parts reply
 told Answers s before (Lookup text t now) parts reply after (inl (name, read, is)) = told-name (Answers now) s text t now name before parts reply after is
 told Answers s before (Lookup text t now) parts reply after (inr (none, e, same)) = told-unserved (Lookup text t now) parts reply e
-told Answers s before (LookupIp text now) parts reply after (inl (given, (address, name), is)) = told-addresses (Answers now) s text now given.address given.name before parts reply after address is
-told Answers s before (LookupIp text now) parts reply after (inr (none, e, same)) = told-unserved (LookupIp text now) parts reply e
+told Answers s before (LookupIp text now) parts reply after is = absurd is
 told Answers s before (ClearLookup text t now) parts reply after is = absurd is
 told Answers s before (Clear now) parts reply after is = absurd is
+
+told-ip : (Answers : ℕ → SubLookupRelation) (s : Settings) (before : CacheValue) (request : RequestValue) (parts : List SubLookup) (reply : LookupResult) (after : CacheValue) → IsServed Answers s before request parts (LookedUpIp reply) after → IsTold request parts reply
+told-ip Answers s before (Lookup text t now) parts reply after is = absurd is
+told-ip Answers s before (LookupIp text now) parts reply after (inl (given, (address, name), is)) = told-addresses (Answers now) s text now given.address given.name before parts reply after address is
+told-ip Answers s before (LookupIp text now) parts reply after (inr (none, e, same)) = told-unserved (LookupIp text now) parts reply e
+told-ip Answers s before (ClearLookup text t now) parts reply after is = absurd is
+told-ip Answers s before (Clear now) parts reply after is = absurd is
 
 -- ---- a step
 
@@ -201,13 +207,18 @@ fresh-answer config sources now deadline parts r all g = record {
     sooner (inl loop) = inl loop
     sooner (inr (covered, short, live)) = inr (covered, short, (let soon = g.usable in omega (arith, soon, live)))
 
--- the answers of a step over sub-look-ups that are fresh
-pub fresh-answers : (Answers : ℕ → SubLookupRelation) (s : Settings) (config : ConfigValue) (sources : List Dated) (stage : Stage) (reply : StepReply) (after : CacheValue) → AllByRecursion (IsFreshSubLookup config sources stage.step.now) stage.parts
-    → IsServed Answers s stage.before stage.request stage.parts reply after → AreFreshAnswers config sources stage reply
-fresh-answers Answers s config sources stage (LookedUp (Ok l)) after all is = by (told Answers s stage.before stage.request stage.parts (Ok l) after is l refl)
+-- the answers of a look-up over sub-look-ups that are fresh
+has-fresh : (config : ConfigValue) (sources : List Dated) (stage : Stage) (reply : LookupResult) → AllByRecursion (IsFreshSubLookup config sources stage.step.now) stage.parts → IsTold stage.request stage.parts reply → HasFreshAnswers config sources stage reply
+has-fresh config sources stage (Ok l) all is = by (is l refl)
   where
-    by : IsLiteral stage.request l ⊎ AreGiven stage.parts (Ok l) → AreFreshAnswers config sources stage (LookedUp (Ok l))
+    by : IsLiteral stage.request l ⊎ AreGiven stage.parts (Ok l) → HasFreshAnswers config sources stage (Ok l)
     by (inl literal) = inl literal
     by (inr given) = inr (all-weaker (IsGiven stage.parts l.valid_until) (IsFreshAnswer config sources stage.step.now stage.parts l.valid_until) (λ r g. fresh-answer config sources stage.step.now l.valid_until stage.parts r all g) l.message.answers given)
-fresh-answers Answers s config sources stage (LookedUp (Err e)) after all is = tt
+has-fresh config sources stage (Err e) all is = tt
+
+-- and of a step
+pub fresh-answers : (Answers : ℕ → SubLookupRelation) (s : Settings) (config : ConfigValue) (sources : List Dated) (stage : Stage) (reply : StepReply) (after : CacheValue) → AllByRecursion (IsFreshSubLookup config sources stage.step.now) stage.parts
+    → IsServed Answers s stage.before stage.request stage.parts reply after → AreFreshAnswers config sources stage reply
+fresh-answers Answers s config sources stage (LookedUp reply) after all is = has-fresh config sources stage reply all (told Answers s stage.before stage.request stage.parts reply after is)
+fresh-answers Answers s config sources stage (LookedUpIp reply) after all is = has-fresh config sources stage reply all (told-ip Answers s stage.before stage.request stage.parts reply after is)
 fresh-answers Answers s config sources stage (Cleared done) after all is = tt

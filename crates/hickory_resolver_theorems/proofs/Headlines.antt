@@ -13,7 +13,7 @@ use Rattle.hickory_resolver_model.specs.Lookup.{LookupResult, question_of}
 use Rattle.hickory_resolver_model.specs.Hosts.{IsStatic}
 use Rattle.hickory_resolver_model.specs.Calls.{CallContext, Source, Static, Client, SubLookup, SubLookupRelation, IsSubLookupBy, IsSubLookupFor, start_at, Plan, One, Both, Fallback, has_answers, is_out_of_memory, both_results, next_type, attempt_result, IsAttemptResult, AreSubLookups, results_of, IsAttempt, stops, CallPlan, Says, AreAttempts, asks_of_sub_lookups}
 use Rattle.hickory_resolver_model.specs.Attempts.{attempts}
-use Rattle.hickory_resolver_model.specs.Run.{Settings, call_context_at, RequestValue, Lookup, LookupIp, ClearLookup, Clear, StepReply, LookedUp, Cleared, ends_run, drop_each, after_clear, Call, AtOnce, Attempt, name_call, address_call, IsCall, IsServed, StepValue, Stage, IsStage, AreStages, exchanges_of, Run}
+use Rattle.hickory_resolver_model.specs.Run.{Settings, call_context_at, RequestValue, Lookup, LookupIp, ClearLookup, Clear, StepReply, LookedUp, LookedUpIp, Cleared, ends_run, drop_each, after_clear, Call, AtOnce, Attempt, name_call, address_call, IsCall, IsServed, StepValue, Stage, IsStage, AreStages, exchanges_of, Run}
 use Rattle.hickory_resolver_theorems.specs.Cacheless.{IsTable, ResolvesTo, IsConsistentWith, AreConsistentWith}
 use Rattle.hickory_resolver_theorems.specs.WithoutTimes.{without_times}
 use Rattle.hickory_resolver_theorems.specs.Statements.{IsWhatItResolvesTo, AreWhatTheyResolveTo, ResolvesWithinEight, CachelessSubLookup, IsCacheless, IsAsWithoutCache, AreAsWithoutCache, Headline}
@@ -221,7 +221,7 @@ name-alike table s c before text u now parts reply after seen meant has tells (i
 name-alike table s c before text u now parts reply after seen meant has tells (inr (none, e, same)) = (inl (ap is_out_of_memory e), subst (AreWhatTheyResolveTo table) (sym same) meant)
 
 addresses-alike : (table : TableValue) (s : Settings) (c before : CacheValue) (text : List ℕ) (now : ℕ) (parts : List SubLookup) (reply : LookupResult) (after : CacheValue) → Seen table (call_context_at s now) → AreWhatTheyResolveTo table before → AllByRecursion (ResolvesWithinEight table) parts → AreConsistentWith table (asks_of_sub_lookups parts)
-    → IsServed (λ at. IsSubLookupFor (call_context_at s at)) s before (LookupIp text now) parts (LookedUp reply) after → ServedAlike table s c (LookupIp text now) (LookedUp reply) after
+    → IsServed (λ at. IsSubLookupFor (call_context_at s at)) s before (LookupIp text now) parts (LookedUpIp reply) after → ServedAlike table s c (LookupIp text now) (LookedUpIp reply) after
 addresses-alike table s c before text now parts reply after seen meant has tells (inl (given, said, is)) = (by there.0, there.1)
   where
     call : Call
@@ -230,7 +230,7 @@ addresses-alike table s c before text now parts reply after seen meant has tells
     there : ((is_out_of_memory reply ≡ true) ⊎ IsCall (CachelessSubLookup table (call_context_at s now)) s c call parts reply c) × AreWhatTheyResolveTo table after
     there = call-alike table s c before now call parts reply after seen meant has tells is
 
-    by : (is_out_of_memory reply ≡ true) ⊎ IsCall (CachelessSubLookup table (call_context_at s now)) s c call parts reply c → (is_out_of_memory reply ≡ true) ⊎ IsCacheless table s c (LookupIp text now) (LookedUp reply)
+    by : (is_out_of_memory reply ≡ true) ⊎ IsCall (CachelessSubLookup table (call_context_at s now)) s c call parts reply c → (is_out_of_memory reply ≡ true) ⊎ IsCacheless table s c (LookupIp text now) (LookedUpIp reply)
     by (inl out) = inl out
     by (inr alike) = inr (parts, reply, inl (given, said, alike), refl)
 addresses-alike table s c before text now parts reply after seen meant has tells (inr (none, e, same)) = (inl (ap is_out_of_memory e), subst (AreWhatTheyResolveTo table) (sym same) meant)
@@ -246,16 +246,20 @@ clear-meant table s before u (Err fault) after meant e = subst (AreWhatTheyResol
 served-alike : (table : TableValue) (s : Settings) (c before : CacheValue) (request : RequestValue) (parts : List SubLookup) (reply : StepReply) (after : CacheValue) → IsTable table → s.preserve_intermediates ≡ false → AreWhatTheyResolveTo table before → AllByRecursion (ResolvesWithinEight table) parts → AreConsistentWith table (asks_of_sub_lookups parts)
     → IsServed (λ now. IsSubLookupFor (call_context_at s now)) s before request parts reply after → ServedAlike table s c request reply after
 served-alike table s c before (Lookup text u now) parts (LookedUp reply) after apart off meant has tells is = name-alike table s c before text u now parts reply after (record { apart = apart; off = off }) meant has tells is
-served-alike table s c before (LookupIp text now) parts (LookedUp reply) after apart off meant has tells is = addresses-alike table s c before text now parts reply after (record { apart = apart; off = off }) meant has tells is
+served-alike table s c before (LookupIp text now) parts (LookedUpIp reply) after apart off meant has tells is = addresses-alike table s c before text now parts reply after (record { apart = apart; off = off }) meant has tells is
 served-alike table s c before (ClearLookup text u now) parts (Cleared (Ok x)) after apart off meant has tells (none, (name, said, is)) = (inr tt, clear-meant table s before u name after meant is)
 served-alike table s c before (ClearLookup text u now) parts (Cleared (Err e)) after apart off meant has tells (none, out, same) = (inl refl, subst (AreWhatTheyResolveTo table) (sym same) meant)
 served-alike table s c before (Clear now) parts (Cleared (Ok x)) after apart off meant has tells (none, e) = (inr tt, subst (AreWhatTheyResolveTo table) (sym e) tt)
+served-alike table s c before (Lookup text u now) parts (LookedUpIp reply) after apart off meant has tells is = absurd is
 served-alike table s c before (Lookup text u now) parts (Cleared (Ok x)) after apart off meant has tells is = absurd is
 served-alike table s c before (Lookup text u now) parts (Cleared (Err e)) after apart off meant has tells is = absurd is
+served-alike table s c before (LookupIp text now) parts (LookedUp reply) after apart off meant has tells is = absurd is
 served-alike table s c before (LookupIp text now) parts (Cleared (Ok x)) after apart off meant has tells is = absurd is
 served-alike table s c before (LookupIp text now) parts (Cleared (Err e)) after apart off meant has tells is = absurd is
 served-alike table s c before (ClearLookup text u now) parts (LookedUp reply) after apart off meant has tells is = absurd is
+served-alike table s c before (ClearLookup text u now) parts (LookedUpIp reply) after apart off meant has tells is = absurd is
 served-alike table s c before (Clear now) parts (LookedUp reply) after apart off meant has tells is = absurd is
+served-alike table s c before (Clear now) parts (LookedUpIp reply) after apart off meant has tells is = absurd is
 served-alike table s c before (Clear now) parts (Cleared (Err e)) after apart off meant has tells is = absurd is
 
 -- ---- a run

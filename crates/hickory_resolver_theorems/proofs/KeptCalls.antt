@@ -9,7 +9,7 @@ use Rattle.hickory_resolver_model.specs.Attempts.{attempts}
 use Rattle.hickory_resolver_model.specs.Cache.{CacheValue}
 use Rattle.hickory_resolver_model.specs.Lookup.{LookupResult}
 use Rattle.hickory_resolver_model.specs.Calls.{CallContext, Source, Static, Client, SubLookup, IsSubLookupBy, IsSubLookupFor, Plan, IsAttemptResult, AreSubLookups, results_of, stops, CallPlan, Says, AreAttempts, asks_of_sub_lookups, start_at}
-use Rattle.hickory_resolver_model.specs.Run.{Settings, call_context_at, RequestValue, Lookup, LookupIp, ClearLookup, Clear, StepReply, LookedUp, Cleared, Call, AtOnce, Attempt, name_call, address_call, IsCall, IsServed}
+use Rattle.hickory_resolver_model.specs.Run.{Settings, call_context_at, RequestValue, Lookup, LookupIp, ClearLookup, Clear, StepReply, LookedUp, LookedUpIp, Cleared, Call, AtOnce, Attempt, name_call, address_call, IsCall, IsServed}
 use Rattle.hickory_resolver_theorems.specs.Keeping.{IsServedOver}
 use Rattle.hickory_resolver_theorems.proofs.Kept.{kept_reply}
 
@@ -134,17 +134,21 @@ module _ (s : Settings) (before : CacheValue) where
       let k = kept_call now (name_call t name) ps reply after kept r is in
       record { parts = k.parts; asks_are = k.asks_are; served = inl (name, said, k.is) }
   kept_request (Lookup text t now) ps (LookedUp reply) after kept (inr (none, e, same)) r = record { parts = []; asks_are = no_asks ps kept none r; served = inr (refl, e, same) }
-  kept_request (LookupIp text now) ps (LookedUp reply) after kept (inl (given, said, is)) r =
+  kept_request (LookupIp text now) ps (LookedUpIp reply) after kept (inl (given, said, is)) r =
       let k = kept_call now (address_call s given.address given.name now) ps reply after kept r is in
       record { parts = k.parts; asks_are = k.asks_are; served = inl (given, said, k.is) }
-  kept_request (LookupIp text now) ps (LookedUp reply) after kept (inr (none, e, same)) r = record { parts = []; asks_are = no_asks ps kept none r; served = inr (refl, e, same) }
+  kept_request (LookupIp text now) ps (LookedUpIp reply) after kept (inr (none, e, same)) r = record { parts = []; asks_are = no_asks ps kept none r; served = inr (refl, e, same) }
   kept_request (ClearLookup text t now) ps (Cleared (Ok u)) after kept (none, is) r = record { parts = []; asks_are = no_asks ps kept none r; served = (refl, is) }
   kept_request (ClearLookup text t now) ps (Cleared (Err e)) after kept (none, out, same) r = record { parts = []; asks_are = no_asks ps kept none r; served = (refl, out, same) }
   kept_request (Clear now) ps (Cleared (Ok u)) after kept (none, is) r = record { parts = []; asks_are = no_asks ps kept none r; served = (refl, is) }
+  kept_request (Lookup text t now) ps (LookedUpIp reply) after kept is r = absurd is
   kept_request (Lookup text t now) ps (Cleared (Ok u)) after kept is r = absurd is
   kept_request (Lookup text t now) ps (Cleared (Err e)) after kept is r = absurd is
+  kept_request (LookupIp text now) ps (LookedUp reply) after kept is r = absurd is
   kept_request (LookupIp text now) ps (Cleared (Ok u)) after kept is r = absurd is
   kept_request (LookupIp text now) ps (Cleared (Err e)) after kept is r = absurd is
   kept_request (ClearLookup text t now) ps (LookedUp reply) after kept is r = absurd is
+  kept_request (ClearLookup text t now) ps (LookedUpIp reply) after kept is r = absurd is
   kept_request (Clear now) ps (LookedUp reply) after kept is r = absurd is
+  kept_request (Clear now) ps (LookedUpIp reply) after kept is r = absurd is
   kept_request (Clear now) ps (Cleared (Err e)) after kept is r = absurd is

@@ -26,10 +26,10 @@ use Rattle.hickory_resolver_model.specs.Lookup.{LookupValue, LookupResult, quest
 use Rattle.hickory_resolver_model.specs.Hosts.{Host, as_fqdn, family, is_host, has_address, pointers, pointer_lookup, StandsFor, static_answer, IsStatic}
 use Rattle.hickory_resolver_model.specs.Calls.{CallContext, SubLookup, Plan, One, Both, Fallback, has_answers, is_out_of_memory, both_results, next_type, attempt_result, IsAttemptResult, AreSubLookups, results_of, IsAttempt, IsStaticSubLookup, stops, CallPlan, IsLastReply, Says, AreAttempts}
 use Rattle.hickory_resolver_model.specs.Attempts.{attempts}
-use Rattle.hickory_resolver_model.specs.Run.{Settings, call_context_at, RequestValue, Lookup, LookupIp, ClearLookup, Clear, Call, AtOnce, Attempt, name_call, address_call, IsCall}
+use Rattle.hickory_resolver_model.specs.Run.{Settings, call_context_at, RequestValue, Lookup, LookupIp, ClearLookup, Clear, LookedUp, LookedUpIp, Call, AtOnce, Attempt, name_call, address_call, IsCall}
 use Rattle.hickory_resolver_theorems.specs.AttemptLaws.{some_attempt}
 use Rattle.hickory_resolver_theorems.specs.WithoutTimes.{WithoutTimes, sections, without_times, record_without_times}
-use Rattle.hickory_resolver_theorems.specs.Statements.{IsCachelessSubLookup, CachelessSubLookup, IsOneCacheless}
+use Rattle.hickory_resolver_theorems.specs.Statements.{IsCachelessSubLookup, CachelessSubLookup, IsOneCachelessBy, IsOneCacheless}
 use Rattle.hickory_resolver_theorems.proofs.Meanings.{means-one}
 
 -- ---- readings
@@ -333,17 +333,26 @@ call-once table s now (AtOnce answer) c d e f ps qs r k live alive (none, is, sa
 call-once table s now (Attempt n plan) c d e f ps qs r k live alive x y =
     tries-once table (call_context_at s now) plan true c d (attempts s.search n) (Says plan.no_names) (Says plan.no_names) ps qs r k e f (λ none _ _. absurd (some_attempt s.search n none)) live alive x y
 
-pub one_cacheless : (table : TableValue) (s : Settings) (cache : CacheValue) (request : RequestValue) → IsOneCacheless table s cache request
-one_cacheless table s cache (Lookup text u now) ps qs r k (inl (m, read, is)) (inl (n, again, is_too)) live alive =
+names-once : (table : TableValue) (s : Settings) (cache : CacheValue) (request : RequestValue) → IsOneCachelessBy LookedUp table s cache request
+names-once table s cache (Lookup text u now) ps qs r k (inl (m, read, is)) (inl (n, again, is_too)) live alive =
     call-once table s now (name_call u m) cache cache cache cache ps qs r k live alive is
     (subst (λ x. IsCall (CachelessSubLookup table (call_context_at s now)) s cache (name_call u x) qs k cache) (same-name text n m again read) is_too)
-one_cacheless table s cache (Lookup text u now) ps qs r k (inr (none, out, same)) other live alive = let clash : false ≡ true = sym live ∙ ap is_out_of_memory out in cc
-one_cacheless table s cache (Lookup text u now) ps qs r k (inl one) (inr (none, out, same)) live alive = let clash : false ≡ true = sym alive ∙ ap is_out_of_memory out in cc
-one_cacheless table s cache (LookupIp text now) ps qs r k (inl (g, (a, m), is)) (inl (h, (b, n), is_too)) live alive =
+names-once table s cache (Lookup text u now) ps qs r k (inr (none, out, same)) other live alive = let clash : false ≡ true = sym live ∙ ap is_out_of_memory out in cc
+names-once table s cache (Lookup text u now) ps qs r k (inl one) (inr (none, out, same)) live alive = let clash : false ≡ true = sym alive ∙ ap is_out_of_memory out in cc
+names-once table s cache (LookupIp text now) ps qs r k is other live alive = absurd is
+names-once table s cache (ClearLookup text u now) ps qs r k is other live alive = absurd is
+names-once table s cache (Clear now) ps qs r k is other live alive = absurd is
+
+addresses-once : (table : TableValue) (s : Settings) (cache : CacheValue) (request : RequestValue) → IsOneCachelessBy LookedUpIp table s cache request
+addresses-once table s cache (LookupIp text now) ps qs r k (inl (g, (a, m), is)) (inl (h, (b, n), is_too)) live alive =
     call-once table s now (address_call s g.address g.name now) cache cache cache cache ps qs r k live alive is
     (subst (λ x. IsCall (CachelessSubLookup table (call_context_at s now)) s cache (address_call s x g.name now) qs k cache) (same-address text h.address g.address b a)
     (subst (λ x. IsCall (CachelessSubLookup table (call_context_at s now)) s cache (address_call s h.address x now) qs k cache) (same-name text h.name g.name n m) is_too))
-one_cacheless table s cache (LookupIp text now) ps qs r k (inr (none, out, same)) other live alive = let clash : false ≡ true = sym live ∙ ap is_out_of_memory out in cc
-one_cacheless table s cache (LookupIp text now) ps qs r k (inl one) (inr (none, out, same)) live alive = let clash : false ≡ true = sym alive ∙ ap is_out_of_memory out in cc
-one_cacheless table s cache (ClearLookup text u now) ps qs r k is other live alive = absurd is
-one_cacheless table s cache (Clear now) ps qs r k is other live alive = absurd is
+addresses-once table s cache (LookupIp text now) ps qs r k (inr (none, out, same)) other live alive = let clash : false ≡ true = sym live ∙ ap is_out_of_memory out in cc
+addresses-once table s cache (LookupIp text now) ps qs r k (inl one) (inr (none, out, same)) live alive = let clash : false ≡ true = sym alive ∙ ap is_out_of_memory out in cc
+addresses-once table s cache (Lookup text u now) ps qs r k is other live alive = absurd is
+addresses-once table s cache (ClearLookup text u now) ps qs r k is other live alive = absurd is
+addresses-once table s cache (Clear now) ps qs r k is other live alive = absurd is
+
+pub one_cacheless : (table : TableValue) (s : Settings) (cache : CacheValue) (request : RequestValue) → IsOneCacheless table s cache request
+one_cacheless table s cache request = (names-once table s cache request, addresses-once table s cache request)

@@ -1,5 +1,5 @@
 -- Every record that a look-up gives or stores comes from its sources.
-use Rattle.std.proofs.Common.{◌≡◌, ◌⊎◌, ◌≤◌, ◌==◌, ◌&&◌, ℕ, ◌+◌, Bool, true, false, List, ◌++◌, map, filter, Contains, Ok, Err, refl, sym, subst, inl, inr, arith, ◌∙◌}
+use Rattle.std.proofs.Common.{◌≡◌, ◌⊎◌, ◌≤◌, ◌==◌, ◌&&◌, ℕ, ◌+◌, Bool, true, false, List, [], ◌++◌, map, filter, Contains, Ok, Err, refl, sym, ap, subst, inl, inr, arith, ◌∙◌}
 use Rattle.std.proofs.lemmas.Bool.{and_parts, eq-eqb}
 use Rattle.std.specs.List.{AllByRecursion}
 use Rattle.hickory_proto_core.specs.Codes.{type_code}
@@ -12,11 +12,10 @@ use Rattle.hickory_proto_core.specs.records.net_error.NetError.TheVariants.{OutO
 use Rattle.hickory_resolver_model.specs.Bounds.{ConfigValue, greatest_ttl}
 use Rattle.hickory_resolver_model.specs.Cache.{CacheValue, Entry, IsCache, IsTimelyAnswer, OutlivesNoAnswer, is_for, is_current}
 use Rattle.hickory_resolver_model.specs.Lookup.{LookupResult}
-use Rattle.hickory_resolver_model.specs.Verdict.{all_records}
 use Rattle.hickory_resolver_model.specs.Hops.{LookupContext, Store, IsReply, after_stores}
 use Rattle.hickory_resolver_theorems.specs.Covered.{Dated, dated_exchanges, IsCovered}
 use Rattle.hickory_resolver_theorems.specs.Statements.{IsFreshRecord, IsFreshReply, IsFreshOutcome, IsFreshEntry}
-use Rattle.hickory_resolver_theorems.specs.Provenance.{is_positive, is_source, dated_entry, sources_of, IsFromSources, HasProvenance}
+use Rattle.hickory_resolver_theorems.specs.Provenance.{is_positive, is_source, answers_alone, dated_entry, sources_of, IsFromSources, HasProvenance}
 use Rattle.hickory_resolver_theorems.proofs.Lists.{all-has, has-all, all-front, has-left, has-map, has-filter, find-has, ContainsByRecursion, contains-from_recursion}
 use Rattle.hickory_resolver_theorems.proofs.Covers.{covered-has}
 use Rattle.hickory_resolver_theorems.proofs.Stores.{StoresArrived, stores-known}
@@ -35,10 +34,10 @@ entry-own config sources e (Ok m) is there timely = λ zero. has-all (IsFreshRec
     of r h same t =
         let short : r.ttl ≤ greatest_ttl config (record_type_code r) = subst (λ n. r.ttl ≤ greatest_ttl config n) (sym same) t.1 in (
           covered-has config sources e.original_time r (dated_entry e) (there refl) (record {
-            response = m;
-            came = is;
+            response = record m { authorities = []; additionals = [] };
+            came = ap answers_alone is;
             received = r;
-            brought = contains-from_recursion (all_records m) r (has-left (m.answers ++ m.authorities) m.additionals r (has-left m.answers m.authorities r h));
+            brought = contains-from_recursion ((m.answers ++ []) ++ []) r (has-left (m.answers ++ []) [] r (has-left m.answers [] r h));
             equal = refl;
             reaches = omega (arith, short);
           }),

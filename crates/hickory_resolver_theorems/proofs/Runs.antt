@@ -14,7 +14,7 @@ use Rattle.hickory_resolver_model.specs.Cache.{CacheValue, is_for, without_query
 use Rattle.hickory_resolver_model.specs.Lookup.{LookupResult, question_of}
 use Rattle.hickory_resolver_model.specs.Hops.{LookupContext, IsReply, stores_of}
 use Rattle.hickory_resolver_model.specs.Calls.{CallContext, Source, Static, Client, SubLookup, IsSubLookupBy, IsSubLookupFor, start_at, asks_of_sub_lookups}
-use Rattle.hickory_resolver_model.specs.Run.{Settings, call_context_at, RequestValue, Lookup, LookupIp, ClearLookup, Clear, moment_of, StepReply, LookedUp, Cleared, drop_each, after_clear, IsServed, StepValue, Stage, IsStage, AreStages, Run}
+use Rattle.hickory_resolver_model.specs.Run.{Settings, call_context_at, RequestValue, Lookup, LookupIp, ClearLookup, Clear, moment_of, StepReply, LookedUp, LookedUpIp, Cleared, drop_each, after_clear, IsServed, StepValue, Stage, IsStage, AreStages, Run}
 use Rattle.hickory_resolver_model.specs.Attempts.{attempts}
 use Rattle.hickory_resolver_theorems.specs.Covered.{Dated, dated_exchanges, IsCovered, IsLoopback}
 use Rattle.hickory_resolver_theorems.specs.Statements.{IsFreshRecord, IsFreshReply, IsFreshEntry, AreFreshEntries, IsFreshSubLookup, AsksAtMostEight, AreFreshAnswers, NothingOutlives}
@@ -129,19 +129,23 @@ good-served : (s : Settings) (before : CacheValue) (sources : List Dated) (reque
     → IsServed (λ now. IsSubLookupFor (call_context_at s now)) s before request ps reply after → AreGoodParts (moment_of request) before sources ps after
 good-served s before sources (Lookup text t now) ps (LookedUp reply) after entries is =
     good-chain (call_context_at s now) before sources ps after entries (chain-name (IsSubLookupFor (call_context_at s now)) s before text t ps reply after is)
-good-served s before sources (LookupIp text now) ps (LookedUp reply) after entries is =
+good-served s before sources (LookupIp text now) ps (LookedUpIp reply) after entries is =
     good-chain (call_context_at s now) before sources ps after entries (chain-addresses (IsSubLookupFor (call_context_at s now)) s before text now ps reply after is)
 good-served s before sources (ClearLookup text t now) ps (Cleared (Ok u)) after entries (none, (name, said, is)) = good-clear s before sources t name now ps after entries none is
 good-served s before sources (ClearLookup text t now) ps (Cleared (Err e)) after entries (none, out, same) =
     good-none now before sources ps after none (subst (λ c. AreFreshEntries c sources) (sym same) entries) (ap (λ c. c.config) same)
 good-served s before sources (Clear now) ps (Cleared (Ok u)) after entries (none, e) =
     good-none now before sources ps after none (subst (λ c. AreFreshEntries c sources) (sym e) tt) (ap (λ c. c.config) e)
+good-served s before sources (Lookup text t now) ps (LookedUpIp reply) after entries is = absurd is
 good-served s before sources (Lookup text t now) ps (Cleared (Ok u)) after entries is = absurd is
 good-served s before sources (Lookup text t now) ps (Cleared (Err e)) after entries is = absurd is
+good-served s before sources (LookupIp text now) ps (LookedUp reply) after entries is = absurd is
 good-served s before sources (LookupIp text now) ps (Cleared (Ok u)) after entries is = absurd is
 good-served s before sources (LookupIp text now) ps (Cleared (Err e)) after entries is = absurd is
 good-served s before sources (ClearLookup text t now) ps (LookedUp reply) after entries is = absurd is
+good-served s before sources (ClearLookup text t now) ps (LookedUpIp reply) after entries is = absurd is
 good-served s before sources (Clear now) ps (LookedUp reply) after entries is = absurd is
+good-served s before sources (Clear now) ps (LookedUpIp reply) after entries is = absurd is
 good-served s before sources (Clear now) ps (Cleared (Err e)) after entries is = absurd is
 
 -- ---- a run

@@ -1,6 +1,6 @@
 -- Where the records that a look-up gives and stores come from: its own exchanges, and the current entries of
 -- the asked type in the cache before it, whatever is known of that cache (RFC 2181, section 8).
-use Rattle.std.specs.Prelude.{◌⊎◌, ◌==◌, ◌&&◌, ℕ, Bool, true, false, List, ◌++◌, map, filter, Contains, Ok, Err}
+use Rattle.std.specs.Prelude.{◌⊎◌, ◌==◌, ◌&&◌, ℕ, Bool, true, false, List, [], ◌++◌, map, filter, Contains, Ok, Err}
 use Rattle.std.specs.List.{AllByRecursion}
 use Rattle.hickory_proto_core.specs.Codes.{type_code}
 use Rattle.hickory_proto_core.specs.Handles.{OutcomeValue}
@@ -20,9 +20,15 @@ is_positive (Err error) = false
 abbrev pub is_source : ℕ → ℕ → Entry → Bool
 is_source now code e = is_current now e && is_positive e.result && (type_code e.query.query_type == code)
 
--- an entry, at its own time, as what was received then
+-- an outcome with the answers of its message alone
+abbrev pub answers_alone : OutcomeValue → OutcomeValue
+answers_alone (Ok m) = Ok (record m { authorities = []; additionals = [] })
+answers_alone (Err error) = Err error
+
+-- an entry, at its own time, as what was received then: its answers count, and no other records
 abbrev pub dated_entry : Entry → Dated
-dated_entry e = record { moment = e.original_time; exchange = record { query = e.query; outcome = e.result } }
+dated_entry e =
+    record { moment = e.original_time; exchange = record { query = e.query; outcome = answers_alone e.result } }
 
 abbrev pub sources_of : LookupContext → Query → List Exchange → List Dated
 sources_of s question asks =

@@ -18,7 +18,7 @@ use Rattle.hickory_resolver_model.specs.Lookup.{LookupValue, LookupResult}
 use Rattle.hickory_resolver_model.specs.Hops.{LookupContext}
 use Rattle.hickory_resolver_model.specs.Hosts.{IsStatic}
 use Rattle.hickory_resolver_model.specs.Calls.{SubLookup, SubLookupRelation, CallContext, Client, IsStaticSubLookup, is_out_of_memory, literal_at_once, literal_at_last}
-use Rattle.hickory_resolver_model.specs.Run.{Settings, call_context_at, RequestValue, LookupIp, StepValue, StepReply, LookedUp, Cleared, ends_run, IsServed, Stage, exchanges_of, Run}
+use Rattle.hickory_resolver_model.specs.Run.{Settings, call_context_at, RequestValue, LookupIp, StepValue, StepReply, LookedUp, LookedUpIp, Cleared, ends_run, IsServed, Stage, exchanges_of, Run}
 use Rattle.hickory_resolver_theorems.specs.Cacheless.{IsTable, ResolvesTo, AreConsistentWith}
 use Rattle.hickory_resolver_theorems.specs.WithoutTimes.{WithoutTimes, without_times, stored_without_times}
 use Rattle.hickory_resolver_theorems.specs.Covered.{Dated, dated_exchanges, IsCovered, IsLoopback}
@@ -126,12 +126,17 @@ IsLiteral (LookupIp text now) l =
     × ((l ≡ literal_at_last address now) ⊎ ((owner : NameValue) × (l ≡ literal_at_once owner address now)))
 IsLiteral other l = ⊥
 
--- a step answers the literal address, or with answers of its sub-look-ups alone
-abbrev pub AreFreshAnswers : ConfigValue → List Dated → Stage → StepReply → Type 0
-AreFreshAnswers config sources stage (LookedUp (Ok l)) =
+-- a look-up answers the literal address, or with answers of its sub-look-ups alone
+abbrev pub HasFreshAnswers : ConfigValue → List Dated → Stage → LookupResult → Type 0
+HasFreshAnswers config sources stage (Ok l) =
     IsLiteral stage.request l
     ⊎ AllByRecursion (IsFreshAnswer config sources stage.step.now stage.parts l.valid_until) l.message.answers
-AreFreshAnswers config sources stage other = Unit {0}
+HasFreshAnswers config sources stage (Err e) = Unit {0}
+
+abbrev pub AreFreshAnswers : ConfigValue → List Dated → Stage → StepReply → Type 0
+AreFreshAnswers config sources stage (LookedUp reply) = HasFreshAnswers config sources stage reply
+AreFreshAnswers config sources stage (LookedUpIp reply) = HasFreshAnswers config sources stage reply
+AreFreshAnswers config sources stage (Cleared done) = Unit {0}
 
 -- no record outlives what an exchange of the same step or of an earlier one brought, neither in a sub-look-up
 -- nor in what the step answers
@@ -163,22 +168,39 @@ CachelessSubLookup table s looked before q p after =
     (p.question ≡ q) × (IsStaticSubLookup s looked before p after
     ⊎ (IsCachelessSubLookup table s looked q p × (after ≡ before)))
 
+-- the resolver without a cache serves a request, by these sub-look-ups
+abbrev pub IsServedCacheless : TableValue → Settings → CacheValue → RequestValue → List SubLookup → StepReply
+    → Type 0
+IsServedCacheless table s cache request parts reply =
+    IsServed (λ now. CachelessSubLookup table (call_context_at s now)) s cache request parts reply cache
+
+-- what a look-up came to, told in this form, is what the resolver without a cache answers to the request
+abbrev pub ComesToCacheless : (LookupResult → StepReply) → TableValue → Settings → CacheValue → RequestValue
+    → LookupResult → Type 0
+ComesToCacheless form table s cache request reply =
+    (parts : List SubLookup) × (cacheless : LookupResult)
+    × IsServedCacheless table s cache request parts (form cacheless)
+    × (without_times reply ≡ without_times cacheless)
+
 -- a reply comes to what the resolver without a cache answers to the request
 abbrev pub IsCacheless : TableValue → Settings → CacheValue → RequestValue → StepReply → Type 0
-IsCacheless table s cache request (LookedUp reply) =
-    (parts : List SubLookup) × (cacheless : LookupResult)
-    × IsServed (λ now. CachelessSubLookup table (call_context_at s now)) s cache request parts
-    (LookedUp cacheless) cache
-    × (without_times reply ≡ without_times cacheless)
+IsCacheless table s cache request (LookedUp reply) = ComesToCacheless LookedUp table s cache request reply
+IsCacheless table s cache request (LookedUpIp reply) = ComesToCacheless LookedUpIp table s cache request reply
 IsCacheless table s cache request (Cleared done) = Unit {0}
+
+-- two cacheless replies to a request, told in this form, come to the same, out of memory aside
+abbrev pub IsOneCachelessBy : (LookupResult → StepReply) → TableValue → Settings → CacheValue → RequestValue
+    → Type 0
+IsOneCachelessBy form table s cache request =
+    (parts others : List SubLookup) (a b : LookupResult)
+    → IsServedCacheless table s cache request parts (form a)
+    → IsServedCacheless table s cache request others (form b)
+    → is_out_of_memory a ≡ false → is_out_of_memory b ≡ false → without_times a ≡ without_times b
 
 -- Two cacheless replies to a request come to the same, out of memory aside.
 abbrev pub IsOneCacheless : TableValue → Settings → CacheValue → RequestValue → Type 0
 IsOneCacheless table s cache request =
-    (parts others : List SubLookup) (a b : LookupResult)
-    → IsServed (λ now. CachelessSubLookup table (call_context_at s now)) s cache request parts (LookedUp a) cache
-    → IsServed (λ now. CachelessSubLookup table (call_context_at s now)) s cache request others (LookedUp b) cache
-    → is_out_of_memory a ≡ false → is_out_of_memory b ≡ false → without_times a ≡ without_times b
+    IsOneCachelessBy LookedUp table s cache request × IsOneCachelessBy LookedUpIp table s cache request
 
 -- the reply of a step is the cacheless resolver's, or out of memory
 abbrev pub IsAsWithoutCache : TableValue → Settings → Stage → Type 0

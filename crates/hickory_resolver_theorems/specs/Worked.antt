@@ -177,8 +177,8 @@ pub record AttemptCases : Type 0 where
   pub search_after_domain : attempts
       (below (Some (name (codes "x"))) (name (codes "y") ∷ name (codes "x") ∷ []))
       (relative (codes "www" ∷ []))
-      ≡ full_name (codes "www" ∷ codes "y" ∷ []) ∷ full_name (codes "www" ∷ codes "x" ∷ []) ∷ full_name (codes "www" ∷ [])
-      ∷ []
+      ≡ full_name (codes "www" ∷ codes "y" ∷ []) ∷ full_name (codes "www" ∷ codes "x" ∷ [])
+      ∷ full_name (codes "www" ∷ []) ∷ []
   -- a raw name that is first is not compared
   pub raw_name_first : attempts (below None (full_name [] ∷ [])) (relative (codes "a" ∷ codes "b" ∷ []))
       ≡ full_name (codes "a" ∷ codes "b" ∷ []) ∷ full_name (codes "a" ∷ codes "b" ∷ []) ∷ []

@@ -27,7 +27,7 @@ use Rattle.hickory_resolver_model.specs.Verdict.{first_hop}
 use Rattle.hickory_resolver_model.specs.Hops.{Asked, IsReply}
 use Rattle.hickory_resolver_model.specs.Hosts.{insert_pairs, StandsFor, IsStatic, static_answer}
 use Rattle.hickory_resolver_model.specs.Calls.{Static, Client, SubLookup, IsSubLookupFor}
-use Rattle.hickory_resolver_model.specs.Run.{Settings, call_context_at, Lookup, LookupIp, ClearLookup, Clear, LookedUp, Cleared, IsServed, StepValue, Stage, Run}
+use Rattle.hickory_resolver_model.specs.Run.{Settings, call_context_at, Lookup, LookupIp, ClearLookup, Clear, LookedUp, LookedUpIp, Cleared, IsServed, StepValue, Stage, Run}
 use Rattle.hickory_resolver_model.specs.Client.{empty_cache}
 use Rattle.hickory_resolver_theorems.specs.Worked.{below, relative, name, asks_a, rr, address, response, exchange}
 use Rattle.hickory_resolver_theorems.specs.WorkedRun.{a, spells_a, settings, requests, found, after_run, start, asked, asked_reply, not_static}
@@ -220,7 +220,7 @@ pub record RequestCases : Type 0 where
       (Lookup (codes "a") type.A 0) (timed_out ∷ asked ∷ []) (LookedUp (Ok (found 10 10))) after_run
   -- the addresses of both families, in the order of the strategy
   pub asks_both_families : IsServed (λ now. IsSubLookupFor (call_context_at both_families now)) both_families
-      (empty_cache 8) (LookupIp (codes "a.") 0) (asked ∷ second_family ∷ []) (LookedUp (Ok both_found)) after_both
+      (empty_cache 8) (LookupIp (codes "a.") 0) (asked ∷ second_family ∷ []) (LookedUpIp (Ok both_found)) after_both
   -- the name of an address is found in the table of hosts, and nothing is asked
   pub finds_a_pointer : IsServed (λ now. IsSubLookupFor (call_context_at with_hosts now)) with_hosts (empty_cache 8)
       (Lookup (codes "1.2.0.192.in-addr.arpa.") type.PTR 3) (by_hosts ∷ []) (LookedUp (Ok pointer)) (empty_cache 8)

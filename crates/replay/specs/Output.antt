@@ -15,9 +15,9 @@ use Rattle.hickory_proto_core.specs.records.net_error.NetError.{NetError}
 use Rattle.hickory_proto_core.specs.records.net_error.NetError.TheVariants.{Message, Timeout, Proto, Dns, NoOutcome, Bounds, OutOfMemory}
 use Rattle.hickory_proto_core.specs.records.net_error.DnsError.TheVariants.{ResponseCode, NoRecordsFound}
 use Rattle.hickory_proto_core.specs.declared.recorded.Exchange.{Exchange}
-use Rattle.hickory_resolver_model.specs.Lookup.{LookupValue}
+use Rattle.hickory_resolver_model.specs.Lookup.{LookupValue, LookupResult}
 use Rattle.hickory_proto_core.specs.codes.record_type.RecordType.{RecordType}
-use Rattle.hickory_resolver_model.specs.Run.{RequestValue, Lookup, LookupIp, ClearLookup, Clear, StepReply, LookedUp, Cleared, StepValue}
+use Rattle.hickory_resolver_model.specs.Run.{RequestValue, Lookup, LookupIp, ClearLookup, Clear, StepReply, LookedUp, LookedUpIp, Cleared, StepValue}
 
 -- how the faults of names are numbered
 abbrev pub name_error_text : NameError → List ℕ
@@ -82,9 +82,14 @@ lookup_text request l =
     ++ section_text (codes "authority") l.message.authorities
     ++ section_text (codes "additional") l.message.additionals
 
+-- what a look-up came to
+abbrev pub result_text : RequestValue → LookupResult → List ℕ
+result_text request (Ok lookup) = lookup_text request lookup
+result_text request (Err error) = line_text (codes "err") (error_text error)
+
 abbrev pub reply_text : RequestValue → StepReply → List ℕ
-reply_text request (LookedUp (Ok lookup)) = lookup_text request lookup
-reply_text request (LookedUp (Err error)) = line_text (codes "err") (error_text error)
+reply_text request (LookedUp result) = result_text request result
+reply_text request (LookedUpIp result) = result_text request result
 reply_text request (Cleared (Ok u)) = codes "  cleared\n"
 reply_text request (Cleared (Err error)) = line_text (codes "err") (error_text error)
 
