@@ -102,7 +102,7 @@ same-gone : (next : ℕ) (ps rs qs : List Pair) (o : Option Turn) → IsNumbered
 same-gone next ps rs qs None h gone too = subst (IsPermutation rs) (gone ∙ sym too) (IsPermutation-refl rs)
 same-gone next ps rs qs (Some t) h gone too =
     IsPermutation-trans rs (in_order rs next) qs (in_order-permutes next rs (numbers-left next ps rs (Some t) h gone))
-    (subst (λ l. IsPermutation l qs) (sym alike) (IsPermutation-sym (in_order-permutes next qs (numbers-left next ps qs (Some t) h too))))
+    (subst (λ l. IsPermutation l qs) (sym alike) (IsPermutation-sym qs (in_order qs next) (in_order-permutes next qs (numbers-left next ps qs (Some t) h too))))
   where
     alike : in_order rs next ≡ in_order qs next
     alike = listed-same (numbered rs) (numbered qs) next (λ n l. left ps rs t gone.0 h.apart gone.1 gone.2 n ∙ sym (left ps qs t too.0 h.apart too.1 too.2 n))

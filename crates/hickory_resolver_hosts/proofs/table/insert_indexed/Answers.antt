@@ -14,7 +14,7 @@ join-requires-clause-place g c =
     let lent = rw c.in-Occupied.is at c.in_ok-entry.ensures.same_map in
     let stays = rw c.in-Occupied.is at c.in_ok-entry.ensures.unchanged in
     let at = rw c.in-Occupied.is at c.in_ok-entry.ensures.index in
-    c.index-place.ensures ∙ at ∙ ap (λ k. insert_index name_eq c.args.names.now k) c.in_ok-clone.ensures.ok
+    c.index-place.ensures ∙ at ∙ ap (λ k. insert_index name_eq c.args.names.now k) c.in_ok-clone.ensures.cases
     ∙ sym (place_is c.args.name c.args.names.now.entries)
     ∙ ap (λ es. place_in c.args.name (hosts_of es)) (sym (ap (λ m. m.entries) (c.names-in-Occupied-1.given.1 (sym lent)) ∙ stays))
 
@@ -37,9 +37,9 @@ returns-in-Vacant-clause-ok g c =
     let puts = rw c.in-Vacant.is at c.in_ok-entry.ensures.update in
     let w = c.insert_entry-entry.ensures in
     let last = place_is c.args.name c.args.names.now.entries
-    ∙ sym (at ∙ ap (λ k. insert_index name_eq c.args.names.now k) c.in_ok-clone.ensures.ok) ∙ ap length stays in
+    ∙ sym (at ∙ ap (λ k. insert_index name_eq c.args.names.now k) c.in_ok-clone.ensures.cases) ∙ ap length stays in
     ap (λ m. hosts_of m.entries) (c.names-in-Vacant-1.given.1 (sym (w.0 ∙ lent)) ∙ w.1)
-    ∙ ap hosts_of (puts.1 c.in-Ok.first ∙ ap (λ k. insert_entry name_eq c.args.names.now.entries k c.in-Ok.first) c.in_ok-clone.ensures.ok)
+    ∙ ap hosts_of (puts.1 c.in-Ok.first ∙ ap (λ k. insert_entry name_eq c.args.names.now.entries k c.in-Ok.first) c.in_ok-clone.ensures.cases)
     ∙ put_behind (with_lookup c.args.name c.args.record_type c.args.lookup c.args.now) c.args.name c.args.names.now.entries
     c.in-Ok.first last (c.in-Ok.ensures.ok c.args.name)
     ∙ put_is_insert c.args.name c.args.record_type c.args.lookup c.args.now c.args.names.now.entries c.requires.as_fqdn
@@ -53,10 +53,10 @@ returns-in-Vacant-clause-indexed g c =
     let at = rw c.in-Vacant.is at c.in_ok-entry.ensures.index in
     let puts = rw c.in-Vacant.is at c.in_ok-entry.ensures.update in
     let w = c.insert_entry-entry.ensures in
-    let place = at ∙ ap (λ k. insert_index name_eq c.args.names.now k) c.in_ok-clone.ensures.ok
+    let place = at ∙ ap (λ k. insert_index name_eq c.args.names.now k) c.in_ok-clone.ensures.cases
     ∙ sym (place_is c.args.name c.args.names.now.entries) in
     let after = ap (λ m. hosts_of m.entries) (c.names-in-Vacant-1.given.1 (sym (w.0 ∙ lent)) ∙ w.1)
-    ∙ ap hosts_of (puts.1 c.in-Ok.first ∙ ap (λ k. insert_entry name_eq c.args.names.now.entries k c.in-Ok.first) c.in_ok-clone.ensures.ok)
+    ∙ ap hosts_of (puts.1 c.in-Ok.first ∙ ap (λ k. insert_entry name_eq c.args.names.now.entries k c.in-Ok.first) c.in_ok-clone.ensures.cases)
     ∙ put_behind (with_lookup c.args.name c.args.record_type c.args.lookup c.args.now) c.args.name c.args.names.now.entries
     c.in-Ok.first (sym place ∙ ap length stays) (c.in-Ok.ensures.ok c.args.name) in
     told_indexed _ _ c.args.owners.now c.first.new.owners c.args.name c.args.record_type c.args.lookup c.args.now
