@@ -7,6 +7,7 @@ mod kept;
 mod outcome;
 mod renumber;
 pub mod response_cache;
+mod single;
 mod spelling;
 mod turns;
 

@@ -1,11 +1,15 @@
 //! Outcomes as a cache keeps them.
-ghost use Rattle.std.specs.Prelude.{◌≡◌, Ok, Err, IfOk, MatchResult};
+ghost use Rattle.std.specs.Prelude.{◌≡◌, ◌⊎◌, Ok, Err, IfOk};
+ghost use Rattle.hickory_resolver_model.specs.Cache.{aged_outcome};
 
+use crate::aging::{age_error, age_message};
+use crate::single::{SingleAnswer, is_single};
 use hickory_proto_core::{Message, NetError};
 use std::alloc::{AllocError, Global};
 use std::marker::Model;
 
-/// An outcome whose error is boxed. An error is longer than an answer, so what is kept is as long as an answer.
+/// An outcome in a form that is short and takes few pieces of memory: an answer of one record stands in it without
+/// its lists, and an error, which is long, in a box.
 #[derive(Drop)]
 pub struct KeptOutcome {
     form: Form,
@@ -13,6 +17,7 @@ pub struct KeptOutcome {
 
 #[derive(Drop)]
 enum Form {
+    Single(SingleAnswer),
     Answer(Message),
     Failure(Box<NetError>),
 }
@@ -32,9 +37,12 @@ impl KeptOutcome {
     pub fn answer(message: Message) -> KeptOutcome
         ensures { result ≡ Ok message }
     {
-        KeptOutcome {
-            form: Form::Answer(message),
-        }
+        let form = if is_single(&message) {
+            Form::Single(SingleAnswer::of(message))
+        } else {
+            Form::Answer(message)
+        };
+        KeptOutcome { form }
     }
 
     // An error as it is kept, moved into a box.
@@ -46,13 +54,22 @@ impl KeptOutcome {
         })
     }
 
-    // The outcome where it lies.
-    pub fn as_result(&self) -> Result<&Message, &NetError>
-        ensures { MatchResult result (λ message. self.now ≡ Ok message.now) (λ error. self.now ≡ Err error.now) }
+    // A copy whose times to live are lower by these seconds.
+    pub fn aged(&self, alloc: Global, seconds: u32) -> Result<Message, NetError>
+        ensures { (result ≡ aged_outcome seconds self.now) ⊎ (result ≡ Err NetError.OutOfMemory) }
     {
         match &self.form {
-            Form::Answer(message) => Ok(message),
-            Form::Failure(error) => Err(error),
+            Form::Single(single) => Ok(single.aged(alloc, seconds)?),
+            Form::Answer(message) => {
+                let mut copy = Clone::clone(message)?;
+                age_message(&mut copy, seconds);
+                Ok(copy)
+            }
+            Form::Failure(error) => {
+                let mut copy = Clone::clone(error.as_ref())?;
+                age_error(&mut copy, seconds);
+                Err(copy)
+            }
         }
     }
 }

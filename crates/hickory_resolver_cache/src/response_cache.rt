@@ -136,7 +136,7 @@ impl<S: BuildHasher> ResponseCache<S> {
         ensures { IsGot (current query.now now self.now.entries) now result }
     {
         let entry = self.current(query, now)?;
-        Some(entry.aged_result(now))
+        Some(entry.aged_result(self.allocator(), now))
     }
 
     /// Drops every entry. Takes no memory.
