@@ -197,7 +197,7 @@ OutlivesNoAnswer config e =
     → AllByRecursion (IsTimelyAnswer config e (type_code e.query.query_type)) m.answers
 
 -- what holds of every cache: it is no longer than its capacity, no two entries are for equal questions, and
--- none outlives its answers
+-- each, where the least TTL of its type is 0, outlives none of its answers of that type
 pub record IsCache (config : ConfigValue) (capacity : ℕ) (es : List Entry) : Type 0 where
   pub short : length es ≤ capacity
   pub apart : IsDistinct query_eq (map (λ e. e.query) es)

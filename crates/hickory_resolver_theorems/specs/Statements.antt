@@ -23,7 +23,7 @@ use Rattle.hickory_resolver_theorems.specs.Cacheless.{IsTable, ResolvesTo, AreCo
 use Rattle.hickory_resolver_theorems.specs.WithoutTimes.{WithoutTimes, without_times, stored_without_times}
 use Rattle.hickory_resolver_theorems.specs.Covered.{Dated, dated_exchanges, IsCovered, IsLoopback}
 
--- ---- freshness: no record of the asked type outlives what was received (RFC 2181, section 8)
+-- ---- freshness: no answer of the asked type outlives what was received (RFC 2181, section 8)
 
 -- the least TTL of a type is zero
 abbrev pub HasNoLeast : ConfigValue → ℕ → Type 0
@@ -138,7 +138,7 @@ AreFreshAnswers config sources stage (LookedUp reply) = HasFreshAnswers config s
 AreFreshAnswers config sources stage (LookedUpIp reply) = HasFreshAnswers config sources stage reply
 AreFreshAnswers config sources stage (Cleared done) = Unit {0}
 
--- no record outlives what an exchange of the same step or of an earlier one brought, neither in a sub-look-up
+-- no answer outlives what an exchange of the same step or of an earlier one brought, neither in a sub-look-up
 -- nor in what the step answers
 abbrev pub NothingOutlives : List Dated → List Stage → Type 0
 NothingOutlives earlier [] = Unit {0}
@@ -227,7 +227,7 @@ NeverGoBack now (step ∷ steps) = (now ≤ step.now) × NeverGoBack step.now st
 -- sends at most eight questions; where the asked type's least TTL is zero, no upstream answer record of that
 -- type outlives its received TTL cut at the maximum; and where equal questions get equal outcomes, no chain
 -- needs a ninth question and intermediate records are not preserved, every reply is the cacheless resolver's,
--- TTLs, deadlines and headers aside. It is said of the stages of the run that is given.
+-- TTLs, deadlines, headers and case aside. It is said of the stages of the run that is given.
 abbrev pub Headline : (s : Settings) (empty : CacheValue) (requests : List RequestValue)
     (steps : List StepValue) (exchanges : List Exchange) (after : CacheValue)
     → Run s empty requests steps exchanges after → Type 0

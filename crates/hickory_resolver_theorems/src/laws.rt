@@ -41,7 +41,7 @@ pub fn eight_questions()
 {}
 
 /// A look-up that is what the hops say is fresh: where the least TTL of the asked type is zero, and some dated
-/// exchanges cover the entries before it, no record of that type that it gives or stores outlives what those or its
+/// exchanges cover the entries before it, no answer of that type that it gives or stores outlives what those or its
 /// own exchanges brought.
 pub fn nothing_outlives()
     ensures { (s : LookupContext) (question : Query) (asks : List Exchange) (result : LookupResult)
@@ -49,8 +49,8 @@ pub fn nothing_outlives()
 {}
 
 /// A look-up that is what the hops say, over what a cache may hold, has provenance: where the least TTL of the
-/// asked type is zero, no record of that type that it gives or stores outlives what its own exchanges brought
-/// or what the current entries of that type held.
+/// asked type is zero, no answer of that type that it gives or stores outlives what its own exchanges brought
+/// or what the answers of the current entries of that type held.
 pub fn every_record_has_a_source()
     ensures { (s : LookupContext) (question : Query) (asks : List Exchange) (result : LookupResult)
         (after : CacheValue) → IsCache s.cache.config s.cache.capacity s.cache.entries
