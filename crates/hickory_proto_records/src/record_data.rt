@@ -140,50 +140,61 @@ impl Clone for RData {
         match self {
             RData::A(address) => Ok(RData::A(*address)),
             RData::AAAA(address) => Ok(RData::AAAA(*address)),
-            RData::CNAME(name) => Ok(RData::CNAME(Clone::clone(name)?)),
-            RData::NS(name) => Ok(RData::NS(Clone::clone(name)?)),
-            RData::PTR(name) => Ok(RData::PTR(Clone::clone(name)?)),
-            RData::SOA {
-                mname,
-                rname,
-                serial,
-                refresh,
-                retry,
-                expire,
-                minimum,
-            } => Ok(RData::SOA {
-                mname: Clone::clone(mname)?,
-                rname: Clone::clone(rname)?,
-                serial: *serial,
-                refresh: *refresh,
-                retry: *retry,
-                expire: *expire,
-                minimum: *minimum,
-            }),
-            RData::SRV {
-                priority,
-                weight,
-                port,
-                target,
-            } => Ok(RData::SRV {
-                priority: *priority,
-                weight: *weight,
-                port: *port,
-                target: Clone::clone(target)?,
-            }),
-            RData::MX {
-                preference,
-                exchange,
-            } => Ok(RData::MX {
-                preference: *preference,
-                exchange: Clone::clone(exchange)?,
-            }),
-            RData::TXT(strings) => Ok(RData::TXT(strings.clone()?)),
-            RData::Unknown { code, bytes } => Ok(RData::Unknown {
-                code: *code,
-                bytes: bytes.clone()?,
-            }),
+            other => clone_other(other),
         }
+    }
+}
+
+// A copy of data. Those of addresses are copied without it, so that no room is made for the others.
+fn clone_other(source: &RData) -> Result<RData, AllocError>
+    ensures { IfOk result (λ copy. data_of copy ≡ data_of source.now) }
+{
+    match source {
+        RData::A(address) => Ok(RData::A(*address)),
+        RData::AAAA(address) => Ok(RData::AAAA(*address)),
+        RData::CNAME(name) => Ok(RData::CNAME(Clone::clone(name)?)),
+        RData::NS(name) => Ok(RData::NS(Clone::clone(name)?)),
+        RData::PTR(name) => Ok(RData::PTR(Clone::clone(name)?)),
+        RData::SOA {
+            mname,
+            rname,
+            serial,
+            refresh,
+            retry,
+            expire,
+            minimum,
+        } => Ok(RData::SOA {
+            mname: Clone::clone(mname)?,
+            rname: Clone::clone(rname)?,
+            serial: *serial,
+            refresh: *refresh,
+            retry: *retry,
+            expire: *expire,
+            minimum: *minimum,
+        }),
+        RData::SRV {
+            priority,
+            weight,
+            port,
+            target,
+        } => Ok(RData::SRV {
+            priority: *priority,
+            weight: *weight,
+            port: *port,
+            target: Clone::clone(target)?,
+        }),
+        RData::MX {
+            preference,
+            exchange,
+        } => Ok(RData::MX {
+            preference: *preference,
+            exchange: Clone::clone(exchange)?,
+        }),
+        RData::TXT(strings) => Ok(RData::TXT(strings.clone()?)),
+        RData::Unknown { code, bytes } => Ok(RData::Unknown {
+            code: *code,
+            bytes: bytes.clone()?,
+        }),
     }
 }
 

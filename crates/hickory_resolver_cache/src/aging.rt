@@ -1,10 +1,11 @@
 //! Outcomes whose times to live have counted down, aged in place.
-ghost use Rattle.std.specs.Prelude.{◌≡◌, ◌-◌, map};
+ghost use Rattle.std.specs.Prelude.{◌≡◌, ◌-◌, IfOk, map};
 ghost use Rattle.std.specs.Option.{option_map};
 ghost use Rattle.hickory_proto_core.specs.Errors.{items_or_none};
 ghost use Rattle.hickory_resolver_model.specs.Cache.{age, aged_record, aged_records, aged_message, aged_forward, aged_negative, aged_error};
 
 use hickory_proto_core::{DnsError, ForwardNSData, Message, NetError, NoRecords, Record};
+use std::alloc::AllocError;
 
 // The seconds since a moment, as far as a TTL can count; none where the moment has not come yet.
 pub fn age(original_time: u64, now: u64) -> u32
@@ -13,8 +14,26 @@ pub fn age(original_time: u64, now: u64) -> u32
     now.saturating_sub(original_time).min(u32::MAX as u64) as u32
 }
 
+// A copy of the message, the TTL of each record lower by these seconds.
+pub fn message_aged(message: &Message, seconds: u32) -> Result<Message, AllocError>
+    ensures { IfOk result (λ copy. copy ≡ aged_message seconds message.now) }
+{
+    let mut copy = Clone::clone(message)?;
+    age_message(&mut copy, seconds);
+    Ok(copy)
+}
+
+// A copy of the error, the times to live that it holds lower by these seconds.
+pub fn error_aged(error: &NetError, seconds: u32) -> Result<NetError, AllocError>
+    ensures { IfOk result (λ copy. copy ≡ aged_error seconds error.now) }
+{
+    let mut copy = Clone::clone(error)?;
+    age_error(&mut copy, seconds);
+    Ok(copy)
+}
+
 // Lowers the TTL of each record of the message.
-pub fn age_message(message: &mut Message, seconds: u32)
+fn age_message(message: &mut Message, seconds: u32)
     ensures { message.new ≡ aged_message seconds message.old }
 {
     age_records(&mut message.answers, seconds);
@@ -23,7 +42,7 @@ pub fn age_message(message: &mut Message, seconds: u32)
 }
 
 // Lowers the times to live that a negative answer holds; other errors hold none.
-pub fn age_error(error: &mut NetError, seconds: u32)
+fn age_error(error: &mut NetError, seconds: u32)
     ensures { error.new ≡ aged_error seconds error.old }
 {
     if let NetError::Dns(DnsError::NoRecordsFound(negative)) = error {

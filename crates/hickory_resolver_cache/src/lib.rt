@@ -1,13 +1,13 @@
 //! A bounded cache of outcomes by question.
 #![tactic(auto)]
 
+mod address_answer;
 mod aging;
 mod entry;
 mod kept;
 mod outcome;
 mod renumber;
 pub mod response_cache;
-mod single;
 mod spelling;
 mod turns;
 

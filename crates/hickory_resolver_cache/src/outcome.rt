@@ -2,13 +2,13 @@
 ghost use Rattle.std.specs.Prelude.{◌≡◌, ◌⊎◌, Ok, Err, IfOk};
 ghost use Rattle.hickory_resolver_model.specs.Cache.{aged_outcome};
 
-use crate::aging::{age_error, age_message};
-use crate::single::{SingleAnswer, is_single};
+use crate::address_answer::{AddressAnswer, single_address};
+use crate::aging::{error_aged, message_aged};
 use hickory_proto_core::{Message, NetError};
 use std::alloc::{AllocError, Global};
 use std::marker::Model;
 
-/// An outcome in a form that is short and takes few pieces of memory: an answer of one record stands in it without
+/// An outcome in a form that is short and takes few pieces of memory: an answer of one address stands in it without
 /// its lists, and an error, which is long, in a box.
 #[derive(Drop)]
 pub struct KeptOutcome {
@@ -17,7 +17,7 @@ pub struct KeptOutcome {
 
 #[derive(Drop)]
 enum Form {
-    Single(SingleAnswer),
+    Address(AddressAnswer),
     Answer(Message),
     Failure(Box<NetError>),
 }
@@ -37,10 +37,9 @@ impl KeptOutcome {
     pub fn answer(message: Message) -> KeptOutcome
         ensures { result ≡ Ok message }
     {
-        let form = if is_single(&message) {
-            Form::Single(SingleAnswer::of(message))
-        } else {
-            Form::Answer(message)
+        let form = match single_address(&message) {
+            Some(address) => Form::Address(AddressAnswer::of(message, address)),
+            None => Form::Answer(message),
         };
         KeptOutcome { form }
     }
@@ -59,17 +58,9 @@ impl KeptOutcome {
         ensures { (result ≡ aged_outcome seconds self.now) ⊎ (result ≡ Err NetError.OutOfMemory) }
     {
         match &self.form {
-            Form::Single(single) => Ok(single.aged(alloc, seconds)?),
-            Form::Answer(message) => {
-                let mut copy = Clone::clone(message)?;
-                age_message(&mut copy, seconds);
-                Ok(copy)
-            }
-            Form::Failure(error) => {
-                let mut copy = Clone::clone(error.as_ref())?;
-                age_error(&mut copy, seconds);
-                Err(copy)
-            }
+            Form::Address(answer) => Ok(answer.aged(alloc, seconds)?),
+            Form::Answer(message) => Ok(message_aged(message, seconds)?),
+            Form::Failure(error) => Err(error_aged(error, seconds)?),
         }
     }
 }
