@@ -1,6 +1,5 @@
 //! Answers of one address, without lists.
-ghost use Rattle.std.specs.Prelude.{◌≡◌, ◌∷◌, [], IfOk, IfSome};
-ghost use Rattle.hickory_proto_core.specs.Records.{data_of, data_of_address};
+ghost use Rattle.std.specs.Prelude.{◌≡◌, ◌∷◌, [], IfOk, MatchOption};
 ghost use Rattle.hickory_resolver_model.specs.Cache.{aged_message};
 ghost use Rattle.hickory_resolver_cache.specs.Outcome.{IsAddressAnswer};
 
@@ -85,9 +84,11 @@ impl AddressAnswer {
     }
 }
 
-/// The address of a message of one question, one answer with an address and no other record.
+/// The address of a message of one question, one answer with an address and no other record; none of any other
+/// message.
 pub fn single_address(message: &Message) -> Option<IpAddr>
-    ensures { IfSome result (λ address. IsAddressAnswer address message.now) }
+    ensures { MatchOption result ((address : IpAddr) → IsAddressAnswer address message.now → ⊥)
+        (λ address. IsAddressAnswer address message.now) }
 {
     if message.queries.len() != 1
         || !message.authorities.is_empty()
