@@ -1,6 +1,8 @@
 -- Turns in order, and what a store or a removal does to the pairs and the turns.
-use Rattle.std.proofs.Common.{◌≡◌, ℕ, ◌+◌, ◌<◌, ◌≤◌, Bool, true, false, cond, ◌&&◌, ◌==◌, nat_eq, List, [], ◌∷◌, ◌++◌, length, Option, None, Some, refl, sym, ap, ap₂, ◌∙◌, subst, arith, slice_get, ◌⊎◌, inl, inr, if◌then◌else◌}
+use Rattle.std.proofs.Common.{◌≡◌, ℕ, ◌+◌, ◌<◌, ◌≤◌, Bool, true, false, cond, ◌&&◌, ◌==◌, nat_eq, List, [], ◌∷◌, ◌++◌, length, Option, None, Some, refl, sym, ap, ap₂, ◌∙◌, subst, arith, slice_get, position, is_some, ◌⊎◌, inl, inr, if◌then◌else◌}
 use Rattle.std.proofs.lemmas.Bool.{eq-eqb, ne_eqb, cases_eq, false≢true}
+use Rattle.std.proofs.lemmas.List.{length-map}
+use Rattle.std.proofs.lemmas.List.Quantifiers.{position-Some}
 use Rattle.std.proofs.lemmas.List.Sorted.{IsPermutation-append_left, IsPermutation-swap_remove}
 use Rattle.std.proofs.lemmas.Map.Entries.{lookup_from_place}
 use Rattle.std.proofs.lemmas.Map.Keys.{le_from_not_gt}
@@ -14,6 +16,8 @@ use Rattle.std.specs.Map.{lookup, keys_of, values_of}
 use Rattle.std.specs.BTreeMap.{get, is_at}
 use Rattle.std.specs.Ordering.{nat_cmp, ordering_then, is_eq, is_gt}
 use Rattle.std.specs.Option.{option_or, option_map, IfSome}
+use Rattle.indexmap.specs.IndexMap.{swap_remove_entry}
+use Rattle.indexmap.proofs.MapLemmas.{some_index, value_index, swap_remove_entry-found}
 use Rattle.hickory_proto_core.specs.records.query.Query.{Query}
 use Rattle.hickory_resolver_cache.specs.declared.kept.Kept.{Kept}
 use Rattle.hickory_proto_core.specs.Query.{query_eq, query_equiv}
@@ -160,9 +164,22 @@ taken-out ps rs t p i out numbers apart s within at is after = by out refl is af
         subst (λ l. IsPermutation ps (p ∷ l)) (sym (h ∙ ap (swap_remove ps i) same))
         (IsPermutation-swap_remove ps i p within (sym (get_or_from_slice_get ps i p p (sym g ∙ ap Some same))))
 
-pub taken-found : (ps rs : List Pair) (t : Turn) (p : Pair) (k : Query) (found : Option ℕ) (i : ℕ) (out : Option Pair) → IsDistinct nat_eq (keys_of (by_number ps)) → IsDistinct query_eq (keys_of ps) → StandsAt ps t p → k ≡ p.0 → found ≡ Some i
-    → IfSome found (λ j. j < length ps) → IfSome found (λ j. slice_get (values_of ps) j ≡ lookup (query_eq k) ps) → out ≡ slice_get ps i → IfSome out (λ x. rs ≡ swap_remove ps i x) → IsPermutation ps (p ∷ rs)
-taken-found ps rs t p k None i out numbers apart s key e within at is after = cc
-taken-found ps rs t p k (Some j) i out numbers apart s key e within at is after =
-    let same : j ≡ i = same_Some j i e in
-    taken-out ps rs t p i out numbers apart s (subst (λ n. n < length ps) same within) (ap (slice_get (values_of ps)) (sym same) ∙ at ∙ ap (λ q. lookup (query_eq q) ps) key) is after
+pub taken-found : (ps rs : List Pair) (t : Turn) (p : Pair) (k : Query) → IsDistinct nat_eq (keys_of (by_number ps)) → IsDistinct query_eq (keys_of ps) → StandsAt ps t p → k ≡ p.0
+    → rs ≡ swap_remove_entry (query_eq k) ps → IsPermutation ps (p ∷ rs)
+taken-found ps rs t p k numbers apart s key is = by (position (query_eq p.0) (keys_of ps)) refl
+  where
+    after : rs ≡ swap_remove_entry (query_eq p.0) ps
+    after = is ∙ ap (λ q. swap_remove_entry (query_eq q) ps) key
+
+    some : is_some (position (query_eq p.0) (keys_of ps)) ≡ true
+    some = some_index (query_eq p.0) ps ∙ ap is_some (found-query ps t.1 p apart s.number)
+
+    each : (o : Option Pair) (i : ℕ) → position (query_eq p.0) (keys_of ps) ≡ Some i → IfSome o (λ x. rs ≡ swap_remove ps i x)
+    each None i e = tt
+    each (Some x) i e = after ∙ swap_remove_entry-found (query_eq p.0) ps i x e
+
+    by : (r : Option ℕ) → position (query_eq p.0) (keys_of ps) ≡ r → IsPermutation ps (p ∷ rs)
+    by None e = absurd (false≢true (sym (ap is_some e) ∙ some))
+    by (Some i) e =
+        let within = subst (λ n. i < n) (length-map ps (λ (q : Pair). q.0)) (position-Some (query_eq p.0) (keys_of ps) i p.0 e).0 in
+        taken-out ps rs t p i (slice_get ps i) numbers apart s within (subst (λ r. IfSome r (λ j. slice_get (values_of ps) j ≡ lookup (query_eq p.0) ps)) e (value_index (query_eq p.0) ps)) refl (each (slice_get ps i) i e)

@@ -215,8 +215,7 @@ pub fn take_out<S: BuildHasher>(index: &mut Index<S>, order: &mut Order, turn: O
         return;
     };
     let query = order.remove(&turn).unwrap();
-    let i = index.get_index_of(&query).unwrap();
-    drop(index.swap_remove_index(i));
+    drop(index.swap_remove(&query));
 }
 
 // The turn of the question's entry.
