@@ -1,3 +1,4 @@
+mod Canonical
 pub mod Addresses
 pub mod Arpa
 pub mod LabelList

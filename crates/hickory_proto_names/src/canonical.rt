@@ -1,29 +1,42 @@
 //! The canonical form of labels, by which names are compared and hashed in one piece.
 ghost use Rattle.std.specs.Prelude.{◌≡◌, ◌<◌, ◌≤◌, ◌+◌, ◌++◌, ◌∷◌, IfOk, None, length};
+ghost use Rattle.hickory_proto_names.specs.Canonical.{kept_bytes, IsWithin};
 ghost use Rattle.hickory_proto_names.specs.Name.{canonical_form, label_bytes, label_fault, lower_label};
 
 use arrayvec::ArrayVec;
-use smallvec::SmallVec;
 use std::alloc::{AllocError, Global};
 use std::marker::Model;
 
-// Labels that a name shares with its copies, and beside them their canonical form, which takes memory of its own
-// only where it has more than 48 bytes. It comes first, since it is what is read most.
+// How many bytes of a canonical form are kept in the value itself.
+const SHORT: usize = 54;
+
+// A canonical form. One that is short takes no memory of its own, and its length stands right before its bytes, so that
+// the processor fetches both at one go.
+#[derive(Drop)]
+enum Canonical {
+    Short(u8, [u8; SHORT]),
+    Long(Vec<u8>),
+}
+
+// Labels that a name shares with its copies, and beside them their canonical form. It comes first, since it is what is
+// read most.
 #[derive(Drop)]
 pub(crate) struct SharedLabels {
-    canonical: SmallVec<u8, 48>,
+    canonical: Canonical,
     labels: Vec<Vec<u8>>,
 }
 
 impl Model for SharedLabels {
     ghost use Rattle.std.specs.Prelude.{◌≡◌, List, ℕ};
+    ghost use Rattle.hickory_proto_names.specs.Canonical.{kept_bytes, IsWithin};
     ghost use Rattle.hickory_proto_names.specs.Name.{canonical_form, label_bytes};
 
     ghost Value = { List (List ℕ) };
 
     ghost view = { λ s. label_bytes s.labels.items };
 
-    ghost invariant = { λ s. s.canonical.items ≡ canonical_form (label_bytes s.labels.items) };
+    ghost invariant = { λ s.
+        (kept_bytes s.canonical ≡ canonical_form (label_bytes s.labels.items)) × IsWithin s.canonical };
 }
 
 impl SharedLabels {
@@ -32,14 +45,17 @@ impl SharedLabels {
         ensures { IfOk result (λ s. s ≡ label_bytes labels.items) }
     {
         let form = canonical_form(&labels);
-        let canonical = SmallVec::from_slice(*labels.allocator(), form.as_slice())?;
+        let canonical = kept(*labels.allocator(), form.as_slice())?;
         Ok(SharedLabels { canonical, labels })
     }
 
     pub(crate) fn canonical(&self) -> &[u8]
         ensures { result.now ≡ canonical_form self.now }
     {
-        self.canonical.as_slice()
+        match &self.canonical {
+            Canonical::Short(len, bytes) => &bytes[..*len as usize],
+            Canonical::Long(form) => form.as_slice(),
+        }
     }
 
     pub(crate) fn as_slice(&self) -> &[Vec<u8>]
@@ -66,6 +82,19 @@ impl SharedLabels {
     {
         Ok(self.labels.clone()?)
     }
+}
+
+// A canonical form as it is kept.
+fn kept(alloc: Global, form: &[u8]) -> Result<Canonical, AllocError>
+    ensures bytes { IfOk result (λ c. kept_bytes c ≡ form.now) }
+    ensures within { IfOk result IsWithin }
+{
+    if SHORT < form.len() {
+        return Ok(Canonical::Long(Vec::from_slice(alloc, form)?));
+    }
+    let mut bytes = [0; SHORT];
+    bytes[..form.len()].copy_from_slice(form);
+    Ok(Canonical::Short(form.len() as u8, bytes))
 }
 
 // The labels as they stand on the wire, in lower case.

@@ -52,7 +52,8 @@ pub enum DnsError {
 /// A negative answer (RFC 2308, section 2).
 #[derive(Debug, Drop)]
 pub struct NoRecords {
-    /// What was asked.
+    /// The question that is answered so. Of a response it is its own first one, or that for the addresses of the
+    /// root where it has none.
     pub query: Query,
     /// The SOA record of the zone that has no such records.
     pub soa: Option<Record>,

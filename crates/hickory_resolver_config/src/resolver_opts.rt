@@ -13,8 +13,8 @@ use std::marker::Model;
 #[derive(Debug, Drop)]
 pub struct ResolverOpts {
     /// A relative name of more labels than this is looked up as it is before the domain and the search list
-    /// are tried, and else after them. The text of an IPv4 address is looked up as a name only where this is 5
-    /// or more.
+    /// are tried, and else after them. `lookup_ip` looks the text of an IPv4 address up as a name only where
+    /// this is 5 or more.
     pub ndots: usize,
     /// After how many seconds a request has failed. No effect: the upstream answers or fails.
     pub timeout: u64,

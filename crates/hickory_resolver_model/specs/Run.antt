@@ -128,8 +128,8 @@ address_plan strategy literal = record {
   no_names = codes "can not lookup IPs for no names";
 }
 
--- A look-up of addresses: an address is the reply at once where few dots make a name absolute or it is no
--- name; else it is the last resort. What is neither an address nor a name is answered its fault.
+-- A look-up of addresses: an address is the reply at once where `ndots` is 4 at the most or it is no name;
+-- else it is the last resort. What is neither an address nor a name is answered its fault.
 abbrev pub address_call : Settings → Option IpAddr → Result NameValue NameError → ℕ → Call
 address_call s None (Ok n) now = Attempt n (address_plan s.strategy None)
 address_call s None (Err fault) now = AtOnce (Err (net_error_of fault))
