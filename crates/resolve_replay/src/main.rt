@@ -2,6 +2,7 @@
 #![tactic(auto)]
 
 use replay::{ReplayError, Watched, replay};
+use std::env::FillError;
 use std::process::ExitCode;
 use std::rt::{Env, Files};
 use std::{env, fmt, fs, io};
@@ -21,6 +22,7 @@ fn main(rt: HostRuntime) -> ExitCode {
 #[derive(Debug, Drop)]
 enum RunError {
     Usage,
+    PathNotUtf8,
     Unreadable(String),
     Replay(ReplayError),
 }
@@ -30,7 +32,7 @@ impl RunError {
         match self {
             RunError::Usage => 2,
             RunError::Replay(error) => error.status(),
-            RunError::Unreadable(_) => 4,
+            RunError::PathNotUtf8 | RunError::Unreadable(_) => 4,
         }
     }
 }
@@ -39,6 +41,7 @@ impl fmt::Display for RunError {
     fn fmt<W: fmt::Write>(&self, f: &mut fmt::Formatter<W>) -> fmt::Result {
         match self {
             RunError::Usage => f.write_str("usage: resolve_replay SCRIPT [HOSTS]"),
+            RunError::PathNotUtf8 => f.write_str("cannot read a path that is not UTF-8"),
             RunError::Unreadable(path) => write!(f, "cannot read {path}"),
             RunError::Replay(error) => write!(f, "{error}"),
         }
@@ -69,12 +72,25 @@ fn run<R: AllocGlobal + Env + Files + Print>(rt: &R) -> Result<(), RunError> {
 fn paths<R: AllocGlobal + Env>(rt: &R) -> Result<(String, Option<String>), RunError> {
     let mut arguments = match env::args(rt) {
         Ok(arguments) => arguments.skip(1),
-        Err(error) => return Err(memory_or(error, RunError::Usage)),
+        Err(error) => return Err(memory_or(error, not_text(rt))),
     };
     match (arguments.next(), arguments.next(), arguments.next()) {
         (Some(script), hosts, None) => Ok((script, hosts)),
         _ => Err(RunError::Usage),
     }
+}
+
+// One of the arguments is not UTF-8, which counts where their number is right.
+fn not_text<R: Env>(rt: &R) -> RunError {
+    if has_argument(rt, 1) && !has_argument(rt, 3) {
+        RunError::PathNotUtf8
+    } else {
+        RunError::Usage
+    }
+}
+
+fn has_argument<R: Env>(rt: &R, place: usize) -> bool {
+    !matches!(rt.arg(place, &mut []), Err(FillError::NotPresent))
 }
 
 fn read<R: AllocGlobal + Files>(rt: &R, path: String) -> Result<Vec<u8>, RunError> {
