@@ -5,6 +5,7 @@
 
 mod bounds;
 mod clears;
+mod copies;
 mod given;
 mod in_turn;
 mod negative;
@@ -13,6 +14,7 @@ mod one_hash;
 mod options;
 mod outcomes;
 mod own_handle;
+mod replaced;
 mod runs;
 mod servers;
 mod shown;
@@ -40,6 +42,8 @@ fn push_all(alloc: Global, text: &mut String) -> Result<(), NetError> {
     push_clients(alloc, text)?;
     push_resolvers(alloc, text)?;
     servers::push_configuration(alloc, text)?;
+    copies::push_copies(alloc, text)?;
+    replaced::push_replaced(alloc, text)?;
     runs::push_run(alloc, text)
 }
 

@@ -1,17 +1,20 @@
 //! Runs scripts one after another, and prints what happened in each. The output that is wanted stands
 //! beside this crate's sources. A file of hosts serves the script after it. A file `.scripts` holds
 //! short scripts with an empty line between two. The script in a file `.short` is written to writers with
-//! little room.
+//! little room, that in a file `.rooms` to one for each room that is too little.
 #![tactic(auto)]
 
 mod one_hash;
+mod rooms;
 mod short_of_room;
 
 use crate::one_hash::OneHash;
+use crate::rooms::print_beginnings;
 use crate::short_of_room::ShortOfRoom;
 use bstr::ByteSlice;
 use replay::{ReplayError, Watched, replay, replay_text, replay_text_with_hasher};
 use std::alloc::Global;
+use std::io::ErrorKind;
 use std::process::ExitCode;
 use std::rt::{Env, Files};
 use std::{env, fs, io, str};
@@ -36,6 +39,8 @@ fn run_all<R: AllocGlobal + Env + Files + Print>(rt: &R) -> io::Result<()> {
             run_each(rt, &bytes)?;
         } else if path.as_str().ends_with(".short") {
             write_each(rt, &bytes)?;
+        } else if path.as_str().ends_with(".rooms") {
+            write_in_each_room(rt, &bytes)?;
         } else {
             run(rt, &bytes, &hosts)?;
             hosts.clear();
@@ -79,11 +84,28 @@ fn is_told_with_one_hash(
     }
 }
 
+// What the script comes to, and what is left of it where there is room for less.
+fn write_in_each_room<R: AllocGlobal + Print>(rt: &R, script: &[u8]) -> io::Result<()> {
+    match replay_text(rt.alloc(), script, &[]) {
+        Ok(text) => {
+            rt.print(text.as_str())?;
+            print_beginnings(rt, script, text.as_bytes())
+        }
+        Err(error) => print_error(rt, error),
+    }
+}
+
 // The script, written to writers with room for nothing, for forty bytes, and for all.
 fn write_each<R: AllocGlobal + Print>(rt: &R, script: &[u8]) -> io::Result<()> {
-    for (room, is_interrupted) in [(0, false), (40, false), (40, true), (usize::MAX, true)] {
+    let interrupted = Some(ErrorKind::Interrupted);
+    for (room, error) in [
+        (0, None),
+        (40, None),
+        (40, interrupted),
+        (usize::MAX, interrupted),
+    ] {
         rt.println("-")?;
-        write(rt, script, room, is_interrupted)?;
+        write(rt, script, room, error)?;
     }
     Ok(())
 }
@@ -93,12 +115,12 @@ fn write<R: AllocGlobal + Print>(
     rt: &R,
     script: &[u8],
     room: usize,
-    is_interrupted: bool,
+    error: Option<ErrorKind>,
 ) -> io::Result<()> {
     let mut writer = Watched::new(ShortOfRoom {
         taken: Vec::new(rt.alloc()),
         room,
-        is_interrupted,
+        error,
     });
     let written = replay(rt.alloc(), script, None, &mut writer);
     let has_failed = writer.failed();
