@@ -8,6 +8,7 @@ mod clears;
 mod copies;
 mod given;
 mod in_turn;
+mod kinds;
 mod negative;
 mod no_names;
 mod one_hash;
@@ -52,6 +53,7 @@ fn push_clients(alloc: Global, text: &mut String) -> Result<(), NetError> {
     options::push_of_clients(alloc, text)?;
     own_handle::push_own_handle(alloc, text)?;
     negative::push_negative(alloc, text)?;
+    kinds::push_kinds(alloc, text)?;
     in_turn::push_in_turn(alloc, text)?;
     no_names::push_no_names(alloc, text)
 }

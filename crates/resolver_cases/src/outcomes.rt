@@ -1,7 +1,7 @@
 //! What tables of outcomes hold.
 use hickory_proto_core::dns_handle::Outcome;
 use hickory_proto_core::{
-    DnsResponse, Message, Name, NetError, OpCode, Query, RData, Record, RecordType,
+    DnsResponse, Message, Name, NetError, OpCode, Query, RData, Record, RecordType, ResponseCode,
 };
 use std::alloc::Global;
 use std::net::Ipv4Addr;
@@ -33,6 +33,34 @@ pub fn add_address(
     let outcome = answer_to(alloc, &query, address);
     outcomes.push((query, outcome))?;
     Ok(())
+}
+
+/// Adds that there is no such name, which may be kept for forty seconds.
+pub fn add_no_name(
+    alloc: Global,
+    outcomes: &mut Vec<(Query, Outcome)>,
+    query: Query,
+) -> Result<(), NetError> {
+    let outcome = no_name(alloc, &query);
+    outcomes.push((query, outcome))?;
+    Ok(())
+}
+
+fn no_name(alloc: Global, query: &Query) -> Outcome {
+    let rdata = RData::SOA {
+        mname: Name::from_ascii(alloc, "m.")?,
+        rname: Name::from_ascii(alloc, "r.")?,
+        serial: 1,
+        refresh: 2,
+        retry: 3,
+        expire: 4,
+        minimum: 40,
+    };
+    let mut message = Message::response(alloc, 0, OpCode::Query);
+    message.metadata.response_code = ResponseCode::NXDomain;
+    message.add_query(query.clone()?)?;
+    message.add_authority(Record::from_rdata(Name::root(alloc), 50, rdata))?;
+    Ok(DnsResponse::from_message(message))
 }
 
 fn answer_to(alloc: Global, query: &Query, address: Ipv4Addr) -> Outcome {

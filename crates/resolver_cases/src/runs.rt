@@ -1,9 +1,11 @@
 //! A run over an upstream that is a table.
-use crate::outcomes::add_address;
-use crate::shown::{push_outcome, push_sent};
-use hickory_proto_core::{NetError, RecordType, TableHandle};
+use crate::outcomes::{add_address, add_late, add_no_name};
+use crate::shown::{push_answers, push_sent};
+use hickory_proto_core::dns_handle::Outcome;
+use hickory_proto_core::{DnsError, Name, NetError, Query, RecordType, TableHandle};
 use hickory_resolver::{
-    Hosts, LookupIp, Reply, Request, ResolverConfig, ResolverOpts, Step, Transcript, run,
+    Hosts, Lookup, LookupIp, LookupIpStrategy, Reply, Request, ResolverConfig, ResolverOpts, Step,
+    Transcript, run,
 };
 use std::alloc::{AllocError, Global};
 use std::net::Ipv4Addr;
@@ -29,64 +31,62 @@ fn push_filled(
     Ok(pushed?)
 }
 
-// The addresses of a host; a name that has no outcome; a name that is cleared, and asked again; and all is cleared.
+// The addresses of a host that has one family; that it lacks the other, out of the cache; its address, cleared and
+// asked again; a name that is not answered in time; and all is cleared.
 fn fill(alloc: Global, requests: &mut Vec<Request>) -> Result<(), NetError> {
     let host = String::from_str(alloc, "h.")?;
     requests.push(Request::LookupIp { host, now: 10 })?;
-    add_lookup(alloc, requests, "t.", 25)?;
-    add_clear(alloc, requests, "h.", 25)?;
-    add_lookup(alloc, requests, "h.", 26)?;
+    requests.push(lookup_of(alloc, "h.", RecordType::AAAA, 25)?)?;
+    let (name, record_type) = (String::from_str(alloc, "h.")?, RecordType::A);
+    requests.push(Request::ClearLookup {
+        name,
+        record_type,
+        now: 25,
+    })?;
+    requests.push(lookup_of(alloc, "h.", RecordType::A, 26)?)?;
+    requests.push(lookup_of(alloc, "t.", RecordType::A, 26)?)?;
     requests.push(Request::Clear { now: 26 })?;
     Ok(())
 }
 
-fn add_lookup(
+fn lookup_of(
     alloc: Global,
-    requests: &mut Vec<Request>,
     name: &str,
+    record_type: RecordType,
     now: u64,
-) -> Result<(), NetError> {
-    let (name, record_type) = (String::from_str(alloc, name)?, RecordType::A);
-    let request = Request::Lookup {
+) -> Result<Request, AllocError> {
+    let name = String::from_str(alloc, name)?;
+    Ok(Request::Lookup {
         name,
         record_type,
         now,
-    };
-    requests.push(request)?;
-    Ok(())
-}
-
-fn add_clear(
-    alloc: Global,
-    requests: &mut Vec<Request>,
-    name: &str,
-    now: u64,
-) -> Result<(), NetError> {
-    let (name, record_type) = (String::from_str(alloc, name)?, RecordType::A);
-    let request = Request::ClearLookup {
-        name,
-        record_type,
-        now,
-    };
-    requests.push(request)?;
-    Ok(())
+    })
 }
 
 fn transcript_of(alloc: Global, requests: &[Request]) -> Result<Transcript<TableHandle>, NetError> {
     let handle = table_of(alloc)?;
-    let (config, options) = (ResolverConfig::default(alloc), ResolverOpts::default(alloc));
+    let (config, mut options) = (ResolverConfig::default(alloc), ResolverOpts::default(alloc));
+    options.preserve_intermediates = false;
+    options.ip_strategy = LookupIpStrategy::Ipv4AndIpv6;
     run(config, options, Hosts::default(alloc), handle, requests)
 }
 
 fn table_of(alloc: Global) -> Result<TableHandle, NetError> {
     let mut outcomes = Vec::new(alloc);
-    match add_address(alloc, &mut outcomes, "h.", Ipv4Addr::new(192, 0, 2, 3)) {
+    match fill_table(alloc, &mut outcomes) {
         Ok(()) => TableHandle::new(outcomes),
         Err(error) => {
             drop(outcomes);
             Err(error)
         }
     }
+}
+
+fn fill_table(alloc: Global, outcomes: &mut Vec<(Query, Outcome)>) -> Result<(), NetError> {
+    add_address(alloc, outcomes, "h.", Ipv4Addr::new(192, 0, 2, 3))?;
+    let other = Query::query(Name::from_ascii(alloc, "h.")?, RecordType::AAAA);
+    add_no_name(alloc, outcomes, other)?;
+    add_late(alloc, outcomes, "t.")
 }
 
 fn push_transcript(
@@ -103,16 +103,37 @@ fn push_step(text: &mut String, step: &Step) -> Result<(), AllocError> {
     let (now, sent) = (step.now, step.exchanges);
     write!(text, "at {now} sent {sent}\n")?;
     match &step.reply {
-        Reply::Lookup(reply) => push_outcome(text, reply),
+        Reply::Lookup(Ok(lookup)) => push_lookup(text, lookup),
         Reply::LookupIp(Ok(found)) => push_found(text, found),
-        Reply::LookupIp(Err(error)) | Reply::Cleared(Err(error)) => write!(text, "  {error}\n"),
         Reply::Cleared(Ok(())) => text.push_str("  cleared\n"),
+        Reply::Lookup(Err(error)) | Reply::LookupIp(Err(error)) | Reply::Cleared(Err(error)) => {
+            push_error(text, error)
+        }
     }
 }
 
+fn push_lookup(text: &mut String, lookup: &Lookup) -> Result<(), AllocError> {
+    let until = lookup.valid_until();
+    write!(text, "  until {until}\n")?;
+    push_answers(text, lookup.answers())
+}
+
 fn push_found(text: &mut String, found: &LookupIp) -> Result<(), AllocError> {
+    let until = found.valid_until();
+    write!(text, "  until {until}\n")?;
     for address in found.iter() {
         write!(text, "  address {address}\n")?;
     }
     Ok(())
+}
+
+// With the seconds for which a negative answer may be kept.
+fn push_error(text: &mut String, error: &NetError) -> Result<(), AllocError> {
+    match error {
+        NetError::Dns(DnsError::NoRecordsFound(none)) => {
+            let (code, ttl) = (&none.response_code, none.negative_ttl.unwrap_or(0));
+            write!(text, "  {code:?} for {ttl}\n")
+        }
+        _ => write!(text, "  {error}\n"),
+    }
 }

@@ -17,7 +17,7 @@ pub fn push_reply(
 }
 
 /// Adds what a look-up came to.
-pub fn push_outcome(text: &mut String, reply: &Result<Lookup, NetError>) -> Result<(), AllocError> {
+fn push_outcome(text: &mut String, reply: &Result<Lookup, NetError>) -> Result<(), AllocError> {
     match reply {
         Ok(lookup) => push_answers(text, lookup.answers()),
         Err(error) => write!(text, "  {error}\n"),
@@ -34,7 +34,8 @@ pub fn push_sent(text: &mut String, lead: &str, sent: &[Exchange]) -> Result<(),
     Ok(())
 }
 
-fn push_answers(text: &mut String, answers: &[Record]) -> Result<(), AllocError> {
+/// Adds a line for each answer.
+pub fn push_answers(text: &mut String, answers: &[Record]) -> Result<(), AllocError> {
     for answer in answers {
         let (owner, record_type) = (&answer.name, answer.record_type());
         write!(text, "  answer {owner} {record_type}")?;
