@@ -2,7 +2,7 @@
 use hickory_proto_core::NetError;
 use hickory_resolver::{
     ConnectionConfig, NameServerConfig, OpportunisticEncryption, OpportunisticEncryptionConfig,
-    ResolverConfig, ResolverOpts, ServerGroup,
+    ProtocolConfig, ResolverConfig, ResolverOpts, ServerGroup,
 };
 use std::alloc::{AllocError, Global};
 use std::fmt::Debug;
@@ -19,44 +19,44 @@ pub fn push_copies(alloc: Global, text: &mut String) -> Result<(), NetError> {
     Ok(())
 }
 
-fn push_shown<T: Debug + Drop>(text: &mut String, copy: T) -> Result<(), AllocError> {
+// The text of a copy that outlives its source.
+fn push_copy<T: Clone + Debug + Drop>(text: &mut String, source: T) -> Result<(), AllocError> {
+    let copy: Result<T, AllocError> = source.clone();
+    drop(source);
+    let copy = copy?;
     let pushed = write!(text, "{copy:?}\n");
     drop(copy);
     pushed
 }
 
-// A connection, and its protocol alone.
+// A connection, and a protocol alone.
 fn push_of_connection(alloc: Global, text: &mut String) -> Result<(), NetError> {
     let server_name = String::from_str(alloc, "dns.example")?;
-    let connection = ConnectionConfig::h3(server_name, None)?;
-    let copies = (connection.clone(), connection.protocol.clone());
-    drop(connection);
-    push_shown(text, copies.0?)?;
-    push_shown(text, copies.1?)?;
+    push_copy(text, ConnectionConfig::h3(server_name, None)?)?;
+    let server_name = String::from_str(alloc, "dns.example")?;
+    push_copy(text, ProtocolConfig::Quic { server_name })?;
     Ok(())
 }
 
 fn push_of_server(alloc: Global, text: &mut String) -> Result<(), NetError> {
     let ip = IpAddr::V4(Ipv4Addr::new(192, 0, 2, 53));
     let server = NameServerConfig::opportunistic_encryption(alloc, ip)?;
-    let copy = server.clone();
-    drop(server);
-    push_shown(text, copy?)?;
+    push_copy(text, server)?;
     Ok(())
 }
 
-// A group of servers, and configurations of them.
+// A group of servers, and configurations of such a group.
 fn push_of_group(alloc: Global, text: &mut String) -> Result<(), NetError> {
+    push_copy(text, group_of(alloc)?)?;
     let group = group_of(alloc)?;
-    let copies = (
-        group.clone(),
-        copy_of(ResolverConfig::quic(&group)),
-        copy_of(ResolverConfig::h3(&group)),
-    );
+    let pushed = push_configs(text, &group);
     drop(group);
-    push_shown(text, copies.0?)?;
-    push_shown(text, copies.1?)?;
-    push_shown(text, copies.2?)?;
+    pushed
+}
+
+fn push_configs(text: &mut String, group: &ServerGroup<'_>) -> Result<(), NetError> {
+    push_copy(text, ResolverConfig::quic(group)?)?;
+    push_copy(text, ResolverConfig::h3(group)?)?;
     Ok(())
 }
 
@@ -71,27 +71,18 @@ fn group_of(alloc: Global) -> Result<ServerGroup<'static>, NetError> {
     })
 }
 
-fn copy_of(config: Result<ResolverConfig, NetError>) -> Result<ResolverConfig, NetError> {
-    let config = config?;
-    let copy = config.clone();
-    drop(config);
-    copy
-}
-
 // Options of which some are not the default.
 fn push_of_options(alloc: Global, text: &mut String) -> Result<(), NetError> {
     let mut options = ResolverOpts::default(alloc);
     options.ndots = 3;
     options.positive_max_ttl = Some(60);
     options.preserve_intermediates = false;
-    let copy = options.clone();
-    drop(options);
-    push_shown(text, copy?)?;
+    push_copy(text, options)?;
     Ok(())
 }
 
 fn push_of_encryption(text: &mut String) -> Result<(), AllocError> {
     let config = OpportunisticEncryptionConfig::default();
-    push_shown(text, OpportunisticEncryption::Enabled { config }.clone()?)?;
-    push_shown(text, OpportunisticEncryption::default().clone()?)
+    push_copy(text, OpportunisticEncryption::Enabled { config })?;
+    push_copy(text, OpportunisticEncryption::default())
 }

@@ -4,7 +4,7 @@ use crate::shown::push_reply;
 use crate::upstream::client_over;
 use hickory_proto_core::dns_handle::Outcome;
 use hickory_proto_core::{
-    DNSClass, DnsRequestOptions, DnsResponse, Message, NetError, OpCode, Query, RData, Record,
+    DNSClass, DnsRequestOptions, DnsResponse, Message, Name, NetError, OpCode, Query, RData, Record,
 };
 use std::alloc::Global;
 
@@ -21,17 +21,28 @@ pub fn push_kinds(alloc: Global, text: &mut String) -> Result<(), NetError> {
 }
 
 fn unknown_answer(alloc: Global, query: &Query) -> Result<Vec<(Query, Outcome)>, NetError> {
+    let question = query.clone()?;
+    let outcome = unknown_to(alloc, query);
+    let mut outcomes = Vec::new(alloc);
+    outcomes.push((question, outcome))?;
+    Ok(outcomes)
+}
+
+// A response with an answer of data that have the code of a CNAME record.
+fn unknown_to(alloc: Global, query: &Query) -> Outcome {
+    let (owner, question) = (query.name.clone()?, query.clone()?);
+    let mut message = Message::response(alloc, 0, OpCode::Query);
+    message.add_query(question)?;
+    message.add_answer(unknown_of(alloc, owner))?;
+    Ok(DnsResponse::from_message(message))
+}
+
+fn unknown_of(alloc: Global, owner: Name) -> Record {
     let rdata = RData::Unknown {
         code: 5,
         bytes: Vec::new(alloc),
     };
-    let (owner, question) = (query.name.clone()?, query.clone()?);
-    let mut message = Message::response(alloc, 0, OpCode::Query);
-    message.add_query(question)?;
-    message.add_answer(Record::from_rdata(owner, 20, rdata))?;
-    let mut outcomes = Vec::new(alloc);
-    outcomes.push((query.clone()?, Ok(DnsResponse::from_message(message))))?;
-    Ok(outcomes)
+    Record::from_rdata(owner, 20, rdata)
 }
 
 fn push_asked(

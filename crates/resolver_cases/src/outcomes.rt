@@ -47,20 +47,29 @@ pub fn add_no_name(
 }
 
 fn no_name(alloc: Global, query: &Query) -> Outcome {
+    let (question, soa) = (query.clone()?, soa_of(alloc)?);
+    let mut message = Message::response(alloc, 0, OpCode::Query);
+    message.metadata.response_code = ResponseCode::NXDomain;
+    message.add_query(question)?;
+    message.add_authority(soa)?;
+    Ok(DnsResponse::from_message(message))
+}
+
+fn soa_of(alloc: Global) -> Result<Record, NetError> {
+    let (mname, rname) = (
+        Name::from_ascii(alloc, "m.")?,
+        Name::from_ascii(alloc, "r.")?,
+    );
     let rdata = RData::SOA {
-        mname: Name::from_ascii(alloc, "m.")?,
-        rname: Name::from_ascii(alloc, "r.")?,
+        mname,
+        rname,
         serial: 1,
         refresh: 2,
         retry: 3,
         expire: 4,
         minimum: 40,
     };
-    let mut message = Message::response(alloc, 0, OpCode::Query);
-    message.metadata.response_code = ResponseCode::NXDomain;
-    message.add_query(query.clone()?)?;
-    message.add_authority(Record::from_rdata(Name::root(alloc), 50, rdata))?;
-    Ok(DnsResponse::from_message(message))
+    Ok(Record::from_rdata(Name::root(alloc), 50, rdata))
 }
 
 fn answer_to(alloc: Global, query: &Query, address: Ipv4Addr) -> Outcome {

@@ -44,6 +44,19 @@ fn fill(alloc: Global, config: &mut ResolverConfig) -> Result<(), NetError> {
 
 fn push_of(text: &mut String, config: ResolverConfig) -> Result<(), AllocError> {
     let (domain, search, servers) = config.into_parts();
+    let pushed = push_each(text, &domain, &search, &servers);
+    drop(domain);
+    drop(search);
+    drop(servers);
+    pushed
+}
+
+fn push_each(
+    text: &mut String,
+    domain: &Option<Name>,
+    search: &[Name],
+    servers: &[NameServerConfig],
+) -> Result<(), AllocError> {
     if let Some(domain) = domain {
         write!(text, "domain {domain}\n")?;
     }
