@@ -58,7 +58,7 @@ fn bare_figures<R: Clock>(
     requires { 0 < size }
 {
     Ok(BareFigures {
-        hash: time_hashes(watch, Visits::new(alloc, 0, size))?,
+        hash: time_hashes(watch, Visits::new(alloc, 0, size, BATCH))?,
         look_up: time_look_ups(alloc, watch, size)?,
         copy: time_copies(alloc, watch, size)?,
         exchange: time_exchanges(alloc, watch, size)?,
@@ -121,7 +121,7 @@ fn time_look_ups<R: Clock>(
     requires { 0 < size }
 {
     let map = numbers(alloc, size)?;
-    let visits = Visits::new(alloc, 0, size);
+    let visits = Visits::new(alloc, 0, size, BATCH);
     watch.best(&mut LookUps { map, visits }, BATCHES, OPERATIONS)
 }
 
@@ -231,7 +231,7 @@ fn time_exchanges<R: Clock>(
 {
     let mut exchanges = Exchanges {
         messages: messages(alloc, size)?,
-        visits: Visits::new(alloc, size, size),
+        visits: Visits::new(alloc, size, size, BATCH),
         answers: Vec::new(alloc),
         size,
         next: 0,

@@ -110,6 +110,8 @@ pub struct Visits {
     alloc: Global,
     first: u64,
     size: u64,
+    /// How many questions the next batch has.
+    pub batch: u64,
     next: u64,
     /// The questions of the batch.
     pub asked: Vec<Query>,
@@ -117,14 +119,15 @@ pub struct Visits {
 }
 
 impl Visits {
-    /// Visits to so many hosts, from the first one on.
-    pub fn new(alloc: Global, first: u64, size: u64) -> Visits
+    /// Visits to so many hosts, from the first one on, so many a batch.
+    pub fn new(alloc: Global, first: u64, size: u64, batch: u64) -> Visits
         requires { 0 < size }
     {
         Visits {
             alloc,
             first,
             size,
+            batch,
             next: 0,
             asked: Vec::new(alloc),
         }
@@ -133,7 +136,7 @@ impl Visits {
     /// Asks the questions of the next batch.
     pub fn refill(&mut self) -> Result<(), NetError> {
         self.asked.clear();
-        for _ in 0..BATCH {
+        for _ in 0..self.batch {
             let number = self.first.wrapping_add(place(self.next, self.size));
             self.asked.push(question(self.alloc, number)?)?;
             self.next = self.next.wrapping_add(1);
