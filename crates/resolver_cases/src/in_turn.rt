@@ -1,8 +1,8 @@
 //! Look-ups of several names, one after another.
 use crate::shown::push_reply;
-use crate::upstream::{Upstream, client_over};
+use crate::upstream::{Upstream, client_over, hosts_of};
 use hickory_proto_core::{DnsRequestOptions, Name, NameError, NetError, RecordType};
-use hickory_resolver::{CachingClient, Hosts, Lookup, LookupFuture};
+use hickory_resolver::{CachingClient, Lookup, LookupFuture};
 use std::alloc::Global;
 
 /// Adds what they send, and the replies.
@@ -69,15 +69,6 @@ fn with_hosts(
     let reply = LookupFuture::lookup_with_hosts(names, RecordType::A, options, client, &hosts, 0);
     drop(hosts);
     reply
-}
-
-// A table of what a file of hosts says that is read at 0.
-fn hosts_of(alloc: Global, file: &str) -> Result<Hosts, NetError> {
-    let mut hosts = Hosts::default(alloc);
-    match hosts.read_hosts_bytes(file.as_bytes(), 0) {
-        Ok(()) => Ok(hosts),
-        Err(_) => Err(NetError::Message("a file of hosts that is not read")),
-    }
 }
 
 fn names_of(alloc: Global, texts: &[&str]) -> Result<Vec<Name>, NameError> {

@@ -1,10 +1,10 @@
 //! Parts of configurations and resolvers that take the place of others.
 use crate::shown::push_reply;
-use crate::upstream::{Upstream, builder_of};
+use crate::upstream::{Upstream, builder_of, hosts_of};
 use hickory_proto_core::{Name, NetError};
 use hickory_resolver::{
-    Hosts, LookupIp, NameServerConfig, OpportunisticEncryption, OpportunisticEncryptionConfig,
-    Resolver, ResolverConfig,
+    LookupIp, NameServerConfig, OpportunisticEncryption, OpportunisticEncryptionConfig, Resolver,
+    ResolverConfig,
 };
 use std::alloc::{AllocError, Global};
 use std::net::{IpAddr, Ipv4Addr};
@@ -97,14 +97,6 @@ fn push_in_turn(
 fn push_asked(text: &mut String, resolver: &mut Resolver<Upstream>) -> Result<(), AllocError> {
     let reply = resolver.ipv4_lookup("h.", 0);
     push_reply(text, resolver.client().handle().exchanges(), reply)
-}
-
-fn hosts_of(alloc: Global, file: &str) -> Result<Hosts, NetError> {
-    let mut hosts = Hosts::default(alloc);
-    match hosts.read_hosts_bytes(file.as_bytes(), 0) {
-        Ok(()) => Ok(hosts),
-        Err(_) => Err(NetError::Message("a file of hosts that is not read")),
-    }
 }
 
 // The addresses of a copy.

@@ -1,7 +1,7 @@
-//! Clients and resolvers over tables of outcomes.
+//! Clients and resolvers over tables of outcomes, and tables of hosts.
 use hickory_proto_core::dns_handle::Outcome;
 use hickory_proto_core::{NetError, Query, Recorded, TableHandle};
-use hickory_resolver::{CachingClient, Resolver, ResolverBuilder, ResolverConfig};
+use hickory_resolver::{CachingClient, Hosts, Resolver, ResolverBuilder, ResolverConfig};
 use std::alloc::Global;
 
 /// An upstream that is a table and records what it is asked.
@@ -21,4 +21,13 @@ pub fn client_over(
 pub fn builder_of(alloc: Global) -> Result<ResolverBuilder<Upstream>, NetError> {
     let upstream = Recorded::new(alloc, TableHandle::new(Vec::new(alloc))?);
     Ok(Resolver::builder_with_config(ResolverConfig::default(alloc), upstream))
+}
+
+/// A table of what a file of hosts says that is read at 0.
+pub fn hosts_of(alloc: Global, file: &str) -> Result<Hosts, NetError> {
+    let mut hosts = Hosts::default(alloc);
+    match hosts.read_hosts_bytes(file.as_bytes(), 0) {
+        Ok(()) => Ok(hosts),
+        Err(_) => Err(NetError::Message("a file of hosts that is not read")),
+    }
 }
