@@ -1,8 +1,8 @@
 //! A client over a handle that knows no name: the SOA record of its replies, which a script's text leaves out.
-use crate::outcomes::query_of;
+use crate::outcomes::{query_of, soa_of};
 use hickory_proto_core::{
     DnsError, DnsHandle, DnsRequest, DnsRequestOptions, DnsResponse, Message, Name, NetError,
-    OpCode, RData, Record, ResponseCode,
+    OpCode, ResponseCode,
 };
 use hickory_resolver::{CachingClient, Lookup};
 use std::alloc::{AllocError, Global};
@@ -17,22 +17,10 @@ impl DnsHandle for NoName {
     fn send(&mut self, _request: &DnsRequest) -> Result<DnsResponse, NetError> {
         let mut message = Message::response(self.alloc, 0, OpCode::Query);
         message.metadata.response_code = ResponseCode::NXDomain;
-        message.add_authority(soa_of(self.alloc))?;
+        let (mname, rname) = (Name::root(self.alloc), Name::root(self.alloc));
+        message.add_authority(soa_of(self.alloc, mname, rname, 300, 60))?;
         Ok(DnsResponse::from_message(message))
     }
-}
-
-fn soa_of(alloc: Global) -> Record {
-    let rdata = RData::SOA {
-        mname: Name::root(alloc),
-        rname: Name::root(alloc),
-        serial: 1,
-        refresh: 2,
-        retry: 3,
-        expire: 4,
-        minimum: 60,
-    };
-    Record::from_rdata(Name::root(alloc), 300, rdata)
 }
 
 /// Adds the TTL of the SOA record of its replies at some moments (seconds).

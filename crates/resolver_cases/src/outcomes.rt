@@ -47,7 +47,11 @@ pub fn add_no_name(
 }
 
 fn no_name(alloc: Global, query: &Query) -> Outcome {
-    let (question, soa) = (query.clone()?, soa_of(alloc)?);
+    let (mname, rname) = (
+        Name::from_ascii(alloc, "m.")?,
+        Name::from_ascii(alloc, "r.")?,
+    );
+    let (question, soa) = (query.clone()?, soa_of(alloc, mname, rname, 50, 40));
     let mut message = Message::response(alloc, 0, OpCode::Query);
     message.metadata.response_code = ResponseCode::NXDomain;
     message.add_query(question)?;
@@ -55,11 +59,8 @@ fn no_name(alloc: Global, query: &Query) -> Outcome {
     Ok(DnsResponse::from_message(message))
 }
 
-fn soa_of(alloc: Global) -> Result<Record, NetError> {
-    let (mname, rname) = (
-        Name::from_ascii(alloc, "m.")?,
-        Name::from_ascii(alloc, "r.")?,
-    );
+/// The SOA record of the root, with these names, this TTL and this minimum (seconds).
+pub fn soa_of(alloc: Global, mname: Name, rname: Name, ttl: u32, minimum: u32) -> Record {
     let rdata = RData::SOA {
         mname,
         rname,
@@ -67,9 +68,9 @@ fn soa_of(alloc: Global) -> Result<Record, NetError> {
         refresh: 2,
         retry: 3,
         expire: 4,
-        minimum: 40,
+        minimum,
     };
-    Ok(Record::from_rdata(Name::root(alloc), 50, rdata))
+    Record::from_rdata(Name::root(alloc), ttl, rdata)
 }
 
 fn answer_to(alloc: Global, query: &Query, address: Ipv4Addr) -> Outcome {

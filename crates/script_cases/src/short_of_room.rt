@@ -11,6 +11,10 @@ pub struct ShortOfRoom {
 }
 
 impl Write for ShortOfRoom {
+    ghost use Rattle.std.specs.Prelude.{Some};
+
+    ghost contents = { λ w. Some w.taken.items };
+
     fn write(&mut self, buf: &[u8]) -> io::Result<usize> {
         let count = self.room.min(buf.len()).min(7);
         if count == 0
