@@ -1,63 +1,104 @@
 -- The walk along the aliases among the answers of a response (RFC 1034, section 3.6.2; RFC 2782).
-use Rattle.std.specs.Prelude.{◌≡◌, ◌≤◌, ◌<◌, ◌+◌, ℕ, Bool, true, false, List, [], ◌∷◌, length, min, Option, Some, None, slice_get, if◌then◌else◌}
+use Rattle.std.specs.Prelude.{◌≡◌, ◌≤◌, ◌<◌, ◌+◌, ℕ, Bool, true, false, not, ◌||◌, List, [], ◌∷◌, length, min, Option, Some, None, slice_get, if◌then◌else◌}
 use Rattle.std.specs.Option.{option_map_or}
+use Rattle.std.specs.List.{list_any}
 use Rattle.hickory_proto_core.specs.Name.{NameValue, name_eq}
-use Rattle.hickory_proto_core.specs.ResponseKind.{asks_for}
+use Rattle.hickory_proto_core.specs.ResponseKind.{asks_for, is_empty}
 use Rattle.hickory_proto_core.specs.codes.record_type.RecordType.TheVariants as type
 use Rattle.hickory_proto_core.specs.Records.{RecordValue, DataValue, a_data, aaaa_data, cname_data, ns_data, ptr_data, soa_data, srv_data, mx_data, txt_data, unknown_data}
 use Rattle.hickory_proto_core.specs.records.query.Query.{Query}
 use Rattle.hickory_resolver_model.specs.Bounds.{day}
 
--- the name that a record leads to from the name reached: of a CNAME that this name owns, and of any SRV. Data
--- of an unknown kind lead nowhere
-abbrev pub data_target : Bool → DataValue → Option NameValue
-data_target owned (a_data octets) = None
-data_target owned (aaaa_data segments) = None
-data_target owned (cname_data target) = if owned then Some target else None
-data_target owned (ns_data target) = None
-data_target owned (ptr_data target) = None
-data_target owned (soa_data mname rname serial refresh retry expire minimum) = None
-data_target owned (srv_data priority weight port target) = Some target
-data_target owned (mx_data preference exchange) = None
-data_target owned (txt_data strings) = None
-data_target owned (unknown_data code bytes) = None
+-- What a record counts as at its place on the walk: an alias of the name reached, whose target is reached next,
+-- or a server of the service that was asked for, whose name is a target.
+pub data Counted : Type 0 where
+  Alias : NameValue → Counted
+  Server : NameValue → Counted
 
-abbrev pub leads_to : NameValue → RecordValue → Option NameValue
-leads_to reached r = data_target (name_eq reached r.name) r.rdata
+-- by its data, where the name reached owns it, and where the asked name does. Data of an unknown kind do not
+-- count
+abbrev pub counted_data : Bool → Bool → DataValue → Option Counted
+counted_data reached asked (a_data octets) = None
+counted_data reached asked (aaaa_data segments) = None
+counted_data reached asked (cname_data target) = if reached then Some (Alias target) else None
+counted_data reached asked (ns_data target) = None
+counted_data reached asked (ptr_data target) = None
+counted_data reached asked (soa_data mname rname serial refresh retry expire minimum) = None
+counted_data reached asked (srv_data priority weight port target) =
+    if reached || asked then Some (Server target) else None
+counted_data reached asked (mx_data preference exchange) = None
+counted_data reached asked (txt_data strings) = None
+counted_data reached asked (unknown_data code bytes) = None
 
--- no record from one place up to another leads on from this name
-abbrev pub LeadNowhere : List RecordValue → NameValue → ℕ → ℕ → Type 0
-LeadNowhere answers reached low high =
-    (k : ℕ) (r : RecordValue) → low ≤ k → k < high → slice_get answers k ≡ Some r → leads_to reached r ≡ None
+-- a CNAME counts where the name reached owns it, an SRV where that name or the asked one does
+abbrev pub counted : NameValue → NameValue → RecordValue → Option Counted
+counted asked reached r = counted_data (name_eq reached r.name) (name_eq asked r.name) r.rdata
 
--- The places of a walk over answers from a place on: each is after the one before it, and its record leads on
--- from the name that was reached; no record that is left out would have led on at its place.
-abbrev pub IsWalk : List RecordValue → ℕ → NameValue → List ℕ → NameValue → Type 0
-IsWalk answers low reached [] last = (last ≡ reached) × LeadNowhere answers reached low (length answers)
-IsWalk answers low reached (p ∷ ps) last =
-    (low ≤ p) × LeadNowhere answers reached low p
-    × ((r : RecordValue) × (next : NameValue) × (slice_get answers p ≡ Some r)
-    × (leads_to reached r ≡ Some next) × IsWalk answers (p + 1) next ps last)
+-- the name reached after a record that counts
+abbrev pub reached_by : NameValue → Counted → NameValue
+reached_by reached (Alias target) = target
+reached_by reached (Server target) = reached
 
--- a walk: its places, the last name reached, and the least of a day and the TTLs on the way
+-- no record from one place up to another counts
+abbrev pub CountNowhere : List RecordValue → NameValue → NameValue → ℕ → ℕ → Type 0
+CountNowhere answers asked reached low high =
+    (k : ℕ) (r : RecordValue) → low ≤ k → k < high → slice_get answers k ≡ Some r → counted asked reached r ≡ None
+
+-- a walk: its places; the last name reached; the targets of the servers, and the TTLs of the aliases, that
+-- counted; and the least of a day and the TTLs of all that counted
 pub record Walk : Type 0 where
   pub places : List ℕ
   pub last : NameValue
+  pub targets : List NameValue
+  pub alias_ttls : List ℕ
   pub ttl : ℕ
 
 -- the walk ends at this name
 abbrev pub ends_at : Walk → NameValue → Bool
 ends_at walk name = name_eq walk.last name
 
-abbrev pub walk_step : ℕ → ℕ → Walk → Walk
-walk_step place ttl rest = record { places = place ∷ rest.places; last = rest.last; ttl = min ttl rest.ttl }
+-- the name is a target
+abbrev pub has_target : Walk → NameValue → Bool
+has_target walk name = list_any (λ target. name_eq target name) walk.targets
+
+-- an alias counted, and moved the name reached
+abbrev pub is_moved : Walk → Bool
+is_moved walk = not (is_empty walk.alias_ttls)
+
+-- a walk on which nothing counts
+abbrev pub standing : NameValue → Walk
+standing reached = record { places = []; last = reached; targets = []; alias_ttls = []; ttl = day }
+
+-- a walk that begins with a record of this place and TTL, which counts
+abbrev pub walk_step : ℕ → ℕ → Counted → Walk → Walk
+walk_step place ttl (Alias target) rest = record rest {
+  places = place ∷ rest.places;
+  alias_ttls = ttl ∷ rest.alias_ttls;
+  ttl = min ttl rest.ttl;
+}
+walk_step place ttl (Server target) rest = record rest {
+  places = place ∷ rest.places;
+  targets = target ∷ rest.targets;
+  ttl = min ttl rest.ttl;
+}
+
+-- These are the places of a walk from a place on: each is after the one before it, and its record counts there;
+-- no record that is left out would have counted at its place.
+abbrev pub IsWalk : List RecordValue → NameValue → ℕ → NameValue → List ℕ → Walk → Type 0
+IsWalk answers asked low reached [] walk =
+    (walk ≡ standing reached) × CountNowhere answers asked reached low (length answers)
+IsWalk answers asked low reached (p ∷ ps) walk =
+    (low ≤ p) × CountNowhere answers asked reached low p
+    × ((r : RecordValue) × (c : Counted) × (rest : Walk) × (slice_get answers p ≡ Some r)
+    × (counted asked reached r ≡ Some c) × IsWalk answers asked (p + 1) (reached_by reached c) ps rest
+    × (walk ≡ walk_step p r.ttl c rest))
 
 -- the walk over these records, the first of which has this place
-abbrev pub walk_from : ℕ → NameValue → List RecordValue → Walk
-walk_from place reached [] = record { places = []; last = reached; ttl = day }
-walk_from place reached (r ∷ rs) =
-    option_map_or (λ next. walk_step place r.ttl (walk_from (place + 1) next rs)) (leads_to reached r)
-    (walk_from (place + 1) reached rs)
+abbrev pub walk_from : ℕ → NameValue → NameValue → List RecordValue → Walk
+walk_from place asked reached [] = standing reached
+walk_from place asked reached (r ∷ rs) =
+    option_map_or (λ c. walk_step place r.ttl c (walk_from (place + 1) asked (reached_by reached c) rs))
+    (counted asked reached r) (walk_from (place + 1) asked reached rs)
 
 -- questions for every type and for CNAMEs are not led on
 abbrev pub follows_aliases : Query → Bool
@@ -65,5 +106,4 @@ follows_aliases q = if asks_for type.ANY q then false else (if asks_for type.CNA
 
 -- the one walk of a question over the answers to it
 abbrev pub walk_of : Query → List RecordValue → Walk
-walk_of q answers =
-    if follows_aliases q then walk_from 0 q.name answers else record { places = []; last = q.name; ttl = day }
+walk_of q answers = if follows_aliases q then walk_from 0 q.name q.name answers else standing q.name

@@ -29,9 +29,13 @@ pub record CacheValue : Type 0 where
   pub config : ConfigValue
   pub entries : List Entry
 
+-- the last moment that there is
+abbrev pub last_moment : ℕ
+last_moment = 2 ^ 64 - 1
+
 -- the sum of two moments, or the last moment that there is
 abbrev pub saturating_sum : ℕ → ℕ → ℕ
-saturating_sum a b = min (a + b) (2 ^ 64 - 1)
+saturating_sum a b = min (a + b) last_moment
 
 abbrev pub is_for : Query → Entry → Bool
 is_for q e = query_eq q e.query
@@ -97,6 +101,12 @@ aged_result now e = aged_outcome (age e.original_time now) e.result
 abbrev pub IsGot : Option Entry → ℕ → Option OutcomeValue → Type 0
 IsGot None now got = got ≡ None
 IsGot (Some entry) now got = (got ≡ Some (aged_result now entry)) ⊎ (got ≡ Some (Err OutOfMemory))
+
+-- the same, with the entry's deadline beside it
+abbrev pub IsGotUntil : Option Entry → ℕ → Option (OutcomeValue × ℕ) → Type 0
+IsGotUntil None now got = got ≡ None
+IsGotUntil (Some entry) now got =
+    (got ≡ Some (aged_result now entry, entry.valid_until)) ⊎ (got ≡ Some (Err OutOfMemory, entry.valid_until))
 
 -- the list without the question's entry
 abbrev pub without : Query → List Entry → List Entry
@@ -164,11 +174,23 @@ not_after_current es now e =
 abbrev pub insert_entry : ℕ → List Entry → Entry → List Entry
 insert_entry capacity es e = if capacity == 0 then es else room_for capacity e.query es ++ e ∷ []
 
+-- an entry that is current up to a limit at the most
+abbrev pub not_after : ℕ → Entry → Entry
+not_after limit e = record e { valid_until = min e.valid_until limit }
+
 -- the cache after a store
 abbrev pub store : CacheValue → Query → OutcomeValue → ℕ → CacheValue
 store c q outcome now =
     record c {
       entries = option_map_or (insert_entry c.capacity c.entries) (entry_of c.config q outcome now) c.entries;
+    }
+
+-- the cache after a store whose entry is current up to a limit at the most
+abbrev pub store_until : CacheValue → Query → OutcomeValue → ℕ → ℕ → CacheValue
+store_until c q outcome now limit =
+    record c {
+      entries = option_map_or (λ e. insert_entry c.capacity c.entries (not_after limit e))
+          (entry_of c.config q outcome now) c.entries;
     }
 
 -- the cache after a store whose deadline is not after that of the entry that was current

@@ -1,18 +1,22 @@
 -- What a look-up asks, answers and stores, as a list of hops: each is a question on the way of an alias to
 -- the next, and the last one has the result.
-use Rattle.std.specs.Prelude.{◌≡◌, ◌⊎◌, ◌≤◌, ℕ, Bool, List, [], ◌∷◌, ◌++◌, length, map, reverse, Option, Some, None, Ok, Err}
+use Rattle.std.specs.Prelude.{◌≡◌, ◌⊎◌, ◌≤◌, ℕ, Bool, List, [], ◌∷◌, ◌++◌, length, map, min, Option, Some, None, Ok, Err}
+use Rattle.std.specs.Option.{option_map}
+use Rattle.hickory_proto_core.specs.Codes.{type_code}
 use Rattle.hickory_proto_core.specs.Messages.{MessageValue}
 use Rattle.hickory_proto_core.specs.Handles.{OutcomeValue}
 use Rattle.hickory_proto_core.specs.ResponseKind.{ResponseKind, Answer, Negative, Failed, kind_of, first_soa, negative_ttl_of}
+use Rattle.hickory_proto_core.specs.codes.record_type.RecordType.TheVariants as type
 use Rattle.hickory_proto_core.specs.records.query.Query.{Query}
 use Rattle.hickory_proto_core.specs.declared.recorded.Exchange.{Exchange}
 use Rattle.hickory_proto_core.specs.records.net_error.NetError.{NetError}
 use Rattle.hickory_proto_core.specs.records.net_error.NetError.TheVariants.{Dns, OutOfMemory}
 use Rattle.hickory_proto_core.specs.records.net_error.DnsError.TheVariants.{NoRecordsFound}
-use Rattle.hickory_resolver_model.specs.Bounds.{ConfigValue}
-use Rattle.hickory_resolver_model.specs.Cache.{CacheValue, Entry, current, aged_result, store}
+use Rattle.hickory_resolver_model.specs.Bounds.{ConfigValue, bounds_for, positive_bounds, reduced_bounds, clamp}
+use Rattle.hickory_resolver_model.specs.Cache.{CacheValue, Entry, last_moment, saturating_sum, current, aged_result, entry_of, not_after, store_until}
 use Rattle.hickory_resolver_model.specs.Lookup.{LookupResult, hit_lookup, found_lookup, response_to}
 use Rattle.hickory_resolver_model.specs.SpecialUse.{special_use_result}
+use Rattle.hickory_resolver_model.specs.AliasWalk.{walk_of}
 use Rattle.hickory_resolver_model.specs.Verdict.{Hop, first_hop, Verdict, Exists, CnameChain, NoMatch, verdict}
 
 -- where a look-up starts: the cache before it, the moment, and whether intermediate records are preserved
@@ -98,25 +102,80 @@ asks_of hop (Special reply) = []
 asks_of hop (Hit entry) = []
 asks_of hop (Asked outcome) = record { query = hop.query; outcome = outcome } ∷ []
 
--- what is stored, under which question, and when: with the bounds of the cache, all that its entry is made of
+-- ---- how long an alias lives: no longer than the CNAMEs on its way (RFC 2181, section 5.2; RFC 1034, section
+-- 3.6.2)
+
+-- the least of some moments, or the last moment where there are none
+abbrev pub earliest : List ℕ → ℕ
+earliest [] = last_moment
+earliest (moment ∷ moments) = min moment (earliest moments)
+
+-- until when a CNAME of this TTL lives that came at a moment: its TTL is clamped as that of a record
+abbrev pub alias_deadline : ConfigValue → ℕ → ℕ → ℕ
+alias_deadline config now ttl =
+    saturating_sum now (clamp (reduced_bounds (positive_bounds (bounds_for config (type_code type.CNAME)))) ttl)
+
+-- until when all CNAMEs live that counted in what came back to a question. Only an answer is walked
+abbrev pub alias_limit : LookupContext → Query → ResponseKind → ℕ
+alias_limit s q (Answer response) =
+    earliest (map (alias_deadline s.cache.config s.now) (walk_of q response.answers).alias_ttls)
+alias_limit s q (Negative none) = last_moment
+alias_limit s q (Failed error) = last_moment
+
+-- the limit of a last hop: of a hit the deadline of its entry
+abbrev pub end_limit : LookupContext → Hop → ChainEnd → ℕ
+end_limit s hop (Special reply) = last_moment
+end_limit s hop (Hit entry) = entry.valid_until
+end_limit s hop (Asked outcome) = alias_limit s hop.query (kind_of outcome)
+
+-- The limit of the first of some hops: the lesser of that of its own CNAMEs and the limit of the hop after it;
+-- where it is the last, until when its own CNAMEs live, or the entry that was hit.
+abbrev pub limit_of : LookupContext → List Exchange → Hop → ChainEnd → ℕ
+limit_of s [] hop last = end_limit s hop last
+limit_of s (x ∷ xs) hop last = min (alias_limit s x.query (kind_of x.outcome)) (limit_of s xs hop last)
+
+-- an answer that may be used up to a limit at the most; an error stays
+abbrev pub result_until : ℕ → LookupResult → LookupResult
+result_until limit (Ok l) = Ok (record l { valid_until = min l.valid_until limit })
+result_until limit (Err error) = Err error
+
+-- What a look-up comes to, by the hops before the last: the result of the last. Where its first question was
+-- asked, an answer may be used up to the limit of the first hop; a special name and a hit keep their own time.
+abbrev pub reply_of : LookupContext → List Exchange → Hop → ChainEnd → LookupResult
+reply_of s [] hop (Special reply) = result_of s hop (Special reply)
+reply_of s [] hop (Hit entry) = result_of s hop (Hit entry)
+reply_of s [] hop (Asked outcome) = result_until (limit_of s [] hop (Asked outcome)) (result_of s hop (Asked outcome))
+reply_of s (x ∷ xs) hop last = result_until (limit_of s (x ∷ xs) hop last) (result_of s hop last)
+
+-- ---- what is stored
+
+-- what is stored, under which question, when, and the limit of its deadline: with the bounds of the cache, all
+-- that its entry is made of
 pub record Store : Type 0 where
   pub query : Query
   pub outcome : OutcomeValue
   pub now : ℕ
+  pub limit : ℕ
 
-abbrev pub store_of : Query → OutcomeValue → ℕ → Store
-store_of q outcome now = record { query = q; outcome = outcome; now = now }
+-- the entry that a store makes, if it makes one
+abbrev pub made_entry : ConfigValue → Store → Option Entry
+made_entry config s = option_map (not_after s.limit) (entry_of config s.query s.outcome s.now)
+
+abbrev pub store_of : Query → OutcomeValue → ℕ → ℕ → Store
+store_of q outcome now limit = record { query = q; outcome = outcome; now = now; limit = limit }
 
 -- what the last hop stores under its own question: an accepted response or a negative answer
-abbrev pub verdict_stores : Query → ℕ → Verdict → List Store
-verdict_stores q now (Exists m) = store_of q (Ok m) now ∷ []
-verdict_stores q now (CnameChain next) = []
-verdict_stores q now NoMatch = []
+abbrev pub verdict_stores : Query → ℕ → ℕ → Verdict → List Store
+verdict_stores q now limit (Exists m) = store_of q (Ok m) now limit ∷ []
+verdict_stores q now limit (CnameChain next) = []
+verdict_stores q now limit NoMatch = []
 
 abbrev pub kind_stores : LookupContext → Hop → ResponseKind → List Store
 kind_stores s hop (Answer response) =
-    verdict_stores hop.query s.now (verdict s.preserve_intermediates hop response)
-kind_stores s hop (Negative none) = store_of hop.query (Err (Dns (NoRecordsFound none))) s.now ∷ []
+    verdict_stores hop.query s.now (alias_limit s hop.query (Answer response))
+    (verdict s.preserve_intermediates hop response)
+kind_stores s hop (Negative none) =
+    store_of hop.query (Err (Dns (NoRecordsFound none))) s.now last_moment ∷ []
 kind_stores s hop (Failed error) = []
 
 abbrev pub last_stores : LookupContext → Hop → ChainEnd → List Store
@@ -135,17 +194,23 @@ as_outcome q (Ok lookup) =
 as_outcome q (Err error) = Err error
 
 -- a result under an earlier question
-abbrev pub earlier_store : LookupResult → ℕ → Query → Store
-earlier_store result now q = store_of q (as_outcome q result) now
+abbrev pub earlier_store : LookupResult → ℕ → Query → ℕ → Store
+earlier_store result now q limit = store_of q (as_outcome q result) now limit
 
--- the last hop's own store, then the result under each earlier question, from the last to the first
+-- the result under the question of each hop before the last, with its limit, from the last to the first
+abbrev pub earlier_stores : LookupContext → List Exchange → Hop → ChainEnd → List Store
+earlier_stores s [] hop last = []
+earlier_stores s (x ∷ xs) hop last =
+    earlier_stores s xs hop last
+    ++ earlier_store (result_of s hop last) s.now x.query (limit_of s (x ∷ xs) hop last) ∷ []
+
+-- the last hop's own store, then those of the hops before it
 abbrev pub stores_of : LookupContext → List Exchange → Hop → ChainEnd → List Store
-stores_of s passed hop last =
-    last_stores s hop last ++ map (λ x. earlier_store (result_of s hop last) s.now x.query) (reverse passed)
+stores_of s passed hop last = last_stores s hop last ++ earlier_stores s passed hop last
 
 -- the cache after a store. A store of an error other than a negative answer changes nothing
 abbrev pub after_store : Store → CacheValue → CacheValue
-after_store s cache = store cache s.query s.outcome s.now
+after_store s cache = store_until cache s.query s.outcome s.now s.limit
 
 -- the cache after these stores, in order
 abbrev pub after_stores : List Store → CacheValue → CacheValue
@@ -162,12 +227,12 @@ pub record HopList (s : LookupContext) (question : Query) (asks : List Exchange)
   pub ends : IsChainEnd s (length passed) last_hop last
   pub asks_are : asks ≡ passed ++ asks_of last_hop last
 
--- the whole of it: the last hop's result, and every store
+-- the whole of it: what the look-up comes to, and every store
 pub record IsWhole
     (s : LookupContext) (question : Query) (asks : List Exchange) (result : LookupResult) (after : CacheValue)
     : Type 0 where
   pub hops : HopList s question asks
-  pub result_is : result ≡ result_of s hops.last_hop hops.last
+  pub result_is : result ≡ reply_of s hops.passed hops.last_hop hops.last
   pub after_is : after ≡ after_stores (stores_of s hops.passed hops.last_hop hops.last) s.cache
 
 -- memory ran out among the stores: a beginning of them was made

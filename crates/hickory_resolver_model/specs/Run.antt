@@ -194,24 +194,35 @@ pub record Stage : Type 0 where
   pub parts : List SubLookup
   pub step : StepValue
 
--- the request is served, and asks exactly the questions of its piece
-pub record IsStage (s : Settings) (stage : Stage) (after : CacheValue) : Type 0 where
-  pub served : IsServed
-      (λ now. IsSubLookupFor
-      (call_context_at s now)) s stage.before stage.request stage.parts stage.step.reply after
+-- the request is served, its questions are answered in this way, and it asks exactly those of its piece
+pub record IsStageBy
+    (Answers : ℕ → SubLookupRelation) (s : Settings) (stage : Stage) (after : CacheValue)
+    : Type 0 where
+  pub served : IsServed Answers s stage.before stage.request stage.parts stage.step.reply after
   pub piece_is : stage.piece ≡ asks_of_sub_lookups stage.parts
   pub now_is : stage.step.now ≡ moment_of stage.request
   pub count_is : stage.step.exchanges ≡ length stage.piece
 
 -- One stage a request: each is served over the cache that the one before it left. A request that is answered
 -- out of memory is the last.
-abbrev pub AreStages : Settings → CacheValue → List RequestValue → List Stage → CacheValue → Type 0
-AreStages s before [] [] after = after ≡ before
-AreStages s before (request ∷ requests) (stage ∷ stages) after =
-    (mid : CacheValue) × (stage.request ≡ request) × (stage.before ≡ before) × IsStage s stage mid
+abbrev pub AreStagesBy : (ℕ → SubLookupRelation) → Settings → CacheValue → List RequestValue → List Stage
+    → CacheValue → Type 0
+AreStagesBy Answers s before [] [] after = after ≡ before
+AreStagesBy Answers s before (request ∷ requests) (stage ∷ stages) after =
+    (mid : CacheValue) × (stage.request ≡ request) × (stage.before ≡ before) × IsStageBy Answers s stage mid
     × (((ends_run stage.step.reply ≡ true) × (stages ≡ []) × (after ≡ mid))
-    ⊎ ((ends_run stage.step.reply ≡ false) × AreStages s mid requests stages after))
-AreStages s before _ _ after = ⊥
+    ⊎ ((ends_run stage.step.reply ≡ false) × AreStagesBy Answers s mid requests stages after))
+AreStagesBy Answers s before _ _ after = ⊥
+
+-- by the table of hosts and by the client
+abbrev pub answers_at : Settings → ℕ → SubLookupRelation
+answers_at s now = IsSubLookupFor (call_context_at s now)
+
+abbrev pub IsStage : Settings → Stage → CacheValue → Type 0
+IsStage s stage after = IsStageBy (answers_at s) s stage after
+
+abbrev pub AreStages : Settings → CacheValue → List RequestValue → List Stage → CacheValue → Type 0
+AreStages s before requests stages after = AreStagesBy (answers_at s) s before requests stages after
 
 abbrev pub exchanges_of : List Stage → List Exchange
 exchanges_of stages = flat_map (λ stage. stage.piece) stages

@@ -1,7 +1,7 @@
 -- Where a response leads the one who asked: it is accepted, or it is an alias of another name, or it has
 -- nothing that was asked for (RFC 1034, section 3.6.2; RFC 1035, section 7.3).
-use Rattle.std.specs.Prelude.{ℕ, Bool, not, ◌&&◌, ◌||◌, ◌==◌, List, [], ◌++◌, map, filter, min, if◌then◌else◌}
-use Rattle.hickory_proto_core.specs.Name.{name_eq}
+use Rattle.std.specs.Prelude.{ℕ, Bool, not, ◌&&◌, ◌||◌, ◌==◌, List, [], ◌∷◌, ◌++◌, map, filter, min, if◌then◌else◌}
+use Rattle.hickory_proto_core.specs.Name.{NameValue, name_eq}
 use Rattle.hickory_proto_core.specs.Codes.{type_code, class_code}
 use Rattle.hickory_proto_core.specs.Records.{RecordValue}
 use Rattle.hickory_proto_core.specs.Messages.{MessageValue, some_record}
@@ -9,7 +9,7 @@ use Rattle.hickory_proto_core.specs.ResponseKind.{is_any, record_type_code, is_o
 use Rattle.hickory_proto_core.specs.codes.record_type.RecordType.TheVariants as type
 use Rattle.hickory_proto_core.specs.records.query.Query.{Query}
 use Rattle.hickory_proto_core.specs.codes.dns_class.DNSClass.TheVariants as class
-use Rattle.hickory_resolver_model.specs.AliasWalk.{Walk, ends_at, walk_of}
+use Rattle.hickory_resolver_model.specs.AliasWalk.{Walk, ends_at, has_target, is_moved, walk_of}
 
 -- a question on the way of a look-up, and the records that were preserved before it
 pub record Hop : Type 0 where
@@ -33,14 +33,16 @@ has_class q r = class_code q.query_class == class_code r.dns_class
 abbrev pub has_type : Query → RecordValue → Bool
 has_type q r = is_any q || (type_code q.query_type == record_type_code r)
 
--- a record of the asked class and type (any, for ANY), owned by the asked name or by the last name of the
--- walk
+-- a record of the asked class and type (any, for ANY), owned by the asked name, by the last name of the walk, or
+-- by a target
 abbrev pub is_match : Query → Walk → RecordValue → Bool
-is_match q walk r = has_class q r && has_type q r && (name_eq q.name r.name || ends_at walk r.name)
+is_match q walk r =
+    has_class q r && has_type q r && (name_eq q.name r.name || (ends_at walk r.name || has_target walk r.name))
 
--- a match that the last name of the walk owns
-abbrev pub is_last_match : Query → Walk → RecordValue → Bool
-is_last_match q walk r = has_class q r && has_type q r && ends_at walk r.name
+-- a match that the walk led to: a target owns it, or the last name, where an alias moved it
+abbrev pub is_led_match : Query → Walk → RecordValue → Bool
+is_led_match q walk r =
+    has_class q r && has_type q r && (has_target walk r.name || (is_moved walk && ends_at walk r.name))
 
 -- a CNAME record of the asked class
 abbrev pub is_intermediate : Query → RecordValue → Bool
@@ -52,17 +54,16 @@ with_ttl_at_most ttl r = record r { ttl = min r.ttl ttl }
 abbrev pub all_records : MessageValue → List RecordValue
 all_records m = m.answers ++ m.authorities ++ m.additionals
 
--- Some record matches, and either no alias was followed or no record was preserved.
+-- Some record matches, and either no alias counted or no record was preserved.
 abbrev pub is_accepted : Hop → Walk → MessageValue → Bool
 is_accepted hop walk m =
-    some_record (is_match hop.query walk) m && (is_empty walk.places || is_empty hop.preserved)
+    some_record (is_match hop.query walk) m && (not (is_moved walk) || is_empty hop.preserved)
 
--- The answers of an accepted response are filtered where records were preserved; and where an alias was
--- followed, the last name owns a match, and intermediate records are not wanted.
+-- The answers of an accepted response are filtered where records were preserved; and where intermediate records
+-- are not wanted, and the walk led to a match.
 abbrev pub is_filtered : Bool → Hop → Walk → MessageValue → Bool
 is_filtered keep hop walk m =
-    not (is_empty hop.preserved)
-    || (not (is_empty walk.places) && some_record (is_last_match hop.query walk) m && not keep)
+    not (is_empty hop.preserved) || (some_record (is_led_match hop.query walk) m && not keep)
 
 -- the preserved records, then the matches and, where they are wanted, the intermediate records of this
 -- response, whose TTLs are at most that of the walk
@@ -77,11 +78,19 @@ abbrev pub found_message : Bool → Hop → Walk → MessageValue → MessageVal
 found_message keep hop walk m =
     if is_filtered keep hop walk m then record m { answers = filtered_answers keep hop walk m } else m
 
--- the next hop of an alias: the last name of the walk, in the class of the Internet; where they are wanted,
--- the intermediate records of this response are preserved
+-- where a walk leads: to its last name where an alias counted, else to the first target
+abbrev pub first_or : NameValue → List NameValue → NameValue
+first_or n [] = n
+first_or n (target ∷ targets) = target
+
+abbrev pub next_name : Walk → NameValue
+next_name walk = if is_moved walk then walk.last else first_or walk.last walk.targets
+
+-- the next hop: the name that the walk leads to, in the class of the Internet; where they are wanted, the
+-- intermediate records of this response are preserved
 abbrev pub next_hop : Bool → Hop → Walk → MessageValue → Hop
 next_hop keep hop walk m = record {
-  query = record { name = walk.last; query_type = hop.query.query_type; query_class = class.IN };
+  query = record { name = next_name walk; query_type = hop.query.query_type; query_class = class.IN };
   preserved =
       hop.preserved ++ (if keep
       then map (with_ttl_at_most walk.ttl) (filter (is_intermediate hop.query) (all_records m)) else []);
