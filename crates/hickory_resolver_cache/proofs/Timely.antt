@@ -13,7 +13,7 @@ use Rattle.hickory_proto_core.specs.records.query.Query.{Query}
 use Rattle.hickory_proto_core.specs.records.net_error.NetError.TheVariants.{Message, Timeout, Proto, Dns, NoOutcome, Bounds, OutOfMemory}
 use Rattle.hickory_proto_core.specs.records.net_error.DnsError.TheVariants.{ResponseCode, NoRecordsFound}
 use Rattle.hickory_resolver_model.specs.Bounds.{ConfigValue, bounds_for, clamped_message, clamped_record, clamped_records, greatest_ttl, least_ttl, living_records, positive_bounds, reduced_bound}
-use Rattle.hickory_resolver_model.specs.Cache.{Entry, IsTimelyAnswer, OutlivesNoAnswer, current, entry_of, is_for, negative_entry, not_after_current, positive_entry, insert_entry, room_for, without, without_earliest, least_deadline}
+use Rattle.hickory_resolver_model.specs.Cache.{Entry, IsTimelyAnswer, OutlivesNoAnswer, current, entry_of, is_for, negative_entry, not_after, not_after_current, positive_entry, insert_entry, room_for, without, without_earliest, least_deadline}
 use Rattle.hickory_resolver_cache.proofs.Lists.{all-append, all-filter, all-remove, all-weaker}
 
 -- ---- the least TTL of some records
@@ -119,17 +119,23 @@ timely-entry config q (Err (Bounds error)) now e h = cc
 timely-entry config q (Err OutOfMemory) now e h = cc
 
 -- an entry that is current for less time
-pub timely-limited : (config : ConfigValue) (es : List Entry) (now : ℕ) (e : Entry) → OutlivesNoAnswer config e → OutlivesNoAnswer config (not_after_current es now e)
-timely-limited config es now e h zero_least m is =
-    all-weaker (IsTimelyAnswer config e (type_code e.query.query_type)) (IsTimelyAnswer config limited (type_code e.query.query_type))
-    (λ r w s. let t = w s in let l = t.0 in (omega (arith, l, below (current e.query now es)), t.1)) m.answers (h zero_least m is)
-  where
-    limited : Entry
-    limited = not_after_current es now e
+timely-sooner : (config : ConfigValue) (e : Entry) (deadline : ℕ) → deadline ≤ e.valid_until → OutlivesNoAnswer config e → OutlivesNoAnswer config (record e { valid_until = deadline })
+timely-sooner config e deadline sooner h zero_least m is =
+    all-weaker (IsTimelyAnswer config e (type_code e.query.query_type)) (IsTimelyAnswer config (record e { valid_until = deadline }) (type_code e.query.query_type))
+    (λ r w s. let t = w s in let l = t.0 in (omega (arith, l, sooner), t.1)) m.answers (h zero_least m is)
 
-    below : (o : Option Entry) → option_map_or (λ c. min e.valid_until c.valid_until) o e.valid_until ≤ e.valid_until
+pub timely-limited : (config : ConfigValue) (es : List Entry) (now : ℕ) (e : Entry) → OutlivesNoAnswer config e → OutlivesNoAnswer config (not_after_current es now e)
+timely-limited config es now e h = timely-sooner config e (deadline (current e.query now es)) (below (current e.query now es)) h
+  where
+    deadline : Option Entry → ℕ
+    deadline o = option_map_or (λ c. min e.valid_until c.valid_until) o e.valid_until
+
+    below : (o : Option Entry) → deadline o ≤ e.valid_until
     below None = omega arith
     below (Some c) = omega arith
+
+pub timely-not_after : (config : ConfigValue) (limit : ℕ) (e : Entry) → OutlivesNoAnswer config e → OutlivesNoAnswer config (not_after limit e)
+timely-not_after config limit e h = timely-sooner config e (min e.valid_until limit) (omega arith) h
 
 -- ---- the list after a store or a removal
 pub timely-without : (config : ConfigValue) (q : Query) (es : List Entry) → AllByRecursion (OutlivesNoAnswer config) es → AllByRecursion (OutlivesNoAnswer config) (without q es)

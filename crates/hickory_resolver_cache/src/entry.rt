@@ -1,6 +1,6 @@
 //! What a cache holds.
 ghost use Rattle.std.specs.Prelude.{◌≡◌, IfOk, IsOk, IsNone};
-ghost use Rattle.hickory_resolver_model.specs.Cache.{entry_of, positive_entry, negative_entry};
+ghost use Rattle.hickory_resolver_model.specs.Cache.{entry_of, positive_entry, negative_entry, not_after};
 
 use crate::outcome::KeptOutcome;
 use hickory_proto_core::{DnsError, Message, NetError, NoRecords, Query};
@@ -28,6 +28,26 @@ impl Model for CacheEntry {
       original_time = e.original_time;
       valid_until = e.valid_until;
     } };
+}
+
+impl CacheEntry {
+    // The entry, current up to a limit at the most.
+    pub fn not_after(self, limit: u64) -> CacheEntry
+        ensures { result ≡ not_after limit self }
+    {
+        let CacheEntry {
+            query,
+            result,
+            original_time,
+            valid_until,
+        } = self;
+        CacheEntry {
+            query,
+            result,
+            original_time,
+            valid_until: valid_until.min(limit),
+        }
+    }
 }
 
 // The entry that an outcome becomes at a moment, where it is kept. Only a negative answer takes memory.

@@ -1,7 +1,7 @@
 //! A bounded cache of outcomes by question.
-ghost use Rattle.std.specs.Prelude.{◌≡◌, ◌≤◌, ◌<◌, [], length, option_copied, IsTrue, IsOk, IfSome, IsNone, OnOk, OnErr, IfOk, IsOkUnless, if◌then◌else◌};
+ghost use Rattle.std.specs.Prelude.{◌≡◌, ◌≤◌, ◌<◌, [], length, find, option_copied, IsTrue, IsOk, IsSome, IfSome, IsNone, OnOk, OnErr, IfOk, IsOkUnless, if◌then◌else◌};
 ghost use Rattle.std.specs.Option.{option_map};
-ghost use Rattle.hickory_resolver_model.specs.Cache.{CacheValue, IsCache, IsGot, IsNewest, NeverLater, OutlivesNoAnswer, current, without_query, entry_of, not_after_current, insert_entry, store, store_clamped};
+ghost use Rattle.hickory_resolver_model.specs.Cache.{CacheValue, IsCache, IsGot, IsGotUntil, IsNewest, NeverLater, OutlivesNoAnswer, current, is_for, without_query, entry_of, not_after, not_after_current, insert_entry, store, store_clamped, store_until};
 ghost use Rattle.hickory_resolver_cache.specs.Outcome.{kept_entry};
 ghost use Rattle.hickory_resolver_cache.specs.Turns.{shown, shown_entry};
 
@@ -89,8 +89,39 @@ impl<S: BuildHasher> ResponseCache<S> {
             (0 < self.old.capacity
             → IfSome (entry_of self.old.config query outcome now) (λ e. IsNewest e self.new.entries)) }
     {
+        self.insert_until(query, outcome, now, u64::MAX)
+    }
+
+    /// As `insert`, and the new entry is current up to a limit (a moment, in seconds) at the most. A TTL is the
+    /// greatest time for which a record may be kept, and the least of several counts for what is told together
+    /// (RFC 2181, sections 5.2 and 8): so what was found by way of other records, as of a CNAME, is kept no
+    /// longer than they live. TTLs stay as they are. A limit before the moment of the store makes an entry that
+    /// is never current from then on. The only error is to be out of memory.
+    pub fn insert_until(
+        &mut self,
+        query: Query,
+        outcome: Result<Message, NetError>,
+        now: u64,
+        limit: u64,
+    ) -> Result<(), NetError>
+        ensures ok { OnOk result (self.new ≡ store_until self.old query outcome now limit) }
+        ensures unchanged { OnErr result (self.new ≡ self.old) }
+        ensures err { IsOkUnless result NetError.OutOfMemory }
+        ensures not_kept { IsNone (entry_of self.old.config query outcome now)
+            → IsOk result × (self.new ≡ self.old) }
+        ensures no_capacity { self.old.capacity ≡ 0 → IsOk result }
+        ensures newest { OnOk result
+            (0 < self.old.capacity
+            → IfSome (entry_of self.old.config query outcome now)
+            (λ e. IsNewest (not_after limit e) self.new.entries)) }
+        ensures within { OnOk result
+            (IsSome (entry_of self.old.config query outcome now)
+            → IfSome (find (is_for query) self.new.entries) (λ e. e.valid_until ≤ limit)) }
+    {
+        // `len` is called for its clause that there are no more entries than there may be.
+        let _len = self.len();
         match self.entry_of(query, outcome, now)? {
-            Some(entry) => self.insert_entry(entry),
+            Some(entry) => self.insert_entry(entry.not_after(limit)),
             None => Ok(()),
         }
     }
@@ -135,8 +166,22 @@ impl<S: BuildHasher> ResponseCache<S> {
     pub fn get(&self, query: &Query, now: u64) -> Option<Result<Message, NetError>>
         ensures { IsGot (current query.now now self.now.entries) now result }
     {
+        let (outcome, _) = self.get_with_deadline(query, now)?;
+        Some(outcome)
+    }
+
+    /// As `get`, and beside what it gives, also where that is out of memory, the deadline of the entry: the last
+    /// moment (seconds) at which it is current.
+    pub fn get_with_deadline(
+        &self,
+        query: &Query,
+        now: u64,
+    ) -> Option<(Result<Message, NetError>, u64)>
+        ensures { IsGotUntil (current query.now now self.now.entries) now result }
+    {
         let entry = self.current(query, now)?;
-        Some(entry.aged_result(self.allocator(), now))
+        let outcome = entry.aged_result(self.allocator(), now);
+        Some((outcome, entry.valid_until))
     }
 
     /// Drops every entry. Takes no memory.

@@ -1,5 +1,5 @@
 //! What a look-up gives.
-ghost use Rattle.std.specs.Prelude.{◌≡◌, [], ◌++◌, IfOk, OnOk, OnErr, IsOkUnless, length, vec_len, vec_capacity, IsOk, ◌+◌, ◌<◌, ◌≤◌};
+ghost use Rattle.std.specs.Prelude.{◌≡◌, [], ◌++◌, IfOk, OnOk, OnErr, IsOkUnless, length, min, vec_len, vec_capacity, IsOk, ◌+◌, ◌<◌, ◌≤◌};
 ghost use Rattle.hickory_resolver_model.specs.Bounds.{least_ttl};
 ghost use Rattle.hickory_resolver_model.specs.Hosts.{append, append_messages};
 ghost use Rattle.hickory_resolver_model.specs.Lookup.{LookupValue, with_question, hit_lookup, found_lookup, hit_seconds, answers_until, answers_for_day, more_authorities, more_additionals};
@@ -167,6 +167,16 @@ impl Lookup {
         ensures { result ≡ self.message }
     {
         self.message
+    }
+
+    /// The look-up, which may be used up to a moment (seconds) at the most.
+    pub fn not_after(self, limit: u64) -> Lookup
+        ensures { result ≡ record self { valid_until = min self.valid_until limit } }
+    {
+        Lookup {
+            message: self.message,
+            valid_until: self.valid_until.min(limit),
+        }
     }
 
     /// Both look-ups as one: each section of this one and then of the other, the rest of this one's message,

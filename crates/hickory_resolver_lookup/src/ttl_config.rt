@@ -4,6 +4,7 @@ ghost use Rattle.std.specs.Result.{result_map_both};
 ghost use Rattle.hickory_proto_core.specs.Codes.{type_code};
 ghost use Rattle.hickory_proto_core.specs.ResponseKind.{record_type_code};
 ghost use Rattle.hickory_resolver_model.specs.Bounds.{ConfigValue, SetsBounds, all_agree, bounds_for, positive_bounds, negative_bounds, clamped_message, clamped_record, clamped_records, positive_lifetime, negative_lifetime, no_bounds, least_ttl, living_records};
+ghost use Rattle.hickory_resolver_model.specs.Hops.{alias_deadline};
 ghost use Rattle.hickory_resolver_model.specs.Options.{bounds_of, config_or_fault};
 
 use crate::ttl_bounds::{TtlBounds, clamp, clamp_ttl};
@@ -150,6 +151,15 @@ impl TtlConfig {
             None => bounds.0,
         };
         clamp(bounds, ttl)
+    }
+
+    /// Until when (seconds) a CNAME of this TTL lives that came at a moment: its TTL is clamped as that of a record,
+    /// by the positive bounds of CNAMEs (RFC 2181, sections 5.2 and 8). The last moment where the sum is past it.
+    pub fn alias_deadline(&self, ttl: u32, now: u64) -> u64
+        ensures { result ≡ alias_deadline self.now now ttl }
+    {
+        let bounds = self.positive_response_ttl_bounds(RecordType::CNAME);
+        now.saturating_add(u64::from(clamp_ttl(bounds, ttl)))
     }
 
     fn clamp_records(&self, records: &mut Vec<Record>)
