@@ -1,5 +1,6 @@
 -- The parts of a call, one after another, each over the cache that the one before it left.
 use Rattle.std.proofs.Common.{◌≡◌, ◌⊎◌, ℕ, Bool, true, List, [], ◌∷◌, ◌++◌, Result, sym, subst, inl, inr}
+use Rattle.std.specs.List.{AllByRecursion}
 use Rattle.hickory_proto_core.specs.Name.{NameValue}
 use Rattle.hickory_proto_core.specs.NameDecided.{IsReading}
 use Rattle.hickory_proto_core.specs.names.name_error.NameError.{NameError}
@@ -15,6 +16,11 @@ abbrev pub Chain : SubLookupRelation → CacheValue → List SubLookup → Cache
 Chain Answers before [] after = after ≡ before
 Chain Answers before (p ∷ ps) after = (looked : Bool) × (q : Query) × (mid : CacheValue) × Answers looked before q p mid × Chain Answers mid ps after
 
+-- what each way to answer gives holds of all parts
+pub chain-all : (Answers : SubLookupRelation) (P : SubLookup → Type 0) → ((looked : Bool) (before : CacheValue) (q : Query) (p : SubLookup) (after : CacheValue) → Answers looked before q p after → P p) → (before : CacheValue) (ps : List SubLookup) (after : CacheValue) → Chain Answers before ps after → AllByRecursion P ps
+chain-all Answers P holds before [] after e = tt
+chain-all Answers P holds before (p ∷ ps) after (looked, q, mid, is, rest) = (holds looked before q p mid is, chain-all Answers P holds mid ps after rest)
+
 pub chain-append : (Answers : SubLookupRelation) (before mid after : CacheValue) (ps qs : List SubLookup) → Chain Answers before ps mid → Chain Answers mid qs after → Chain Answers before (ps ++ qs) after
 chain-append Answers before mid after [] qs e k = subst (λ c. Chain Answers c qs after) e k
 chain-append Answers before mid after (p ∷ ps) qs (looked, q, next, is, rest) k = (looked, q, next, is, chain-append Answers next mid after ps qs rest k)
@@ -25,7 +31,7 @@ chain-subs Answers looked n plan before results [] after same = same
 chain-subs Answers looked n plan before results (p ∷ ps) after (t, mid, next, is, rest) =
     (looked, question_of n t, mid, is, chain-subs Answers looked n plan mid (results ++ p.result ∷ []) ps after rest)
 
-chain-none : (Answers : SubLookupRelation) (before : CacheValue) (parts : List SubLookup) (after : CacheValue) → parts ≡ [] → after ≡ before → Chain Answers before parts after
+pub chain-none : (Answers : SubLookupRelation) (before : CacheValue) (parts : List SubLookup) (after : CacheValue) → parts ≡ [] → after ≡ before → Chain Answers before parts after
 chain-none Answers before parts after e same = subst (λ ps. Chain Answers before ps after) (sym e) same
 
 pub chain-attempts : (Answers : SubLookupRelation) (plan : CallPlan) (looked : Bool) (before : CacheValue) (names : List NameValue) (last : LookupResult → Type 0) (parts : List SubLookup) (result : LookupResult) (after : CacheValue)
@@ -38,7 +44,7 @@ chain-attempts Answers plan looked before (n ∷ ns) last parts result after (fr
     subst (λ ps. Chain Answers before ps after) (sym are)
     (chain-append Answers before mid after front back (chain-subs Answers looked n plan.types before [] front mid attempt.are) (chain-attempts Answers plan plan.hosts_for_all mid ns (λ x. x ≡ r) back result after rest))
 
-chain-call : (Answers : SubLookupRelation) (s : Settings) (before : CacheValue) (call : Call) (parts : List SubLookup) (reply : LookupResult) (after : CacheValue)
+pub chain-call : (Answers : SubLookupRelation) (s : Settings) (before : CacheValue) (call : Call) (parts : List SubLookup) (reply : LookupResult) (after : CacheValue)
     → IsCall Answers s before call parts reply after → Chain Answers before parts after
 chain-call Answers s before (AtOnce answer) parts reply after (none, e, same) = chain-none Answers before parts after none same
 chain-call Answers s before (Attempt n plan) parts reply after attempts = chain-attempts Answers plan true before _ _ parts reply after attempts

@@ -114,6 +114,14 @@ arrived-fresh config sources q now m zero all =
         let life = lifetime-le config q (clamped_message config m) (clamped_record config r) zero (has-map (clamped_record config) m.answers r h) e in
         inr (covered, subst (λ n. (clamped_record config r).ttl ≤ greatest_ttl config n) e (clamped_message-greatest config r none), omega (arith, life, saturating-le now (positive_lifetime config q (clamped_message config m))))
 
+-- fresh records are fresh up to a sooner deadline
+pub fresh-sooner : (config : ConfigValue) (sources : List Dated) (code now later sooner : ℕ) (rs : List RecordValue) → sooner ≤ later → AreFreshRecords config sources code now later rs → AreFreshRecords config sources code now sooner rs
+fresh-sooner config sources code now later sooner rs le fresh = all-weaker (IsFreshRecord config sources code now later) (IsFreshRecord config sources code now sooner) (λ r h same. by r (h same)) rs fresh
+  where
+    by : (r : RecordValue) → IsLoopback r ⊎ (IsCovered config sources now r × (r.ttl ≤ greatest_ttl config code) × (later ≤ now + r.ttl)) → IsLoopback r ⊎ (IsCovered config sources now r × (r.ttl ≤ greatest_ttl config code) × (sooner ≤ now + r.ttl))
+    by r (inl loop) = inl loop
+    by r (inr (covered, short, live)) = inr (covered, short, omega (arith, le, live))
+
 -- fresh records arrive once more, when they are stored under another question
 pub fresh-arrives : (config : ConfigValue) (sources : List Dated) (code now deadline : ℕ) (rs : List RecordValue) → HasNoLeast config code → AreFreshRecords config sources code now deadline rs → AllByRecursion (Arrives config sources code now) rs
 fresh-arrives config sources code now deadline rs zero all = all-weaker (IsFreshRecord config sources code now deadline) (Arrives config sources code now) (λ r fresh e. of r e (fresh e)) rs all

@@ -1,5 +1,5 @@
 -- Names in lower case, records without TTLs, and what does not change by them.
-use Rattle.std.proofs.Common.{◌≡◌, ℕ, Bool, true, false, ◌&&◌, ◌||◌, ◌==◌, List, [], ◌∷◌, map, filter, find, Some, refl, sym, ap, ap₂, ◌∙◌, cond, if◌then◌else◌}
+use Rattle.std.proofs.Common.{◌≡◌, ℕ, Bool, true, false, ◌&&◌, ◌||◌, ◌==◌, List, [], ◌∷◌, map, filter, find, Some, None, refl, sym, ap, ap₂, ◌∙◌, cond, if◌then◌else◌}
 use Rattle.std.proofs.lemmas.Bool.{eqb-true, and_parts}
 use Rattle.std.proofs.lemmas.Str.Ascii.{lowercase-lowercase}
 use Rattle.std.specs.Bool.{beq}
@@ -17,7 +17,7 @@ use Rattle.hickory_proto_core.specs.records.query.Query.{Query}
 use Rattle.hickory_proto_core.specs.codes.record_type.RecordType.TheVariants as type
 use Rattle.hickory_proto_core.specs.codes.dns_class.DNSClass.TheVariants as class
 use Rattle.hickory_proto_core.specs.codes.response_code.ResponseCode.TheVariants as code
-use Rattle.hickory_resolver_model.specs.AliasWalk.{data_target, leads_to}
+use Rattle.hickory_resolver_model.specs.AliasWalk.{Counted, Alias, Server, counted_data, counted}
 use Rattle.hickory_resolver_theorems.specs.WithoutTimes.{folded_name, folded_query, folded_data, record_without_times}
 
 -- ---- codes
@@ -105,21 +105,31 @@ target-folded_name (mx_data preference exchange) = refl
 target-folded_name (txt_data strings) = refl
 target-folded_name (unknown_data code bytes) = refl
 
-alias-folded_name : (owned : Bool) (d : DataValue) → data_target owned (folded_data d) ≡ option_map folded_name (data_target owned d)
-alias-folded_name owned (a_data octets) = refl
-alias-folded_name owned (aaaa_data segments) = refl
-alias-folded_name true (cname_data target) = refl
-alias-folded_name false (cname_data target) = refl
-alias-folded_name owned (ns_data target) = refl
-alias-folded_name owned (ptr_data target) = refl
-alias-folded_name owned (soa_data mname rname serial refresh retry expire minimum) = refl
-alias-folded_name owned (srv_data priority weight port target) = refl
-alias-folded_name owned (mx_data preference exchange) = refl
-alias-folded_name owned (txt_data strings) = refl
-alias-folded_name owned (unknown_data code bytes) = refl
+-- what a record counts as, in lower case
+abbrev pub folded_counted : Counted → Counted
+folded_counted (Alias target) = Alias (folded_name target)
+folded_counted (Server target) = Server (folded_name target)
 
-pub leads-folded_name : (reached : NameValue) (r : RecordValue) → leads_to (folded_name reached) (record_without_times r) ≡ option_map folded_name (leads_to reached r)
-leads-folded_name reached r = ap (λ b. data_target b (folded_data r.rdata)) (name_eq-folded_name reached r.name) ∙ alias-folded_name (name_eq reached r.name) r.rdata
+some-folded_counted : (b : Bool) (c : Counted) → (if b then Some (folded_counted c) else None) ≡ option_map folded_counted (if b then Some c else None)
+some-folded_counted true c = refl
+some-folded_counted false c = refl
+
+data-folded_counted : (reached asked : Bool) (d : DataValue) → counted_data reached asked (folded_data d) ≡ option_map folded_counted (counted_data reached asked d)
+data-folded_counted reached asked (a_data octets) = refl
+data-folded_counted reached asked (aaaa_data segments) = refl
+data-folded_counted reached asked (cname_data target) = some-folded_counted reached (Alias target)
+data-folded_counted reached asked (ns_data target) = refl
+data-folded_counted reached asked (ptr_data target) = refl
+data-folded_counted reached asked (soa_data mname rname serial refresh retry expire minimum) = refl
+data-folded_counted reached asked (srv_data priority weight port target) = some-folded_counted (reached || asked) (Server target)
+data-folded_counted reached asked (mx_data preference exchange) = refl
+data-folded_counted reached asked (txt_data strings) = refl
+data-folded_counted reached asked (unknown_data code bytes) = refl
+
+pub counted-folded_name : (asked reached : NameValue) (r : RecordValue) → counted (folded_name asked) (folded_name reached) (record_without_times r) ≡ option_map folded_counted (counted asked reached r)
+counted-folded_name asked reached r =
+    ap₂ (λ a b. counted_data a b (folded_data r.rdata)) (name_eq-folded_name reached r.name) (name_eq-folded_name asked r.name)
+    ∙ data-folded_counted (name_eq reached r.name) (name_eq asked r.name) r.rdata
 
 pub record_type-folded_name : (r : RecordValue) → record_type_code (record_without_times r) ≡ record_type_code r
 record_type-folded_name r = ap type_code (type-folded_name r.rdata)

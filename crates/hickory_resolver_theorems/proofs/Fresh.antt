@@ -1,5 +1,5 @@
 -- No record of the asked type that a look-up gives or stores outlives what was received.
-use Rattle.std.proofs.Common.{◌≡◌, ◌⊎◌, ◌≤◌, ℕ, ◌+◌, ◌-◌, Bool, true, false, ◌&&◌, ◌==◌, List, [], ◌++◌, map, min, reverse, ◌||◌, Option, Some, None, Ok, Err, refl, sym, ap, ◌∙◌, subst, arith, inl, inr, if◌then◌else◌}
+use Rattle.std.proofs.Common.{◌≡◌, ◌⊎◌, ◌≤◌, ℕ, ◌+◌, ◌-◌, Bool, true, false, ◌&&◌, ◌==◌, List, [], ◌∷◌, ◌++◌, map, min, reverse, ◌||◌, Option, Some, None, Ok, Err, refl, sym, ap, ◌∙◌, subst, arith, inl, inr, if◌then◌else◌}
 use Rattle.std.proofs.lemmas.Bool.{and_parts, leb-true, eqb-true}
 use Rattle.std.specs.List.{AllByRecursion}
 use Rattle.std.specs.Option.{option_map_or}
@@ -20,13 +20,13 @@ use Rattle.hickory_resolver_model.specs.Lookup.{LookupResult, hit_lookup, hit_se
 use Rattle.hickory_resolver_model.specs.SpecialUse.{special_use_result, is_loopback_name, is_nonexistent_name, loopback_data, one_record, no_records}
 use Rattle.hickory_resolver_model.specs.AliasWalk.{Walk, walk_of}
 use Rattle.hickory_resolver_model.specs.Verdict.{Hop, Exists, CnameChain, NoMatch, is_accepted, found_message, next_hop, all_records, with_ttl_at_most}
-use Rattle.hickory_resolver_model.specs.Hops.{LookupContext, ChainEnd, Special, Hit, Asked, IsChainEnd, HopList, Store, IsReply, asks_of, hit_result, verdict_result, kind_result, result_of, verdict_stores, kind_stores, last_stores, earlier_store, stores_of, after_stores}
+use Rattle.hickory_resolver_model.specs.Hops.{LookupContext, ChainEnd, Special, Hit, Asked, IsChainEnd, HopList, Store, IsReply, asks_of, hit_result, verdict_result, kind_result, result_of, alias_limit, limit_of, result_until, reply_of, verdict_stores, kind_stores, last_stores, earlier_store, stores_of, after_stores}
 use Rattle.hickory_resolver_theorems.specs.Covered.{Dated, dated_exchanges, IsCovered, IsLoopback}
 use Rattle.hickory_resolver_theorems.specs.Statements.{HasNoLeast, IsFreshRecord, AreFreshRecords, IsFreshReply, IsFreshOutcome, IsFreshEntry, AreFreshEntries, IsFresh}
 use Rattle.hickory_resolver_theorems.proofs.Lists.{all-weaker, all-append, all-front, all-back, all-map, all-has, has-all, has-right, has-map, all-reverse, find-has, ContainsByRecursion, contains-from_recursion}
-use Rattle.hickory_resolver_theorems.proofs.Covers.{Arrives, arrived-fresh, fresh-arrives, covered-has, covered-lower, clamped_message-le, clamped_message-greatest, greatest-short, least-has, saturating-le}
+use Rattle.hickory_resolver_theorems.proofs.Covers.{Arrives, arrived-fresh, fresh-arrives, fresh-sooner, covered-has, covered-lower, clamped_message-le, clamped_message-greatest, greatest-short, least-has, saturating-le}
 use Rattle.hickory_resolver_theorems.proofs.Verdicts.{KeepsType, leads-keep, found-answers}
-use Rattle.hickory_resolver_theorems.proofs.Stores.{StoresArrived, stores-fresh, entries-more}
+use Rattle.hickory_resolver_theorems.proofs.Stores.{StoresArrived, stores-fresh, entries-more, earlier-all}
 
 -- ---- special names
 
@@ -187,6 +187,17 @@ result-fresh s sources hop count (Asked outcome) keeps fresh zero there ends = b
     by (Negative none) e = tt
     by (Failed error) e = tt
 
+-- a limit makes no deadline later
+until-fresh : (config : ConfigValue) (sources : List Dated) (code now limit : ℕ) (result : LookupResult) → IsFreshReply config sources code now result → IsFreshReply config sources code now (result_until limit result)
+until-fresh config sources code now limit (Ok l) fresh = fresh-sooner config sources code now l.valid_until (min l.valid_until limit) l.message.answers (omega arith) fresh
+until-fresh config sources code now limit (Err e) fresh = tt
+
+reply-fresh : (s : LookupContext) (sources : List Dated) (code : ℕ) (passed : List Exchange) (hop : Hop) (last : ChainEnd) → IsFreshReply s.cache.config sources code s.now (result_of s hop last) → IsFreshReply s.cache.config sources code s.now (reply_of s passed hop last)
+reply-fresh s sources code [] hop (Special reply) fresh = fresh
+reply-fresh s sources code [] hop (Hit entry) fresh = fresh
+reply-fresh s sources code [] hop (Asked outcome) fresh = until-fresh s.cache.config sources code s.now (limit_of s [] hop (Asked outcome)) (result_of s hop (Asked outcome)) fresh
+reply-fresh s sources code (x ∷ xs) hop last fresh = until-fresh s.cache.config sources code s.now (limit_of s (x ∷ xs) hop last) (result_of s hop last) fresh
+
 -- ---- what it stores
 
 last-arrives : (s : LookupContext) (sources : List Dated) (hop : Hop) (last : ChainEnd) → KeepsType (type_code hop.query.query_type) hop → AllByRecursion (λ x. ContainsByRecursion sources (record { moment = s.now; exchange = x })) (asks_of hop last)
@@ -202,7 +213,7 @@ last-arrives s sources hop (Asked outcome) keeps there = by (kind_of outcome) re
     x = record { query = hop.query; outcome = outcome }
 
     on : (response : MessageValue) → outcome ≡ Ok response → (accepted nowhere : Bool)
-        → AllByRecursion (StoresArrived config sources) (verdict_stores hop.query s.now (if accepted then Exists (found_message s.preserve_intermediates hop (walk_of hop.query response.answers) response) else (if nowhere then NoMatch else CnameChain (next_hop s.preserve_intermediates hop (walk_of hop.query response.answers) response))))
+        → AllByRecursion (StoresArrived config sources) (verdict_stores hop.query s.now (alias_limit s hop.query (Answer response)) (if accepted then Exists (found_message s.preserve_intermediates hop (walk_of hop.query response.answers) response) else (if nowhere then NoMatch else CnameChain (next_hop s.preserve_intermediates hop (walk_of hop.query response.answers) response))))
     on response came true nowhere = ((λ zero. found-arrives config sources s.now (type_code hop.query.query_type) s.preserve_intermediates hop x response keeps zero there.0 came), tt)
     on response came false true = tt
     on response came false false = tt
@@ -213,27 +224,26 @@ last-arrives s sources hop (Asked outcome) keeps there = by (kind_of outcome) re
     by (Failed error) e = tt
 
 -- a fresh result arrives once more under an earlier question of the same type
-again-arrives : (config : ConfigValue) (sources : List Dated) (now code : ℕ) (q : Query) (reply : LookupResult) → type_code q.query_type ≡ code → (HasNoLeast config code → IsFreshReply config sources code now reply) → StoresArrived config sources (earlier_store reply now q)
-again-arrives config sources now code q (Ok l) same fresh = λ zero.
+again-arrives : (config : ConfigValue) (sources : List Dated) (now code : ℕ) (q : Query) (reply : LookupResult) (limit : ℕ) → type_code q.query_type ≡ code → (HasNoLeast config code → IsFreshReply config sources code now reply) → StoresArrived config sources (earlier_store reply now q limit)
+again-arrives config sources now code q (Ok l) limit same fresh = λ zero.
     subst (λ c. AllByRecursion (Arrives config sources c now) l.message.answers) (sym same)
     (fresh-arrives config sources code now l.valid_until l.message.answers (subst (HasNoLeast config) same zero) (fresh (subst (HasNoLeast config) same zero)))
-again-arrives config sources now code q (Err e) same fresh = tt
+again-arrives config sources now code q (Err e) limit same fresh = tt
 
 -- ---- a look-up
 
 -- what is known of a list of hops, with its own exchanges among the sources
 pub record AreFreshHops (s : LookupContext) (question : Query) (asks : List Exchange) (sources : List Dated) (h : HopList s question asks) : Type 0 where
-  pub reply : HasNoLeast s.cache.config (type_code question.query_type) → IsFreshReply s.cache.config sources (type_code question.query_type) s.now (result_of s h.last_hop h.last)
+  pub reply : HasNoLeast s.cache.config (type_code question.query_type) → IsFreshReply s.cache.config sources (type_code question.query_type) s.now (reply_of s h.passed h.last_hop h.last)
   pub stores : AllByRecursion (StoresArrived s.cache.config sources) (stores_of s h.passed h.last_hop h.last)
 
 pub hops-fresh : (s : LookupContext) (question : Query) (asks : List Exchange) (sources : List Dated) (h : HopList s question asks) → AreFreshHits s sources (type_code question.query_type) → AllByRecursion (λ x. ContainsByRecursion sources (record { moment = s.now; exchange = x })) asks
     → AreFreshHops s question asks sources h
 hops-fresh s question asks sources h fresh there = record {
-  reply = reply;
+  reply = λ zero. reply-fresh s sources code h.passed h.last_hop h.last (reply zero);
   stores = all-append (StoresArrived s.cache.config sources) (last_stores s h.last_hop h.last) _ (last-arrives s sources h.last_hop h.last own last_there)
-      (all-map (StoresArrived s.cache.config sources) again (reverse h.passed)
-      (all-reverse (λ x. StoresArrived s.cache.config sources (again x)) h.passed
-      (all-weaker (λ x. type_code x.query.query_type ≡ code) (λ x. StoresArrived s.cache.config sources (again x)) (λ x same. again-arrives s.cache.config sources s.now code x.query result same reply) h.passed leads.1)));
+      (earlier-all (StoresArrived s.cache.config sources) s h.passed h.last_hop h.last
+      (all-weaker (λ x. type_code x.query.query_type ≡ code) (λ x. (limit : ℕ) → StoresArrived s.cache.config sources (earlier_store result s.now x.query limit)) (λ x same limit. again-arrives s.cache.config sources s.now code x.query result limit same reply) h.passed leads.1));
 }
   where
     code : ℕ
@@ -241,9 +251,6 @@ hops-fresh s question asks sources h fresh there = record {
 
     result : LookupResult
     result = result_of s h.last_hop h.last
-
-    again : Exchange → Store
-    again x = earlier_store result s.now x.query
 
     leads : KeepsType code h.last_hop × AllByRecursion (λ x. type_code x.query.query_type ≡ code) h.passed
     leads = leads-keep code s (record { query = question; preserved = [] }) h.passed h.last_hop (record { type_is = refl; others = tt }) h.leads

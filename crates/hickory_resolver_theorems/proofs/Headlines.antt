@@ -201,7 +201,7 @@ attempts-alike table t plan looked c before (n ∷ ns) last parts r after seen m
 abbrev ServedAlike : TableValue → Settings → CacheValue → RequestValue → StepReply → CacheValue → Type 0
 ServedAlike table s c request reply after = ((ends_run reply ≡ true) ⊎ IsCacheless table s c request reply) × AreWhatTheyResolveTo table after
 
-call-alike : (table : TableValue) (s : Settings) (c before : CacheValue) (now : ℕ) (call : Call) (parts : List SubLookup) (reply : LookupResult) (after : CacheValue) → Seen table (call_context_at s now) → AreWhatTheyResolveTo table before → AllByRecursion (ResolvesWithinEight table) parts → AreConsistentWith table (asks_of_sub_lookups parts)
+pub call-alike : (table : TableValue) (s : Settings) (c before : CacheValue) (now : ℕ) (call : Call) (parts : List SubLookup) (reply : LookupResult) (after : CacheValue) → Seen table (call_context_at s now) → AreWhatTheyResolveTo table before → AllByRecursion (ResolvesWithinEight table) parts → AreConsistentWith table (asks_of_sub_lookups parts)
     → IsCall (IsSubLookupFor (call_context_at s now)) s before call parts reply after
     → ((is_out_of_memory reply ≡ true) ⊎ IsCall (CachelessSubLookup table (call_context_at s now)) s c call parts reply c) × AreWhatTheyResolveTo table after
 call-alike table s c before now (AtOnce answer) parts reply after seen meant has tells (none, e, same) = (inr (none, e, refl), subst (AreWhatTheyResolveTo table) (sym same) meant)
@@ -235,11 +235,11 @@ addresses-alike table s c before text now parts reply after seen meant has tells
     by (inr alike) = inr (parts, reply, inl (given, said, alike), refl)
 addresses-alike table s c before text now parts reply after seen meant has tells (inr (none, e, same)) = (inl (ap is_out_of_memory e), subst (AreWhatTheyResolveTo table) (sym same) meant)
 
-drop_each-meant : (table : TableValue) (u : RecordType) (names : List NameValue) (cache : CacheValue) → AreWhatTheyResolveTo table cache → AreWhatTheyResolveTo table (drop_each u names cache)
+pub drop_each-meant : (table : TableValue) (u : RecordType) (names : List NameValue) (cache : CacheValue) → AreWhatTheyResolveTo table cache → AreWhatTheyResolveTo table (drop_each u names cache)
 drop_each-meant table u [] cache meant = meant
 drop_each-meant table u (n ∷ ns) cache meant = drop_each-meant table u ns (without_query cache (question_of n u)) (all-filter (IsWhatItResolvesTo table) (λ e. not (is_for (question_of n u) e)) cache.entries meant)
 
-clear-meant : (table : TableValue) (s : Settings) (before : CacheValue) (u : RecordType) (name : Result NameValue NameError) (after : CacheValue) → AreWhatTheyResolveTo table before → after ≡ after_clear s u name before → AreWhatTheyResolveTo table after
+pub clear-meant : (table : TableValue) (s : Settings) (before : CacheValue) (u : RecordType) (name : Result NameValue NameError) (after : CacheValue) → AreWhatTheyResolveTo table before → after ≡ after_clear s u name before → AreWhatTheyResolveTo table after
 clear-meant table s before u (Ok n) after meant e = subst (AreWhatTheyResolveTo table) (sym e) (drop_each-meant table u (attempts s.search n) before meant)
 clear-meant table s before u (Err fault) after meant e = subst (AreWhatTheyResolveTo table) (sym e) meant
 

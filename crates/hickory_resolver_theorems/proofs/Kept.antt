@@ -1,5 +1,5 @@
 -- A reply over the exchanges that were answered is one over those that a recording handle kept.
-use Rattle.std.proofs.Common.{◌≡◌, ◌⊎◌, ◌≤◌, List, [], ◌∷◌, ◌++◌, length, map, reverse, Some, None, Err, refl, sym, ap, ◌∙◌, subst, inl, inr}
+use Rattle.std.proofs.Common.{◌≡◌, ◌⊎◌, ◌≤◌, ℕ, List, [], ◌∷◌, ◌++◌, length, Some, None, Err, refl, sym, ap, ◌∙◌, subst, inl, inr}
 use Rattle.std.proofs.lemmas.List.{append-nil}
 use Rattle.std.specs.List.{AllByRecursion}
 use Rattle.hickory_proto_core.specs.Handles.{OutcomeValue}
@@ -12,8 +12,9 @@ use Rattle.hickory_proto_core.specs.records.net_error.NetError.TheVariants.{OutO
 use Rattle.hickory_resolver_model.specs.Cache.{CacheValue}
 use Rattle.hickory_resolver_model.specs.Lookup.{LookupResult}
 use Rattle.hickory_resolver_model.specs.Verdict.{Hop, first_hop, Verdict, Exists, CnameChain, NoMatch, verdict}
-use Rattle.hickory_resolver_model.specs.Hops.{LookupContext, GoesUpstream, FollowsAliases, ChainEnd, Special, Hit, Asked, IsChainEnd, kind_verdict, kind_result, kind_stores, verdict_result, verdict_stores, result_of, asks_of, as_outcome, last_stores, earlier_store, stores_of, Store, after_store, after_stores, HopList, IsCutInAsks, IsReply}
-use Rattle.hickory_resolver_theorems.proofs.Lists.{all-append, all-map, has-all}
+use Rattle.hickory_resolver_model.specs.Hops.{LookupContext, GoesUpstream, FollowsAliases, ChainEnd, Special, Hit, Asked, IsChainEnd, kind_verdict, kind_result, kind_stores, verdict_result, verdict_stores, result_of, asks_of, as_outcome, alias_limit, limit_of, result_until, reply_of, last_stores, earlier_store, earlier_stores, stores_of, Store, after_store, after_stores, HopList, IsCutInAsks, IsReply}
+use Rattle.hickory_resolver_theorems.proofs.Lists.{all-append, has-all}
+use Rattle.hickory_resolver_theorems.proofs.Stores.{earlier-all}
 
 -- ---- where memory ran out, no store changes the cache
 
@@ -24,13 +25,13 @@ none_stored : (front back : List Store) (cache : CacheValue) → AllOut (front +
 none_stored [] back cache a = refl
 none_stored (s ∷ ss) back cache a = ap (λ (o : OutcomeValue). after_stores ss (after_store (record s { outcome = o }) cache)) a.0 ∙ none_stored ss back cache a.1
 
-verdict_out : (s : LookupContext) (hop : Hop) (m : MessageValue) (v : Verdict) → verdict_result s.cache.config hop.query s.now m v ≡ Err OutOfMemory → AllOut (verdict_stores hop.query s.now v)
-verdict_out s hop m (Exists n) e = cc
-verdict_out s hop m (CnameChain next) e = tt
-verdict_out s hop m NoMatch e = tt
+verdict_out : (s : LookupContext) (hop : Hop) (m : MessageValue) (limit : ℕ) (v : Verdict) → verdict_result s.cache.config hop.query s.now m v ≡ Err OutOfMemory → AllOut (verdict_stores hop.query s.now limit v)
+verdict_out s hop m limit (Exists n) e = cc
+verdict_out s hop m limit (CnameChain next) e = tt
+verdict_out s hop m limit NoMatch e = tt
 
 kind_out : (s : LookupContext) (hop : Hop) (kind : ResponseKind) → kind_result s hop kind ≡ Err OutOfMemory → AllOut (kind_stores s hop kind)
-kind_out s hop (Answer m) e = verdict_out s hop m (verdict s.preserve_intermediates hop m) e
+kind_out s hop (Answer m) e = verdict_out s hop m (alias_limit s hop.query (Answer m)) (verdict s.preserve_intermediates hop m) e
 kind_out s hop (Negative none) e = cc
 kind_out s hop (Failed error) e = tt
 
@@ -42,9 +43,15 @@ last_out s hop (Asked outcome) e = kind_out s hop (kind_of outcome) e
 all_out : (s : LookupContext) (passed : List Exchange) (hop : Hop) (last : ChainEnd) → result_of s hop last ≡ Err OutOfMemory → AllOut (stores_of s passed hop last)
 all_out s passed hop last e =
     let P : Store → Type 0 = λ t. t.outcome ≡ Err OutOfMemory in
-    let again : Exchange → Store = λ x. earlier_store (result_of s hop last) s.now x.query in
-    all-append P (last_stores s hop last) (map again (reverse passed)) (last_out s hop last e)
-    (all-map P again (reverse passed) (has-all (λ x. P (again x)) (reverse passed) (λ x there. ap (as_outcome x.query) e)))
+    all-append P (last_stores s hop last) (earlier_stores s passed hop last) (last_out s hop last e)
+    (earlier-all P s passed hop last (has-all (λ x. (limit : ℕ) → P (earlier_store (result_of s hop last) s.now x.query limit)) passed (λ x there limit. ap (as_outcome x.query) e)))
+
+-- what memory ran out for is answered so, whatever the limit
+reply_out : (s : LookupContext) (passed : List Exchange) (hop : Hop) (last : ChainEnd) → result_of s hop last ≡ Err OutOfMemory → reply_of s passed hop last ≡ Err OutOfMemory
+reply_out s [] hop (Special reply) e = e
+reply_out s [] hop (Hit entry) e = e
+reply_out s [] hop (Asked outcome) e = ap (result_until (limit_of s [] hop (Asked outcome))) e
+reply_out s (x ∷ xs) hop last e = ap (result_until (limit_of s (x ∷ xs) hop last)) e
 
 -- ---- what was kept
 
@@ -116,7 +123,7 @@ module _ (s : LookupContext) (question : Query) where
       let Q : CacheValue → Type 0 = λ a. IsCutInAsks s question kept a in
       elim (kept_hops asks kept w.hops r) [
         | inl e ↦ subst P (sym e) (inl w)
-        | inr d ↦ inr (w.result_is ∙ d.0, inr (subst Q (sym (w.after_is ∙ whole_out w.hops d.0)) d.1))
+        | inr d ↦ inr (w.result_is ∙ reply_out s w.hops.passed w.hops.last_hop w.hops.last d.0, inr (subst Q (sym (w.after_is ∙ whole_out w.hops d.0)) d.1))
       ]
     where
       whole_out : (h : HopList s question asks) → result_of s h.last_hop h.last ≡ Err OutOfMemory → after_stores (stores_of s h.passed h.last_hop h.last) s.cache ≡ s.cache

@@ -1,4 +1,6 @@
+pub mod Aliases
 pub mod Answered
+pub mod CallFacts
 pub mod Chains
 pub mod Covers
 pub mod Few
@@ -16,3 +18,5 @@ pub mod Runs
 pub mod Stores
 pub mod Transparent
 pub mod Verdicts
+pub mod Weaker
+pub mod Promises

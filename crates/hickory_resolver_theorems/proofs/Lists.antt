@@ -61,6 +61,11 @@ contains-from_recursion [] x h = absurd h
 contains-from_recursion (y ∷ ys) x (inl e) = (zero, omega arith, sym e)
 contains-from_recursion (y ∷ ys) x (inr h) = let rest = contains-from_recursion ys x h in (suc rest.0, omega (arith, rest.1), rest.2)
 
+pub contains-to_recursion : {A : Type 0} (xs : List A) (x : A) → Contains xs x → ContainsByRecursion xs x
+contains-to_recursion [] x (k, short, e) = absurd (omega (arith, short))
+contains-to_recursion (y ∷ ys) x (zero, short, e) = inl (sym e)
+contains-to_recursion (y ∷ ys) x (suc k, short, e) = inr (contains-to_recursion ys x (k, omega (arith, short), e))
+
 pub all-has : {A : Type 0} (P : A → Type 0) (xs : List A) (x : A) → AllByRecursion P xs → ContainsByRecursion xs x → P x
 all-has P [] x h k = absurd k
 all-has P (y ∷ ys) x (p, ps) (inl e) = subst P (sym e) p

@@ -1,5 +1,5 @@
 -- Every record that a look-up gives or stores comes from its sources.
-use Rattle.std.proofs.Common.{◌≡◌, ◌⊎◌, ◌≤◌, ◌==◌, ◌&&◌, ℕ, ◌+◌, Bool, true, false, List, [], ◌++◌, map, filter, Contains, Ok, Err, refl, sym, ap, subst, inl, inr, arith, ◌∙◌}
+use Rattle.std.proofs.Common.{◌≡◌, ◌⊎◌, ◌≤◌, ◌==◌, ◌&&◌, ℕ, ◌+◌, Bool, true, false, List, [], ◌++◌, map, filter, Contains, Ok, Err, IfSome, refl, sym, ap, subst, inl, inr, arith, ◌∙◌}
 use Rattle.std.proofs.lemmas.Bool.{and_parts, eq-eqb}
 use Rattle.std.specs.List.{AllByRecursion}
 use Rattle.hickory_proto_core.specs.Codes.{type_code}
@@ -12,17 +12,17 @@ use Rattle.hickory_proto_core.specs.records.net_error.NetError.TheVariants.{OutO
 use Rattle.hickory_resolver_model.specs.Bounds.{ConfigValue, greatest_ttl}
 use Rattle.hickory_resolver_model.specs.Cache.{CacheValue, Entry, IsCache, IsTimelyAnswer, OutlivesNoAnswer, is_for, is_current}
 use Rattle.hickory_resolver_model.specs.Lookup.{LookupResult}
-use Rattle.hickory_resolver_model.specs.Hops.{LookupContext, Store, IsReply, after_stores}
+use Rattle.hickory_resolver_model.specs.Hops.{LookupContext, Store, IsReply, made_entry, after_stores}
 use Rattle.hickory_resolver_theorems.specs.Covered.{Dated, dated_exchanges, IsCovered}
 use Rattle.hickory_resolver_theorems.specs.Statements.{IsFreshRecord, IsFreshReply, IsFreshOutcome, IsFreshEntry}
-use Rattle.hickory_resolver_theorems.specs.Provenance.{is_positive, is_source, answers_alone, dated_entry, sources_of, IsFromSources, HasProvenance}
-use Rattle.hickory_resolver_theorems.proofs.Lists.{all-has, has-all, all-front, has-left, has-map, has-filter, find-has, ContainsByRecursion, contains-from_recursion}
+use Rattle.hickory_resolver_theorems.specs.Provenance.{is_positive, is_source, answers_alone, dated_entry, sources_of, stores_made, IsFromSources, HasProvenance}
+use Rattle.hickory_resolver_theorems.proofs.Lists.{all-weaker, all-has, has-all, all-front, has-left, has-map, has-filter, find-has, ContainsByRecursion, contains-from_recursion}
 use Rattle.hickory_resolver_theorems.proofs.Covers.{covered-has}
-use Rattle.hickory_resolver_theorems.proofs.Stores.{StoresArrived, stores-known}
+use Rattle.hickory_resolver_theorems.proofs.Stores.{StoresArrived, stores-known, store-fresh}
 use Rattle.hickory_resolver_theorems.proofs.Fresh.{for-type, AreFreshHits, hops-fresh, own-sources}
 
 -- an entry that is a source is fresh by itself
-entry-own : (config : ConfigValue) (sources : List Dated) (e : Entry) (o : OutcomeValue) → e.result ≡ o → (is_positive o ≡ true → ContainsByRecursion sources (dated_entry e)) → OutlivesNoAnswer config e → IsFreshOutcome config sources e o
+pub entry-own : (config : ConfigValue) (sources : List Dated) (e : Entry) (o : OutcomeValue) → e.result ≡ o → (is_positive o ≡ true → ContainsByRecursion sources (dated_entry e)) → OutlivesNoAnswer config e → IsFreshOutcome config sources e o
 entry-own config sources e (Err error) is there timely = tt
 entry-own config sources e (Ok m) is there timely = λ zero. has-all (IsFreshRecord config sources code e.original_time e.valid_until) m.answers (λ r h same. inr (of r h same (all-has (IsTimelyAnswer config e code) m.answers r (timely zero m is) h same)))
   where
@@ -45,7 +45,7 @@ entry-own config sources e (Ok m) is there timely = λ zero. has-all (IsFreshRec
           t.0,
         )
 
-both-true : (a b : Bool) → a ≡ true → b ≡ true → (a && b) ≡ true
+pub both-true : (a b : Bool) → a ≡ true → b ≡ true → (a && b) ≡ true
 both-true true b e f = f
 both-true false b e f = cc
 
@@ -66,7 +66,7 @@ hits-own s question asks timely q e same is =
 abbrev IsKnown : List Entry → ConfigValue → List Dated → Entry → Type 0
 IsKnown before config sources e = Contains before e ⊎ IsFreshEntry config sources e
 
-pub from_sources : (s : LookupContext) (question : Query) (asks : List Exchange) (result : LookupResult) (after : CacheValue) → IsCache s.cache.config s.cache.capacity s.cache.entries → IsReply s question asks result after → HasProvenance s question asks result after
+pub from_sources : (s : LookupContext) (question : Query) (asks : List Exchange) (result : LookupResult) (after : CacheValue) → IsCache s.cache.config s.cache.capacity s.cache.entries → (reply : IsReply s question asks result after) → HasProvenance s question asks result after reply
 from_sources s question asks result after cache reply zero = by reply
   where
     code : ℕ
@@ -90,12 +90,16 @@ from_sources s question asks result after cache reply zero = by reply
     out : result ≡ Err OutOfMemory → IsFreshReply s.cache.config sources code s.now result
     out e = subst (IsFreshReply s.cache.config sources code s.now) (sym e) tt
 
-    by : IsReply s question asks result after → IsFromSources s question asks result after
+    made : (stores : List Store) → AllByRecursion (StoresArrived s.cache.config sources) stores → AllByRecursion (λ store. IfSome (made_entry s.cache.config store) (IsFreshEntry s.cache.config sources)) stores
+    made stores arrive = all-weaker (StoresArrived s.cache.config sources) (λ store. IfSome (made_entry s.cache.config store) (IsFreshEntry s.cache.config sources)) (store-fresh s.cache.config sources) stores arrive
+
+    by : (reply : IsReply s question asks result after) → IsFromSources s question asks result (stores_made s question asks result after reply) after
     by (inl whole) =
         let hops = hops-fresh s question asks sources whole.hops hits own in
-        record { reply = subst (IsFreshReply s.cache.config sources code s.now) (sym whole.result_is) (hops.reply zero); stores = stored _ hops.stores whole.after_is }
+        record { reply = subst (IsFreshReply s.cache.config sources code s.now) (sym whole.result_is) (hops.reply zero); stores = made _ hops.stores; entries = stored _ hops.stores whole.after_is }
     by (inr (e, inl cut)) =
         let hops = hops-fresh s question asks sources cut.hops hits own in
-        record { reply = out e; stores = stored cut.front (all-front (StoresArrived s.cache.config sources) cut.front cut.back (subst (AllByRecursion (StoresArrived s.cache.config sources)) (sym cut.parts) hops.stores)) cut.after_is }
+        let front = all-front (StoresArrived s.cache.config sources) cut.front cut.back (subst (AllByRecursion (StoresArrived s.cache.config sources)) (sym cut.parts) hops.stores) in
+        record { reply = out e; stores = made cut.front front; entries = stored cut.front front cut.after_is }
     by (inr (e, inr cut)) =
-        record { reply = out e; stores = subst (λ c. AllByRecursion (IsKnown s.cache.entries s.cache.config sources) c.entries) (sym cut.after_is) old }
+        record { reply = out e; stores = tt; entries = subst (λ c. AllByRecursion (IsKnown s.cache.entries s.cache.config sources) c.entries) (sym cut.after_is) old }

@@ -4,7 +4,7 @@ use Rattle.std.proofs.lemmas.List.{map-append}
 use Rattle.std.specs.List.{filter_map, cons_option}
 use Rattle.std.specs.Option.{option_map, option_map_or}
 use Rattle.std.specs.Prelude.{is_some}
-use Rattle.hickory_proto_core.specs.Name.{NameValue}
+use Rattle.hickory_proto_core.specs.Name.{NameValue, name_eq}
 use Rattle.hickory_proto_core.specs.Codes.{response_code, response_of}
 use Rattle.hickory_proto_core.specs.Records.{RecordValue, soa_minimum, ns_target}
 use Rattle.hickory_proto_core.specs.Messages.{MessageValue, response_metadata, some_record}
@@ -17,11 +17,11 @@ use Rattle.hickory_proto_core.specs.codes.op_code.OpCode.TheVariants as op
 use Rattle.hickory_proto_core.specs.records.net_error.NetError.{NetError}
 use Rattle.hickory_proto_core.specs.records.net_error.NetError.TheVariants.{Message, Timeout, Proto, Dns, NoOutcome, Bounds, OutOfMemory}
 use Rattle.hickory_proto_core.specs.records.net_error.DnsError.TheVariants.{ResponseCode, NoRecordsFound}
-use Rattle.hickory_resolver_model.specs.AliasWalk.{Walk, ends_at, leads_to, walk_step, walk_from, walk_of, follows_aliases}
-use Rattle.hickory_resolver_model.specs.Verdict.{Verdict, Exists, CnameChain, NoMatch, is_match, is_last_match, is_accepted, is_filtered, is_intermediate, found_message, filtered_answers, next_hop, all_records, with_ttl_at_most, verdict, first_hop}
+use Rattle.hickory_resolver_model.specs.AliasWalk.{Walk, Counted, Alias, Server, counted, reached_by, ends_at, has_target, is_moved, standing, walk_step, walk_from, walk_of, follows_aliases}
+use Rattle.hickory_resolver_model.specs.Verdict.{Verdict, Exists, CnameChain, NoMatch, is_match, is_led_match, is_accepted, is_filtered, is_intermediate, found_message, filtered_answers, first_or, next_name, next_hop, all_records, with_ttl_at_most, verdict, first_hop}
 use Rattle.hickory_resolver_model.specs.Hops.{no_match}
 use Rattle.hickory_resolver_theorems.specs.WithoutTimes.{folded_name, folded_query, record_without_times, Sections, sections, forward_without_times, error_without_times, WithoutTimes, ResponseWithoutTimes, outcome_without_times}
-use Rattle.hickory_resolver_theorems.proofs.Folding.{name_eq-folded_name, zone_of-folded_name, minimum-folded_name, target-folded_name, leads-folded_name, record_type-folded_name, query_type-folded_name, query_class-folded_name, record_class-folded_name, any-map, filter-map, find-map, map-map}
+use Rattle.hickory_resolver_theorems.proofs.Folding.{name_eq-folded_name, zone_of-folded_name, minimum-folded_name, target-folded_name, folded_counted, counted-folded_name, record_type-folded_name, query_type-folded_name, query_class-folded_name, record_class-folded_name, any-map, filter-map, find-map, map-map}
 
 -- what a question comes to by one outcome: a reply, or another question
 pub data Next : Type 0 where
@@ -83,7 +83,7 @@ found_core q walk m =
 abbrev walk_core : Query → Walk → MessageValue → Next
 walk_core q walk m =
     if is_accepted (first_hop q) walk m then Ends (Ok (found_core q walk m))
-    else (if is_empty walk.places then Ends (Err (no_match_core q m)) else GoesOn (record { name = walk.last; query_type = q.query_type; query_class = class.IN }))
+    else (if is_empty walk.places then Ends (Err (no_match_core q m)) else GoesOn (record { name = next_name walk; query_type = q.query_type; query_class = class.IN }))
 
 abbrev answer_core : Query → MessageValue → Next
 answer_core q m = walk_core q (walk_of q m.answers) m
@@ -96,12 +96,30 @@ next_core q (Err e) = Ends (Err e)
 
 -- ---- tests of records
 
--- the walk of a response without times, at the places and the last name of the walk of the response
+-- the walk of a response without times, at the places and the names of the walk of the response
 abbrev at_walk : Walk → Walk
-at_walk walk = record { places = walk.places; last = folded_name walk.last; ttl = 0 }
+at_walk walk = record { places = walk.places; last = folded_name walk.last; targets = map folded_name walk.targets; alias_ttls = map (λ t. 0) walk.alias_ttls; ttl = 0 }
 
 ends-folded_name : (walk : Walk) (name : NameValue) → ends_at (at_walk walk) (folded_name name) ≡ ends_at walk name
 ends-folded_name walk name = name_eq-folded_name walk.last name
+
+has-folded_name : (walk : Walk) (name : NameValue) → has_target (at_walk walk) (folded_name name) ≡ has_target walk name
+has-folded_name walk name = any-map (λ t. name_eq t (folded_name name)) (λ t. name_eq t name) folded_name (λ t. name_eq-folded_name t name) walk.targets
+
+empty-map : {A B : Type 0} (f : A → B) (xs : List A) → is_empty (map f xs) ≡ is_empty xs
+empty-map f [] = refl
+empty-map f (x ∷ xs) = refl
+
+moved-at : (walk : Walk) → is_moved (at_walk walk) ≡ is_moved walk
+moved-at walk = ap not (empty-map (λ t. 0) walk.alias_ttls)
+
+next-folded_name : (walk : Walk) → next_name (at_walk walk) ≡ folded_name (next_name walk)
+next-folded_name walk = by walk.alias_ttls walk.targets
+  where
+    by : (ttls : List ℕ) (targets : List NameValue) → (if not (is_empty {A = ℕ} (map (λ t. 0) ttls)) then folded_name walk.last else first_or (folded_name walk.last) (map folded_name targets)) ≡ folded_name (if not (is_empty ttls) then walk.last else first_or walk.last targets)
+    by (t ∷ ts) targets = refl
+    by [] [] = refl
+    by [] (target ∷ targets) = refl
 
 match-folded_name : (q : Query) (walk : Walk) (r : RecordValue) → is_match (folded_query q) (at_walk walk) (record_without_times r) ≡ is_match q walk r
 match-folded_name q walk r =
@@ -111,16 +129,19 @@ match-folded_name q walk r =
     let cr = record_class-folded_name r in
     let own = name_eq-folded_name q.name r.name in
     let ends = ends-folded_name walk r.name in
-    λ i. ((cq i == cr i) && ((tq i == 255) || (tq i == tr i))) && (own i || ends i)
+    let has = has-folded_name walk r.name in
+    λ i. ((cq i == cr i) && ((tq i == 255) || (tq i == tr i))) && (own i || (ends i || has i))
 
-last_match-folded_name : (q : Query) (walk : Walk) (r : RecordValue) → is_last_match (folded_query q) (at_walk walk) (record_without_times r) ≡ is_last_match q walk r
-last_match-folded_name q walk r =
+led_match-folded_name : (q : Query) (walk : Walk) (r : RecordValue) → is_led_match (folded_query q) (at_walk walk) (record_without_times r) ≡ is_led_match q walk r
+led_match-folded_name q walk r =
     let tq = query_type-folded_name q in
     let tr = record_type-folded_name r in
     let cq = query_class-folded_name q in
     let cr = record_class-folded_name r in
     let ends = ends-folded_name walk r.name in
-    λ i. ((cq i == cr i) && ((tq i == 255) || (tq i == tr i))) && ends i
+    let has = has-folded_name walk r.name in
+    let moved = moved-at walk in
+    λ i. ((cq i == cr i) && ((tq i == 255) || (tq i == tr i))) && (has i || (moved i && ends i))
 
 asked-folded_name : (q : Query) (r : RecordValue) → is_asked (folded_query q) (record_without_times r) ≡ is_asked q r
 asked-folded_name q r =
@@ -218,28 +239,34 @@ no_match-folded_name q m =
 
 -- ---- the walk
 
+-- a walk without times has the same places, and the names in lower case
 abbrev SameWalk : Walk → Walk → Type 0
-SameWalk w v = (w.places ≡ v.places) × (w.last ≡ folded_name v.last)
+SameWalk w v = (w.places ≡ v.places) × (w.last ≡ folded_name v.last) × (w.targets ≡ map folded_name v.targets) × (w.alias_ttls ≡ map (λ t. 0) v.alias_ttls)
 
-walk_from-folded_name : (rs : List RecordValue) (place : ℕ) (reached : NameValue) → SameWalk (walk_from place (folded_name reached) (map record_without_times rs)) (walk_from place reached rs)
-walk_from-folded_name [] place reached = (refl, refl)
-walk_from-folded_name (r ∷ rs) place reached = by (leads_to reached r) (leads_to (folded_name reached) (record_without_times r)) (leads-folded_name reached r) (walk_from-folded_name rs (place + 1))
+walk_from-folded_name : (asked : NameValue) (rs : List RecordValue) (place : ℕ) (reached : NameValue) → SameWalk (walk_from place (folded_name asked) (folded_name reached) (map record_without_times rs)) (walk_from place asked reached rs)
+walk_from-folded_name asked [] place reached = (refl, refl, refl, refl)
+walk_from-folded_name asked (r ∷ rs) place reached = by (counted asked reached r) (counted (folded_name asked) (folded_name reached) (record_without_times r)) (counted-folded_name asked reached r) (walk_from-folded_name asked rs (place + 1))
   where
-    by : (o p : Option NameValue) → p ≡ option_map folded_name o → ((n : NameValue) → SameWalk (walk_from (place + 1) (folded_name n) (map record_without_times rs)) (walk_from (place + 1) n rs))
-        → SameWalk (option_map_or (λ next. walk_step place 0 (walk_from (place + 1) next (map record_without_times rs))) p (walk_from (place + 1) (folded_name reached) (map record_without_times rs)))
-        (option_map_or (λ next. walk_step place r.ttl (walk_from (place + 1) next rs)) o (walk_from (place + 1) reached rs))
-    by None p e rest =
-        subst (λ o. SameWalk (option_map_or (λ next. walk_step place 0 (walk_from (place + 1) next (map record_without_times rs))) o (walk_from (place + 1) (folded_name reached) (map record_without_times rs))) (walk_from (place + 1) reached rs)) (sym e) (rest reached)
-    by (Some next) p e rest =
-        subst (λ o. SameWalk (option_map_or (λ n. walk_step place 0 (walk_from (place + 1) n (map record_without_times rs))) o (walk_from (place + 1) (folded_name reached) (map record_without_times rs))) (walk_step place r.ttl (walk_from (place + 1) next rs))) (sym e)
-        (ap (λ ps. place ∷ ps) (rest next).0, (rest next).1)
+    with_it : Option Counted → Walk
+    with_it o = option_map_or (λ c. walk_step place r.ttl c (walk_from (place + 1) asked (reached_by reached c) rs)) o (walk_from (place + 1) asked reached rs)
+
+    folded_with : Option Counted → Walk
+    folded_with o = option_map_or (λ c. walk_step place 0 c (walk_from (place + 1) (folded_name asked) (reached_by (folded_name reached) c) (map record_without_times rs))) o (walk_from (place + 1) (folded_name asked) (folded_name reached) (map record_without_times rs))
+
+    same : (o : Option Counted) → ((n : NameValue) → SameWalk (walk_from (place + 1) (folded_name asked) (folded_name n) (map record_without_times rs)) (walk_from (place + 1) asked n rs)) → SameWalk (folded_with (option_map folded_counted o)) (with_it o)
+    same None rest = rest reached
+    same (Some (Alias next)) rest = let there = rest next in (ap (λ ps. place ∷ ps) there.0, there.1, there.2, ap (λ ts. 0 ∷ ts) there.3)
+    same (Some (Server target)) rest = let there = rest reached in (ap (λ ps. place ∷ ps) there.0, there.1, ap (λ ns. folded_name target ∷ ns) there.2, there.3)
+
+    by : (o p : Option Counted) → p ≡ option_map folded_counted o → ((n : NameValue) → SameWalk (walk_from (place + 1) (folded_name asked) (folded_name n) (map record_without_times rs)) (walk_from (place + 1) asked n rs)) → SameWalk (folded_with p) (with_it o)
+    by o p e rest = subst (λ x. SameWalk (folded_with x) (with_it o)) (sym e) (same o rest)
 
 walk_of-folded_name : (q : Query) (answers : List RecordValue) → SameWalk (walk_of (folded_query q) (map record_without_times answers)) (walk_of q answers)
-walk_of-folded_name q answers = subst (λ n. SameWalk (if (if n == 255 then false else (if n == 5 then false else true)) then walk_from 0 (folded_name q.name) (map record_without_times answers) else record { places = []; last = folded_name q.name; ttl = 86400 }) (walk_of q answers)) (sym (query_type-folded_name q)) (by (follows_aliases q))
+walk_of-folded_name q answers = subst (λ n. SameWalk (if (if n == 255 then false else (if n == 5 then false else true)) then walk_from 0 (folded_name q.name) (folded_name q.name) (map record_without_times answers) else standing (folded_name q.name)) (walk_of q answers)) (sym (query_type-folded_name q)) (by (follows_aliases q))
   where
-    by : (b : Bool) → SameWalk (if b then walk_from 0 (folded_name q.name) (map record_without_times answers) else record { places = []; last = folded_name q.name; ttl = 86400 }) (if b then walk_from 0 q.name answers else record { places = []; last = q.name; ttl = 86400 })
-    by true = walk_from-folded_name answers 0 q.name
-    by false = (refl, refl)
+    by : (b : Bool) → SameWalk (if b then walk_from 0 (folded_name q.name) (folded_name q.name) (map record_without_times answers) else standing (folded_name q.name)) (if b then walk_from 0 q.name q.name answers else standing q.name)
+    by true = walk_from-folded_name q.name answers 0 q.name
+    by false = (refl, refl, refl, refl)
 
 -- ---- the verdict
 
@@ -264,8 +291,8 @@ found-folded_name q walk m = by (is_filtered false (first_hop q) walk m) (is_fil
   where
     same : is_filtered false (first_hop (folded_query q)) (at_walk walk) (folded_message m) ≡ is_filtered false (first_hop q) walk m
     same =
-        let some = some-folded_name (is_last_match (folded_query q) (at_walk walk)) (is_last_match q walk) m (last_match-folded_name q walk) in
-        λ i. not true || ((not (is_empty walk.places) && some i) && not false)
+        let some = some-folded_name (is_led_match (folded_query q) (at_walk walk)) (is_led_match q walk) m (led_match-folded_name q walk) in
+        λ i. not true || (some i && not false)
 
     by : (a b : Bool) → b ≡ a → sections (if a then record m { answers = filtered_answers false (first_hop q) walk m } else m)
         ≡ record {
@@ -289,23 +316,24 @@ verdict-folded_name q m = by (is_accepted (first_hop q) walk m) (is_accepted (fi
     walks : answer_core (folded_query q) (folded_message m) ≡ walk_core (folded_query q) (at_walk walk) (folded_message m)
     walks =
         let there = walk_of-folded_name q m.answers in
-        λ i. walk_core (folded_query q) (record { places = there.0 i; last = there.1 i; ttl = 0 }) (folded_message m)
+        λ i. walk_core (folded_query q) (record { places = there.0 i; last = there.1 i; targets = there.2 i; alias_ttls = there.3 i; ttl = 0 }) (folded_message m)
 
     same : is_accepted (first_hop (folded_query q)) (at_walk walk) (folded_message m) ≡ is_accepted (first_hop q) walk m
     same =
         let some = some-folded_name (is_match (folded_query q) (at_walk walk)) (is_match q walk) m (match-folded_name q walk) in
-        λ i. some i && (is_empty walk.places || true)
+        let moved = moved-at walk in
+        λ i. some i && (not (moved i) || true)
 
     core_by : Bool → Bool → Next
     core_by accepted nowhere =
         if accepted then Ends (Ok (found_core (folded_query q) (at_walk walk) (folded_message m)))
-        else (if nowhere then Ends (Err (no_match_core (folded_query q) (folded_message m))) else GoesOn (record { name = folded_name walk.last; query_type = (folded_query q).query_type; query_class = class.IN }))
+        else (if nowhere then Ends (Err (no_match_core (folded_query q) (folded_message m))) else GoesOn (record { name = next_name (at_walk walk); query_type = (folded_query q).query_type; query_class = class.IN }))
 
     by : (a b : Bool) → b ≡ a → (nowhere : Bool)
         → next_verdict q m (if a then Exists (found_message false (first_hop q) walk m) else (if nowhere then NoMatch else CnameChain (next_hop false (first_hop q) walk m))) ≡ core_by b nowhere
     by true b e nowhere = ap (λ f. Ends (Ok f)) (found-folded_name q walk m) ∙ sym (ap (λ c. core_by c nowhere) e)
     by false b e true = ap (λ x. Ends (Err x)) (no_match-folded_name q m) ∙ sym (ap (λ c. core_by c true) e)
-    by false b e false = sym (ap (λ c. core_by c false) e)
+    by false b e false = ap (λ n. GoesOn (record { name = n; query_type = (folded_query q).query_type; query_class = class.IN })) (sym (next-folded_name walk)) ∙ sym (ap (λ c. core_by c false) e)
 
 -- ---- an outcome
 

@@ -46,7 +46,7 @@ reply-more config xs ys code now (Err e) fresh = tt
 -- what is known of a part, and of the cache after it
 pub record IsGoodPart (now : ℕ) (before : CacheValue) (sources : List Dated) (p : SubLookup) (after : CacheValue) : Type 0 where
   pub few : length p.asks ≤ 8
-  pub fresh : IsFreshSubLookup before.config (sources ++ dated_exchanges now p.asks) now p
+  pub fresh : IsFreshSubLookup before.config (λ code. sources ++ dated_exchanges now p.asks) now p
   pub entries : AreFreshEntries after (sources ++ dated_exchanges now p.asks)
   pub config : after.config ≡ before.config
 
@@ -71,16 +71,16 @@ good-part t looked q before sources p after entries (for, is) = by p.source refl
 
 -- ---- the parts of a call
 
-part-more : (config : ConfigValue) (xs ys : List Dated) (now : ℕ) (p : SubLookup) → IsFreshSubLookup config xs now p → IsFreshSubLookup config (xs ++ ys) now p
+part-more : (config : ConfigValue) (xs ys : List Dated) (now : ℕ) (p : SubLookup) → IsFreshSubLookup config (λ code. xs) now p → IsFreshSubLookup config (λ code. xs ++ ys) now p
 part-more config xs ys now p fresh = λ client zero. reply-more config xs ys (type_code p.question.query_type) now p.result (fresh client zero)
 
 pub record AreGoodParts (now : ℕ) (before : CacheValue) (sources : List Dated) (ps : List SubLookup) (after : CacheValue) : Type 0 where
   pub few : AllByRecursion (λ p. length p.asks ≤ 8) ps
-  pub fresh : AllByRecursion (IsFreshSubLookup before.config (sources ++ dated_exchanges now (asks_of_sub_lookups ps)) now) ps
+  pub fresh : AllByRecursion (IsFreshSubLookup before.config (λ code. sources ++ dated_exchanges now (asks_of_sub_lookups ps)) now) ps
   pub entries : AreFreshEntries after (sources ++ dated_exchanges now (asks_of_sub_lookups ps))
   pub config : after.config ≡ before.config
 
-good-chain : (t : CallContext) (before : CacheValue) (sources : List Dated) (ps : List SubLookup) (after : CacheValue) → AreFreshEntries before sources → Chain (IsSubLookupFor t) before ps after → AreGoodParts t.now before sources ps after
+pub good-chain : (t : CallContext) (before : CacheValue) (sources : List Dated) (ps : List SubLookup) (after : CacheValue) → AreFreshEntries before sources → Chain (IsSubLookupFor t) before ps after → AreGoodParts t.now before sources ps after
 good-chain t before sources [] after entries e = record {
   few = tt;
   fresh = tt;
@@ -95,20 +95,20 @@ good-chain t before sources (p ∷ ps) after entries (looked, q, mid, is, rest) 
     append_assoc sources (dated_exchanges t.now p.asks) back ∙ ap (λ xs. sources ++ xs) (sym (map-append (λ x. record { moment = t.now; exchange = x }) p.asks (asks_of_sub_lookups ps))) in
     record {
       few = (one.few, more.few);
-      fresh = subst (λ xs. AllByRecursion (IsFreshSubLookup before.config xs t.now) (p ∷ ps)) same
-          (part-more before.config (sources ++ dated_exchanges t.now p.asks) back t.now p one.fresh, subst (λ c. AllByRecursion (IsFreshSubLookup c ((sources ++ dated_exchanges t.now p.asks) ++ back) t.now) ps) one.config more.fresh);
+      fresh = subst (λ xs. AllByRecursion (IsFreshSubLookup before.config (λ code. xs) t.now) (p ∷ ps)) same
+          (part-more before.config (sources ++ dated_exchanges t.now p.asks) back t.now p one.fresh, subst (λ c. AllByRecursion (IsFreshSubLookup c (λ code. (sources ++ dated_exchanges t.now p.asks) ++ back) t.now) ps) one.config more.fresh);
       entries = subst (AreFreshEntries after) same more.entries;
       config = more.config ∙ one.config;
     }
 
 -- ---- a request
 
-drop_each-fresh : (sources : List Dated) (t : RecordType) (names : List NameValue) (cache : CacheValue) → AreFreshEntries cache sources → AreFreshEntries (drop_each t names cache) sources
+pub drop_each-fresh : (sources : List Dated) (t : RecordType) (names : List NameValue) (cache : CacheValue) → AreFreshEntries cache sources → AreFreshEntries (drop_each t names cache) sources
 drop_each-fresh sources t [] cache entries = entries
 drop_each-fresh sources t (n ∷ ns) cache entries =
     drop_each-fresh sources t ns (without_query cache (question_of n t)) (all-filter (IsFreshEntry cache.config sources) (λ e. not (is_for (question_of n t) e)) cache.entries entries)
 
-drop_each-config : (t : RecordType) (names : List NameValue) (cache : CacheValue) → (drop_each t names cache).config ≡ cache.config
+pub drop_each-config : (t : RecordType) (names : List NameValue) (cache : CacheValue) → (drop_each t names cache).config ≡ cache.config
 drop_each-config t [] cache = refl
 drop_each-config t (n ∷ ns) cache = drop_each-config t ns (without_query cache (question_of n t))
 
@@ -152,18 +152,18 @@ good-served s before sources (Clear now) ps (Cleared (Err e)) after entries is =
 
 -- a stage is good with its own moment and piece
 good-stage : (s : Settings) (sources : List Dated) (stage : Stage) (after : CacheValue) → AreFreshEntries stage.before sources → IsStage s stage after
-    → AsksAtMostEight stage × AllByRecursion (IsFreshSubLookup stage.before.config (sources ++ dated_exchanges stage.step.now stage.piece) stage.step.now) stage.parts × AreFreshEntries after (sources ++ dated_exchanges stage.step.now stage.piece)
+    → AsksAtMostEight stage × AllByRecursion (IsFreshSubLookup stage.before.config (λ code. sources ++ dated_exchanges stage.step.now stage.piece) stage.step.now) stage.parts × AreFreshEntries after (sources ++ dated_exchanges stage.step.now stage.piece)
 good-stage s sources stage after entries is =
     let good = good-served s stage.before sources stage.request stage.parts stage.step.reply after entries is.served in
     let same : sources ++ dated_exchanges (moment_of stage.request) (asks_of_sub_lookups stage.parts) ≡ sources ++ dated_exchanges stage.step.now stage.piece = ap₂ (λ now xs. sources ++ dated_exchanges now xs) (sym is.now_is) (sym is.piece_is) in (
       good.few,
-      subst (λ now. AllByRecursion (IsFreshSubLookup stage.before.config (sources ++ dated_exchanges stage.step.now stage.piece) now) stage.parts) (sym is.now_is)
-          (subst (λ xs. AllByRecursion (IsFreshSubLookup stage.before.config xs (moment_of stage.request)) stage.parts) same good.fresh),
+      subst (λ now. AllByRecursion (IsFreshSubLookup stage.before.config (λ code. sources ++ dated_exchanges stage.step.now stage.piece) now) stage.parts) (sym is.now_is)
+          (subst (λ xs. AllByRecursion (IsFreshSubLookup stage.before.config (λ code. xs) (moment_of stage.request)) stage.parts) same good.fresh),
       subst (AreFreshEntries after) same good.entries,
     )
 
 -- and so are its answers
-answers : (s : Settings) (sources : List Dated) (stage : Stage) (after : CacheValue) → AllByRecursion (IsFreshSubLookup stage.before.config (sources ++ dated_exchanges stage.step.now stage.piece) stage.step.now) stage.parts → IsStage s stage after
+answers : (s : Settings) (sources : List Dated) (stage : Stage) (after : CacheValue) → AllByRecursion (IsFreshSubLookup stage.before.config (λ code. sources ++ dated_exchanges stage.step.now stage.piece) stage.step.now) stage.parts → IsStage s stage after
     → AreFreshAnswers stage.before.config (sources ++ dated_exchanges stage.step.now stage.piece) stage stage.step.reply
 answers s sources stage after fresh is = fresh-answers (λ now. IsSubLookupFor (call_context_at s now)) s stage.before.config (sources ++ dated_exchanges stage.step.now stage.piece) stage stage.step.reply after fresh is.served
 

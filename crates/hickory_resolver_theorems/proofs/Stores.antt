@@ -1,5 +1,5 @@
 -- Stores of fresh records, and of negative answers, leave fresh entries.
-use Rattle.std.proofs.Common.{◌≡◌, ◌⊎◌, ◌≤◌, ◌+◌, ℕ, ◌==◌, Bool, true, false, List, [], ◌∷◌, ◌++◌, length, nat_lt, Ok, Err, not, refl, sym, subst, inl, inr, if◌then◌else◌}
+use Rattle.std.proofs.Common.{◌≡◌, ◌⊎◌, ◌≤◌, ◌+◌, ℕ, ◌==◌, Bool, true, false, List, [], ◌∷◌, ◌++◌, length, min, nat_lt, Ok, Err, IfSome, not, refl, sym, subst, arith, inl, inr, if◌then◌else◌}
 use Rattle.std.specs.List.{AllByRecursion, list_any, position_or_len}
 use Rattle.hickory_proto_core.specs.Codes.{type_code}
 use Rattle.hickory_proto_core.specs.Errors.{NoRecordsValue}
@@ -9,13 +9,15 @@ use Rattle.hickory_proto_core.specs.records.query.Query.{Query}
 use Rattle.hickory_proto_core.specs.records.net_error.NetError.TheVariants.{Message, Timeout, Proto, Dns, NoOutcome, Bounds, OutOfMemory}
 use Rattle.hickory_proto_core.specs.records.net_error.DnsError.TheVariants.{ResponseCode, NoRecordsFound}
 use Rattle.hickory_resolver_model.specs.Bounds.{ConfigValue, greatest_ttl}
-use Rattle.hickory_resolver_model.specs.Cache.{CacheValue, Entry, is_for, without, without_earliest, least_deadline, room_for, insert_entry, positive_entry, negative_entry}
-use Rattle.hickory_resolver_model.specs.Hops.{Store, after_store, after_stores}
+use Rattle.hickory_resolver_model.specs.Cache.{CacheValue, Entry, is_for, without, without_earliest, least_deadline, room_for, insert_entry, positive_entry, negative_entry, not_after}
+use Rattle.hickory_resolver_model.specs.Hops.{LookupContext, ChainEnd, Store, result_of, limit_of, earlier_store, earlier_stores, made_entry, after_store, after_stores}
+use Rattle.hickory_resolver_model.specs.Verdict.{Hop}
+use Rattle.hickory_proto_core.specs.declared.recorded.Exchange.{Exchange}
 use Rattle.hickory_proto_core.specs.Records.{RecordValue}
 use Rattle.hickory_resolver_theorems.specs.Covered.{Dated, IsCovered, IsLoopback}
 use Rattle.hickory_resolver_theorems.specs.Statements.{HasNoLeast, IsFreshRecord, IsFreshOutcome, IsFreshEntry, AreFreshEntries}
 use Rattle.hickory_resolver_theorems.proofs.Lists.{all-weaker, all-append, all-filter, all-remove}
-use Rattle.hickory_resolver_theorems.proofs.Covers.{Arrives, arrived-fresh, covered-left}
+use Rattle.hickory_resolver_theorems.proofs.Covers.{Arrives, arrived-fresh, fresh-sooner, covered-left}
 
 -- what holds of every entry, and of a new one, holds after it is put in
 pub insert_entry-all : (P : Entry → Type 0) (capacity : ℕ) (es : List Entry) (e : Entry) → AllByRecursion P es → P e → AllByRecursion P (insert_entry capacity es e)
@@ -33,17 +35,17 @@ insert_entry-all P capacity es e all new = by (capacity == 0)
 -- the entry that a store makes, where it makes one
 abbrev pub Makes : (Entry → Type 0) → ConfigValue → Store → Type 0
 Makes P config s =
-    ((m : MessageValue) → s.outcome ≡ Ok m → P (positive_entry config s.query m s.now))
-    × ((n : NoRecordsValue) → s.outcome ≡ Err (Dns (NoRecordsFound n)) → P (negative_entry config s.query n s.now))
+    ((m : MessageValue) → s.outcome ≡ Ok m → P (not_after s.limit (positive_entry config s.query m s.now)))
+    × ((n : NoRecordsValue) → s.outcome ≡ Err (Dns (NoRecordsFound n)) → P (not_after s.limit (negative_entry config s.query n s.now)))
 
 -- what holds of every entry, and of those that stores make, holds after these stores
 after_store-all : (P : Entry → Type 0) (s : Store) (cache : CacheValue) → AllByRecursion P cache.entries → Makes P cache.config s → AllByRecursion P (after_store s cache).entries
 after_store-all P s cache all makes = by s.outcome makes.0 makes.1
   where
-    by : (o : OutcomeValue) → ((m : MessageValue) → o ≡ Ok m → P (positive_entry cache.config s.query m s.now)) → ((n : NoRecordsValue) → o ≡ Err (Dns (NoRecordsFound n)) → P (negative_entry cache.config s.query n s.now))
+    by : (o : OutcomeValue) → ((m : MessageValue) → o ≡ Ok m → P (not_after s.limit (positive_entry cache.config s.query m s.now))) → ((n : NoRecordsValue) → o ≡ Err (Dns (NoRecordsFound n)) → P (not_after s.limit (negative_entry cache.config s.query n s.now)))
         → AllByRecursion P (after_store (record s { outcome = o }) cache).entries
-    by (Ok m) positive negative = insert_entry-all P cache.capacity cache.entries (positive_entry cache.config s.query m s.now) all (positive m refl)
-    by (Err (Dns (NoRecordsFound n))) positive negative = insert_entry-all P cache.capacity cache.entries (negative_entry cache.config s.query n s.now) all (negative n refl)
+    by (Ok m) positive negative = insert_entry-all P cache.capacity cache.entries (not_after s.limit (positive_entry cache.config s.query m s.now)) all (positive m refl)
+    by (Err (Dns (NoRecordsFound n))) positive negative = insert_entry-all P cache.capacity cache.entries (not_after s.limit (negative_entry cache.config s.query n s.now)) all (negative n refl)
     by (Err (Dns (ResponseCode code))) positive negative = all
     by (Err (Message text)) positive negative = all
     by (Err Timeout) positive negative = all
@@ -55,6 +57,12 @@ after_store-all P s cache all makes = by s.outcome makes.0 makes.1
 pub after_stores-all : (P : Entry → Type 0) (stores : List Store) (cache : CacheValue) → AllByRecursion P cache.entries → AllByRecursion (Makes P cache.config) stores → AllByRecursion P (after_stores stores cache).entries
 after_stores-all P [] cache all makes = all
 after_stores-all P (s ∷ ss) cache all (first, rest) = after_stores-all P ss (after_store s cache) (after_store-all P s cache all first) rest
+
+-- what holds of a result under each earlier question, whatever its limit, holds of the stores of the earlier hops
+pub earlier-all : (P : Store → Type 0) (s : LookupContext) (passed : List Exchange) (hop : Hop) (last : ChainEnd) → AllByRecursion (λ x. (limit : ℕ) → P (earlier_store (result_of s hop last) s.now x.query limit)) passed → AllByRecursion P (earlier_stores s passed hop last)
+earlier-all P s [] hop last all = tt
+earlier-all P s (x ∷ xs) hop last (first, rest) =
+    all-append P (earlier_stores s xs hop last) (earlier_store (result_of s hop last) s.now x.query (limit_of s (x ∷ xs) hop last) ∷ []) (earlier-all P s xs hop last rest) (first (limit_of s (x ∷ xs) hop last), tt)
 
 -- stores leave the bounds
 pub stores-config : (stores : List Store) (cache : CacheValue) → (after_stores stores cache).config ≡ cache.config
@@ -69,11 +77,34 @@ StoresOutcome config sources now q (Err e) = Unit {0}
 abbrev pub StoresArrived : ConfigValue → List Dated → Store → Type 0
 StoresArrived config sources s = StoresOutcome config sources s.now s.query s.outcome
 
-makes-fresh : (config : ConfigValue) (sources : List Dated) (s : Store) → StoresArrived config sources s → Makes (IsFreshEntry config sources) config s
+pub makes-fresh : (config : ConfigValue) (sources : List Dated) (s : Store) → StoresArrived config sources s → Makes (IsFreshEntry config sources) config s
 makes-fresh config sources s arrive = (
-  (λ m e zero. arrived-fresh config sources s.query s.now m zero (subst (StoresOutcome config sources s.now s.query) e arrive zero)),
+  (λ m e zero.
+      let life = (positive_entry config s.query m s.now).valid_until in
+      fresh-sooner config sources (type_code s.query.query_type) s.now life (min life s.limit) _ (omega arith)
+      (arrived-fresh config sources s.query s.now m zero (subst (StoresOutcome config sources s.now s.query) e arrive zero))),
   (λ n e. tt),
 )
+
+-- what holds of what a store makes holds of its entry
+pub makes-some : (P : Entry → Type 0) (config : ConfigValue) (s : Store) → Makes P config s → IfSome (made_entry config s) P
+makes-some P config s makes = by s.outcome makes.0 makes.1
+  where
+    by : (o : OutcomeValue) → ((m : MessageValue) → o ≡ Ok m → P (not_after s.limit (positive_entry config s.query m s.now))) → ((n : NoRecordsValue) → o ≡ Err (Dns (NoRecordsFound n)) → P (not_after s.limit (negative_entry config s.query n s.now)))
+        → IfSome (made_entry config (record s { outcome = o })) P
+    by (Ok m) positive negative = positive m refl
+    by (Err (Dns (NoRecordsFound n))) positive negative = negative n refl
+    by (Err (Dns (ResponseCode code))) positive negative = tt
+    by (Err (Message text)) positive negative = tt
+    by (Err Timeout) positive negative = tt
+    by (Err (Proto error)) positive negative = tt
+    by (Err NoOutcome) positive negative = tt
+    by (Err (Bounds error)) positive negative = tt
+    by (Err OutOfMemory) positive negative = tt
+
+-- and so is the entry that such a store makes
+pub store-fresh : (config : ConfigValue) (sources : List Dated) (s : Store) → StoresArrived config sources s → IfSome (made_entry config s) (IsFreshEntry config sources)
+store-fresh config sources s arrive = makes-some (IsFreshEntry config sources) config s (makes-fresh config sources s arrive)
 
 -- what holds of the entries before, and of every fresh one, holds of the entries after stores that arrived
 pub stores-known : (P : Entry → Type 0) (cache : CacheValue) (sources : List Dated) (stores : List Store) → AllByRecursion P cache.entries → ((e : Entry) → IsFreshEntry cache.config sources e → P e) → AllByRecursion (StoresArrived cache.config sources) stores → AllByRecursion P (after_stores stores cache).entries

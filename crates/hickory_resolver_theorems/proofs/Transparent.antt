@@ -15,16 +15,16 @@ use Rattle.hickory_proto_core.specs.records.net_error.NetError.{NetError}
 use Rattle.hickory_proto_core.specs.records.net_error.NetError.TheVariants.{Message, Timeout, Proto, Dns, NoOutcome, Bounds, OutOfMemory}
 use Rattle.hickory_proto_core.specs.records.net_error.DnsError.TheVariants.{ResponseCode, NoRecordsFound}
 use Rattle.hickory_resolver_model.specs.Bounds.{ConfigValue}
-use Rattle.hickory_resolver_model.specs.Cache.{CacheValue, is_for, is_current, age, aged_record, aged_message, aged_forward, aged_negative, aged_error, aged_outcome, positive_entry, negative_entry}
+use Rattle.hickory_resolver_model.specs.Cache.{CacheValue, is_for, is_current, age, aged_record, aged_message, aged_forward, aged_negative, aged_error, aged_outcome, positive_entry, negative_entry, not_after}
 use Rattle.hickory_resolver_model.specs.Lookup.{LookupResult}
 use Rattle.hickory_resolver_model.specs.SpecialUse.{special_use_result}
 use Rattle.hickory_resolver_model.specs.Verdict.{Hop, Verdict, Exists, CnameChain, NoMatch, verdict}
-use Rattle.hickory_resolver_model.specs.Hops.{LookupContext, IsAliasHop, FollowsAliases, ChainEnd, Special, Hit, Asked, IsChainEnd, HopList, Store, IsReply, asks_of, kind_result, verdict_result, hit_result, result_of, verdict_stores, kind_stores, last_stores, earlier_store, stores_of, after_stores}
+use Rattle.hickory_resolver_model.specs.Hops.{LookupContext, IsAliasHop, FollowsAliases, ChainEnd, Special, Hit, Asked, IsChainEnd, HopList, Store, IsReply, asks_of, kind_result, verdict_result, hit_result, result_of, alias_limit, limit_of, result_until, reply_of, verdict_stores, kind_stores, last_stores, earlier_store, stores_of, after_stores}
 use Rattle.hickory_resolver_theorems.specs.Cacheless.{ResolvesTo, IsConsistentWith, AreConsistentWith}
 use Rattle.hickory_resolver_theorems.specs.WithoutTimes.{folded_query, record_without_times, sections, forward_without_times, negative_without_times, error_without_times, WithoutTimes, without_times, stored_without_times}
 use Rattle.hickory_resolver_theorems.specs.Statements.{IsWhatItResolvesTo, AreWhatTheyResolveTo, IsTransparent}
 use Rattle.hickory_resolver_theorems.proofs.Lists.{all-weaker, all-append, all-front, all-back, all-map, all-has, all-reverse, find-has}
-use Rattle.hickory_resolver_theorems.proofs.Stores.{Makes, after_stores-all}
+use Rattle.hickory_resolver_theorems.proofs.Stores.{Makes, after_stores-all, earlier-all}
 use Rattle.hickory_resolver_theorems.proofs.Folding.{map-map, query-same}
 use Rattle.hickory_resolver_theorems.proofs.Verdicts.{passed}
 use Rattle.hickory_resolver_theorems.proofs.Fresh.{class-answer}
@@ -238,14 +238,14 @@ StoresMeant table s = (s.outcome ≡ Err OutOfMemory) ⊎ ((k : ℕ) × Resolves
 makes-meant : (table : TableValue) (config : ConfigValue) (s : Store) → StoresMeant table s → Makes (IsWhatItResolvesTo table) config s
 makes-meant table config s is = (positive is, negative is)
   where
-    positive : StoresMeant table s → (m : MessageValue) → s.outcome ≡ Ok m → IsWhatItResolvesTo table (positive_entry config s.query m s.now)
+    positive : StoresMeant table s → (m : MessageValue) → s.outcome ≡ Ok m → IsWhatItResolvesTo table (not_after s.limit (positive_entry config s.query m s.now))
     positive (inl out) m e = let clash : Ok m ≡ Err OutOfMemory = sym e ∙ out in cc
     positive (inr (k, means)) m e = (
       k,
       subst (λ c. ResolvesTo table s.query (Ok c) k) (sym (sections-clamped_message config m)) (subst (λ o. ResolvesTo table s.query (stored_without_times o) k) e means),
     )
 
-    negative : StoresMeant table s → (n : NoRecordsValue) → s.outcome ≡ Err (Dns (NoRecordsFound n)) → IsWhatItResolvesTo table (negative_entry config s.query n s.now)
+    negative : StoresMeant table s → (n : NoRecordsValue) → s.outcome ≡ Err (Dns (NoRecordsFound n)) → IsWhatItResolvesTo table (not_after s.limit (negative_entry config s.query n s.now))
     negative (inl out) n e = let clash : Err (Dns (NoRecordsFound n)) ≡ Err OutOfMemory = sym e ∙ out in cc
     negative (inr (k, means)) n e = (k, subst (λ o. ResolvesTo table s.query (stored_without_times o) k) e means)
 
@@ -259,43 +259,51 @@ last-stored s table hop (Special reply) r n means is = tt
 last-stored s table hop (Hit entry) r n means is = tt
 last-stored s table hop (Asked outcome) r n means is = by (kind_of outcome) is
   where
-    on : (m : MessageValue) (v : Verdict) → IsOutOr (verdict_result s.cache.config hop.query s.now m v) r → AllByRecursion (StoresMeant table) (verdict_stores hop.query s.now v)
-    on m (Exists f) (inl e) = cc
-    on m (Exists f) (inr e) = (inr (n, subst (λ c. ResolvesTo table hop.query c n) (sym e ∙ ap Ok (sections-clamped_message s.cache.config f)) means), tt)
-    on m (CnameChain next) k = tt
-    on m NoMatch k = tt
+    on : (m : MessageValue) (limit : ℕ) (v : Verdict) → IsOutOr (verdict_result s.cache.config hop.query s.now m v) r → AllByRecursion (StoresMeant table) (verdict_stores hop.query s.now limit v)
+    on m limit (Exists f) (inl e) = cc
+    on m limit (Exists f) (inr e) = (inr (n, subst (λ c. ResolvesTo table hop.query c n) (sym e ∙ ap Ok (sections-clamped_message s.cache.config f)) means), tt)
+    on m limit (CnameChain next) k = tt
+    on m limit NoMatch k = tt
 
     by : (c : ResponseKind) → IsOutOr (kind_result s hop c) r → AllByRecursion (StoresMeant table) (kind_stores s hop c)
-    by (Answer m) k = on m (verdict s.preserve_intermediates hop m) k
+    by (Answer m) k = on m (alias_limit s hop.query (Answer m)) (verdict s.preserve_intermediates hop m) k
     by (Negative none) (inl e) = cc
     by (Negative none) (inr e) = (inr (n, subst (λ c. ResolvesTo table hop.query c n) (sym e) means), tt)
     by (Failed error) k = tt
 
 -- the result under an earlier question
-again-stored : (table : TableValue) (now : ℕ) (q : Query) (reply : LookupResult) (r : WithoutTimes) → (k : ℕ) × ResolvesTo table q r k → IsOutOr reply r → StoresMeant table (earlier_store reply now q)
-again-stored table now q (Ok l) r (k, means) (inl e) = let clash : Ok l ≡ Err OutOfMemory = e in cc
-again-stored table now q (Ok l) r (k, means) (inr e) = inr (k, subst (λ c. ResolvesTo table q c k) (sym e) means)
-again-stored table now q (Err error) r (k, means) (inl e) = let same : error ≡ OutOfMemory = cc in inl (ap Err same)
-again-stored table now q (Err error) r (k, means) (inr e) = inr (k, subst (λ c. ResolvesTo table q c k) (sym e) means)
+again-stored : (table : TableValue) (now : ℕ) (q : Query) (reply : LookupResult) (limit : ℕ) (r : WithoutTimes) → (k : ℕ) × ResolvesTo table q r k → IsOutOr reply r → StoresMeant table (earlier_store reply now q limit)
+again-stored table now q (Ok l) limit r (k, means) (inl e) = let clash : Ok l ≡ Err OutOfMemory = e in cc
+again-stored table now q (Ok l) limit r (k, means) (inr e) = inr (k, subst (λ c. ResolvesTo table q c k) (sym e) means)
+again-stored table now q (Err error) limit r (k, means) (inl e) = let same : error ≡ OutOfMemory = cc in inl (ap Err same)
+again-stored table now q (Err error) limit r (k, means) (inr e) = inr (k, subst (λ c. ResolvesTo table q c k) (sym e) means)
+
+-- a limit does not change what a result comes to
+until-meant : (limit : ℕ) (result : LookupResult) (r : WithoutTimes) → IsOutOr result r → IsOutOr (result_until limit result) r
+until-meant limit (Ok l) r (inl e) = let clash : Ok l ≡ Err OutOfMemory = e in cc
+until-meant limit (Ok l) r (inr e) = inr e
+until-meant limit (Err error) r is = is
+
+reply-meant : (s : LookupContext) (passed : List Exchange) (hop : Hop) (last : ChainEnd) (r : WithoutTimes) → IsOutOr (result_of s hop last) r → IsOutOr (reply_of s passed hop last) r
+reply-meant s [] hop (Special reply) r is = is
+reply-meant s [] hop (Hit entry) r is = is
+reply-meant s [] hop (Asked outcome) r is = until-meant (limit_of s [] hop (Asked outcome)) (result_of s hop (Asked outcome)) r is
+reply-meant s (x ∷ xs) hop last r is = until-meant (limit_of s (x ∷ xs) hop last) (result_of s hop last) r is
 
 -- ---- a look-up
 
 pub record AreMeantHops (s : LookupContext) (table : TableValue) (question : Query) (asks : List Exchange) (r : WithoutTimes) (h : HopList s question asks) : Type 0 where
-  pub reply : IsOutOr (result_of s h.last_hop h.last) r
+  pub reply : IsOutOr (reply_of s h.passed h.last_hop h.last) r
   pub stores : AllByRecursion (StoresMeant table) (stores_of s h.passed h.last_hop h.last)
 
 hops-meant : (s : LookupContext) (table : TableValue) (question : Query) (asks : List Exchange) (r : WithoutTimes) (n : ℕ) (h : HopList s question asks) → s.preserve_intermediates ≡ false → AreConsistentWith table asks → AreWhatTheyResolveTo table s.cache → ResolvesTo table question r n → n ≤ 8 → AreMeantHops s table question asks r h
 hops-meant s table question asks r n h off tells meant means few = record {
-  reply = reply;
+  reply = reply-meant s h.passed h.last_hop h.last r reply;
   stores = all-append (StoresMeant table) (last_stores s h.last_hop h.last) _ (last-stored s table h.last_hop h.last r led.rest led.means reply)
-      (all-map (StoresMeant table) again (reverse h.passed)
-      (all-reverse (λ x. StoresMeant table (again x)) h.passed
-      (all-weaker (λ x. (k : ℕ) × ResolvesTo table x.query r k) (λ x. StoresMeant table (again x)) (λ x k. again-stored table s.now x.query (result_of s h.last_hop h.last) r k reply) h.passed led.each)));
+      (earlier-all (StoresMeant table) s h.passed h.last_hop h.last
+      (all-weaker (λ x. (k : ℕ) × ResolvesTo table x.query r k) (λ x. (limit : ℕ) → StoresMeant table (earlier_store (result_of s h.last_hop h.last) s.now x.query limit)) (λ x k limit. again-stored table s.now x.query (result_of s h.last_hop h.last) limit r k reply) h.passed led.each));
 }
   where
-    again : Exchange → Store
-    again x = earlier_store (result_of s h.last_hop h.last) s.now x.query
-
     both : AllByRecursion (IsConsistentWith table) (h.passed ++ asks_of h.last_hop h.last)
     both = subst (AllByRecursion (IsConsistentWith table)) h.asks_are tells
 

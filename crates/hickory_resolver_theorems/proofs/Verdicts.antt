@@ -8,14 +8,14 @@ use Rattle.hickory_proto_core.specs.Messages.{MessageValue}
 use Rattle.hickory_proto_core.specs.ResponseKind.{ResponseKind, Answer, Negative, Failed, kind_of, record_type_code, is_empty}
 use Rattle.hickory_proto_core.specs.records.query.Query.{Query}
 use Rattle.hickory_proto_core.specs.declared.recorded.Exchange.{Exchange}
-use Rattle.hickory_resolver_model.specs.AliasWalk.{Walk, walk_of, walk_from}
+use Rattle.hickory_resolver_model.specs.AliasWalk.{Walk, standing, walk_of, walk_from}
 use Rattle.hickory_resolver_model.specs.Verdict.{Hop, Exists, CnameChain, NoMatch, is_match, is_accepted, is_filtered, is_intermediate, has_class, found_message, filtered_answers, next_hop, all_records, with_ttl_at_most, verdict}
 use Rattle.hickory_resolver_model.specs.Hops.{LookupContext, IsAliasHop, FollowsAliases, kind_verdict}
 use Rattle.hickory_resolver_theorems.proofs.Lists.{all-weaker, all-append, all-front, all-filter, all-map, all-kept}
 
 -- ---- aliases
 
--- an alias was followed, and the next hop is that of the walk
+-- a record counted, and the next hop is that of the walk
 pub record LeadsOn (keep : Bool) (hop : Hop) (m : MessageValue) (next : Hop) : Type 0 where
   pub followed : is_empty (walk_of hop.query m.answers).places ≡ false
   pub next_is : next ≡ next_hop keep hop (walk_of hop.query m.answers) m
@@ -33,7 +33,7 @@ alias-leads keep hop m next h = by (is_accepted hop walk m) (is_empty walk.place
 
 -- a question for CNAMEs follows none
 pub follows-no_cname : (q : Query) (answers : List RecordValue) → type_code q.query_type ≡ 5 → is_empty (walk_of q answers).places ≡ true
-follows-no_cname q answers e = ap (λ n. is_empty (if (if n == 255 then false else (if n == 5 then false else true)) then walk_from 0 q.name answers else record { places = []; last = q.name; ttl = 86400 }).places) e
+follows-no_cname q answers e = ap (λ n. is_empty (if (if n == 255 then false else (if n == 5 then false else true)) then walk_from 0 q.name q.name answers else standing q.name).places) e
 
 -- the response that a hop before the last got
 pub record Passed (s : LookupContext) (hop : Hop) (x : Exchange) (next : Hop) : Type 0 where

@@ -1,4 +1,6 @@
+pub mod Aliases
 pub mod AttemptLaws
+pub mod CallFacts
 pub mod Cacheless
 pub mod WithoutTimes
 pub mod Covered
@@ -7,6 +9,8 @@ pub mod Statements
 pub mod Provenance
 pub mod WalkLaws
 pub mod Worked
+pub mod WorkedServices
 pub mod WorkedLoop
 pub mod WorkedRequests
 pub mod WorkedRun
+pub mod Promises

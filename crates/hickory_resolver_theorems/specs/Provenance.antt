@@ -1,6 +1,7 @@
 -- Where the records that a look-up gives and stores come from: its own exchanges, and the current entries of
 -- the asked type in the cache before it, whatever is known of that cache (RFC 2181, section 8).
-use Rattle.std.specs.Prelude.{◌⊎◌, ◌==◌, ◌&&◌, ℕ, Bool, true, false, List, [], ◌++◌, map, filter, Contains, Ok, Err}
+use Rattle.std.specs.Prelude.{◌⊎◌, ◌==◌, ◌&&◌, ℕ, Bool, true, false, List, [], ◌++◌, map, filter, Contains, Ok, Err, IfSome}
+use mathlib.Core.Logic.{inl, inr}
 use Rattle.std.specs.List.{AllByRecursion}
 use Rattle.hickory_proto_core.specs.Codes.{type_code}
 use Rattle.hickory_proto_core.specs.Handles.{OutcomeValue}
@@ -8,7 +9,7 @@ use Rattle.hickory_proto_core.specs.records.query.Query.{Query}
 use Rattle.hickory_proto_core.specs.declared.recorded.Exchange.{Exchange}
 use Rattle.hickory_resolver_model.specs.Cache.{CacheValue, Entry, is_current}
 use Rattle.hickory_resolver_model.specs.Lookup.{LookupResult}
-use Rattle.hickory_resolver_model.specs.Hops.{LookupContext}
+use Rattle.hickory_resolver_model.specs.Hops.{LookupContext, Store, IsReply, made_entry, stores_of}
 use Rattle.hickory_resolver_theorems.specs.Covered.{Dated, dated_exchanges}
 use Rattle.hickory_resolver_theorems.specs.Statements.{HasNoLeast, IsFreshReply, IsFreshEntry}
 
@@ -35,18 +36,33 @@ sources_of s question asks =
     map dated_entry (filter (is_source s.now (type_code question.query_type)) s.cache.entries)
     ++ dated_exchanges s.now asks
 
+-- the stores that a look-up made
+abbrev pub stores_made : (s : LookupContext) (question : Query) (asks : List Exchange) (result : LookupResult)
+    (after : CacheValue) → IsReply s question asks result after → List Store
+stores_made s question asks result after (inl whole) =
+    stores_of s whole.hops.passed whole.hops.last_hop whole.hops.last
+stores_made s question asks result after (inr (out, inl cut)) = cut.front
+stores_made s question asks result after (inr (out, inr cut)) = []
+
 -- Each answer of the asked type in the result, loopback records aside, is covered by the sources, and the
--- result may be used no longer than it lives; and so it is with each entry that was not in the cache before.
+-- result may be used no longer than it lives; so it is with the entry that each store makes, and so with each
+-- entry that was not in the cache before.
 pub record IsFromSources
-    (s : LookupContext) (question : Query) (asks : List Exchange) (result : LookupResult) (after : CacheValue)
+    (s : LookupContext) (question : Query) (asks : List Exchange) (result : LookupResult) (made : List Store)
+    (after : CacheValue)
     : Type 0 where
   pub reply : IsFreshReply s.cache.config (sources_of s question asks)
       (type_code question.query_type) s.now result
   pub stores : AllByRecursion
+      (λ store. IfSome (made_entry s.cache.config store)
+      (IsFreshEntry s.cache.config (sources_of s question asks))) made
+  pub entries : AllByRecursion
       (λ e. Contains s.cache.entries e
       ⊎ IsFreshEntry s.cache.config (sources_of s question asks) e) after.entries
 
 -- Of a look-up: where the least TTL of the asked type is zero.
-abbrev pub HasProvenance : LookupContext → Query → List Exchange → LookupResult → CacheValue → Type 0
-HasProvenance s question asks result after =
-    HasNoLeast s.cache.config (type_code question.query_type) → IsFromSources s question asks result after
+abbrev pub HasProvenance : (s : LookupContext) (question : Query) (asks : List Exchange) (result : LookupResult)
+    (after : CacheValue) → IsReply s question asks result after → Type 0
+HasProvenance s question asks result after reply =
+    HasNoLeast s.cache.config (type_code question.query_type)
+    → IsFromSources s question asks result (stores_made s question asks result after reply) after

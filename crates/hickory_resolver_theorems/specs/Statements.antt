@@ -96,18 +96,31 @@ IsTransparent s question asks result after =
 abbrev pub AsksAtMostEight : Stage → Type 0
 AsksAtMostEight stage = AllByRecursion (λ p. length p.asks ≤ 8) stage.parts
 
+-- What counts as received may depend on the type that is asked for: sources are given for each type's code.
 -- Where the asked type's least TTL is zero, an answer of the client has no record of that type that outlives
 -- what was received.
-abbrev pub IsFreshSubLookup : ConfigValue → List Dated → ℕ → SubLookup → Type 0
+abbrev pub IsFreshSubLookup : ConfigValue → (ℕ → List Dated) → ℕ → SubLookup → Type 0
 IsFreshSubLookup config sources now p =
-    p.source ≡ Client → HasNoLeast config (type_code p.question.query_type)
-    → IsFreshReply config sources (type_code p.question.query_type) now p.result
+    let code = type_code p.question.query_type in
+    p.source ≡ Client → HasNoLeast config code → IsFreshReply config (sources code) code now p.result
 
--- An answer of a step's reply, which may be used up to a deadline: a sub-look-up of the step gave it, to be
--- used as long or longer. Where the client answered that one, and the least TTL of the type that it asked for
--- is zero, the record does not outlive what was received.
+-- a sub-look-up has the record among its answers
+abbrev pub Gives : SubLookup → RecordValue → Type 0
+Gives p r = (found : LookupValue) × (p.result ≡ Ok found) × Contains found.message.answers r
+
+-- A record of a reply, which may be used up to a deadline, beside a sub-look-up: where the client answered that
+-- one and gave the record, and the least TTL of the type that it asked for is zero, the record does not outlive
+-- what was received.
+abbrev pub IsFreshWhereGiven : ConfigValue → (ℕ → List Dated) → ℕ → ℕ → RecordValue → SubLookup → Type 0
+IsFreshWhereGiven config sources now deadline r p =
+    let code = type_code p.question.query_type in
+    p.source ≡ Client → Gives p r → HasNoLeast config code
+    → IsFreshRecord config (sources code) code now deadline r
+
+-- An answer of a reply that may be used up to a deadline: a sub-look-up gave it, to be used as long or longer.
+-- And it does not outlive what was received for any sub-look-up that gave it.
 pub record IsFreshAnswer
-    (config : ConfigValue) (sources : List Dated) (now : ℕ) (parts : List SubLookup) (deadline : ℕ)
+    (config : ConfigValue) (sources : ℕ → List Dated) (now : ℕ) (parts : List SubLookup) (deadline : ℕ)
     (r : RecordValue)
     : Type 0 where
   pub part : SubLookup
@@ -116,8 +129,14 @@ pub record IsFreshAnswer
   pub result_is : part.result ≡ Ok found
   pub is_answer : Contains found.message.answers r
   pub usable : deadline ≤ found.valid_until
-  pub fresh : part.source ≡ Client → HasNoLeast config (type_code part.question.query_type)
-      → IsFreshRecord config sources (type_code part.question.query_type) now deadline r
+  pub fresh : AllByRecursion (IsFreshWhereGiven config sources now deadline r) parts
+
+-- a look-up answers something of its own, or with answers of its sub-look-ups alone
+abbrev pub HasFreshAnswers : (LookupValue → Type 0) → ConfigValue → (ℕ → List Dated) → ℕ → List SubLookup
+    → LookupResult → Type 0
+HasFreshAnswers IsOwn config sources now parts (Ok l) =
+    IsOwn l ⊎ AllByRecursion (IsFreshAnswer config sources now parts l.valid_until) l.message.answers
+HasFreshAnswers IsOwn config sources now parts (Err e) = Unit {0}
 
 -- the addresses of a text are asked for, and the answer is the address that the text is
 abbrev pub IsLiteral : RequestValue → LookupValue → Type 0
@@ -126,16 +145,12 @@ IsLiteral (LookupIp text now) l =
     × ((l ≡ literal_at_last address now) ⊎ ((owner : NameValue) × (l ≡ literal_at_once owner address now)))
 IsLiteral other l = ⊥
 
--- a look-up answers the literal address, or with answers of its sub-look-ups alone
-abbrev pub HasFreshAnswers : ConfigValue → List Dated → Stage → LookupResult → Type 0
-HasFreshAnswers config sources stage (Ok l) =
-    IsLiteral stage.request l
-    ⊎ AllByRecursion (IsFreshAnswer config sources stage.step.now stage.parts l.valid_until) l.message.answers
-HasFreshAnswers config sources stage (Err e) = Unit {0}
-
+-- what a step answers: the literal address, or answers of its sub-look-ups
 abbrev pub AreFreshAnswers : ConfigValue → List Dated → Stage → StepReply → Type 0
-AreFreshAnswers config sources stage (LookedUp reply) = HasFreshAnswers config sources stage reply
-AreFreshAnswers config sources stage (LookedUpIp reply) = HasFreshAnswers config sources stage reply
+AreFreshAnswers config sources stage (LookedUp reply) =
+    HasFreshAnswers (IsLiteral stage.request) config (λ code. sources) stage.step.now stage.parts reply
+AreFreshAnswers config sources stage (LookedUpIp reply) =
+    HasFreshAnswers (IsLiteral stage.request) config (λ code. sources) stage.step.now stage.parts reply
 AreFreshAnswers config sources stage (Cleared done) = Unit {0}
 
 -- no answer outlives what an exchange of the same step or of an earlier one brought, neither in a sub-look-up
@@ -144,7 +159,7 @@ abbrev pub NothingOutlives : List Dated → List Stage → Type 0
 NothingOutlives earlier [] = Unit {0}
 NothingOutlives earlier (stage ∷ stages) =
     let sources = earlier ++ dated_exchanges stage.step.now stage.piece in
-    AllByRecursion (IsFreshSubLookup stage.before.config sources stage.step.now) stage.parts
+    AllByRecursion (IsFreshSubLookup stage.before.config (λ code. sources) stage.step.now) stage.parts
     × AreFreshAnswers stage.before.config sources stage stage.step.reply × NothingOutlives sources stages
 
 -- a question of the client has a meaning of eight questions at most

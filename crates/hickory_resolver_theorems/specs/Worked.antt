@@ -1,7 +1,7 @@
 -- Worked cases: what the definitions say of small messages, caches and names.
 use Rattle.std.specs.Prelude.{◌≡◌, ℕ, true, false, List, [], ◌∷◌, map, replicate, codes, Option, Some, None, Ok, Err, refl}
 use Rattle.hickory_proto_core.specs.Name.{NameValue, localhost}
-use Rattle.hickory_proto_core.specs.Records.{RecordValue, DataValue, a_data, aaaa_data, cname_data, srv_data, ns_data}
+use Rattle.hickory_proto_core.specs.Records.{RecordValue, DataValue, a_data, aaaa_data, cname_data, ns_data}
 use Rattle.hickory_proto_core.specs.Messages.{MessageValue}
 use Rattle.hickory_proto_core.specs.Handles.{OutcomeValue}
 use Rattle.hickory_proto_core.specs.records.query.Query.{Query}
@@ -232,6 +232,8 @@ pub record AliasCases : Type 0 where
   pub walks_along_an_alias : walk_of (asks_a (name (codes "A"))) alias_and_address ≡ record {
     places = 0 ∷ [];
     last = name (codes "b");
+    targets = [];
+    alias_ttls = 5 ∷ [];
     ttl = 5;
   }
   -- an alias and its address in one response: without intermediate records the address alone, as long as the
@@ -247,12 +249,6 @@ pub record AliasCases : Type 0 where
         query = asks_a (name (codes "b"));
         preserved = alias_alone;
       })
-  -- an SRV leads on, whoever owns it
-  pub service_leads_on : verdict false (first_hop (question_of (name (codes "s")) type.SRV))
-      (response (question_of (name (codes "s")) type.SRV)
-      (rr (name (codes "s")) 30 (cname_data (name (codes "t")))
-      ∷ rr (name (codes "t")) 60 (srv_data 1 2 3 (name (codes "h"))) ∷ []))
-      ≡ CnameChain (record { query = question_of (name (codes "h")) type.SRV; preserved = [] })
   -- the next question of an alias of another class is asked in the class of the Internet
   pub next_class_is_internet : verdict false (first_hop (record {
     name = name (codes "a");
@@ -267,7 +263,6 @@ alias_cases = record {
   address_behind_an_alias = refl;
   alias_kept_with_its_address = refl;
   alias_leads_on = refl;
-  service_leads_on = refl;
   next_class_is_internet = refl;
 }
 

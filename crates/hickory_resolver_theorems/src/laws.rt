@@ -1,24 +1,33 @@
 //! Laws of the definitions.
-ghost use Rattle.std.specs.Prelude.{◌≡◌, List, [], length, ◌≤◌};
+ghost use Rattle.std.specs.Prelude.{◌≡◌, ℕ, List, [], length, ◌≤◌, Result};
 ghost use Rattle.hickory_proto_core.specs.Name.{NameValue};
 ghost use Rattle.hickory_proto_core.specs.Records.{RecordValue};
 ghost use Rattle.hickory_proto_core.specs.Recorded.{RecordedAs};
 ghost use Rattle.hickory_proto_core.specs.Table.{TableValue};
 ghost use Rattle.hickory_proto_core.specs.records.query.Query.{Query};
 ghost use Rattle.hickory_proto_core.specs.declared.recorded.Exchange.{Exchange};
+ghost use Rattle.hickory_proto_core.specs.codes.record_type.RecordType.{RecordType};
+ghost use Rattle.hickory_proto_core.specs.names.name_error.NameError.{NameError};
 ghost use Rattle.hickory_resolver_model.specs.Attempts.{Search, attempts};
 ghost use Rattle.hickory_resolver_theorems.specs.AttemptLaws.{AreAttemptsApart};
-ghost use Rattle.hickory_resolver_model.specs.Cache.{CacheValue, IsCache};
+ghost use Rattle.hickory_resolver_model.specs.Cache.{CacheValue, IsCache, without_query};
 ghost use Rattle.hickory_resolver_model.specs.Hops.{LookupContext, IsReply};
 ghost use Rattle.hickory_resolver_model.specs.Lookup.{LookupResult};
 ghost use Rattle.hickory_resolver_model.specs.Calls.{SubLookup, IsSubLookupFor, asks_of_sub_lookups};
-ghost use Rattle.hickory_resolver_model.specs.Run.{Settings, call_context_at, RequestValue, StepReply, StepValue, IsServed, Run};
+ghost use Rattle.hickory_resolver_model.specs.Resolver.{ResolverValue, AnswersCall};
+ghost use Rattle.hickory_resolver_model.specs.Run.{Settings, Call, after_clear, call_context_at, RequestValue, StepReply, StepValue, IsServed, Run};
 ghost use Rattle.hickory_resolver_theorems.specs.Keeping.{IsServedOver};
 ghost use Rattle.hickory_resolver_theorems.specs.Statements.{IsFresh, IsTransparent, IsOneCacheless, Headline};
 ghost use Rattle.hickory_resolver_theorems.specs.Provenance.{HasProvenance};
+ghost use Rattle.hickory_resolver_theorems.specs.Aliases.{NoAliasOutlives};
+ghost use Rattle.hickory_resolver_theorems.specs.CallFacts.{IsPromisedCall, KeepsWhatIsKnown};
 ghost use Rattle.hickory_resolver_theorems.specs.WalkLaws.{IsOneWalk};
 
-/// There is exactly one walk along the aliases among answers.
+use hickory_proto_core::DnsHandle;
+
+/// A question has exactly one walk over the answers to it, that of the definition: one list of places, at each of
+/// which the record counts, and none that would count is left out; its TTL is the least of a day and theirs. For
+/// every type and for CNAMEs nothing is walked.
 pub fn one_walk()
     ensures { (q : Query) (answers : List RecordValue) → IsOneWalk q answers }
 {}
@@ -54,7 +63,16 @@ pub fn nothing_outlives()
 pub fn every_record_has_a_source()
     ensures { (s : LookupContext) (question : Query) (asks : List Exchange) (result : LookupResult)
         (after : CacheValue) → IsCache s.cache.config s.cache.capacity s.cache.entries
-        → IsReply s question asks result after → HasProvenance s question asks result after }
+        → (reply : IsReply s question asks result after) → HasProvenance s question asks result after reply }
+{}
+
+/// A look-up that is what the hops say lets no alias outlive its CNAMEs: where the least TTL of CNAMEs is zero, what it
+/// stores under the question of a hop, and what it answers where its first question was asked, is usable no longer than
+/// each CNAME that counted from that hop on, and than the entry that was hit at its end.
+pub fn no_alias_outlives()
+    ensures { (s : LookupContext) (question : Query) (asks : List Exchange) (result : LookupResult)
+        (after : CacheValue) → (reply : IsReply s question asks result after)
+        → NoAliasOutlives s question asks result after reply }
 {}
 
 /// A look-up that is what the hops say, and preserves no intermediate records, is transparent: under every table
@@ -95,4 +113,20 @@ pub fn headline()
     ensures { (s : Settings) (empty : CacheValue) (requests : List RequestValue) (steps : List StepValue)
         (exchanges : List Exchange) (after : CacheValue) (run : Run s empty requests steps exchanges after)
         → Headline s empty requests steps exchanges after run }
+{}
+
+/// A call of a resolver that is what the definition says, over what a cache may hold, keeps its promises: what holds of
+/// a look-up of the client is carried over its attempts.
+pub fn a_call_keeps_its_promises<H: DnsHandle>()
+    ensures { (now : ℕ) (call : Call) (before : ResolverValue H) (result : LookupResult) (after : ResolverValue H)
+        → IsCache before.client.cache.config before.client.cache.capacity before.client.cache.entries
+        → AnswersCall H.step now call before result after → IsPromisedCall H.step now call before result after }
+{}
+
+/// What is known of the entries of a cache is known after a clear, of all, of a question, or of a name's attempts.
+pub fn a_clear_keeps_what_is_known()
+    ensures all { (cache : CacheValue) → KeepsWhatIsKnown cache (record cache { entries = [] }) }
+    ensures question { (cache : CacheValue) (q : Query) → KeepsWhatIsKnown cache (without_query cache q) }
+    ensures attempts { (s : Settings) (t : RecordType) (name : Result NameValue NameError) (cache : CacheValue)
+        → KeepsWhatIsKnown cache (after_clear s t name cache) }
 {}

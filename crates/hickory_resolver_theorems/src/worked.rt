@@ -1,5 +1,6 @@
 //! Worked cases of the definitions.
 ghost use Rattle.hickory_resolver_theorems.specs.Worked.{EvictionCases, LifetimeCases, AttemptCases, SpecialCases, AliasCases};
+ghost use Rattle.hickory_resolver_theorems.specs.WorkedServices.{ServiceCases};
 ghost use Rattle.hickory_resolver_theorems.specs.WorkedLoop.{LoopCases};
 ghost use Rattle.hickory_resolver_theorems.specs.WorkedRun.{RunCases};
 ghost use Rattle.hickory_resolver_theorems.specs.WorkedRequests.{RequestCases};
@@ -11,6 +12,7 @@ pub fn worked_cases()
     ensures attempts { AttemptCases }
     ensures special { SpecialCases }
     ensures aliases { AliasCases }
+    ensures services { ServiceCases }
     ensures loops { LoopCases }
     ensures runs { RunCases }
     ensures requests { RequestCases }

@@ -1,4 +1,5 @@
 use Rattle.hickory_resolver_theorems.specs.Worked.{eviction_cases, lifetime_cases, attempt_cases, special_cases, alias_cases}
+use Rattle.hickory_resolver_theorems.specs.WorkedServices.{service_cases}
 use Rattle.hickory_resolver_theorems.specs.WorkedLoop.{loop_cases}
 use Rattle.hickory_resolver_theorems.specs.WorkedRun.{run_cases}
 use Rattle.hickory_resolver_theorems.specs.WorkedRequests.{request_cases}
@@ -11,6 +12,7 @@ returns c = record {
   attempts = attempt_cases;
   special = special_cases;
   aliases = alias_cases;
+  services = service_cases;
   loops = loop_cases;
   runs = run_cases;
   requests = request_cases;

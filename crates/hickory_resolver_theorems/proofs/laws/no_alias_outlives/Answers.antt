@@ -1,0 +1,5 @@
+use Rattle.hickory_resolver_theorems.proofs.Aliases.{no_alias_outlives}
+use Rattle.hickory_resolver_theorems.proofs.laws.no_alias_outlives.Goals as goal
+
+pub returns : goal.returns
+returns c = no_alias_outlives

@@ -1,0 +1,99 @@
+-- No alias outlives its CNAMEs: what a look-up stores under the question of a hop, and what it answers where its
+-- first question was asked, is usable no longer than each CNAME that counted from that hop on, and no longer than
+-- the entry that was hit at the end (RFC 1034, section 3.6.2; RFC 2181, section 8).
+use Rattle.std.specs.Prelude.{◌≡◌, ◌≤◌, ◌+◌, ℕ, Bool, false, List, [], ◌∷◌, ◌++◌, min, Ok, IfSome}
+use mathlib.Core.Logic.{inl, inr}
+use Rattle.std.specs.List.{AllByRecursion}
+use Rattle.hickory_proto_core.specs.Codes.{type_code}
+use Rattle.hickory_proto_core.specs.ResponseKind.{ResponseKind, Answer, Negative, Failed, kind_of, is_empty}
+use Rattle.hickory_proto_core.specs.codes.record_type.RecordType.TheVariants as type
+use Rattle.hickory_proto_core.specs.records.query.Query.{Query}
+use Rattle.hickory_proto_core.specs.declared.recorded.Exchange.{Exchange}
+use Rattle.hickory_resolver_model.specs.Bounds.{ConfigValue, greatest_ttl}
+use Rattle.hickory_resolver_model.specs.Cache.{CacheValue}
+use Rattle.hickory_resolver_model.specs.Lookup.{LookupValue, LookupResult}
+use Rattle.hickory_resolver_model.specs.AliasWalk.{walk_of}
+use Rattle.hickory_resolver_model.specs.Verdict.{Hop}
+use Rattle.hickory_resolver_model.specs.Hops.{LookupContext, ChainEnd, Special, Hit, Asked, HopList, Store, IsReply, made_entry, asks_of, stores_of}
+use Rattle.hickory_resolver_model.specs.Calls.{CallContext, start_at, Source, Static, Client, SubLookup, SubLookupRelation, IsStaticSubLookup, IsClientSubLookup}
+use Rattle.hickory_resolver_model.specs.Run.{Settings, call_context_at, RequestValue, StepValue, AreStagesBy, Run}
+use Rattle.hickory_resolver_theorems.specs.Statements.{HasNoLeast}
+
+-- the TTLs, as they were received, of the CNAMEs that the walk of what came back to a question counted. Only an
+-- answer is walked
+abbrev pub counted_in : Query → ResponseKind → List ℕ
+counted_in q (Answer response) = (walk_of q response.answers).alias_ttls
+counted_in q (Negative none) = []
+counted_in q (Failed error) = []
+
+-- up to a deadline is no longer than a CNAME of this TTL lives that came at a moment, its TTL cut at the greatest
+abbrev pub IsWithinAlias : ConfigValue → ℕ → ℕ → ℕ → Type 0
+IsWithinAlias config now deadline ttl = deadline ≤ now + min ttl (greatest_ttl config (type_code type.CNAME))
+
+-- nor longer than the entry that was hit
+abbrev pub IsWithinEnd : ChainEnd → ℕ → Type 0
+IsWithinEnd (Special reply) deadline = Unit {0}
+IsWithinEnd (Hit entry) deadline = deadline ≤ entry.valid_until
+IsWithinEnd (Asked outcome) deadline = Unit {0}
+
+-- up to a deadline is no longer than each CNAME that counted in these exchanges, those of a hop and of the hops
+-- after it, and no longer than the entry that the last hop hit
+abbrev pub OutlivesNoAlias : LookupContext → List Exchange → ChainEnd → ℕ → Type 0
+OutlivesNoAlias s asks last deadline =
+    AllByRecursion
+    (λ x. AllByRecursion (IsWithinAlias s.cache.config s.now deadline) (counted_in x.query (kind_of x.outcome))) asks
+    × IsWithinEnd last deadline
+
+abbrev pub StoreOutlivesNoAlias : LookupContext → List Exchange → ChainEnd → Store → Type 0
+StoreOutlivesNoAlias s asks last store =
+    IfSome (made_entry s.cache.config store) (λ e. OutlivesNoAlias s asks last e.valid_until)
+
+-- The stores of hops, from the last hop to the first: the last of them is made under the question of the first
+-- hop, and outlives no alias from that hop on; those before it are the stores of the hops after it. The last hop
+-- may have a store of its own.
+abbrev pub StoresOutliveNoAlias : LookupContext → List Exchange → Hop → ChainEnd → List Store → Type 0
+StoresOutliveNoAlias s [] hop last stores =
+    AllByRecursion (StoreOutlivesNoAlias s (asks_of hop last) last) stores
+StoresOutliveNoAlias s (x ∷ xs) hop last stores =
+    (later : List Store) × (own : Store) × (stores ≡ later ++ own ∷ []) × (own.query ≡ x.query)
+    × StoreOutlivesNoAlias s (x ∷ xs ++ asks_of hop last) last own
+    × StoresOutliveNoAlias s xs hop last later
+
+-- an answer, where something was asked: the first hop was, then
+abbrev pub ResultOutlivesNoAlias : LookupContext → List Exchange → ChainEnd → LookupResult → Type 0
+ResultOutlivesNoAlias s asks last result =
+    (l : LookupValue) → result ≡ Ok l → is_empty asks ≡ false → OutlivesNoAlias s asks last l.valid_until
+
+-- Of a look-up: where the least TTL of CNAMEs is zero, each store of its hops, and its result. Where memory ran out
+-- among the stores, it holds of all of them, and so of those that were made.
+abbrev pub NoAliasOutlives : (s : LookupContext) (question : Query) (asks : List Exchange) (result : LookupResult)
+    (after : CacheValue) → IsReply s question asks result after → Type 0
+NoAliasOutlives s question asks result after (inl whole) =
+    HasNoLeast s.cache.config (type_code type.CNAME)
+    → StoresOutliveNoAlias s whole.hops.passed whole.hops.last_hop whole.hops.last
+    (stores_of s whole.hops.passed whole.hops.last_hop whole.hops.last)
+    × ResultOutlivesNoAlias s asks whole.hops.last result
+NoAliasOutlives s question asks result after (inr (out, inl cut)) =
+    HasNoLeast s.cache.config (type_code type.CNAME)
+    → StoresOutliveNoAlias s cut.hops.passed cut.hops.last_hop cut.hops.last
+    (stores_of s cut.hops.passed cut.hops.last_hop cut.hops.last)
+NoAliasOutlives s question asks result after (inr (out, inr cut)) = Unit {0}
+
+-- ---- the look-ups of a call, and of a run
+
+-- a question of a call is answered by the table of hosts, or by the client with a look-up of which this holds
+abbrev pub IsLimitedBy : Source → CallContext → Bool → CacheValue → SubLookup → CacheValue → Type 0
+IsLimitedBy Static s looked before p after = IsStaticSubLookup s looked before p after
+IsLimitedBy Client s looked before p after =
+    (is : IsClientSubLookup s looked before p after)
+    × NoAliasOutlives (start_at s before) p.question p.asks p.result after is.reply
+
+abbrev pub LimitedSubLookup : CallContext → SubLookupRelation
+LimitedSubLookup s looked before q p after = (p.question ≡ q) × IsLimitedBy p.source s looked before p after
+
+-- Of a run: it holds of each look-up of the client, over the cache that the one before it left.
+abbrev pub RunOutlivesNoAlias : (s : Settings) (first : CacheValue) (requests : List RequestValue)
+    (steps : List StepValue) (exchanges : List Exchange) (after : CacheValue)
+    → Run s first requests steps exchanges after → Type 0
+RunOutlivesNoAlias s first requests steps exchanges after run =
+    AreStagesBy (λ now. LimitedSubLookup (call_context_at s now)) s first requests run.stages after

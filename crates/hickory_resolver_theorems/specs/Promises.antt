@@ -1,0 +1,36 @@
+-- What is promised of a look-up of the client, and of a run: each is one statement, that there is a look-up (a run)
+-- of the definition which is what was done, and of it these hold.
+use Rattle.std.specs.Prelude.{◌≤◌, ℕ, List, length}
+use Rattle.hickory_proto_core.specs.Handles.{Step}
+use Rattle.hickory_proto_core.specs.records.query.Query.{Query}
+use Rattle.hickory_proto_core.specs.declared.dns_request.DnsRequestOptions.{DnsRequestOptions}
+use Rattle.hickory_proto_core.specs.declared.recorded.Exchange.{Exchange}
+use Rattle.hickory_resolver_model.specs.Cache.{CacheValue}
+use Rattle.hickory_resolver_model.specs.Lookup.{LookupResult}
+use Rattle.hickory_resolver_model.specs.Client.{ClientValue, start_of, IsLookup}
+use Rattle.hickory_resolver_model.specs.Run.{Settings, first_cache, RequestValue, StepValue, IsRun}
+use Rattle.hickory_resolver_theorems.specs.Statements.{IsFresh, IsTransparent, Headline}
+use Rattle.hickory_resolver_theorems.specs.Provenance.{HasProvenance}
+use Rattle.hickory_resolver_theorems.specs.Aliases.{NoAliasOutlives, RunOutlivesNoAlias}
+
+-- A look-up of a client: eight questions are sent at most; every record has a source; nothing outlives what was
+-- received; a cache changes no answer; no alias outlives its CNAMEs.
+pub record IsPromisedLookup
+    {H : Type 0} (step : Step H) (options : DnsRequestOptions) (now : ℕ) (before : ClientValue H)
+    (question : Query) (result : LookupResult) (after : ClientValue H)
+    : Type 0 where
+  pub is : IsLookup step options now before question result after
+  pub few : length is.asks ≤ 8
+  pub provenance : HasProvenance (start_of before now) question is.asks result after.cache is.reply
+  pub fresh : IsFresh (start_of before now) question is.asks result after.cache
+  pub transparent : IsTransparent (start_of before now) question is.asks result after.cache
+  pub no_alias_outlives : NoAliasOutlives (start_of before now) question is.asks result after.cache is.reply
+
+-- A run over a handle, from a new resolver: the headline, and that no alias outlives its CNAMEs.
+pub record IsPromisedRun
+    {H : Type 0} (step : Step H) (s : Settings) (handle : H) (requests : List RequestValue)
+    (steps : List StepValue) (exchanges : List Exchange) (handle_after : H) (cache_after : CacheValue)
+    : Type 0 where
+  pub is : IsRun step s handle requests steps exchanges handle_after cache_after
+  pub headline : Headline s (first_cache s) requests steps exchanges cache_after is.run
+  pub no_alias_outlives : RunOutlivesNoAlias s (first_cache s) requests steps exchanges cache_after is.run
