@@ -2,3 +2,4 @@ pub mod Steps
 pub mod Special
 pub mod Verdicts
 pub mod Walks
+pub mod Counts

@@ -1,9 +1,9 @@
 -- A look-up hop by hop: what one hop comes to, the hops so far, and the stores of the questions that were
 -- passed.
-use Rattle.std.specs.Prelude.{◌≡◌, ◌⊎◌, ◌<◌, ◌≤◌, ℕ, List, [], ◌∷◌, ◌++◌, map, reverse, length, Result, Some, Ok, Err}
+use Rattle.std.specs.Prelude.{◌≡◌, ◌⊎◌, ◌<◌, ◌≤◌, ℕ, Bool, true, false, not, ◌||◌, List, [], ◌∷◌, ◌++◌, map, min, length, Result, Some, Ok, Err, if◌then◌else◌}
 use Rattle.hickory_proto_core.specs.Errors.{NoRecordsValue}
 use Rattle.hickory_proto_core.specs.Handles.{OutcomeValue, Step, Leads}
-use Rattle.hickory_proto_core.specs.ResponseKind.{ResponseKind, Failed, kind_of}
+use Rattle.hickory_proto_core.specs.ResponseKind.{ResponseKind, Failed, kind_of, is_empty}
 use Rattle.hickory_proto_core.specs.records.query.Query.{Query}
 use Rattle.hickory_proto_core.specs.declared.dns_request.DnsRequestOptions.{DnsRequestOptions}
 use Rattle.hickory_proto_core.specs.declared.recorded.Exchange.{Exchange}
@@ -13,7 +13,7 @@ use Rattle.hickory_proto_core.specs.records.net_error.DnsError.TheVariants.{NoRe
 use Rattle.hickory_resolver_model.specs.Cache.{CacheValue}
 use Rattle.hickory_resolver_model.specs.Lookup.{LookupResult}
 use Rattle.hickory_resolver_model.specs.Verdict.{Hop, first_hop, CnameChain}
-use Rattle.hickory_resolver_model.specs.Hops.{LookupContext, GoesUpstream, FollowsAliases, ChainEnd, IsChainEnd, kind_verdict, kind_result, kind_stores, result_of, asks_of, last_stores, Store, earlier_store, after_stores}
+use Rattle.hickory_resolver_model.specs.Hops.{LookupContext, GoesUpstream, FollowsAliases, ChainEnd, Special, Hit, Asked, IsChainEnd, kind_verdict, kind_result, kind_stores, result_of, alias_limit, end_limit, result_until, asks_of, last_stores, Store, earlier_store, after_stores}
 use Rattle.hickory_resolver_model.specs.Client.{ClientValue, start_of}
 use Rattle.hickory_resolver_client.specs.declared.caching_client.HopStep as code
 use Rattle.hickory_resolver_client.specs.declared.caching_client.HopStep.TheVariants.{Next, Done}
@@ -35,37 +35,47 @@ EndsAt s hop depth kind = (next : Hop) → kind_verdict s hop kind ≡ Some (Cna
 -- what a hop that was asked comes to, by the kind of what came back
 abbrev pub IsSettled : LookupContext → Hop → ℕ → ResponseKind → Result code.HopStep NetError → CacheValue
     → Type 0
-IsSettled s hop depth kind (Ok (Next asked next)) after =
-    (asked ≡ hop.query) × (kind_verdict s hop kind ≡ Some (CnameChain next)) × (depth < 7) × (after ≡ s.cache)
-IsSettled s hop depth kind (Ok (Done result)) after =
-    (EndsAt s hop depth kind × (result ≡ kind_result s hop kind)
-    × (after ≡ after_stores (kind_stores s hop kind) s.cache))
+IsSettled s hop depth kind (Ok (Next asked limit next)) after =
+    (asked ≡ hop.query) × (limit ≡ alias_limit s hop.query kind)
+    × (kind_verdict s hop kind ≡ Some (CnameChain next)) × (depth < 7) × (after ≡ s.cache)
+IsSettled s hop depth kind (Ok (Done result limit asked)) after =
+    (EndsAt s hop depth kind × (result ≡ kind_result s hop kind) × (limit ≡ alias_limit s hop.query kind)
+    × (asked ≡ true) × (after ≡ after_stores (kind_stores s hop kind) s.cache))
     ⊎ ((result ≡ Err OutOfMemory) × (after ≡ s.cache))
 IsSettled s hop depth kind (Err error) after = (error ≡ OutOfMemory) × (after ≡ s.cache)
 
 -- the question was asked, and an alias came back, which is not the eighth
 pub record GoesOn
     {H : Type 0} (step : Step H) (options : DnsRequestOptions) (now depth : ℕ) (before : ClientValue H)
-    (hop : Hop) (asked : Query) (next : Hop) (after : ClientValue H)
+    (hop : Hop) (asked : Query) (limit : ℕ) (next : Hop) (after : ClientValue H)
     : Type 0 where
   pub asked_is : asked ≡ hop.query
   pub upstream : GoesUpstream (start_of before now) hop.query
   pub outcome : OutcomeValue
   pub sent : step before.handle (record { query = hop.query; options = options }) outcome after.handle
+  pub limit_is : limit ≡ alias_limit (start_of before now) hop.query (kind_of outcome)
   pub alias : kind_verdict (start_of before now) hop (kind_of outcome) ≡ Some (CnameChain next)
   pub early : depth < 7
   pub cache_is : after.cache ≡ before.cache
   pub option_is : after.preserve_intermediates ≡ before.preserve_intermediates
 
+-- the last hop was asked
+abbrev pub is_asked : ChainEnd → Bool
+is_asked (Special reply) = false
+is_asked (Hit entry) = false
+is_asked (Asked outcome) = true
+
 -- the hop is the last, and its own store is made
 pub record IsDone
     {H : Type 0} (step : Step H) (options : DnsRequestOptions) (now depth : ℕ) (before : ClientValue H)
-    (hop : Hop) (result : LookupResult) (after : ClientValue H)
+    (hop : Hop) (result : LookupResult) (limit : ℕ) (asked : Bool) (after : ClientValue H)
     : Type 0 where
   pub last : ChainEnd
   pub ends : IsChainEnd (start_of before now) depth hop last
   pub led : Leads step options before.handle (asks_of hop last) after.handle
   pub result_is : result ≡ result_of (start_of before now) hop last
+  pub limit_is : limit ≡ end_limit (start_of before now) hop last
+  pub asked_is : asked ≡ is_asked last
   pub after_is : after.cache ≡ after_stores (last_stores (start_of before now) hop last) before.cache
   pub option_is : after.preserve_intermediates ≡ before.preserve_intermediates
 
@@ -83,31 +93,46 @@ pub record IsOut
 -- what one hop comes to
 abbrev pub IsHopStep : {H : Type 0} → Step H → DnsRequestOptions → ℕ → ℕ → ClientValue H → Hop
     → Result code.HopStep NetError → ClientValue H → Type 0
-IsHopStep step options now depth before hop (Ok (Next asked next)) after =
-    GoesOn step options now depth before hop asked next after
-IsHopStep step options now depth before hop (Ok (Done result)) after =
-    IsDone step options now depth before hop result after
+IsHopStep step options now depth before hop (Ok (Next asked limit next)) after =
+    GoesOn step options now depth before hop asked limit next after
+IsHopStep step options now depth before hop (Ok (Done result limit asked)) after =
+    IsDone step options now depth before hop result limit asked after
     ⊎ ((result ≡ Err OutOfMemory) × IsOut step options now before hop after)
 IsHopStep step options now depth before hop (Err error) after =
     (error ≡ OutOfMemory) × IsOut step options now before hop after
 
+-- a question that was passed, and until when the CNAMEs live that counted for it
+pub record PassedValue : Type 0 where
+  pub query : Query
+  pub limit : ℕ
+
+abbrev pub passed_of : LookupContext → Exchange → PassedValue
+passed_of s x = record { query = x.query; limit = alias_limit s x.query (kind_of x.outcome) }
+
 -- so many questions were passed, and this hop comes next
 pub record IsWalked
     {H : Type 0} (step : Step H) (options : DnsRequestOptions) (now count : ℕ) (before : ClientValue H)
-    (question : Query) (passed : List Query) (hop : Hop) (client : ClientValue H)
+    (question : Query) (passed : List PassedValue) (hop : Hop) (client : ClientValue H)
     : Type 0 where
   pub asks : List Exchange
   pub led : Leads step options before.handle asks client.handle
   pub follows : FollowsAliases (start_of before now) (first_hop question) asks hop
-  pub questions : map (λ x. x.query) asks ≡ passed
+  pub passed_are : map (passed_of (start_of before now)) asks ≡ passed
   pub count_is : length asks ≡ count
   pub few : count ≤ 7
   pub cache_is : client.cache ≡ before.cache
   pub option_is : client.preserve_intermediates ≡ before.preserve_intermediates
 
+-- the limit of the first of some passed questions, where that of the hop after them is given
+abbrev pub limit_back : List PassedValue → ℕ → ℕ
+limit_back [] limit = limit
+limit_back (p ∷ ps) limit = min p.limit (limit_back ps limit)
+
 -- a result under each question, from the last to the first
-abbrev pub stores_back : LookupResult → ℕ → List Query → List Store
-stores_back result now questions = map (earlier_store result now) (reverse questions)
+abbrev pub stores_back : LookupResult → ℕ → ℕ → List PassedValue → List Store
+stores_back result now limit [] = []
+stores_back result now limit (p ∷ ps) =
+    stores_back result now limit ps ++ earlier_store result now p.query (limit_back (p ∷ ps) limit) ∷ []
 
 -- a beginning of the stores was made
 pub record IsBeginning (stores : List Store) (before after : CacheValue) : Type 0 where
@@ -121,3 +146,12 @@ pub record StoredSoFar (rest all : List Store) (before after : CacheValue) : Typ
   pub front : List Store
   pub parts : front ++ rest ≡ all
   pub after_is : after ≡ after_stores front before
+
+-- what a look-up comes to after its last hop: the result is kept under each question that was passed, and given up
+-- to the limit of the first hop where that was asked; or memory ran out, and a beginning of the stores was made
+abbrev pub IsFinished : List PassedValue → LookupResult → ℕ → Bool → ℕ → CacheValue → LookupResult → CacheValue
+    → Type 0
+IsFinished passed result limit asked now before answer after =
+    ((answer ≡ (if asked || not (is_empty passed) then result_until (limit_back passed limit) result else result))
+    × (after ≡ after_stores (stores_back result now limit passed) before))
+    ⊎ ((answer ≡ Err OutOfMemory) × IsBeginning (stores_back result now limit passed) before after)

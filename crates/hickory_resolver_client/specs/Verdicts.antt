@@ -7,6 +7,8 @@ use Rattle.hickory_resolver_model.specs.AliasWalk.{Walk}
 use Rattle.hickory_resolver_model.specs.Verdict.{Hop, Verdict, Exists, CnameChain, NoMatch, is_match, is_intermediate}
 use Rattle.hickory_resolver_client.specs.declared.verdict.Verdict as code
 use Rattle.hickory_resolver_client.specs.declared.verdict.Verdict.TheVariants as variant
+use Rattle.hickory_resolver_client.specs.declared.verdict.Decision.{Decision}
+use Rattle.hickory_resolver_client.specs.declared.verdict.Decision.TheVariants as decision
 
 abbrev pub hop_of : Query → List RecordValue → Hop
 hop_of query preserved = record { query = query; preserved = preserved }
@@ -16,6 +18,14 @@ IsVerdict (Exists m) response (variant.Exists accepted) = accepted ≡ m
 IsVerdict (CnameChain hop) response (variant.CnameChain next held) = (next ≡ hop) × (held ≡ response)
 IsVerdict NoMatch response (variant.NoMatch held) = held ≡ response
 IsVerdict _ response _ = ⊥
+
+-- the decision of the code, before the response is moved
+abbrev pub IsDecision : Verdict → MessageValue → Decision → Type 0
+IsDecision (Exists m) response decision.Whole = m ≡ response
+IsDecision (Exists m) response (decision.Filtered answers) = m ≡ record response { answers = answers.items }
+IsDecision (CnameChain hop) response (decision.Next next) = next ≡ hop
+IsDecision NoMatch response decision.Nothing = Unit {0}
+IsDecision _ response _ = ⊥
 
 -- a record that is passed on
 abbrev pub is_wanted : Query → Walk → Bool → Bool → RecordValue → Bool

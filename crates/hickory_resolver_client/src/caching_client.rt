@@ -3,28 +3,25 @@ ghost use Rattle.std.specs.Prelude.{◌≡◌, ◌⊎◌, ◌≤◌, ◌∷◌, 
 ghost use Rattle.hickory_proto_core.specs.ResponseKind.{ResponseKind, Answer, IsClassified, first_soa, kind_of};
 ghost use Rattle.hickory_proto_core.specs.records.net_error.NetError.TheVariants.{Dns};
 ghost use Rattle.hickory_proto_core.specs.records.net_error.DnsError.TheVariants.{NoRecordsFound};
-ghost use Rattle.hickory_resolver_model.specs.Cache.{without_query};
+ghost use Rattle.std.specs.Option.{option_map_or};
+ghost use Rattle.hickory_resolver_model.specs.Cache.{last_moment, without_query};
 ghost use Rattle.hickory_resolver_model.specs.Lookup.{found_lookup};
-ghost use Rattle.hickory_resolver_model.specs.Hops.{IsReply, no_match, hit_result, store_of, as_outcome, after_stores};
+ghost use Rattle.hickory_resolver_model.specs.Hops.{no_match, hit_result, store_of, as_outcome, alias_deadline, result_until, after_stores};
 ghost use Rattle.hickory_resolver_model.specs.Client.{ClientValue, IsLookup, start_of, KeepsHandle, empty_cache};
-ghost use Rattle.hickory_proto_core.specs.declared.recorded.Exchange.{Exchange};
-ghost use Rattle.hickory_resolver_theorems.specs.Provenance.{HasProvenance};
-ghost use Rattle.hickory_resolver_theorems.specs.Statements.{IsFresh, IsTransparent};
+ghost use Rattle.hickory_resolver_theorems.specs.CallFacts.{KeepsWhatIsKnown};
+ghost use Rattle.hickory_resolver_theorems.specs.Promises.{IsPromisedLookup};
 ghost use Rattle.hickory_resolver_client.specs.Special.{IsUnlessOut};
 ghost use Rattle.hickory_resolver_client.specs.Verdicts.{hop_of};
-ghost use Rattle.hickory_resolver_client.specs.Steps.{NeverFailsNegative, SettledAs, IsSettled, IsHopStep, stores_back, IsBeginning};
+ghost use Rattle.hickory_resolver_client.specs.Steps.{NeverFailsNegative, SettledAs, IsSettled, IsHopStep, IsFinished, limit_back, stores_back, IsBeginning};
 
 use crate::special_use::special_use_result;
-use crate::verdict::{Hop, Verdict, verdict_of};
+use crate::verdict::{Hop, Judged, Verdict, verdict_of};
 use hickory_proto_core::{
     DnsError, DnsHandle, DnsRequest, DnsRequestOptions, DnsResponse, Message, NetError, NoRecords,
     OpCode, Query, Record,
 };
 use hickory_resolver_cache::ResponseCache;
 use hickory_resolver_lookup::{Lookup, TtlConfig};
-use hickory_resolver_theorems::laws::{
-    a_cache_changes_no_answer, eight_questions, every_record_has_a_source, nothing_outlives,
-};
 use std::alloc::Global;
 use std::hash::{BuildHasher, BuildHasherDefault, FoldHasher};
 use std::marker::Model;
@@ -38,13 +35,37 @@ pub struct CachingClient<H: DnsHandle, S: BuildHasher = BuildHasherDefault<FoldH
     preserve_intermediates: bool,
 }
 
+// A question that was asked, and until when the CNAMEs live that counted in its answer (seconds).
+#[derive(Drop)]
+struct Passed {
+    query: Query,
+    limit: u64,
+}
+
+impl Model for Passed {
+    ghost use Rattle.hickory_resolver_client.specs.Steps.{PassedValue};
+
+    ghost Value = { PassedValue };
+
+    ghost view = { λ p. record { query = p.query; limit = p.limit } };
+}
+
 // What one hop of a look-up comes to.
 #[derive(Drop)]
 enum HopStep {
     // The question was asked, and its alias leads to another hop.
-    Next { asked: Query, next: Hop },
-    // The look-up ends here.
-    Done(Result<Lookup, NetError>),
+    Next {
+        asked: Query,
+        limit: u64,
+        next: Hop,
+    },
+    // The look-up ends here, where the question was asked or was not. What is made of the result is current up
+    // to the limit at the most.
+    Done {
+        result: Result<Lookup, NetError>,
+        limit: u64,
+        asked: bool,
+    },
 }
 
 impl<H: DnsHandle, S: BuildHasher> Model for CachingClient<H, S> {
@@ -125,38 +146,25 @@ impl<H: DnsHandle, S: BuildHasher> CachingClient<H, S> {
         options: DnsRequestOptions,
         now: u64,
     ) -> Result<Lookup, NetError>
-        ensures look_up { IsLookup H.step options now self.old query result self.new }
-        ensures few { (asks : List Exchange)
-            → IsReply (start_of self.old now) query asks result self.new.cache → length asks ≤ 8 }
-        ensures provenance { (asks : List Exchange)
-            → IsReply (start_of self.old now) query asks result self.new.cache
-            → HasProvenance (start_of self.old now) query asks result self.new.cache }
-        ensures fresh { (asks : List Exchange)
-            → IsReply (start_of self.old now) query asks result self.new.cache
-            → IsFresh (start_of self.old now) query asks result self.new.cache }
-        ensures transparent { (asks : List Exchange)
-            → IsReply (start_of self.old now) query asks result self.new.cache
-            → IsTransparent (start_of self.old now) query asks result self.new.cache }
+        ensures { IsPromisedLookup H.step options now self.old query result self.new }
     {
         // `len` is called for its clause on what holds of every cache.
         let _len = self.cache.len();
-        eight_questions();
-        every_record_has_a_source();
-        nothing_outlives();
-        a_cache_changes_no_answer();
         self.walk(query, options, now)
     }
 
     /// Empties the cache. Takes no memory.
     pub fn clear_cache(&mut self)
-        ensures { self.new ≡ record self.old { cache = record self.old.cache { entries = [] } } }
+        ensures cleared { self.new ≡ record self.old { cache = record self.old.cache { entries = [] } } }
+        ensures keeps { KeepsWhatIsKnown self.old.cache self.new.cache }
     {
         self.cache.clear();
     }
 
     /// Drops what the cache has for a question. Takes no memory.
     pub fn clear_cache_query(&mut self, query: &Query)
-        ensures { self.new ≡ record self.old { cache = without_query self.old.cache query.now } }
+        ensures cleared { self.new ≡ record self.old { cache = without_query self.old.cache query.now } }
+        ensures keeps { KeepsWhatIsKnown self.old.cache self.new.cache }
     {
         self.cache.clear_query(query);
     }
@@ -178,20 +186,45 @@ impl<H: DnsHandle, S: BuildHasher> CachingClient<H, S> {
         };
         for depth in 0..8u8 {
             match self.take_hop(hop, options, now, depth)? {
-                HopStep::Next { asked, next } => {
-                    passed.push(asked)?;
+                HopStep::Next { asked, limit, next } => {
+                    passed.push(Passed {
+                        query: asked,
+                        limit,
+                    })?;
                     hop = next;
                 }
-                HopStep::Done(result) => {
-                    if let Err(error) = store_back(&mut self.cache, passed, &result, now) {
-                        drop(result);
-                        return Err(error);
-                    }
-                    return result;
-                }
+                HopStep::Done {
+                    result,
+                    limit,
+                    asked,
+                } => return self.finish(passed, result, limit, asked, now),
             }
         }
         unreachable!()
+    }
+
+    // Keeps the result under each question that was passed, and gives it: where the first question was asked, up
+    // to the limit of its hop at the most.
+    fn finish(
+        &mut self,
+        passed: Vec<Passed>,
+        reply: Result<Lookup, NetError>,
+        limit: u64,
+        asked: bool,
+        now: u64,
+    ) -> Result<Lookup, NetError>
+        ensures finished { IsFinished passed.items reply limit asked now self.old.cache result self.new.cache }
+        ensures stays { KeepsHandle self.old self.new }
+    {
+        let first_asked = asked || !passed.is_empty();
+        match store_back(&mut self.cache, passed, &reply, limit, now) {
+            Ok(limit) if first_asked => result_until(reply, limit),
+            Ok(_) => reply,
+            Err(error) => {
+                drop(reply);
+                Err(error)
+            }
+        }
     }
 
     // One hop: the reply of a special name, or a hit, or else what the handle answers.
@@ -207,10 +240,18 @@ impl<H: DnsHandle, S: BuildHasher> CachingClient<H, S> {
     {
         let Hop { query, preserved } = hop;
         if let Some(result) = special_use_result(self.cache.allocator(), &query, now) {
-            return Ok(HopStep::Done(result));
+            return Ok(HopStep::Done {
+                result,
+                limit: u64::MAX,
+                asked: false,
+            });
         }
-        if let Some(hit) = self.cache.get(&query, now) {
-            return Ok(HopStep::Done(lookup_of_hit(query, hit, now)));
+        if let Some((hit, deadline)) = self.cache.get_with_deadline(&query, now) {
+            return Ok(HopStep::Done {
+                result: lookup_of_hit(query, hit, now),
+                limit: deadline,
+                asked: false,
+            });
         }
         let request = DnsRequest { query, options };
         let outcome = self.handle.send(&request);
@@ -237,8 +278,16 @@ impl<H: DnsHandle, S: BuildHasher> CachingClient<H, S> {
         match response {
             Ok(response) => self.settle_answer(hop, response, now, depth),
             Err(error) => match error.into_no_records() {
-                Ok(none) => Ok(HopStep::Done(self.cache_negative(hop.query, none, now))),
-                Err(error) => Ok(HopStep::Done(Err(error))),
+                Ok(none) => Ok(HopStep::Done {
+                    result: self.cache_negative(hop.query, none, now),
+                    limit: u64::MAX,
+                    asked: true,
+                }),
+                Err(error) => Ok(HopStep::Done {
+                    result: Err(error),
+                    limit: u64::MAX,
+                    asked: true,
+                }),
             },
         }
     }
@@ -258,30 +307,57 @@ impl<H: DnsHandle, S: BuildHasher> CachingClient<H, S> {
         ensures stays { KeepsHandle self.old self.new }
     {
         let Hop { query, preserved } = hop;
-        match verdict_of(self.preserve_intermediates, &query, preserved, response)? {
-            Verdict::Exists(message) => {
-                Ok(HopStep::Done(self.cache_answer(query, message, now)))
-            }
+        let Judged { verdict, alias_ttl } = verdict_of(
+            self.preserve_intermediates,
+            &query,
+            preserved,
+            response,
+        )?;
+        let limit = alias_limit(self.cache.ttl_config(), alias_ttl, now);
+        match verdict {
+            Verdict::Exists(message) => Ok(HopStep::Done {
+                result: self.cache_answer(query, message, limit, now),
+                limit,
+                asked: true,
+            }),
             Verdict::CnameChain { next, response } => {
                 if depth < 7 {
-                    return Ok(HopStep::Next { asked: query, next });
+                    return Ok(HopStep::Next {
+                        asked: query,
+                        limit,
+                        next,
+                    });
                 }
                 let exhausted = no_match(query, &response);
-                Ok(HopStep::Done(exhausted))
+                Ok(HopStep::Done {
+                    result: exhausted,
+                    limit,
+                    asked: true,
+                })
             }
-            Verdict::NoMatch(response) => Ok(HopStep::Done(no_match(query, &response))),
+            Verdict::NoMatch(response) => Ok(HopStep::Done {
+                result: no_match(query, &response),
+                limit,
+                asked: true,
+            }),
         }
     }
 
-    // An accepted response, kept.
-    fn cache_answer(&mut self, query: Query, message: Message, now: u64) -> Result<Lookup, NetError>
+    // An accepted response, kept up to a limit at the most.
+    fn cache_answer(
+        &mut self,
+        query: Query,
+        message: Message,
+        limit: u64,
+        now: u64,
+    ) -> Result<Lookup, NetError>
         ensures settled { SettledAs (start_of self.old now)
             (Ok (found_lookup self.old.cache.config query message now))
-            (store_of query (Ok message) now ∷ []) result self.new.cache }
+            (store_of query (Ok message) now limit ∷ []) result self.new.cache }
         ensures stays { KeepsHandle self.old self.new }
     {
         let lookup = found_lookup(self.cache.ttl_config(), &query, &message, now)?;
-        self.cache.insert(query, Ok(message), now)?;
+        self.cache.insert_until(query, Ok(message), now, limit)?;
         Ok(lookup)
     }
 
@@ -293,7 +369,7 @@ impl<H: DnsHandle, S: BuildHasher> CachingClient<H, S> {
         now: u64,
     ) -> Result<Lookup, NetError>
         ensures settled { SettledAs (start_of self.old now) (Err (Dns (NoRecordsFound none)))
-            (store_of query (Err (Dns (NoRecordsFound none))) now ∷ []) result self.new.cache }
+            (store_of query (Err (Dns (NoRecordsFound none))) now last_moment ∷ []) result self.new.cache }
         ensures stays { KeepsHandle self.old self.new }
     {
         match insert_negative(&mut self.cache, query, &none, now) {
@@ -328,31 +404,55 @@ fn insert_negative<S: BuildHasher>(
     now: u64,
 ) -> Result<(), NetError>
     ensures ok { OnOk result (cache.new
-        ≡ after_stores (store_of query (Err (Dns (NoRecordsFound none.now))) now ∷ []) cache.old) }
+        ≡ after_stores (store_of query (Err (Dns (NoRecordsFound none.now))) now last_moment ∷ []) cache.old) }
     ensures unchanged { OnErr result (cache.new ≡ cache.old) }
     ensures err { IsOkUnless result NetError.OutOfMemory }
 {
     let copy = none.clone()?;
-    cache.insert(query, Err(NetError::from(copy)), now)
+    cache.insert_until(query, Err(NetError::from(copy)), now, u64::MAX)
 }
 
-// Keeps a result under each of these questions, from the last to the first.
+// Until when the CNAMEs live whose least TTL this is; the last moment where there are none.
+fn alias_limit(config: &TtlConfig, alias_ttl: Option<u32>, now: u64) -> u64
+    ensures { result ≡ option_map_or (alias_deadline config.now now) alias_ttl last_moment }
+{
+    match alias_ttl {
+        Some(ttl) => config.alias_deadline(ttl, now),
+        None => u64::MAX,
+    }
+}
+
+// The answer, which may be used up to a limit at the most.
+fn result_until(reply: Result<Lookup, NetError>, limit: u64) -> Result<Lookup, NetError>
+    ensures { result ≡ result_until limit reply }
+{
+    match reply {
+        Ok(lookup) => Ok(lookup.not_after(limit)),
+        Err(error) => Err(error),
+    }
+}
+
+// Keeps a result under each question that was passed, from the last to the first: each up to the lesser of its own
+// limit and that of the hop after it. Gives the limit of the first hop.
 fn store_back<S: BuildHasher>(
     cache: &mut ResponseCache<S>,
-    mut questions: Vec<Query>,
+    mut passed: Vec<Passed>,
     reply: &Result<Lookup, NetError>,
+    mut limit: u64,
     now: u64,
-) -> Result<(), NetError>
-    ensures ok { OnOk result
-        (cache.new ≡ after_stores (stores_back reply.now now questions.items) cache.old) }
-    ensures err { OnErr result (IsBeginning (stores_back reply.now now questions.items) cache.old cache.new) }
+) -> Result<u64, NetError>
+    ensures ok { IfOk result (λ first. (first ≡ limit_back passed.items limit)
+        × (cache.new ≡ after_stores (stores_back reply.now now limit passed.items) cache.old)) }
+    ensures err { OnErr result
+        (IsBeginning (stores_back reply.now now limit passed.items) cache.old cache.new) }
     ensures memory { IsOkUnless result NetError.OutOfMemory }
 {
-    while let Some(query) = questions.pop() {
-        let outcome = as_outcome(&query, reply)?;
-        cache.insert(query, outcome, now)?;
+    while let Some(last) = passed.pop() {
+        limit = last.limit.min(limit);
+        let outcome = as_outcome(&last.query, reply)?;
+        cache.insert_until(last.query, outcome, now, limit)?;
     }
-    Ok(())
+    Ok(limit)
 }
 
 // What is kept of a result under another question: a fresh response with its sections, or its error.

@@ -2,8 +2,10 @@
 ghost use Rattle.std.specs.Prelude.{◌≡◌, ◌++◌, ◌&&◌, ◌||◌, map, filter, IfOk, OnOk, IsOkUnless};
 ghost use Rattle.std.specs.List.{list_any};
 ghost use Rattle.hickory_proto_core.specs.Messages.{some_record};
-ghost use Rattle.hickory_resolver_model.specs.Verdict.{verdict, is_match, is_last_match, is_intermediate, has_class, has_type, with_ttl_at_most, all_records, is_accepted, is_filtered, filtered_answers, next_hop};
-ghost use Rattle.hickory_resolver_client.specs.Verdicts.{IsVerdict, is_wanted, hop_of};
+ghost use Rattle.hickory_resolver_model.specs.Bounds.{least};
+ghost use Rattle.hickory_resolver_model.specs.AliasWalk.{walk_of};
+ghost use Rattle.hickory_resolver_model.specs.Verdict.{Verdict as VerdictValue, verdict, walk_verdict, is_match, is_led_match, is_intermediate, has_class, has_type, with_ttl_at_most, all_records, is_accepted, is_filtered, filtered_answers, next_hop};
+ghost use Rattle.hickory_resolver_client.specs.Verdicts.{IsVerdict, IsDecision, is_wanted, hop_of};
 
 use crate::alias_walk::{AliasWalk, walk_of};
 use hickory_proto_core::{DNSClass, DnsResponse, Message, NetError, Query, Record, RecordType};
@@ -29,7 +31,7 @@ impl Model for Hop {
 pub enum Verdict {
     /// It is accepted, with these sections.
     Exists(Message),
-    /// It is an alias, and leads to another hop.
+    /// It leads to another hop.
     CnameChain {
         /// Where it leads.
         next: Hop,
@@ -40,11 +42,31 @@ pub enum Verdict {
     NoMatch(DnsResponse),
 }
 
+/// A verdict, and the least TTL of the aliases that counted, where one did (seconds).
+#[derive(Drop)]
+pub struct Judged {
+    pub verdict: Verdict,
+    pub alias_ttl: Option<u32>,
+}
+
+// What becomes of a response.
+#[derive(Drop)]
+enum Decision {
+    // It is accepted as it stands.
+    Whole,
+    // It is accepted with these answers.
+    Filtered(Vec<Record>),
+    // It leads to another hop.
+    Next(Hop),
+    // It has nothing that was asked for.
+    Nothing,
+}
+
 // Which records of a response are passed on: those that match the question, or intermediate ones.
 #[derive(Drop)]
-struct Selection<'a> {
-    query: &'a Query,
-    walk: &'a AliasWalk<'a>,
+struct Selection<'s, 'a> {
+    query: &'s Query,
+    walk: &'s AliasWalk<'a>,
     matches: bool,
     intermediates: bool,
 }
@@ -56,64 +78,109 @@ pub fn verdict_of(
     query: &Query,
     preserved: Vec<Record>,
     response: DnsResponse,
-) -> Result<Verdict, NetError>
-    ensures ok { IfOk result (IsVerdict (verdict keep (hop_of query.now preserved.items) response) response) }
+) -> Result<Judged, NetError>
+    ensures ok { IfOk result (λ judged.
+        IsVerdict (verdict keep (hop_of query.now preserved.items) response) response judged.verdict) }
+    ensures alias_ttl { IfOk result (λ judged.
+        judged.alias_ttl ≡ least (walk_of query.now response.answers).alias_ttls) }
     ensures err { IsOkUnless result NetError.OutOfMemory }
 {
     let message = response.message();
-    let walk = walk_of(query, &message.answers);
-    if is_accepted(query, &preserved, &walk, message) {
-        if !is_filtered(keep, query, &preserved, &walk, message) {
-            return Ok(Verdict::Exists(response.into_message()));
-        }
-        let answers = filtered_answers(keep, query, preserved, &walk, message)?;
-        let mut accepted = response.into_message();
-        accepted.answers = answers;
-        return Ok(Verdict::Exists(accepted));
-    }
-    if !walk.is_followed() {
-        return Ok(Verdict::NoMatch(response));
-    }
-    let next = next_hop(keep, query, preserved, &walk, message)?;
-    Ok(Verdict::CnameChain { next, response })
+    let walk = walk_of(*preserved.allocator(), query, &message.answers)?;
+    let alias_ttl = walk.alias_ttl();
+    let decision = decide(keep, query, preserved, walk, message)?;
+    let verdict = carry_out(decision, response);
+    Ok(Judged { verdict, alias_ttl })
 }
 
-// Whether some record matches, and either no alias was followed or no record was preserved.
-fn is_accepted(query: &Query, preserved: &[Record], walk: &AliasWalk<'_>, message: &Message) -> bool
+// The decision on a response whose answers are walked.
+fn decide<'a>(
+    keep: bool,
+    query: &Query,
+    preserved: Vec<Record>,
+    walk: AliasWalk<'a>,
+    message: &'a Message,
+) -> Result<Decision, NetError>
+    ensures ok { IfOk result
+        (IsDecision (walk_verdict keep (hop_of query.now preserved.items) walk.entry message.now) message.now) }
+    ensures err { IsOkUnless result NetError.OutOfMemory }
+{
+    if is_accepted(query, &preserved, &walk, message) {
+        if !is_filtered(keep, query, &preserved, &walk, message) {
+            return Ok(Decision::Whole);
+        }
+        let answers = filtered_answers(keep, query, preserved, &walk, message)?;
+        return Ok(Decision::Filtered(answers));
+    }
+    if !walk.leads_on() {
+        return Ok(Decision::Nothing);
+    }
+    let next = next_hop(keep, query, preserved, &walk, message)?;
+    Ok(Decision::Next(next))
+}
+
+// The verdict of a decision on this response.
+fn carry_out(decision: Decision, response: DnsResponse) -> Verdict
+    ensures { (v : VerdictValue) → IsDecision v response decision → IsVerdict v response result }
+{
+    match decision {
+        Decision::Whole => Verdict::Exists(response.into_message()),
+        Decision::Filtered(answers) => {
+            let mut accepted = response.into_message();
+            accepted.answers = answers;
+            Verdict::Exists(accepted)
+        }
+        Decision::Next(next) => Verdict::CnameChain { next, response },
+        Decision::Nothing => Verdict::NoMatch(response),
+    }
+}
+
+// Whether some record matches, and either no alias counted or no record was preserved.
+fn is_accepted<'a>(
+    query: &Query,
+    preserved: &[Record],
+    walk: &AliasWalk<'a>,
+    message: &'a Message,
+) -> bool
     ensures { result ≡ is_accepted (hop_of query.now preserved.now) walk.now message.now }
 {
-    (!walk.is_followed() || preserved.is_empty())
+    (!walk.is_moved() || preserved.is_empty())
         && (any_match(query, walk, &message.answers)
             || any_match(query, walk, &message.authorities)
             || any_match(query, walk, &message.additionals))
 }
 
 // Whether the answers of an accepted response are filtered.
-fn is_filtered(
+fn is_filtered<'a>(
     keep: bool,
     query: &Query,
     preserved: &[Record],
-    walk: &AliasWalk<'_>,
-    message: &Message,
+    walk: &AliasWalk<'a>,
+    message: &'a Message,
 ) -> bool
     ensures { result ≡ is_filtered keep (hop_of query.now preserved.now) walk.now message.now }
 {
-    !preserved.is_empty()
-        || (walk.is_followed()
-            && !keep
-            && (any_last_match(query, walk, &message.answers)
-                || any_last_match(query, walk, &message.authorities)
-                || any_last_match(query, walk, &message.additionals)))
+    !preserved.is_empty() || (!keep && leads_to_match(query, walk, message))
+}
+
+// Whether the walk led to a match, in some section.
+fn leads_to_match<'a>(query: &Query, walk: &AliasWalk<'a>, message: &'a Message) -> bool
+    ensures { result ≡ some_record (is_led_match query.now walk.now) message.now }
+{
+    walk.leads_on()
+        && (any_led_match(query, walk, &message.answers)
+            || any_led_match(query, walk, &message.authorities)
+            || any_led_match(query, walk, &message.additionals))
 }
 
 // The preserved records, then the matches and, where they are wanted, the intermediate records of this
 // response.
-fn filtered_answers(
+fn filtered_answers<'s, 'a>(
     keep: bool,
-    query: &Query,
+    query: &'s Query,
     preserved: Vec<Record>,
-    walk: &AliasWalk<'_>,
-    message: &Message,
+    walk: &'s AliasWalk<'a>,
+    message: &'a Message,
 ) -> Result<Vec<Record>, NetError>
     ensures ok { IfOk result
         (λ answers. answers.items ≡ filtered_answers keep (hop_of query.now preserved.items)
@@ -129,13 +196,13 @@ fn filtered_answers(
     selection.copy_into(preserved, message)
 }
 
-// The next hop of an alias: the last name of the walk, in the class of the Internet.
-fn next_hop(
+// The next hop: the name that the walk leads to, in the class of the Internet.
+fn next_hop<'s, 'a>(
     keep: bool,
-    query: &Query,
+    query: &'s Query,
     preserved: Vec<Record>,
-    walk: &AliasWalk<'_>,
-    message: &Message,
+    walk: &'s AliasWalk<'a>,
+    message: &'a Message,
 ) -> Result<Hop, NetError>
     ensures ok { IfOk result
         (λ next. next ≡ next_hop keep (hop_of query.now preserved.items) walk.now message.now) }
@@ -150,17 +217,17 @@ fn next_hop(
     Ok(Hop {
         preserved: selection.copy_into(preserved, message)?,
         query: Query {
-            name: walk.last().clone()?,
+            name: walk.next_name().clone()?,
             query_type: query.query_type,
             query_class: DNSClass::IN,
         },
     })
 }
 
-impl<'a> Selection<'a> {
+impl<'s, 'a> Selection<'s, 'a> {
     // These records, then copies of the selected ones of each section, whose TTLs are at most that of the
     // walk.
-    fn copy_into(&self, records: Vec<Record>, message: &Message) -> Result<Vec<Record>, NetError>
+    fn copy_into(&self, records: Vec<Record>, message: &'a Message) -> Result<Vec<Record>, NetError>
         ensures ok { IfOk result
             (λ copies. copies.items ≡ records.items ++ map (with_ttl_at_most self.now.walk.now.ttl)
             (filter (is_wanted self.now.query.now self.now.walk.now self.now.matches
@@ -174,7 +241,7 @@ impl<'a> Selection<'a> {
         Ok(copies)
     }
 
-    fn copy_section(&self, records: &[Record], copies: &mut Vec<Record>) -> Result<(), NetError>
+    fn copy_section(&self, records: &'a [Record], copies: &mut Vec<Record>) -> Result<(), NetError>
         ensures ok { OnOk result
             (copies.new.items ≡ copies.old.items ++ map (with_ttl_at_most self.now.walk.now.ttl)
             (filter (is_wanted self.now.query.now self.now.walk.now self.now.matches
@@ -189,7 +256,7 @@ impl<'a> Selection<'a> {
         Ok(())
     }
 
-    fn wants(&self, found: &Record) -> bool
+    fn wants(&self, found: &'a Record) -> bool
         ensures { result ≡ is_wanted self.now.query.now self.now.walk.now self.now.matches
             self.now.intermediates found.now }
     {
@@ -208,35 +275,45 @@ fn with_ttl_at_most(found: &Record, ttl: u32) -> Result<Record, NetError>
     Ok(copy)
 }
 
-fn any_match(query: &Query, walk: &AliasWalk<'_>, records: &[Record]) -> bool
+fn any_match<'a>(query: &Query, walk: &AliasWalk<'a>, records: &'a [Record]) -> bool
     ensures { result ≡ list_any (is_match query.now walk.now) records.now }
 {
-    records.iter().any(|found| is_match(query, walk, found))
+    for found in records {
+        if is_match(query, walk, found) {
+            return true;
+        }
+    }
+    false
 }
 
-fn any_last_match(query: &Query, walk: &AliasWalk<'_>, records: &[Record]) -> bool
-    ensures { result ≡ list_any (is_last_match query.now walk.now) records.now }
+fn any_led_match<'a>(query: &Query, walk: &AliasWalk<'a>, records: &'a [Record]) -> bool
+    ensures { result ≡ list_any (is_led_match query.now walk.now) records.now }
 {
-    records
-        .iter()
-        .any(|found| is_last_match(query, walk, found))
+    for found in records {
+        if is_led_match(query, walk, found) {
+            return true;
+        }
+    }
+    false
 }
 
-// Whether a record has the asked class and type, and is owned by the asked name or by the last name of the
-// walk.
-fn is_match(query: &Query, walk: &AliasWalk<'_>, found: &Record) -> bool
+// Whether a record has the asked class and type, and is owned by the asked name, by the last name of the walk or
+// by a target.
+fn is_match<'a>(query: &Query, walk: &AliasWalk<'a>, found: &'a Record) -> bool
     ensures { result ≡ is_match query.now walk.now found.now }
 {
     has_class(query, found)
         && has_type(query, found)
-        && (query.name == found.name || walk.ends_at(&found.name))
+        && (query.name == found.name || walk.ends_at(&found.name) || walk.has_target(&found.name))
 }
 
-// Whether the last name of the walk owns a match.
-fn is_last_match(query: &Query, walk: &AliasWalk<'_>, found: &Record) -> bool
-    ensures { result ≡ is_last_match query.now walk.now found.now }
+// Whether the walk led to a match: a target owns it, or the last name, where an alias moved it.
+fn is_led_match<'a>(query: &Query, walk: &AliasWalk<'a>, found: &'a Record) -> bool
+    ensures { result ≡ is_led_match query.now walk.now found.now }
 {
-    has_class(query, found) && has_type(query, found) && walk.ends_at(&found.name)
+    has_class(query, found)
+        && has_type(query, found)
+        && (walk.has_target(&found.name) || (walk.is_moved() && walk.ends_at(&found.name)))
 }
 
 // Whether it is a CNAME record of the asked class.

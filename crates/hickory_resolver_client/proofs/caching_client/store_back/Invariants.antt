@@ -1,9 +1,9 @@
 use Rattle.std.proofs.Common.{vec_len}
-use Rattle.hickory_resolver_client.specs.Steps.{stores_back, StoredSoFar}
+use Rattle.hickory_resolver_client.proofs.Stored.{StoresOn}
 use Rattle.hickory_resolver_client.proofs.caching_client.store_back.Given as goal
 
-abbrev pub invariant-loop-query : goal.invariant-loop-query
-invariant-loop-query g l = StoredSoFar (stores_back l.reply l.now l.questions.items) (stores_back l.reply l.now l.initial.questions.items) l.initial.cache l.cache
+abbrev pub invariant-loop-last : goal.invariant-loop-last
+invariant-loop-last g l = StoresOn l.reply l.now l.limit l.initial.limit l.passed.items l.initial.passed.items l.initial.cache l.cache
 
-abbrev pub decreases-loop-query : goal.decreases-loop-query
-decreases-loop-query g l = vec_len l.questions
+abbrev pub decreases-loop-last : goal.decreases-loop-last
+decreases-loop-last g l = vec_len l.passed

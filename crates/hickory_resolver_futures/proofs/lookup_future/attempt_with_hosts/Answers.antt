@@ -12,7 +12,7 @@ returns-then-has_none g c =
     let Q : Query → Type 0 = λ q. IsLookup g.H.DnsHandle.step c.args.options c.args.now c.args.client.now q c.lookup.result c.lookup.new.self in
     let question_is : c.query-question.result ≡ question_of c.args.name c.args.record_type = λ i. record { name = c.query-question.ensures.name i; query_type = c.query-question.ensures.query_type i; query_class = c.query-question.ensures.query_class i } in
     attempt_asked g.H.DnsHandle.step c.args.options c.args.hosts.now c.args.now c.args.record_type _ c.args.name c.args.client.now
-    (inr (subst P question_is (c.has_none.ensures c.if-has_none.true c.args.now))) _ _ (subst Q question_is c.lookup.ensures.look_up)
+    (inr (subst P question_is (c.has_none.ensures c.if-has_none.true c.args.now))) _ _ (subst Q question_is c.lookup.ensures.is)
 
 pub returns-in-Some : goal.returns-in-Some
 returns-in-Some g c =
@@ -27,4 +27,4 @@ returns g c =
     let Q : Query → Type 0 = λ q. IsLookup g.H.DnsHandle.step c.args.options c.args.now c.args.client.now q c.lookup-2.result c.lookup-2.new.self in
     let question_is : c.query-question.result ≡ question_of c.args.name c.args.record_type = λ i. record { name = c.query-question.ensures.name i; query_type = c.query-question.ensures.query_type i; query_class = c.query-question.ensures.query_class i } in
     attempt_asked g.H.DnsHandle.step c.args.options c.args.hosts.now c.args.now c.args.record_type _ c.args.name c.args.client.now
-    (inr (subst P question_is (rw c.in_default.is at c.in_ok-found.ensures.ok))) _ _ (subst Q question_is c.lookup-2.ensures.look_up)
+    (inr (subst P question_is (rw c.in_default.is at c.in_ok-found.ensures.ok))) _ _ (subst Q question_is c.lookup-2.ensures.is)

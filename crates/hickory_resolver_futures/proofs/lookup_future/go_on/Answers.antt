@@ -11,7 +11,7 @@ loop-record_type-preserved g c = λ hosts.
     let Q : Query → Type 0 = λ q. IsLookup g.H.DnsHandle.step c.args.options c.args.now c.loop-record_type.client q c.lookup-last.result c.lookup-last.new.self in
     let question_is : c.query.result ≡ question_of c.in-Some.name c.args.record_type = λ i. record { name = c.query.ensures.name i; query_type = c.query.ensures.query_type i; query_class = c.query.ensures.query_class i } in
     so_far_more g.H.DnsHandle.step c.args.options hosts c.args.now (name_plan c.args.record_type) _ _ _ _ _ _ _ c.in-Some.name c.in-Some.ensures.items (c.loop-record_type.invariant hosts) (sym c.stops.ensures ∙ c.loop-record_type-test.true) _ _
-    (attempt_asked g.H.DnsHandle.step c.args.options hosts c.args.now c.args.record_type _ c.in-Some.name c.loop-record_type.client (inl refl) _ _ (subst Q question_is c.lookup-last.ensures.look_up))
+    (attempt_asked g.H.DnsHandle.step c.args.options hosts c.args.now c.args.record_type _ c.in-Some.name c.loop-record_type.client (inl refl) _ _ (subst Q question_is c.lookup-last.ensures.is))
 
 pub returns-in-None : goal.returns-in-None
 returns-in-None g c = λ hosts.

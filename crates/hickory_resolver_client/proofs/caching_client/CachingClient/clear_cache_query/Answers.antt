@@ -1,5 +1,10 @@
-use Rattle.std.proofs.Common.{rules}
+use Rattle.std.proofs.Common.{sym, subst}
+use Rattle.hickory_resolver_model.specs.Client.{ClientValue}
+use Rattle.hickory_resolver_theorems.specs.CallFacts.{KeepsWhatIsKnown}
+use Rattle.hickory_resolver_theorems.proofs.CallFacts.{without_query-keeps}
 use Rattle.hickory_resolver_client.proofs.caching_client.CachingClient.clear_cache_query.Goals as goal
 
-pub returns : goal.returns
-returns g c = search rules
+pub returns-clause-keeps : goal.returns-clause-keeps
+returns-clause-keeps g c =
+    subst (λ (v : ClientValue _). KeepsWhatIsKnown v.cache c.clear_query.new.self) c.self.view_is
+    (subst (KeepsWhatIsKnown c.self.inside.cache) (sym c.clear_query.ensures) (without_query-keeps c.self.inside.cache c.args.query.now))

@@ -1,5 +1,5 @@
 use Rattle.std.proofs.Common.{rules, refl}
-use Rattle.hickory_resolver_client.proofs.Walks.{goes_on, walk_cut, walk_out, walk_done, walk_done_cut}
+use Rattle.hickory_resolver_client.proofs.Walks.{goes_on, walk_cut, walk_out, walk_finished}
 use Rattle.hickory_resolver_client.proofs.caching_client.CachingClient.walk.Goals as goal
 
 pub returns-in_err-asked : goal.returns-in_err-asked
@@ -10,20 +10,15 @@ returns-in_err-asked g c =
 pub returns-in_err-push-in-Next : goal.returns-in_err-push-in-Next
 returns-in_err-push-in-Next g c =
     let h = rw c.in-Next.is at c.in_ok-asked.ensures in
-    let w = goes_on g.H.DnsHandle.step c.args.options c.args.now _ _ c.args.query _ _ _ c.loop-depth.invariant c.in-Next.asked c.in-Next.next c.take_hop.new.self h _ refl in
+    let w = goes_on g.H.DnsHandle.step c.args.options c.args.now _ _ c.args.query _ _ _ c.loop-depth.invariant c.in-Next.asked c.in-Next.limit c.in-Next.next c.take_hop.new.self h _ refl in
     walk_cut g.H.DnsHandle.step c.args.options c.args.now _ _ c.args.query _ _ _ w _ (search rules) _ refl
 
 pub loop-depth-preserved : goal.loop-depth-preserved
 loop-depth-preserved g c =
     let h = rw c.in-Next.is at c.in_ok-asked.ensures in
-    goes_on g.H.DnsHandle.step c.args.options c.args.now _ _ c.args.query _ _ _ c.loop-depth.invariant c.in-Next.asked c.in-Next.next c.take_hop.new.self h _ c.in_ok-push-in-Next.ensures.items
+    goes_on g.H.DnsHandle.step c.args.options c.args.now _ _ c.args.query _ _ _ c.loop-depth.invariant c.in-Next.asked c.in-Next.limit c.in-Next.next c.take_hop.new.self h _ c.in_ok-push-in-Next.ensures.items
 
 pub returns-in-Done : goal.returns-in-Done
 returns-in-Done g c =
-    let h = rw (c.in-Done.is, ← c.self-in-loop-depth.view_is) at c.in_ok-asked.ensures in
-    walk_done g.H.DnsHandle.step c.args.options c.args.now _ _ c.args.query _ _ _ c.loop-depth.invariant c.in-Done.result _ h _ c.in_default.ensures.ok
-
-pub returns-in-Err : goal.returns-in-Err
-returns-in-Err g c =
-    let h = rw (c.in-Done.is, ← c.self-in-loop-depth.view_is) at c.in_ok-asked.ensures in
-    walk_done_cut g.H.DnsHandle.step c.args.options c.args.now _ _ c.args.query _ _ _ c.loop-depth.invariant c.in-Done.result _ h _ (search rules) _ c.in-Err.ensures.err
+    let h = rw c.in-Done.is at c.in_ok-asked.ensures in
+    walk_finished g.H.DnsHandle.step c.args.options c.args.now _ _ c.args.query _ _ _ c.loop-depth.invariant c.in-Done.result c.in-Done.limit c.in-Done.asked _ h _ _ c.finish.ensures.stays c.finish.ensures.finished
