@@ -10,12 +10,25 @@ use Rattle.hickory_proto_core.specs.codes.record_type.RecordType.{RecordType}
 use Rattle.hickory_proto_core.specs.declared.dns_request.DnsRequestOptions.{DnsRequestOptions}
 use Rattle.hickory_proto_core.specs.records.net_error.NetError.TheVariants.{OutOfMemory}
 use Rattle.hickory_resolver_model.specs.Attempts.{attempts}
+use Rattle.hickory_resolver_model.specs.Cache.{CacheValue, IsCache}
 use Rattle.hickory_resolver_model.specs.Lookup.{LookupValue, LookupResult}
 use Rattle.hickory_resolver_model.specs.Hosts.{Host}
 use Rattle.hickory_resolver_model.specs.Client.{ClientValue}
 use Rattle.hickory_resolver_model.specs.Calls.{CallPlan, literal_at_once, literal_at_last}
 use Rattle.hickory_resolver_model.specs.Resolver.{ResolverValue, LooksUp, AnswersCall, settings}
-use Rattle.hickory_resolver_model.specs.Run.{Call, AtOnce, Attempt, address_call, address_plan, name_call}
+use Rattle.hickory_resolver_model.specs.Run.{drop_each, Call, AtOnce, Attempt, address_call, address_plan, name_call}
+use Rattle.hickory_resolver_theorems.specs.CallFacts.{KeepsWhatIsKnown}
+use Rattle.hickory_resolver_theorems.proofs.Runs.{drop_each-fresh}
+use Rattle.hickory_resolver_theorems.proofs.Headlines.{drop_each-meant}
+
+-- the cache of a resolver's client is one
+pub client_cache : {H : Type 0} (inside before : ResolverValue H) (cache : CacheValue) → inside ≡ before → cache ≡ inside.client.cache → IsCache cache.config cache.capacity cache.entries → IsCache before.client.cache.config before.client.cache.capacity before.client.cache.entries
+client_cache inside before cache view_is cache_is is =
+    subst (λ r. IsCache r.client.cache.config r.client.cache.capacity r.client.cache.entries) view_is (subst (λ x. IsCache x.config x.capacity x.entries) cache_is is)
+
+-- a clear of some names keeps what is known
+pub names_keep : (t : RecordType) (names : List NameValue) (cache : CacheValue) → KeepsWhatIsKnown cache (drop_each t names cache)
+names_keep t names cache = record { covered = λ sources entries. drop_each-fresh sources t names cache entries; meant = λ table entries. drop_each-meant table t names cache entries }
 
 module _ {H : Type 0} (step : Step H) (now : ℕ) (before : ResolverValue H) where
   -- memory ran out before anything was asked

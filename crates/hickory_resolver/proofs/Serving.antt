@@ -18,8 +18,9 @@ use Rattle.hickory_resolver_model.specs.Cache.{CacheValue}
 use Rattle.hickory_resolver_model.specs.Hosts.{Host}
 use Rattle.hickory_resolver_model.specs.Lookup.{LookupResult}
 use Rattle.hickory_resolver_model.specs.Calls.{SubLookup, IsSubLookupFor, asks_of_sub_lookups}
-use Rattle.hickory_resolver_model.specs.Resolver.{ResolverValue, AnswersName, AnswersHost, after_clear_lookup, new_resolver, settings}
+use Rattle.hickory_resolver_model.specs.Resolver.{ResolverValue, after_clear_lookup, new_resolver, settings}
 use Rattle.hickory_resolver_model.specs.Run.{Settings, call_context_at, RequestValue, Lookup, LookupIp, ClearLookup, Clear, StepReply, LookedUp, LookedUpIp, Cleared, StepValue, ends_run, after_clear, name_call, address_call, IsCall, IsUnserved, IsServed, Stage, IsStage, AreStages, exchanges_of, moment_of, settings_of, IsRun}
+use Rattle.hickory_resolver_theorems.specs.CallFacts.{PromisesName, PromisesHost}
 use Rattle.hickory_resolver_theorems.specs.Keeping.{IsServedOver}
 use Rattle.hickory_resolver.specs.Serving.{Answered, MakesStep, AnswersAll, AnsweredSoFar, Serves, KeptSoFar, ServesAll}
 
@@ -46,8 +47,9 @@ module _ {R : Type 0} (step : Step R) (before : ResolverValue R) where
   name_served text t now (Ok n) parts reply after given (inr is) = inr is
   name_served text t now (Err e) parts reply after given (inr is) = inr is
 
-  pub answered_lookup : (text : List ℕ) (t : RecordType) (now : ℕ) (reply : LookupResult) (after : ResolverValue R) → AnswersName step (IsReadName text) t now before reply after → Answered step (Lookup text t now) before (LookedUp reply) after
-  answered_lookup text t now reply after (name, given, a) =
+  pub answered_lookup : (text : List ℕ) (t : RecordType) (now : ℕ) (reply : LookupResult) (after : ResolverValue R) → PromisesName step (IsReadName text) t now before reply after → Answered step (Lookup text t now) before (LookedUp reply) after
+  answered_lookup text t now reply after (name, given, promised) =
+      let a = promised.is in
       record { parts = a.parts; led = a.led; served = name_served text t now name a.parts reply after.client.cache given a.is; option_stays = a.option_stays; others_stay = a.others_stay }
 
   -- a request that asks nothing
@@ -81,11 +83,11 @@ module _ {R : Type 0} (step : Step R) (before : ResolverValue R) where
   answered_clear_lookup text t now (Err e) after cleared unchanged out =
       answered_unasked (ClearLookup text t now) (Cleared (Err e)) before.client.cache after unchanged (refl, out, refl)
 
-  pub answered_host : (text : List ℕ) (now : ℕ) (reply : LookupResult) (after : ResolverValue R) → AnswersHost step (IsReadAddress text) (IsReadName text) now before reply after → Answered step (LookupIp text now) before (LookedUpIp reply) after
-  answered_host text now reply after (address, spells, name, given, inl (live, a)) = record { parts = a.parts; led = a.led; served = by a.is; option_stays = a.option_stays; others_stay = a.others_stay }
+  pub answered_host : (text : List ℕ) (now : ℕ) (reply : LookupResult) (after : ResolverValue R) → PromisesHost step (IsReadAddress text) (IsReadName text) now before reply after → Answered step (LookupIp text now) before (LookedUpIp reply) after
+  answered_host text now reply after (address, spells, name, given, inl (live, promised)) = let a = promised.is in record { parts = a.parts; led = a.led; served = by a.is; option_stays = a.option_stays; others_stay = a.others_stay }
     where
-      by : IsCall (IsSubLookupFor (call_context_at (settings before) now)) (settings before) before.client.cache (address_call (settings before) address name now) a.parts reply after.client.cache ⊎ IsUnserved before.client.cache a.parts reply after.client.cache
-          → IsServed (λ at. IsSubLookupFor (call_context_at (settings before) at)) (settings before) before.client.cache (LookupIp text now) a.parts (LookedUpIp reply) after.client.cache
+      by : IsCall (IsSubLookupFor (call_context_at (settings before) now)) (settings before) before.client.cache (address_call (settings before) address name now) promised.is.parts reply after.client.cache ⊎ IsUnserved before.client.cache promised.is.parts reply after.client.cache
+          → IsServed (λ at. IsSubLookupFor (call_context_at (settings before) at)) (settings before) before.client.cache (LookupIp text now) promised.is.parts (LookedUpIp reply) after.client.cache
       by (inl is) = inl (record { address = address; name = name }, (spells, read_name text name given live), is)
       by (inr is) = inr is
   answered_host text now reply after (address, spells, name, given, inr (out, e, same)) = answered_unasked (LookupIp text now) (LookedUpIp reply) before.client.cache after same (inr (refl, e, refl))

@@ -10,6 +10,7 @@ use Rattle.hickory_resolver_model.specs.Resolver.{ResolverValue, new_resolver, s
 use Rattle.hickory_resolver_model.specs.Run.{RequestValue, StepValue, settings_of}
 use Rattle.hickory_resolver.specs.Serving.{AnswersAll}
 use Rattle.hickory_resolver.specs.Telling.{Told, Hears, HearsAll, told_of, MakesTold, TellsAll, Tells, ToldSoFar, IsToldRun}
+use Rattle.hickory_resolver_theorems.proofs.Promises.{promised_run}
 use Rattle.hickory_resolver.proofs.Serving.{KeepsRequest, is_run, resolver_is}
 
 -- ---- a loop
@@ -153,7 +154,8 @@ module _ {H L : Type 0} (law : KeepsRequest) (step : Step H) (hears : Hears L) (
   pub is_told_run : IsToldRun step hears (settings_of config options hosts) handle requests listener resolver listened
   is_told_run = record {
     steps = steps_of told;
-    run = is_run law step config options hosts handle start starts requests (steps_of told) resolver answered;
+    run = promised_run step (settings_of config options hosts) handle requests (steps_of told) resolver.client.handle.exchanges resolver.client.handle.handle resolver.client.cache
+        (is_run law step config options hosts handle start starts requests (steps_of told) resolver answered);
     heard = subst (λ ts. HearsAll hears listener ts listened) told_are (hears_all (RecordedStep step) (λ h. h.exchanges) hears as_first listener requests told resolver listened all);
     all_told = sym (ap steps_of told_are);
   }
@@ -171,7 +173,3 @@ module _ {H L : Type 0} (law : KeepsRequest) (step : Step H) (hears : Hears L) (
 pub on_ok : {X E : Type 0} (r : Result X E) (P : X → Type 0) (Q : E → Type 0) {S : X → Type 0} → ((x : X) → P x → S x) → MatchResult r P Q → IfOk r S
 on_ok (Ok x) P Q says m = says x m
 on_ok (Err e) P Q says m = tt
-
-pub on_each : {X E : Type 0} (r : Result X E) {S : X → Type 0} → ((x : X) → S x) → IfOk r S
-on_each (Ok x) says = says x
-on_each (Err e) says = tt

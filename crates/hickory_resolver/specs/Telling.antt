@@ -3,7 +3,8 @@ use Rattle.std.specs.Prelude.{◌≡◌, ◌⊎◌, Bool, true, false, List, [],
 use Rattle.hickory_proto_core.specs.declared.recorded.Exchange.{Exchange}
 use Rattle.hickory_proto_core.specs.Handles.{Step, RecordedValue}
 use Rattle.hickory_resolver_model.specs.Resolver.{ResolverValue}
-use Rattle.hickory_resolver_model.specs.Run.{RequestValue, Settings, StepValue, IsRun, ends_run}
+use Rattle.hickory_resolver_model.specs.Run.{RequestValue, Settings, StepValue, ends_run}
+use Rattle.hickory_resolver_theorems.specs.Promises.{IsPromisedRun}
 use Rattle.hickory_resolver.specs.Serving.{MakesStep}
 
 -- what is told of a step: its request, the questions that were sent for it and what came back, and the step
@@ -70,13 +71,14 @@ Tells step kept hears request before listener is_last after listened =
 
 -- ---- over a handle that keeps what it sends
 
--- A run that was told: its steps are those of the definition, and the listener heard of all of them in order.
+-- A run that was told: it is a run of the definition, of which all holds that is promised of one, and the listener
+-- heard of all of its steps in order.
 pub record IsToldRun
     {H L : Type 0} (step : Step H) (hears : Hears L) (s : Settings) (handle : H)
     (requests : List RequestValue) (listener : L) (resolver : ResolverValue (RecordedValue H)) (listened : L)
     : Type 0 where
   pub steps : List StepValue
-  pub run : IsRun step s handle requests steps resolver.client.handle.exchanges
+  pub run : IsPromisedRun step s handle requests steps resolver.client.handle.exchanges
       resolver.client.handle.handle resolver.client.cache
   pub heard : HearsAll hears listener (told_of requests steps resolver.client.handle.exchanges) listened
   pub all_told : map (λ one. one.step) (told_of requests steps resolver.client.handle.exchanges) ≡ steps

@@ -9,8 +9,9 @@ ghost use Rattle.hickory_resolver_config.specs.Resolver.{default_options};
 ghost use Rattle.hickory_resolver_model.specs.Attempts.{attempts};
 ghost use Rattle.hickory_resolver_model.specs.Calls.{last_resort, literal_at_last};
 ghost use Rattle.hickory_resolver_model.specs.Options.{request_options_of};
-ghost use Rattle.hickory_resolver_model.specs.Resolver.{AnswersCall, AnswersHost, AnswersName, after_clear_lookup, settings};
+ghost use Rattle.hickory_resolver_model.specs.Resolver.{AnswersCall, AnswersHost, after_clear_lookup, settings};
 ghost use Rattle.hickory_resolver_model.specs.Run.{Attempt, address_call, address_plan, drop_each, name_plan};
+ghost use Rattle.hickory_resolver_theorems.specs.CallFacts.{KeepsWhatIsKnown, PromisesHost, PromisesName};
 
 use crate::caching_client::CachingClient;
 use crate::config::{LookupIpStrategy, ResolverConfig, ResolverOpts};
@@ -104,8 +105,10 @@ impl<H: DnsHandle, S: BuildHasher> Resolver<H, S> {
         record_type: RecordType,
         now: u64,
     ) -> Result<Lookup, NetError>
-        ensures { AnswersName H.step (N.into_name_gives name) record_type now self.old result self.new }
+        ensures { PromisesName H.step (N.into_name_gives name) record_type now self.old result self.new }
     {
+        // `len` is called for its clause on what holds of every cache.
+        let _len = self.client.cache().len();
         let name = name.into_name(self.alloc())?;
         self.lookup_name(name, record_type, now)
     }
@@ -118,8 +121,10 @@ impl<H: DnsHandle, S: BuildHasher> Resolver<H, S> {
     /// the answer, and nothing is asked. The other errors are those of `lookup`: what the last attempt came to, or
     /// out of memory, which ends the call.
     pub fn lookup_ip<N: IntoName>(&mut self, host: N, now: u64) -> Result<LookupIp, NetError>
-        ensures { AnswersHost H.step (N.to_ip_gives host) (N.into_name_gives host) now self.old result self.new }
+        ensures { PromisesHost H.step (N.to_ip_gives host) (N.into_name_gives host) now self.old result self.new }
     {
+        // `len` is called for its clause on what holds of every cache.
+        let _len = self.client.cache().len();
         let address = host.to_ip();
         match host.into_name(self.alloc()) {
             Ok(name) => self.lookup_host(address, name, now),
@@ -130,77 +135,77 @@ impl<H: DnsHandle, S: BuildHasher> Resolver<H, S> {
     /// `lookup` of PTR records, at a moment (seconds): of an address, the names that it has. A text is read as a
     /// name.
     pub fn reverse_lookup<N: IntoName>(&mut self, query: N, now: u64) -> Result<Lookup, NetError>
-        ensures { AnswersName H.step (N.into_name_gives query) type.PTR now self.old result self.new }
+        ensures { PromisesName H.step (N.into_name_gives query) type.PTR now self.old result self.new }
     {
         self.lookup(query, RecordType::PTR, now)
     }
 
     /// `lookup` of A records, at a moment (seconds).
     pub fn ipv4_lookup<N: IntoName>(&mut self, query: N, now: u64) -> Result<Lookup, NetError>
-        ensures { AnswersName H.step (N.into_name_gives query) type.A now self.old result self.new }
+        ensures { PromisesName H.step (N.into_name_gives query) type.A now self.old result self.new }
     {
         self.lookup(query, RecordType::A, now)
     }
 
     /// `lookup` of AAAA records, at a moment (seconds).
     pub fn ipv6_lookup<N: IntoName>(&mut self, query: N, now: u64) -> Result<Lookup, NetError>
-        ensures { AnswersName H.step (N.into_name_gives query) type.AAAA now self.old result self.new }
+        ensures { PromisesName H.step (N.into_name_gives query) type.AAAA now self.old result self.new }
     {
         self.lookup(query, RecordType::AAAA, now)
     }
 
     /// `lookup` of MX records, at a moment (seconds).
     pub fn mx_lookup<N: IntoName>(&mut self, query: N, now: u64) -> Result<Lookup, NetError>
-        ensures { AnswersName H.step (N.into_name_gives query) type.MX now self.old result self.new }
+        ensures { PromisesName H.step (N.into_name_gives query) type.MX now self.old result self.new }
     {
         self.lookup(query, RecordType::MX, now)
     }
 
     /// `lookup` of NS records, at a moment (seconds).
     pub fn ns_lookup<N: IntoName>(&mut self, query: N, now: u64) -> Result<Lookup, NetError>
-        ensures { AnswersName H.step (N.into_name_gives query) type.NS now self.old result self.new }
+        ensures { PromisesName H.step (N.into_name_gives query) type.NS now self.old result self.new }
     {
         self.lookup(query, RecordType::NS, now)
     }
 
     /// `lookup` of SMIMEA records, at a moment (seconds).
     pub fn smimea_lookup<N: IntoName>(&mut self, query: N, now: u64) -> Result<Lookup, NetError>
-        ensures { AnswersName H.step (N.into_name_gives query) type.SMIMEA now self.old result self.new }
+        ensures { PromisesName H.step (N.into_name_gives query) type.SMIMEA now self.old result self.new }
     {
         self.lookup(query, RecordType::SMIMEA, now)
     }
 
     /// `lookup` of SOA records, at a moment (seconds).
     pub fn soa_lookup<N: IntoName>(&mut self, query: N, now: u64) -> Result<Lookup, NetError>
-        ensures { AnswersName H.step (N.into_name_gives query) type.SOA now self.old result self.new }
+        ensures { PromisesName H.step (N.into_name_gives query) type.SOA now self.old result self.new }
     {
         self.lookup(query, RecordType::SOA, now)
     }
 
     /// `lookup` of SRV records, at a moment (seconds).
     pub fn srv_lookup<N: IntoName>(&mut self, query: N, now: u64) -> Result<Lookup, NetError>
-        ensures { AnswersName H.step (N.into_name_gives query) type.SRV now self.old result self.new }
+        ensures { PromisesName H.step (N.into_name_gives query) type.SRV now self.old result self.new }
     {
         self.lookup(query, RecordType::SRV, now)
     }
 
     /// `lookup` of TLSA records, at a moment (seconds).
     pub fn tlsa_lookup<N: IntoName>(&mut self, query: N, now: u64) -> Result<Lookup, NetError>
-        ensures { AnswersName H.step (N.into_name_gives query) type.TLSA now self.old result self.new }
+        ensures { PromisesName H.step (N.into_name_gives query) type.TLSA now self.old result self.new }
     {
         self.lookup(query, RecordType::TLSA, now)
     }
 
     /// `lookup` of TXT records, at a moment (seconds).
     pub fn txt_lookup<N: IntoName>(&mut self, query: N, now: u64) -> Result<Lookup, NetError>
-        ensures { AnswersName H.step (N.into_name_gives query) type.TXT now self.old result self.new }
+        ensures { PromisesName H.step (N.into_name_gives query) type.TXT now self.old result self.new }
     {
         self.lookup(query, RecordType::TXT, now)
     }
 
     /// `lookup` of CERT records, at a moment (seconds).
     pub fn cert_lookup<N: IntoName>(&mut self, query: N, now: u64) -> Result<Lookup, NetError>
-        ensures { AnswersName H.step (N.into_name_gives query) type.CERT now self.old result self.new }
+        ensures { PromisesName H.step (N.into_name_gives query) type.CERT now self.old result self.new }
     {
         self.lookup(query, RecordType::CERT, now)
     }
@@ -217,6 +222,7 @@ impl<H: DnsHandle, S: BuildHasher> Resolver<H, S> {
             × (self.new ≡ after_clear_lookup record_type given self.old)) }
         ensures unchanged { OnErr result (self.new ≡ self.old) }
         ensures err { IsOkUnless result NetError.OutOfMemory }
+        ensures keeps { KeepsWhatIsKnown self.old.client.cache self.new.client.cache }
     {
         match name.into_name(self.alloc()) {
             Ok(name) => self.clear_name(name, record_type),
@@ -227,9 +233,10 @@ impl<H: DnsHandle, S: BuildHasher> Resolver<H, S> {
 
     /// Empties the cache. Takes no memory.
     pub fn clear_cache(&mut self)
-        ensures { self.new ≡ record self.old {
+        ensures cleared { self.new ≡ record self.old {
           client = record self.old.client { cache = record self.old.client.cache { entries = [] } };
         } }
+        ensures keeps { KeepsWhatIsKnown self.old.client.cache self.new.client.cache }
     {
         self.client.clear_cache();
     }
@@ -324,6 +331,7 @@ impl<H: DnsHandle, S: BuildHasher> Resolver<H, S> {
         ensures ok { OnOk result (self.new ≡ after_clear_lookup record_type (Ok name) self.old) }
         ensures unchanged { OnErr result (self.new ≡ self.old) }
         ensures err { IsOkUnless result NetError.OutOfMemory }
+        ensures keeps { KeepsWhatIsKnown self.old.client.cache self.new.client.cache }
     {
         let names = self.attempts(name)?;
         clear_each(&mut self.client, names, record_type);

@@ -1,9 +1,9 @@
 //! Runs: requests one after another, over one resolver.
-ghost use Rattle.std.specs.Prelude.{◌≡◌, IfOk, List, MatchResult, None, map};
+ghost use Rattle.std.specs.Prelude.{◌≡◌, IfOk, MatchResult, None, map};
 ghost use Rattle.hickory_resolver_model.specs.Bounds.{bounds_fault};
 ghost use Rattle.hickory_resolver_model.specs.Options.{bounds_of};
-ghost use Rattle.hickory_resolver_model.specs.Run.{IsRun, Run, StepValue, first_cache, settings_of};
-ghost use Rattle.hickory_resolver_theorems.specs.Statements.{Headline};
+ghost use Rattle.hickory_resolver_model.specs.Run.{settings_of};
+ghost use Rattle.hickory_resolver_theorems.specs.Promises.{IsPromisedRun};
 ghost use Rattle.hickory_resolver_lookup.specs.Requests.{request_of};
 ghost use Rattle.hickory_resolver.specs.Telling.{IsToldRun};
 ghost use Rattle.hickory_resolver.specs.Transcripts.{IsNoRun};
@@ -16,7 +16,7 @@ use crate::serve::{Served, Start, run_by};
 use crate::telling::Telling;
 use crate::transcript::Transcript;
 use hickory_proto_core::{DnsHandle, NetError, Recorded};
-use hickory_resolver_theorems::laws::{a_record_keeps_the_request, headline};
+use hickory_resolver_theorems::laws::a_record_keeps_the_request;
 use std::hash::{BuildHasher, BuildHasherDefault, FoldHasher};
 
 /// Serves requests in order, from a new resolver on with this configuration, these options and this table of
@@ -31,14 +31,9 @@ pub fn run<H: DnsHandle + Drop>(
     handle: H,
     requests: &[Request],
 ) -> Result<Transcript<H>, NetError>
-    ensures run { IfOk result (λ t. IsRun H.step (settings_of config options hosts) handle
+    ensures run { IfOk result (λ t. IsPromisedRun H.step (settings_of config options hosts) handle
         (map request_of requests.now) t.steps t.resolver.client.handle.exchanges t.resolver.client.handle.handle
         t.resolver.client.cache) }
-    ensures headline { IfOk result (λ t.
-        (run : Run (settings_of config options hosts) (first_cache (settings_of config options hosts))
-        (map request_of requests.now) t.steps t.resolver.client.handle.exchanges t.resolver.client.cache)
-        → Headline (settings_of config options hosts) (first_cache (settings_of config options hosts))
-        (map request_of requests.now) t.steps t.resolver.client.handle.exchanges t.resolver.client.cache run) }
     ensures resolver { IfOk result (λ t. t.resolver ≡ record {
       client = record {
         cache = t.resolver.client.cache;
@@ -71,14 +66,9 @@ pub fn run_with_hasher<H: DnsHandle + Drop, S: BuildHasher + Drop>(
     requests: &[Request],
     cache_hasher: S,
 ) -> Result<Transcript<H, S>, NetError>
-    ensures run { IfOk result (λ t. IsRun H.step (settings_of config options hosts) handle
+    ensures run { IfOk result (λ t. IsPromisedRun H.step (settings_of config options hosts) handle
         (map request_of requests.now) t.steps t.resolver.client.handle.exchanges t.resolver.client.handle.handle
         t.resolver.client.cache) }
-    ensures headline { IfOk result (λ t.
-        (run : Run (settings_of config options hosts) (first_cache (settings_of config options hosts))
-        (map request_of requests.now) t.steps t.resolver.client.handle.exchanges t.resolver.client.cache)
-        → Headline (settings_of config options hosts) (first_cache (settings_of config options hosts))
-        (map request_of requests.now) t.steps t.resolver.client.handle.exchanges t.resolver.client.cache run) }
     ensures resolver { IfOk result (λ t. t.resolver ≡ record {
       client = record {
         cache = t.resolver.client.cache;
@@ -92,7 +82,6 @@ pub fn run_with_hasher<H: DnsHandle + Drop, S: BuildHasher + Drop>(
     ensures refused { MatchResult result (λ _. bounds_fault (bounds_of options) ≡ None)
         (IsNoRun (bounds_fault (bounds_of options))) }
 {
-    headline();
     a_record_keeps_the_request();
     let handle = Recorded::new(*config.search.allocator(), handle);
     let start = Start {
@@ -124,11 +113,6 @@ pub fn run_told<H: DnsHandle + Drop, S: BuildHasher + Drop, L: Listener + Drop>(
 ) -> Result<Heard<Recorded<H>, S, L>, NetError>
     ensures run { IfOk result (λ t. IsToldRun H.step L.hears (settings_of config options hosts) handle
         (map request_of requests.now) listener t.resolver t.listener) }
-    ensures headline { IfOk result (λ t. (steps : List StepValue)
-        (run : Run (settings_of config options hosts) (first_cache (settings_of config options hosts))
-        (map request_of requests.now) steps t.resolver.client.handle.exchanges t.resolver.client.cache)
-        → Headline (settings_of config options hosts) (first_cache (settings_of config options hosts))
-        (map request_of requests.now) steps t.resolver.client.handle.exchanges t.resolver.client.cache run) }
     ensures resolver { IfOk result (λ t. t.resolver ≡ record {
       client = record {
         cache = t.resolver.client.cache;
@@ -142,7 +126,6 @@ pub fn run_told<H: DnsHandle + Drop, S: BuildHasher + Drop, L: Listener + Drop>(
     ensures refused { MatchResult result (λ _. bounds_fault (bounds_of options) ≡ None)
         (IsNoRun (bounds_fault (bounds_of options))) }
 {
-    headline();
     a_record_keeps_the_request();
     let handle = Recorded::new(*config.search.allocator(), handle);
     let start = Start {

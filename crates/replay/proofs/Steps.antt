@@ -66,7 +66,7 @@ told_run step s upstream requests text hears adds before resolver after none run
       exchanges = exchanges;
       upstream_after = resolver.client.handle.handle;
       cache_after = resolver.client.cache;
-      run = run.run;
+      run = run.run.is;
       told = (
         ap is_remembered (sym run.all_told) ∙ heard_remembered text hears adds all before after run.heard,
         heard_text text hears adds requests run.steps exchanges before after run.heard ∙ ap (λ t. t ++ run_text requests run.steps exchanges) none,
