@@ -6,7 +6,7 @@ use hickory_proto_core::{
 use std::alloc::Global;
 use std::net::{Ipv4Addr, Ipv6Addr};
 
-/// A negative answer, or one address of the asked family.
+/// A negative answer, or one address of the asked family, with the question or without one.
 pub fn outcome(
     alloc: Global,
     query: &Query,
@@ -15,7 +15,7 @@ pub fn outcome(
     if kept.is_negative {
         Ok(Err(NetError::from(negative(query, kept.ttl)?)))
     } else {
-        Ok(Ok(answer(alloc, query, kept.ttl)?))
+        Ok(Ok(answer(alloc, query, kept)?))
     }
 }
 
@@ -25,9 +25,12 @@ fn negative(query: &Query, ttl: u32) -> Result<NoRecords, NetError> {
     Ok(none)
 }
 
-fn answer(alloc: Global, query: &Query, ttl: u32) -> Result<Message, NetError> {
-    let added = address(query, ttl)?;
+fn answer(alloc: Global, query: &Query, kept: Kept) -> Result<Message, NetError> {
+    let (added, question) = (address(query, kept.ttl)?, query.clone()?);
     let mut message = Message::response(alloc, 0, OpCode::Query);
+    if kept.has_question {
+        message.add_query(question)?;
+    }
     message.add_answer(added)?;
     Ok(message)
 }
@@ -65,6 +68,7 @@ fn shown_answer(message: &Message) -> Option<Kept> {
     match message.answers.first() {
         Some(answer) => Some(Kept {
             is_negative: false,
+            has_question: !message.queries.is_empty(),
             ttl: answer.ttl,
         }),
         None => None,
@@ -75,6 +79,7 @@ fn shown_negative(none: &NoRecords) -> Option<Kept> {
     match none.negative_ttl {
         Some(ttl) => Some(Kept {
             is_negative: true,
+            has_question: true,
             ttl,
         }),
         None => None,

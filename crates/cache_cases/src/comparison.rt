@@ -7,30 +7,88 @@ use hickory_proto_core::{Message, Name, NetError, Query, RecordType};
 use hickory_resolver_cache::ResponseCache;
 use hickory_resolver_lookup::TtlConfig;
 use std::alloc::Global;
-use std::hash::BuildHasher;
+use std::hash::{BuildHasher, BuildHasherDefault, FoldHasher};
 
-/// Adds how many steps leave both with the same answers: once with the hasher of the kit, and once with a hasher that
-/// gives every question the same hash.
+/// Adds how many steps leave both with the same answers, and in how many places the order is the same: once with the
+/// hasher of the kit, and once with a hasher that gives every question the same hash.
 pub fn push_comparison(alloc: Global, text: &mut String) -> Result<(), NetError> {
-    let cache = ResponseCache::new(alloc, 8, TtlConfig::default(alloc));
-    push_agreeing(alloc, text, cache, "agree")?;
-    let cache = ResponseCache::with_hasher(alloc, 8, TtlConfig::default(alloc), OneHash);
-    push_agreeing(alloc, text, cache, "agree under one hash")
+    let usual: BuildHasherDefault<FoldHasher> = BuildHasherDefault::new();
+    push_agreeing(alloc, text, usual, "agree")?;
+    push_agreeing(alloc, text, OneHash, "agree under one hash")
 }
 
-fn push_agreeing<S: BuildHasher + Drop>(
+fn push_agreeing<S: BuildHasher + Copy + Drop>(
     alloc: Global,
     text: &mut String,
-    cache: ResponseCache<S>,
+    hasher: S,
     what: &str,
 ) -> Result<(), NetError> {
-    let (mut cache, mut scanned) = (cache, Scanned::new(alloc));
+    let mut cache = ResponseCache::with_hasher(alloc, 8, TtlConfig::default(alloc), hasher);
+    let mut scanned = Scanned::new(alloc);
     let steps = agreeing(alloc, &mut cache, &mut scanned);
     drop(scanned);
     drop(cache);
-    let steps = steps?;
-    write!(text, "{steps} steps {what}\n")?;
+    let (steps, orders) = (steps?, agreeing_orders(alloc, hasher)?);
+    write!(text, "{steps} steps and {orders} orders {what}\n")?;
     Ok(())
+}
+
+// In how many of 50 places, ten steps from each other, both drop the same entries in turn.
+fn agreeing_orders<S: BuildHasher + Copy + Drop>(
+    alloc: Global,
+    hasher: S,
+) -> Result<u32, NetError> {
+    let mut orders = 0_u32;
+    for place in 1..51 {
+        let mut cache = ResponseCache::with_hasher(alloc, 8, TtlConfig::default(alloc), hasher);
+        let mut scanned = Scanned::new(alloc);
+        let is_same = drops_the_same(alloc, &mut cache, &mut scanned, place * 10);
+        drop(scanned);
+        drop(cache);
+        if is_same? {
+            orders = orders.saturating_add(1);
+        }
+    }
+    Ok(orders)
+}
+
+// Takes so many steps, and then stores further questions, each of which takes the place of the entry whose turn it is.
+fn drops_the_same<S: BuildHasher>(
+    alloc: Global,
+    cache: &mut ResponseCache<S>,
+    scanned: &mut Scanned,
+    steps: u32,
+) -> Result<bool, NetError> {
+    let (mut state, mut now) = (1, 0);
+    for _ in 0..steps {
+        step(alloc, cache, scanned, &mut state, &mut now)?;
+    }
+    for bits in 0..6 {
+        store_further(alloc, cache, scanned, bits, now)?;
+        if !is_same(alloc, cache, scanned, now)? {
+            return Ok(false);
+        }
+    }
+    Ok(true)
+}
+
+// A negative answer that lives as long as any other entry may.
+fn store_further<S: BuildHasher>(
+    alloc: Global,
+    cache: &mut ResponseCache<S>,
+    scanned: &mut Scanned,
+    bits: u64,
+    now: u64,
+) -> Result<(), NetError> {
+    let mut query = asked(alloc, bits)?;
+    query.query_type = RecordType::MX;
+    let kept = Kept {
+        is_negative: true,
+        has_question: true,
+        ttl: 31,
+    };
+    store_scanned(scanned, &query, kept, now, false)?;
+    store(alloc, cache, query, kept, now, false)
 }
 
 // How many of the first 500 steps leave both bodies with the same answers to each question.
@@ -56,10 +114,20 @@ fn agrees<S: BuildHasher>(
     state: &mut u64,
     now: &mut u64,
 ) -> Result<bool, NetError> {
+    step(alloc, cache, scanned, state, now)?;
+    is_same(alloc, cache, scanned, *now)
+}
+
+fn step<S: BuildHasher>(
+    alloc: Global,
+    cache: &mut ResponseCache<S>,
+    scanned: &mut Scanned,
+    state: &mut u64,
+    now: &mut u64,
+) -> Result<(), NetError> {
     let bits = next(state);
     *now = now.wrapping_add((bits >> 60) % 4);
-    take(alloc, cache, scanned, bits, *now)?;
-    is_same(alloc, cache, scanned, *now)
+    take(alloc, cache, scanned, bits, *now)
 }
 
 fn next(state: &mut u64) -> u64 {
@@ -82,8 +150,10 @@ fn asked(alloc: Global, bits: u64) -> Result<Query, NetError> {
 }
 
 fn kept(bits: u64) -> Kept {
+    let is_negative = (bits >> 8) % 4 == 0;
     Kept {
-        is_negative: (bits >> 8) % 4 == 0,
+        is_negative,
+        has_question: is_negative || (bits >> 10) % 2 == 0,
         ttl: (bits % 32) as u32,
     }
 }
@@ -179,9 +249,14 @@ fn is_same_for<S: BuildHasher>(
     query: &Query,
     now: u64,
 ) -> bool {
-    let hit = cache.get(query, now);
-    let cached = shown(&hit);
-    // `drop` costs the prover less than the end of the block.
-    drop(hit);
-    cached == scanned.get(query, now)
+    for moment in scanned.moments(query, now) {
+        let hit = cache.get(query, moment);
+        let cached = shown(&hit);
+        // `drop` costs the prover less than the end of the block.
+        drop(hit);
+        if cached != scanned.get(query, moment) {
+            return false;
+        }
+    }
+    true
 }

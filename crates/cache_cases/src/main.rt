@@ -6,13 +6,15 @@
 //! - `bounds LEAST NEGATIVE_LEAST GREATEST NEGATIVE_GREATEST`, bounds, where `-` stands for none;
 //! - `cache CAPACITY`, four bounds, and for a type with its own bounds that type and four more: a new cache;
 //! - `MOMENT NAME TYPE VERB OUTCOME`, a call of the cache. The moment is in seconds, and the verbs are `get`,
-//!   `bounds`, `insert`, `upsert`, `upsert_unclamped`, `clear_query` and `clear`. The outcome of a store is
-//!   `NOERROR` with a section, a type and a TTL for each record, `NXDOMAIN TTL`, which `full` may follow for records
-//!   in all its parts, `REFUSED`, or `timeout`.
+//!   `get_with_deadline`, `bounds`, `insert`, `insert_until` with a limit before the outcome, `upsert`,
+//!   `upsert_unclamped`, `clear_query` and `clear`. The outcome of a store is `NOERROR` with a section, a type and a
+//!   TTL for each record, `NXDOMAIN TTL`, which `full` may follow for records in all its parts, `REFUSED`, or
+//!   `timeout`.
 #![tactic(auto)]
 
 mod compared;
 mod comparison;
+mod limits;
 mod one_hash;
 mod outcomes;
 mod scanned;

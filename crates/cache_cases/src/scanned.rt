@@ -2,10 +2,11 @@
 use hickory_proto_core::Query;
 use std::alloc::{AllocError, Global};
 
-/// What is kept of an outcome: whether it is negative, and its TTL in seconds.
+/// What is kept of an outcome: whether it is negative, whether it has a question, and its TTL in seconds.
 #[derive(Clone, Copy, PartialEq)]
 pub struct Kept {
     pub is_negative: bool,
+    pub has_question: bool,
     pub ttl: u32,
 }
 
@@ -24,6 +25,7 @@ impl Entry {
         let ttl = u64::from(self.kept.ttl).saturating_sub(age);
         Kept {
             is_negative: self.kept.is_negative,
+            has_question: self.kept.has_question,
             ttl: u32::try_from(ttl).unwrap_or(u32::MAX),
         }
     }
@@ -91,6 +93,18 @@ impl Scanned {
         match self.current(query, now) {
             Some(entry) => Some(entry.aged(now)),
             None => None,
+        }
+    }
+
+    /// The moments that tell all of the question's entry, current or not: with what, when and until when it was stored.
+    pub fn moments(&self, query: &Query, now: u64) -> [u64; 5] {
+        match self.entries.iter().find(|e: &&Entry| e.query == *query) {
+            Some(e) => {
+                let (from, until) = (e.original_time, e.valid_until);
+                let (aged, past) = (from.saturating_add(1), until.saturating_add(1));
+                [from, aged, now, until, past]
+            }
+            None => [0, 0, now, now, u64::MAX],
         }
     }
 

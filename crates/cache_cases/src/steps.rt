@@ -1,4 +1,5 @@
 //! Lines of cases: what is done to a cache, and what comes of it.
+use crate::limits::{insert_until, push_got_until};
 use crate::outcomes::outcome_of;
 use crate::shown::{push_bounds, push_hit};
 use crate::words::{NO_LINE, bounds_of, config_of, question, type_of};
@@ -62,6 +63,7 @@ fn push_step(
     let query = question(alloc, name, type_of(asked))?;
     match *verb {
         "get" => push_got(text, cache, &query, now),
+        "get_with_deadline" => push_got_until(text, cache, &query, now),
         "bounds" => push_bounds(text, cache.ttl_config(), query.query_type),
         _ => {
             change(alloc, cache, query, now, verb, outcome)?;
@@ -101,6 +103,7 @@ fn change(
     match verb {
         "clear" => cache.clear(),
         "clear_query" => cache.clear_query(&query),
+        "insert_until" => insert_until(alloc, cache, query, now, outcome)?,
         _ => {
             let outcome = outcome_of(alloc, &query, outcome)?;
             store(cache, query, outcome, now, verb)?;

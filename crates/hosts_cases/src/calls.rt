@@ -2,7 +2,7 @@
 use crate::pieces::Pieces;
 use crate::shown::{push_found, push_read};
 use hickory_proto_core::{DNSClass, Name, NetError, Query, RData, RecordType};
-use hickory_resolver_hosts::{Hosts, Watched};
+use hickory_resolver_hosts::{Hosts, HostsError, Watched};
 use hickory_resolver_lookup::Lookup;
 use std::alloc::{AllocError, Global};
 use std::net::{IpAddr, Ipv4Addr, Ipv6Addr};
@@ -28,7 +28,10 @@ pub fn push_calls(alloc: Global, text: &mut String) -> anyhow::Result<()> {
     push_inserted(alloc, text)?;
     push_pieces(alloc, text, false)?;
     push_pieces(alloc, text, true)?;
-    push_conf(alloc, text)
+    push_conf(alloc, text)?;
+    push_beginnings(alloc, text)?;
+    push_many_pieces(alloc, text)?;
+    Ok(push_faults(text)?)
 }
 
 // What a table answers into which a caller put an IPv4 and an IPv6 address, both as A.
@@ -104,6 +107,67 @@ fn late(is_interrupted: bool) -> Pieces<'static> {
         place: 0,
         is_interrupted,
     }
+}
+
+// How many readers, each of which gives a longer beginning of a file and then fails, leave a table as it was.
+fn push_beginnings(alloc: Global, text: &mut String) -> anyhow::Result<()> {
+    let mut hosts = Hosts::default(alloc);
+    hosts.read_hosts_bytes(b"10.0.0.1 early", 7)?;
+    let mut unchanged = 0_usize;
+    for size in 0..LATE.len() {
+        if is_unchanged(alloc, &mut hosts, &LATE[..size])? {
+            unchanged = unchanged.saturating_add(1);
+        }
+    }
+    write!(
+        text,
+        "unchanged by {unchanged} of {} readers that fail\n",
+        LATE.len()
+    )?;
+    push_asked(alloc, text, &hosts, &OF_PIECES)
+}
+
+fn is_unchanged(alloc: Global, hosts: &mut Hosts, beginning: &[u8]) -> Result<bool, NetError> {
+    let mut source = Watched::new(Pieces {
+        bytes: beginning,
+        place: 0,
+        is_interrupted: true,
+    });
+    let is_told = matches!(
+        hosts.read_hosts_watched(&mut source, 9),
+        Err(HostsError::Read)
+    );
+    let found = hosts.lookup_static_host(&question(alloc, "late.", RecordType::A)?, 9)?;
+    Ok(is_told && source.failed() && found.is_none())
+}
+
+// What a table answers after a file that takes thousands of reads.
+fn push_many_pieces(alloc: Global, text: &mut String) -> anyhow::Result<()> {
+    let mut bytes = Vec::from_slice(alloc, "#".repeat(alloc, 5_000)?.as_bytes())?;
+    bytes.extend_from_slice(b"\n10.0.0.9 late\n")?;
+    let mut hosts = Hosts::default(alloc);
+    let read = hosts.read_hosts_conf(
+        Pieces {
+            bytes: &bytes,
+            place: 0,
+            is_interrupted: false,
+        },
+        7,
+    );
+    push_read(text, "in thousands of pieces", read)?;
+    push_asked(alloc, text, &hosts, &[("late.", RecordType::A)])
+}
+
+// The texts of each fault.
+fn push_faults(text: &mut String) -> Result<(), AllocError> {
+    for fault in [
+        HostsError::Read,
+        HostsError::InvalidData,
+        HostsError::OutOfMemory,
+    ] {
+        write!(text, "{fault:?}: {fault}\n")?;
+    }
+    Ok(())
 }
 
 fn push_asked(

@@ -1,8 +1,9 @@
-//! The texts of copies: what `Debug` prints of each part of a configuration.
-use hickory_proto_core::NetError;
+//! What `Debug` prints of a copy of each part of a configuration, of a look-up, and of the addresses of one.
+use crate::outcomes::query_of;
+use hickory_proto_core::{NetError, RData};
 use hickory_resolver::{
-    ConnectionConfig, NameServerConfig, OpportunisticEncryption, OpportunisticEncryptionConfig,
-    ProtocolConfig, ResolverConfig, ResolverOpts, ServerGroup,
+    ConnectionConfig, Lookup, LookupIp, NameServerConfig, OpportunisticEncryption,
+    OpportunisticEncryptionConfig, ProtocolConfig, ResolverConfig, ResolverOpts, ServerGroup,
 };
 use std::alloc::{AllocError, Global};
 use std::fmt::Debug;
@@ -16,7 +17,7 @@ pub fn push_copies(alloc: Global, text: &mut String) -> Result<(), NetError> {
     push_of_group(alloc, text)?;
     push_of_options(alloc, text)?;
     push_of_encryption(text)?;
-    Ok(())
+    push_of_lookup(alloc, text)
 }
 
 // The text of a copy that outlives its source.
@@ -85,4 +86,16 @@ fn push_of_encryption(text: &mut String) -> Result<(), AllocError> {
     let config = OpportunisticEncryptionConfig::default();
     push_copy(text, OpportunisticEncryption::Enabled { config })?;
     push_copy(text, OpportunisticEncryption::default())
+}
+
+// A look-up that is made for an address, and its addresses.
+fn push_of_lookup(alloc: Global, text: &mut String) -> Result<(), NetError> {
+    let rdata = RData::A(Ipv4Addr::LOCALHOST);
+    let lookup = Lookup::from_rdata(alloc, query_of(alloc, "a.")?, rdata, 7)?;
+    let pushed = write!(text, "{lookup:?}\n");
+    let found = LookupIp::from(lookup);
+    pushed?;
+    let pushed = write!(text, "{found:?}\n");
+    drop(found);
+    Ok(pushed?)
 }

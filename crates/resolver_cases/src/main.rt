@@ -6,7 +6,9 @@
 mod bounds;
 mod clears;
 mod copies;
+mod counting;
 mod given;
+mod hashers;
 mod in_turn;
 mod kinds;
 mod negative;
@@ -63,5 +65,6 @@ fn push_resolvers(alloc: Global, text: &mut String) -> Result<(), NetError> {
     given::push_given(alloc, text)?;
     bounds::push_bounds(alloc, text)?;
     options::push_of_resolvers(alloc, text)?;
+    hashers::push_hashers(alloc, text)?;
     clears::push_clears(alloc, text)
 }

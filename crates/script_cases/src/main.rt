@@ -4,10 +4,12 @@
 //! little room, that in a file `.rooms` to one for each room that is too little.
 #![tactic(auto)]
 
+mod counting;
 mod one_hash;
 mod rooms;
 mod short_of_room;
 
+use crate::counting::{Counting, no_calls};
 use crate::one_hash::OneHash;
 use crate::rooms::print_beginnings;
 use crate::short_of_room::ShortOfRoom;
@@ -46,7 +48,21 @@ fn run_all<R: AllocGlobal + Env + Files + Print>(rt: &R) -> io::Result<()> {
             hosts.clear();
         }
     }
+    print_hashers(rt)?;
     print_error(rt, ReplayError::Memory)
+}
+
+// Which of two hashers a script without a request asks over a table of one name.
+fn print_hashers<R: AllocGlobal + Print>(rt: &R) -> io::Result<()> {
+    let (cache, hosts) = (no_calls(rt.alloc())?, no_calls(rt.alloc())?);
+    let (of_cache, of_hosts) = (Counting::over(&cache)?, Counting::over(&hosts)?);
+    let text = replay_text_with_hasher(rt.alloc(), b"", b"192.0.2.9 h", of_cache, of_hosts);
+    let is_told = text.is_ok();
+    drop(text);
+    let (asks_cache, asks_hosts) = (cache.get() > 0, hosts.get() > 0);
+    println!(rt;
+        "no request: {is_told}, the cache's hasher is asked: {asks_cache}, that of hosts: {asks_hosts}"
+    )
 }
 
 // Each of the scripts between which an empty line stands, without hosts.
