@@ -1,5 +1,5 @@
 -- No alias outlives its CNAMEs.
-use Rattle.std.proofs.Common.{◌≡◌, ◌≤◌, ◌+◌, ℕ, Bool, true, false, List, [], ◌∷◌, ◌++◌, map, min, Option, Some, None, Result, Ok, Err, IfSome, refl, sym, ap, ◌∙◌, subst, arith, inl, inr, append_assoc}
+use Rattle.std.proofs.Common.{◌≡◌, ◌≤◌, ◌+◌, ℕ, Bool, false, List, [], ◌∷◌, ◌++◌, map, min, Option, Some, None, Ok, Err, IfSome, refl, sym, ap, ◌∙◌, subst, arith, inl, inr, append_assoc}
 use Rattle.std.proofs.lemmas.List.{append-nil}
 use Rattle.std.specs.Option.{option_map}
 use Rattle.std.specs.List.{AllByRecursion}
@@ -15,13 +15,12 @@ use Rattle.hickory_resolver_model.specs.Cache.{CacheValue, Entry, last_moment, e
 use Rattle.hickory_resolver_model.specs.Lookup.{LookupValue, LookupResult}
 use Rattle.hickory_resolver_model.specs.AliasWalk.{walk_of}
 use Rattle.hickory_resolver_model.specs.Verdict.{Hop, Verdict, Exists, CnameChain, NoMatch, verdict}
-use Rattle.hickory_resolver_model.specs.Hops.{LookupContext, ChainEnd, Special, Hit, Asked, HopList, Store, IsReply, made_entry, asks_of, earliest, alias_deadline, alias_limit, end_limit, limit_of, result_of, result_until, reply_of, last_stores, earlier_store, earlier_stores, stores_of, kind_stores, verdict_stores}
+use Rattle.hickory_resolver_model.specs.Hops.{LookupContext, ChainEnd, Special, Hit, Asked, Store, IsReply, made_entry, asks_of, earliest, alias_deadline, alias_limit, end_limit, limit_of, result_of, result_until, reply_of, last_stores, earlier_store, earlier_stores, stores_of, kind_stores, verdict_stores}
 use Rattle.hickory_resolver_model.specs.Calls.{CallContext, start_at, Source, Static, Client, SubLookup, IsSubLookupBy, IsSubLookupFor}
 use Rattle.hickory_resolver_model.specs.Run.{Settings, call_context_at, RequestValue, StepValue, answers_at, Run}
 use Rattle.hickory_resolver_theorems.specs.Statements.{HasNoLeast}
-use Rattle.hickory_resolver_theorems.specs.Aliases.{counted_in, IsWithinAlias, IsWithinEnd, OutlivesNoAlias, StoreOutlivesNoAlias, StoresOutliveNoAlias, ResultOutlivesNoAlias, NoAliasOutlives, IsLimitedBy, LimitedSubLookup, RunOutlivesNoAlias}
+use Rattle.hickory_resolver_theorems.specs.Aliases.{counted_in, IsWithinAlias, OutlivesNoAlias, StoreOutlivesNoAlias, StoresOutliveNoAlias, NoAliasOutlives, IsLimitedBy, LimitedSubLookup, RunOutlivesNoAlias}
 use Rattle.hickory_resolver_theorems.proofs.Weaker.{stages-weaker}
-use Rattle.hickory_resolver_theorems.proofs.Lists.{all-append}
 
 module _ (s : LookupContext) (zero : HasNoLeast s.cache.config (type_code type.CNAME)) where
   abbrev config : ConfigValue
@@ -118,12 +117,27 @@ module _ (s : LookupContext) (zero : HasNoLeast s.cache.config (type_code type.C
 
 pub no_alias_outlives : (s : LookupContext) (question : Query) (asks : List Exchange) (result : LookupResult) (after : CacheValue) → (reply : IsReply s question asks result after) → NoAliasOutlives s question asks result after reply
 no_alias_outlives s question asks result after (inl whole) = λ zero.
-    let h = whole.hops in (
-      stores-limited s zero h.passed h.last_hop h.last,
+    let h = whole.hops in
+    let all = stores_of s h.passed h.last_hop h.last in (
+      (
+        all,
+        record {
+          after_is = whole.after_is;
+          in_time = subst (StoresOutliveNoAlias s h.passed h.last_hop h.last) (sym (append-nil all)) (stores-limited s zero h.passed h.last_hop h.last);
+        },
+      ),
       λ l e some. subst (λ xs. OutlivesNoAlias s xs h.last l.valid_until) (sym h.asks_are)
           (reply-limited s zero h.passed h.last_hop h.last l (sym whole.result_is ∙ e) (ap is_empty (sym h.asks_are) ∙ some)),
     )
-no_alias_outlives s question asks result after (inr (out, inl cut)) = λ zero. stores-limited s zero cut.hops.passed cut.hops.last_hop cut.hops.last
+no_alias_outlives s question asks result after (inr (out, inl cut)) = λ zero.
+    let h = cut.hops in (
+      cut.front,
+      cut.back,
+      record {
+        after_is = cut.after_is;
+        in_time = subst (StoresOutliveNoAlias s h.passed h.last_hop h.last) (sym cut.parts) (stores-limited s zero h.passed h.last_hop h.last);
+      },
+    )
 no_alias_outlives s question asks result after (inr (out, inr cut)) = tt
 
 -- ---- a call, and a run

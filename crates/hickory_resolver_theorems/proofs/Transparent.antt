@@ -1,5 +1,5 @@
 -- A cache does not change an answer: a look-up comes to what its question means, and so does every entry that it stores.
-use Rattle.std.proofs.Common.{◌≡◌, ◌⊎◌, ◌≤◌, ℕ, suc, ◌+◌, false, ◌&&◌, List, [], ◌∷◌, ◌++◌, length, map, reverse, Option, Some, None, Ok, Err, refl, sym, ap, ◌∙◌, subst, arith, inl, inr}
+use Rattle.std.proofs.Common.{◌≡◌, ◌⊎◌, ◌≤◌, ℕ, suc, ◌+◌, false, ◌&&◌, List, [], ◌∷◌, ◌++◌, length, map, Option, Some, None, Ok, Err, refl, sym, ap, ◌∙◌, subst, arith, inl, inr}
 use Rattle.std.proofs.lemmas.Bool.{and_parts}
 use Rattle.std.specs.List.{AllByRecursion}
 use Rattle.std.specs.Option.{option_map}
@@ -23,7 +23,7 @@ use Rattle.hickory_resolver_model.specs.Hops.{LookupContext, IsAliasHop, Follows
 use Rattle.hickory_resolver_theorems.specs.Cacheless.{ResolvesTo, IsConsistentWith, AreConsistentWith}
 use Rattle.hickory_resolver_theorems.specs.WithoutTimes.{folded_query, record_without_times, sections, forward_without_times, negative_without_times, error_without_times, WithoutTimes, without_times, stored_without_times}
 use Rattle.hickory_resolver_theorems.specs.Statements.{IsWhatItResolvesTo, AreWhatTheyResolveTo, IsTransparent}
-use Rattle.hickory_resolver_theorems.proofs.Lists.{all-weaker, all-append, all-front, all-back, all-map, all-has, all-reverse, find-has}
+use Rattle.hickory_resolver_theorems.proofs.Lists.{all-weaker, all-append, all-front, all-back, all-has, find-has}
 use Rattle.hickory_resolver_theorems.proofs.Stores.{Makes, after_stores-all, earlier-all}
 use Rattle.hickory_resolver_theorems.proofs.Folding.{map-map, query-same}
 use Rattle.hickory_resolver_theorems.proofs.Verdicts.{passed}

@@ -14,7 +14,7 @@ use Rattle.hickory_resolver_model.specs.Cache.{CacheValue}
 use Rattle.hickory_resolver_model.specs.Lookup.{LookupValue, LookupResult}
 use Rattle.hickory_resolver_model.specs.AliasWalk.{walk_of}
 use Rattle.hickory_resolver_model.specs.Verdict.{Hop}
-use Rattle.hickory_resolver_model.specs.Hops.{LookupContext, ChainEnd, Special, Hit, Asked, HopList, Store, IsReply, made_entry, asks_of, stores_of}
+use Rattle.hickory_resolver_model.specs.Hops.{LookupContext, ChainEnd, Special, Hit, Asked, Store, IsReply, made_entry, after_stores, asks_of}
 use Rattle.hickory_resolver_model.specs.Calls.{CallContext, start_at, Source, Static, Client, SubLookup, SubLookupRelation, IsStaticSubLookup, IsClientSubLookup}
 use Rattle.hickory_resolver_model.specs.Run.{Settings, call_context_at, RequestValue, StepValue, AreStagesBy, Run}
 use Rattle.hickory_resolver_theorems.specs.Statements.{HasNoLeast}
@@ -26,18 +26,18 @@ counted_in q (Answer response) = (walk_of q response.answers).alias_ttls
 counted_in q (Negative none) = []
 counted_in q (Failed error) = []
 
--- up to a deadline is no longer than a CNAME of this TTL lives that came at a moment, its TTL cut at the greatest
+-- the deadline is no later than the moment and the TTL of this CNAME, cut at the greatest for CNAMEs
 abbrev pub IsWithinAlias : ConfigValue → ℕ → ℕ → ℕ → Type 0
 IsWithinAlias config now deadline ttl = deadline ≤ now + min ttl (greatest_ttl config (type_code type.CNAME))
 
--- nor longer than the entry that was hit
+-- nor later than that of the entry that was hit
 abbrev pub IsWithinEnd : ChainEnd → ℕ → Type 0
 IsWithinEnd (Special reply) deadline = Unit {0}
 IsWithinEnd (Hit entry) deadline = deadline ≤ entry.valid_until
 IsWithinEnd (Asked outcome) deadline = Unit {0}
 
--- up to a deadline is no longer than each CNAME that counted in these exchanges, those of a hop and of the hops
--- after it, and no longer than the entry that the last hop hit
+-- the deadline is no later than what each CNAME allows that counted in these exchanges, those of a hop and of the
+-- hops after it, and no later than that of the entry which the last hop hit
 abbrev pub OutlivesNoAlias : LookupContext → List Exchange → ChainEnd → ℕ → Type 0
 OutlivesNoAlias s asks last deadline =
     AllByRecursion
@@ -64,19 +64,29 @@ abbrev pub ResultOutlivesNoAlias : LookupContext → List Exchange → ChainEnd 
 ResultOutlivesNoAlias s asks last result =
     (l : LookupValue) → result ≡ Ok l → is_empty asks ≡ false → OutlivesNoAlias s asks last l.valid_until
 
--- Of a look-up: where the least TTL of CNAMEs is zero, each store of its hops, and its result. Where memory ran out
--- among the stores, it holds of all of them, and so of those that were made.
+-- The cache after hops is the cache after stores of theirs that outlive no alias, all of them or a beginning.
+pub record AfterStoresInTime
+    (s : LookupContext) (passed : List Exchange) (hop : Hop) (last : ChainEnd) (made left : List Store)
+    (after : CacheValue)
+    : Type 0 where
+  pub after_is : after ≡ after_stores made s.cache
+  pub in_time : StoresOutliveNoAlias s passed hop last (made ++ left)
+
+-- Of a look-up: where the least TTL of CNAMEs is zero, the cache after it is the cache after stores that outlive no
+-- alias, one under the question of each hop before the last; and so does its result. An entry that is hit may end
+-- long before its records do, since a CNAME bounded it: a client that takes the TTL of the records for its deadline
+-- breaks this. Nothing is said of a result where the first question is a hit. Where memory ran out among the
+-- stores, a beginning of them was made.
 abbrev pub NoAliasOutlives : (s : LookupContext) (question : Query) (asks : List Exchange) (result : LookupResult)
     (after : CacheValue) → IsReply s question asks result after → Type 0
 NoAliasOutlives s question asks result after (inl whole) =
     HasNoLeast s.cache.config (type_code type.CNAME)
-    → StoresOutliveNoAlias s whole.hops.passed whole.hops.last_hop whole.hops.last
-    (stores_of s whole.hops.passed whole.hops.last_hop whole.hops.last)
+    → ((made : List Store) × AfterStoresInTime s whole.hops.passed whole.hops.last_hop whole.hops.last made [] after)
     × ResultOutlivesNoAlias s asks whole.hops.last result
 NoAliasOutlives s question asks result after (inr (out, inl cut)) =
     HasNoLeast s.cache.config (type_code type.CNAME)
-    → StoresOutliveNoAlias s cut.hops.passed cut.hops.last_hop cut.hops.last
-    (stores_of s cut.hops.passed cut.hops.last_hop cut.hops.last)
+    → (made : List Store) × (left : List Store)
+    × AfterStoresInTime s cut.hops.passed cut.hops.last_hop cut.hops.last made left after
 NoAliasOutlives s question asks result after (inr (out, inr cut)) = Unit {0}
 
 -- ---- the look-ups of a call, and of a run
