@@ -1,2 +1,2 @@
 //! What a look-up of addresses gives.
-pub use hickory_resolver_addresses::{LookupIp, LookupIpIntoIter, LookupIpIter};
+pub use hickory_resolver_lookup::{LookupIp, LookupIpIntoIter, LookupIpIter};

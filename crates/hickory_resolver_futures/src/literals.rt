@@ -5,8 +5,7 @@ ghost use Rattle.hickory_proto_core.specs.records.net_error.NetError.TheVariants
 ghost use Rattle.hickory_resolver_model.specs.Calls.{literal_at_once, last_resort};
 
 use hickory_proto_core::{Name, NetError, Query, RData, Record};
-use hickory_resolver_addresses::LookupIp;
-use hickory_resolver_lookup::{Lookup, MAX_TTL};
+use hickory_resolver_lookup::{Lookup, LookupIp, MAX_TTL};
 use std::alloc::Global;
 use std::net::IpAddr;
 

@@ -11,11 +11,10 @@ ghost use Rattle.hickory_resolver_futures.specs.Attempting.{Attempts, GoesOn, Is
 use crate::literals::{as_addresses, last_resort};
 use crate::lookup_future::{attempt_with_hosts, stops};
 use hickory_proto_core::{DnsHandle, DnsRequestOptions, Name, NetError, RData, RecordType};
-use hickory_resolver_addresses::LookupIp;
 use hickory_resolver_client::CachingClient;
 use hickory_resolver_config::LookupIpStrategy;
 use hickory_resolver_hosts::Hosts;
-use hickory_resolver_lookup::Lookup;
+use hickory_resolver_lookup::{Lookup, LookupIp};
 use std::alloc::Global;
 use std::hash::BuildHasher;
 

@@ -1,7 +1,7 @@
 use Rattle.std.proofs.Common.{◌≡◌}
 use Rattle.std.specs.Vec.Iter.{into_iter_items, into_iter_len}
-use Rattle.hickory_resolver_addresses.specs.Addresses.{addresses_of}
-use Rattle.hickory_resolver_addresses.proofs.lookup_ip.LookupIpIntoIterIterator.next.Given as goal
+use Rattle.hickory_resolver_lookup.specs.Addresses.{addresses_of}
+use Rattle.hickory_resolver_lookup.proofs.lookup_ip.LookupIpIntoIterIterator.next.Given as goal
 
 abbrev pub invariant-loop-taken : goal.invariant-loop-taken
 invariant-loop-taken l = addresses_of (into_iter_items l.self-inside.records) ≡ l.fn.self

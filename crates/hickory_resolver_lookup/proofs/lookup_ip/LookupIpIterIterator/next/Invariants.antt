@@ -1,7 +1,7 @@
 use Rattle.std.proofs.Common.{◌≡◌, length}
 use Rattle.std.specs.Slice.Iter.{iter_rest}
-use Rattle.hickory_resolver_addresses.specs.Addresses.{addresses_of}
-use Rattle.hickory_resolver_addresses.proofs.lookup_ip.LookupIpIterIterator.next.Given as goal
+use Rattle.hickory_resolver_lookup.specs.Addresses.{addresses_of}
+use Rattle.hickory_resolver_lookup.proofs.lookup_ip.LookupIpIterIterator.next.Given as goal
 
 abbrev pub invariant-loop-entry : goal.invariant-loop-entry
 invariant-loop-entry l = addresses_of (iter_rest l.self-inside.records) ≡ l.fn.self
