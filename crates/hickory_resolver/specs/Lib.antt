@@ -23,6 +23,6 @@ pub use Rattle.hickory_resolver_theorems.specs.Covered
 pub use Rattle.hickory_resolver_theorems.specs.Statements
 pub use Rattle.hickory_resolver_theorems.specs.Provenance
 pub use Rattle.hickory_resolver_hosts.specs.Reading
-pub use Rattle.hickory_resolver_watched.specs.Watched
+pub use Rattle.hickory_resolver_hosts.specs.Watched
 pub use Rattle.hickory_resolver_hosts.specs.declared as hosts
 pub use Rattle.hickory_resolver_lookup.specs.Addresses

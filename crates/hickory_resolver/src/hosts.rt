@@ -1,3 +1,2 @@
 //! The table of hosts, and readers and writers under watch.
-pub use hickory_resolver_hosts::{Hosts, HostsError};
-pub use hickory_resolver_watched::Watched;
+pub use hickory_resolver_hosts::{Hosts, HostsError, Watched};

@@ -1,4 +1,5 @@
-//! A table of hosts: names with their addresses, and the files that it is read from.
+//! A table of hosts: names with their addresses, the files that it is read from, and readers and writers that
+//! remember whether a call of theirs failed.
 #![tactic(auto)]
 
 mod host;
@@ -9,7 +10,8 @@ mod owners;
 mod pointers;
 mod reading;
 mod table;
+pub mod watched;
 
-pub use hickory_resolver_watched::Watched;
 pub use hosts::Hosts;
 pub use hosts_error::HostsError;
+pub use watched::Watched;

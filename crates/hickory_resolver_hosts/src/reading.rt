@@ -5,7 +5,7 @@ ghost use Rattle.hickory_resolver_hosts.specs.Reading.{IsAll, IsBytesRead, IsRea
 use crate::hosts::Hosts;
 use crate::hosts_error::HostsError;
 use crate::lines::insert_lines;
-use hickory_resolver_watched::Watched;
+use crate::watched::Watched;
 use std::alloc::Global;
 use std::hash::BuildHasher;
 use std::io::Read;

@@ -2,7 +2,7 @@
 ghost use Rattle.std.specs.Prelude.{◌≡◌, ◌||◌, false, is_err, length};
 ghost use Rattle.std.specs.Io.{ReadsAtMost, WritesAtMost};
 ghost use Rattle.std.specs.Io.KnownBytes.{ReadConsumes, WriteAppends};
-ghost use Rattle.hickory_resolver_watched.specs.Watched.{write_fails};
+ghost use Rattle.hickory_resolver_hosts.specs.Watched.{write_fails};
 
 use std::io::{self, Read, Write};
 use std::marker::Model;
@@ -16,7 +16,7 @@ pub struct Watched<T> {
 }
 
 impl<T> Model for Watched<T> {
-    ghost use Rattle.hickory_resolver_watched.specs.Watched.{WatchedValue};
+    ghost use Rattle.hickory_resolver_hosts.specs.Watched.{WatchedValue};
 
     ghost Value = { WatchedValue T };
 
