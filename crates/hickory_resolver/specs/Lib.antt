@@ -1,3 +1,4 @@
+pub mod Attempting
 pub mod Replies
 pub mod Serving
 pub mod Telling

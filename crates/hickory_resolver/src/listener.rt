@@ -3,10 +3,10 @@ ghost use Rattle.std.specs.Prelude.{OnOk};
 ghost use Rattle.hickory_resolver_lookup.specs.Requests.{request_of};
 ghost use Rattle.hickory_resolver.specs.Telling.{Told};
 
-use crate::request::Request;
 use crate::resolver::Resolver;
 use crate::transcript::Step;
 use hickory_proto_core::{DnsHandle, Exchange};
+use hickory_resolver_lookup::Request;
 use std::alloc::AllocError;
 use std::hash::BuildHasher;
 

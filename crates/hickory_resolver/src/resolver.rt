@@ -13,19 +13,18 @@ ghost use Rattle.hickory_resolver_model.specs.Resolver.{AnswersCall, AnswersHost
 ghost use Rattle.hickory_resolver_model.specs.Run.{Attempt, address_call, address_plan, drop_each, name_plan};
 ghost use Rattle.hickory_resolver_theorems.specs.CallFacts.{KeepsWhatIsKnown, PromisesHost, PromisesName};
 
-use crate::caching_client::CachingClient;
-use crate::config::{LookupIpStrategy, ResolverConfig, ResolverOpts};
-use crate::hosts::Hosts;
-use crate::lookup::Lookup;
+use crate::literals::literal_at_once;
 use crate::lookup_future::LookupFuture;
-use crate::lookup_ip::LookupIp;
 use crate::lookup_ip_future::LookupIpFuture;
 use crate::resolver_builder::ResolverBuilder;
+use crate::search::attempts;
 use hickory_proto_core::{
     DnsHandle, DnsRequestOptions, IntoName, Name, NameError, NetError, Query, RData, RecordType,
 };
-use hickory_resolver_attempts::attempts;
-use hickory_resolver_futures::literal_at_once;
+use hickory_resolver_client::CachingClient;
+use hickory_resolver_config::{LookupIpStrategy, ResolverConfig, ResolverOpts};
+use hickory_resolver_hosts::Hosts;
+use hickory_resolver_lookup::{Lookup, LookupIp};
 use std::alloc::{AllocError, Global};
 use std::fmt;
 use std::hash::{BuildHasher, BuildHasherDefault, FoldHasher};

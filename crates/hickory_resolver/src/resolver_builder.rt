@@ -3,12 +3,13 @@ ghost use Rattle.std.specs.Prelude.{◌≡◌};
 ghost use Rattle.hickory_resolver_config.specs.Resolver.{default_options};
 ghost use Rattle.hickory_resolver_model.specs.Resolver.{built};
 
-use crate::cache::{ResponseCache, TtlConfig};
-use crate::caching_client::CachingClient;
-use crate::config::{OpportunisticEncryption, ResolverConfig, ResolverOpts};
-use crate::hosts::Hosts;
 use crate::resolver::Resolver;
 use hickory_proto_core::{DnsHandle, NetError};
+use hickory_resolver_cache::ResponseCache;
+use hickory_resolver_client::CachingClient;
+use hickory_resolver_config::{OpportunisticEncryption, ResolverConfig, ResolverOpts};
+use hickory_resolver_hosts::Hosts;
+use hickory_resolver_lookup::TtlConfig;
 use std::hash::{BuildHasher, BuildHasherDefault, FoldHasher};
 use std::marker::Model;
 

@@ -8,14 +8,14 @@ ghost use Rattle.hickory_resolver_lookup.specs.Requests.{request_of};
 ghost use Rattle.hickory_resolver.specs.Telling.{IsToldRun};
 ghost use Rattle.hickory_resolver.specs.Transcripts.{IsNoRun};
 
-use crate::config::{ResolverConfig, ResolverOpts};
-use crate::hosts::Hosts;
 use crate::listener::{Heard, Listener};
-use crate::request::Request;
 use crate::serve::{Served, Start, run_by};
 use crate::telling::Telling;
 use crate::transcript::Transcript;
 use hickory_proto_core::{DnsHandle, NetError, Recorded};
+use hickory_resolver_config::{ResolverConfig, ResolverOpts};
+use hickory_resolver_hosts::Hosts;
+use hickory_resolver_lookup::Request;
 use hickory_resolver_theorems::laws::a_record_keeps_the_request;
 use std::hash::{BuildHasher, BuildHasherDefault, FoldHasher};
 

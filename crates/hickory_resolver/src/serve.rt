@@ -8,17 +8,15 @@ ghost use Rattle.hickory_resolver_lookup.specs.Requests.{request_of};
 ghost use Rattle.hickory_resolver.specs.Serving.{Answered, AnswersAll, MakesStep};
 ghost use Rattle.hickory_resolver.specs.Transcripts.{IsNoRun};
 
-use crate::cache::{ResponseCache, TtlConfig};
-use crate::caching_client::CachingClient;
-use crate::config::{ResolverConfig, ResolverOpts};
-use crate::hosts::Hosts;
-use crate::lookup::Lookup;
-use crate::lookup_ip::LookupIp;
 use crate::recording::Recording;
-use crate::request::Request;
 use crate::resolver::Resolver;
 use crate::transcript::{Reply, Step};
 use hickory_proto_core::{DnsHandle, NetError, RecordType};
+use hickory_resolver_cache::ResponseCache;
+use hickory_resolver_client::CachingClient;
+use hickory_resolver_config::{ResolverConfig, ResolverOpts};
+use hickory_resolver_hosts::Hosts;
+use hickory_resolver_lookup::{Lookup, LookupIp, Request, TtlConfig};
 use std::alloc::Global;
 use std::hash::BuildHasher;
 

@@ -6,14 +6,13 @@ ghost use Rattle.hickory_resolver_model.specs.Options.{bounds_of};
 ghost use Rattle.hickory_resolver.specs.Telling.{Told, Tells, TellsAll};
 ghost use Rattle.hickory_resolver.specs.Transcripts.{IsNoRun};
 
-use crate::cache::TtlConfig;
-use crate::config::ResolverOpts;
 use crate::listener::{Heard, Listener};
 use crate::recording::Recording;
-use crate::request::Request;
 use crate::resolver::Resolver;
 use crate::serve::{Runs, Start, exchange_count, first_resolver, serve};
 use hickory_proto_core::{DnsHandle, Exchange, NetError};
+use hickory_resolver_config::ResolverOpts;
+use hickory_resolver_lookup::{Request, TtlConfig};
 use std::alloc::{AllocError, Global};
 use std::hash::BuildHasher;
 

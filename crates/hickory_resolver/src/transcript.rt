@@ -3,11 +3,10 @@ ghost use Rattle.std.specs.Prelude.{◌≡◌};
 ghost use Rattle.hickory_resolver_model.specs.Run.{ends_run};
 ghost use Rattle.hickory_resolver.specs.Replies.{reply_of};
 
-use crate::lookup::Lookup;
-use crate::lookup_ip::LookupIp;
 use crate::recording::kept_by;
 use crate::resolver::Resolver;
 use hickory_proto_core::{DnsHandle, Exchange, NetError, Recorded};
+use hickory_resolver_lookup::{Lookup, LookupIp};
 use std::hash::{BuildHasher, BuildHasherDefault, FoldHasher};
 use std::marker::Model;
 

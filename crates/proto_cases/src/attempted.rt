@@ -1,6 +1,6 @@
 //! The names that are attempted for a name.
 use hickory_proto_core::{Name, NameError};
-use hickory_resolver_attempts::attempts;
+use hickory_resolver::attempts;
 use std::alloc::Global;
 
 /// The first text is `ndots`, the domain or `-`, and the search domains.

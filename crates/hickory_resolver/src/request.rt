@@ -1,2 +1,0 @@
-//! Requests of a run.
-pub use hickory_resolver_lookup::Request;

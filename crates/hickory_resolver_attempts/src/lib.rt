@@ -1,6 +1,0 @@
-//! The names that are attempted for a name.
-#![tactic(auto)]
-
-pub mod search;
-
-pub use search::attempts;

@@ -1,2 +1,0 @@
-pub mod Attempting
-pub mod Families

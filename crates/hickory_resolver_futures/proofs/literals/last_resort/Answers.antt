@@ -1,5 +1,0 @@
-use Rattle.std.proofs.Common.{rules}
-use Rattle.hickory_resolver_futures.proofs.literals.last_resort.Goals as goal
-
-pub returns : goal.returns
-returns c = search rules
