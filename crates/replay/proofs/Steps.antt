@@ -17,7 +17,7 @@ use Rattle.replay.specs.Hearing.{AddsBlock}
 use Rattle.replay.specs.Output.{run_text, step_text}
 use Rattle.replay.specs.Run.{IsNoTable, IsReplayed, IsScriptTold, IsTable, IsTableTold, IsTold, config_of, first_moment, hosts_fault, is_remembered}
 use Rattle.replay_script.specs.Script.{IsWhole, ScriptValue, script_of}
-use Rattle.replay_lines.specs.declared.line.Line.{Line}
+use Rattle.replay_script.specs.declared.line.Line.{Line}
 use Rattle.replay.specs.declared.error.ReplayError.{ReplayError}
 
 -- where no step is left the text is whole

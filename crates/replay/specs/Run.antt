@@ -13,10 +13,10 @@ use Rattle.hickory_resolver_model.specs.Cache.{CacheValue}
 use Rattle.hickory_resolver_model.specs.Hosts.{Host}
 use Rattle.hickory_resolver_model.specs.Run.{RequestValue, Settings, StepValue, IsRun, ends_run, moment_of, settings_of}
 use Rattle.replay_script.specs.Script.{IsFault, IsWhole, ScriptValue, script_of}
-use Rattle.replay_lines.specs.declared.fault.ScriptFault.TheVariants as fault
-use Rattle.replay_lines.specs.declared.fault.ScriptFault.{ScriptFault}
-use Rattle.replay_lines.specs.declared.fault.ScriptError.{ScriptError}
-use Rattle.replay_lines.specs.declared.line.Line.{Line}
+use Rattle.replay_script.specs.declared.fault.ScriptFault.TheVariants as fault
+use Rattle.replay_script.specs.declared.fault.ScriptFault.{ScriptFault}
+use Rattle.replay_script.specs.declared.fault.ScriptError.{ScriptError}
+use Rattle.replay_script.specs.declared.line.Line.{Line}
 use Rattle.replay.specs.Output.{run_text}
 use Rattle.replay.specs.declared.error.ReplayError.{ReplayError}
 use Rattle.replay.specs.declared.error.ReplayError.TheVariants.{Script, Hosts, Memory}

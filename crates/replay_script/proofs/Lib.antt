@@ -1,3 +1,9 @@
+pub mod FieldLists
+pub mod FirstBytes
+pub mod LineLists
+pub mod Counts
+pub mod Allowed
+pub mod Strings
 pub mod Settings
 pub mod Said
 pub mod Taken

@@ -9,19 +9,19 @@ use Rattle.hickory_proto_core.specs.records.query.Query.{Query}
 use Rattle.hickory_resolver_lookup.specs.Requests.{request_of}
 use Rattle.hickory_resolver_lookup.specs.declared.request.Request.{Request as AskedRequest}
 use Rattle.hickory_resolver_model.specs.Run.{moment_of}
-use Rattle.replay_lines.specs.FailLine.{error_of}
-use Rattle.replay_lines.specs.RecordLine.{with_record}
-use Rattle.replay_lines.specs.ReplyLine.{opened_response}
+use Rattle.replay_script.specs.FailLine.{error_of}
+use Rattle.replay_script.specs.RecordLine.{with_record}
+use Rattle.replay_script.specs.ReplyLine.{opened_response}
 use Rattle.replay_script.specs.Script.{with_records, outcomes_of, requests_of, settings_of, reply_from, latest_from}
 use Rattle.replay_script.specs.Reader.{ReaderValue, Keeps, opened, answered, failure_outcome}
 use Rattle.replay_script.specs.Configuration.{configured, with_setting}
-use Rattle.replay_lines.specs.declared.fail_line.Failure.{Failure}
-use Rattle.replay_lines.specs.declared.line.Line.{Line}
-use Rattle.replay_lines.specs.declared.line.Line.TheVariants.{Blank, Configuration, Fail, Record, Reply, Request}
-use Rattle.replay_lines.specs.declared.record_line.Section.{Section}
-use Rattle.replay_lines.specs.declared.reply_line.ReplyHead.{ReplyHead}
+use Rattle.replay_script.specs.declared.fail_line.Failure.{Failure}
+use Rattle.replay_script.specs.declared.line.Line.{Line}
+use Rattle.replay_script.specs.declared.line.Line.TheVariants.{Blank, Configuration, Fail, Record, Reply, Request}
+use Rattle.replay_script.specs.declared.record_line.Section.{Section}
+use Rattle.replay_script.specs.declared.reply_line.ReplyHead.{ReplyHead}
 use Rattle.replay_script.specs.declared.script.OpenReply.{OpenReply}
-use Rattle.replay_lines.specs.declared.setting.Setting.{Setting}
+use Rattle.replay_script.specs.declared.setting.Setting.{Setting}
 use Rattle.replay_script.proofs.Settings.{configured-push}
 
 -- a line that is no record leaves the records of the reply before it as they are

@@ -3,10 +3,10 @@ use Rattle.std.proofs.Common.{◌≡◌, ◌∙◌, Bool, false, List, [], ◌�
 use Rattle.std.proofs.lemmas.List.{append-nil}
 use Rattle.hickory_proto_core.specs.Name.{NameValue}
 use Rattle.hickory_resolver_config.specs.Resolver.{OptionsValue, default_options}
-use Rattle.replay_lines.specs.OptionLine.{with_option}
+use Rattle.replay_script.specs.OptionLine.{with_option}
 use Rattle.replay_script.specs.Configuration.{options_from, domain_from, search_in, table_from, configured, with_setting}
-use Rattle.replay_lines.specs.declared.setting.Setting.{Setting}
-use Rattle.replay_lines.specs.declared.setting.Setting.TheVariants as set
+use Rattle.replay_script.specs.declared.setting.Setting.{Setting}
+use Rattle.replay_script.specs.declared.setting.Setting.TheVariants as set
 
 options_from-push : (options : OptionsValue) (ss : List Setting) (s : Setting) → options_from options (ss ++ s ∷ []) ≡ options_from (options_from options ss) (s ∷ [])
 options_from-push options [] s = refl

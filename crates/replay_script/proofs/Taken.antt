@@ -6,20 +6,20 @@ use Rattle.hickory_proto_core.specs.Records.{RecordValue}
 use Rattle.hickory_resolver_lookup.specs.Requests.{request_of}
 use Rattle.hickory_resolver_lookup.specs.declared.request.Request.{Request as AskedRequest}
 use Rattle.hickory_resolver_model.specs.Run.{moment_of}
-use Rattle.replay_lines.specs.Line.{IsRead, is_record}
-use Rattle.replay_lines.specs.ReplyLine.{opened_response}
+use Rattle.replay_script.specs.Line.{IsRead, is_record}
+use Rattle.replay_script.specs.ReplyLine.{opened_response}
 use Rattle.replay_script.specs.Script.{has_reply, latest_from}
 use Rattle.replay_script.specs.Reader.{ReaderValue, Keeps, IsTaken, IsAnswered, opened, answered, failure_outcome}
 use Rattle.replay_script.specs.Configuration.{with_setting}
-use Rattle.replay_lines.specs.declared.fail_line.Failure.{Failure}
-use Rattle.replay_lines.specs.declared.fault.ScriptFault.{ScriptFault}
-use Rattle.replay_lines.specs.declared.fault.ScriptFault.TheVariants.{NoReply, MomentBack, OutOfMemory}
-use Rattle.replay_lines.specs.declared.line.Line.{Line}
-use Rattle.replay_lines.specs.declared.line.Line.TheVariants.{Configuration, Fail, Record, Reply, Request}
-use Rattle.replay_lines.specs.declared.record_line.Section.{Section}
-use Rattle.replay_lines.specs.declared.reply_line.ReplyHead.{ReplyHead}
+use Rattle.replay_script.specs.declared.fail_line.Failure.{Failure}
+use Rattle.replay_script.specs.declared.fault.ScriptFault.{ScriptFault}
+use Rattle.replay_script.specs.declared.fault.ScriptFault.TheVariants.{NoReply, MomentBack, OutOfMemory}
+use Rattle.replay_script.specs.declared.line.Line.{Line}
+use Rattle.replay_script.specs.declared.line.Line.TheVariants.{Configuration, Fail, Record, Reply, Request}
+use Rattle.replay_script.specs.declared.record_line.Section.{Section}
+use Rattle.replay_script.specs.declared.reply_line.ReplyHead.{ReplyHead}
 use Rattle.replay_script.specs.declared.script.OpenReply.{OpenReply}
-use Rattle.replay_lines.specs.declared.setting.Setting.{Setting}
+use Rattle.replay_script.specs.declared.setting.Setting.{Setting}
 use Rattle.replay_script.proofs.Said.{keeps-configuration, keeps-failure, keeps-record, keeps-reply, keeps-request}
 
 -- what was read

@@ -8,8 +8,8 @@ use Rattle.std.specs.Str.Lines.{lines, lines_of_parts}
 use Rattle.replay_script.specs.Script.{AreRead}
 use Rattle.replay_script.specs.Reader.{ReaderValue, Keeps, opened}
 use Rattle.replay_script.specs.Configuration.{configured}
-use Rattle.replay_lines.specs.declared.fault.ScriptError.{ScriptError}
-use Rattle.replay_lines.specs.declared.line.Line.{Line}
+use Rattle.replay_script.specs.declared.fault.ScriptError.{ScriptError}
+use Rattle.replay_script.specs.declared.line.Line.{Line}
 
 -- the lines that are read said this, and the others are still to be read
 pub record UnderWay (reader : ReaderValue) (number : ℕ) (script : List ℕ) (others : List (List ℕ)) : Type 0 where

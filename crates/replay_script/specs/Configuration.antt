@@ -2,9 +2,9 @@
 use Rattle.std.specs.Prelude.{Bool, false, List, [], ◌∷◌, ◌++◌, Option, None, Some}
 use Rattle.hickory_proto_core.specs.Name.{NameValue}
 use Rattle.hickory_resolver_config.specs.Resolver.{OptionsValue, default_options}
-use Rattle.replay_lines.specs.OptionLine.{with_option}
-use Rattle.replay_lines.specs.declared.setting.Setting.{Setting}
-use Rattle.replay_lines.specs.declared.setting.Setting.TheVariants as set
+use Rattle.replay_script.specs.OptionLine.{with_option}
+use Rattle.replay_script.specs.declared.setting.Setting.{Setting}
+use Rattle.replay_script.specs.declared.setting.Setting.TheVariants as set
 
 -- the options: each setting of one counts in place of those before it
 abbrev pub options_from : OptionsValue → List Setting → OptionsValue

@@ -1,3 +1,14 @@
 pub mod Configuration
+pub mod FailLine
+pub mod Faults
+pub mod Fields
+pub mod Line
+pub mod OptionLine
 pub mod Reader
+pub mod RecordData
+pub mod RecordLine
+pub mod ReplyLine
+pub mod Request
 pub mod Script
+pub mod Setting
+pub mod Words

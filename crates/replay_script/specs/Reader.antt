@@ -7,16 +7,16 @@ use Rattle.hickory_proto_core.specs.Records.{RecordValue}
 use Rattle.hickory_resolver_model.specs.Bounds.{bounds_fault}
 use Rattle.hickory_resolver_model.specs.Options.{bounds_of}
 use Rattle.hickory_resolver_model.specs.Run.{RequestValue}
-use Rattle.replay_lines.specs.FailLine.{error_of}
-use Rattle.replay_lines.specs.RecordLine.{with_record}
-use Rattle.replay_lines.specs.Line.{IsRead}
+use Rattle.replay_script.specs.FailLine.{error_of}
+use Rattle.replay_script.specs.RecordLine.{with_record}
+use Rattle.replay_script.specs.Line.{IsRead}
 use Rattle.replay_script.specs.Script.{ScriptValue, has_reply, in_order, latest_from, outcomes_of, requests_of, settings_of}
 use Rattle.replay_script.specs.Configuration.{ConfigurationValue, configured}
-use Rattle.replay_lines.specs.declared.fail_line.Failure.{Failure}
-use Rattle.replay_lines.specs.declared.fault.ScriptFault.{ScriptFault}
-use Rattle.replay_lines.specs.declared.fault.ScriptFault.TheVariants.{NoReply, OutOfMemory, ReversedBounds}
-use Rattle.replay_lines.specs.declared.line.Line.{Line}
-use Rattle.replay_lines.specs.declared.record_line.Section.{Section}
+use Rattle.replay_script.specs.declared.fail_line.Failure.{Failure}
+use Rattle.replay_script.specs.declared.fault.ScriptFault.{ScriptFault}
+use Rattle.replay_script.specs.declared.fault.ScriptFault.TheVariants.{NoReply, OutOfMemory, ReversedBounds}
+use Rattle.replay_script.specs.declared.line.Line.{Line}
+use Rattle.replay_script.specs.declared.record_line.Section.{Section}
 use Rattle.replay_script.specs.declared.script.OpenReply.{OpenReply}
 
 -- the outcomes that are whole, the reply that may still get records, the requests, the latest moment, and what

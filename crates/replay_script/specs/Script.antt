@@ -11,17 +11,17 @@ use Rattle.hickory_resolver_model.specs.Bounds.{bounds_fault}
 use Rattle.hickory_resolver_model.specs.Options.{bounds_of}
 use Rattle.hickory_resolver_lookup.specs.Requests.{request_of}
 use Rattle.hickory_resolver_model.specs.Run.{RequestValue, moment_of}
-use Rattle.replay_lines.specs.FailLine.{error_of}
-use Rattle.replay_lines.specs.Line.{IsRead}
-use Rattle.replay_lines.specs.RecordLine.{with_record}
-use Rattle.replay_lines.specs.ReplyLine.{opened_response}
+use Rattle.replay_script.specs.FailLine.{error_of}
+use Rattle.replay_script.specs.Line.{IsRead}
+use Rattle.replay_script.specs.RecordLine.{with_record}
+use Rattle.replay_script.specs.ReplyLine.{opened_response}
 use Rattle.replay_script.specs.Configuration.{domain_from, options_from, search_in, table_from}
-use Rattle.replay_lines.specs.declared.fault.ScriptFault.{ScriptFault}
-use Rattle.replay_lines.specs.declared.fault.ScriptFault.TheVariants.{MomentBack, OutOfMemory, ReversedBounds}
-use Rattle.replay_lines.specs.declared.fault.ScriptError.{ScriptError}
-use Rattle.replay_lines.specs.declared.line.Line.{Line}
-use Rattle.replay_lines.specs.declared.line.Line.TheVariants.{Blank, Configuration, Fail, Record, Reply, Request}
-use Rattle.replay_lines.specs.declared.setting.Setting.{Setting}
+use Rattle.replay_script.specs.declared.fault.ScriptFault.{ScriptFault}
+use Rattle.replay_script.specs.declared.fault.ScriptFault.TheVariants.{MomentBack, OutOfMemory, ReversedBounds}
+use Rattle.replay_script.specs.declared.fault.ScriptError.{ScriptError}
+use Rattle.replay_script.specs.declared.line.Line.{Line}
+use Rattle.replay_script.specs.declared.line.Line.TheVariants.{Blank, Configuration, Fail, Record, Reply, Request}
+use Rattle.replay_script.specs.declared.setting.Setting.{Setting}
 
 -- a script: what the upstream answers, each beside the question of its line, and whether that is a table in
 -- which each question is looked up; the requests; and what the resolver is configured with

@@ -4,10 +4,11 @@ ghost use Rattle.hickory_resolver_model.specs.Bounds.{bounds_fault};
 ghost use Rattle.hickory_resolver_model.specs.Options.{bounds_of};
 ghost use Rattle.replay_script.specs.Configuration.{configured, with_setting};
 
+use crate::fault::ScriptFault;
+use crate::setting::Setting;
 use hickory_proto_core::Name;
 use hickory_resolver_config::ResolverOpts;
 use hickory_resolver_lookup::TtlConfig;
-use replay_lines::{ScriptFault, Setting};
 use std::alloc::Global;
 use std::marker::Model;
 

@@ -1,11 +1,29 @@
-//! Scripts of a replay: what an upstream answers, what is asked of the resolver, and how it is configured.
+//! Scripts of a replay: what each line says, and what a whole one says: what an upstream answers, what is asked
+//! of the resolver, and how it is configured.
 #![tactic(auto)]
 
 pub mod configuration;
+pub mod fail_line;
+pub mod fault;
+pub mod fields;
+pub mod line;
+pub mod numbers;
+pub mod option_line;
+pub mod record_data;
+pub mod record_line;
+pub mod reply_line;
+pub mod request;
 pub mod script;
+pub mod setting;
+pub mod words;
 
+pub use fail_line::{Failure, FailureKind};
+pub use fault::{ScriptError, ScriptFault};
+pub use fields::ScriptLines;
 pub use hickory_resolver_lookup::Request;
-pub use replay_lines::{
-    Failure, FailureKind, Line, OptionLine, ReplyHead, ScriptError, ScriptFault, Section, Setting,
-};
+pub use line::{Line, read_line};
+pub use option_line::OptionLine;
+pub use record_line::Section;
+pub use reply_line::ReplyHead;
 pub use script::{Script, read_script};
+pub use setting::Setting;

@@ -2,20 +2,24 @@
 ghost use Rattle.std.specs.Prelude.{◌≡◌, ◌⊎◌, ◌≤◌, ◌<◌, ◌++◌, ◌∷◌, List, [], map, None, Some, IfOk, IfErr, OnOk, IsOkUnless, Ok, IsErr};
 ghost use Rattle.hickory_resolver_lookup.specs.Requests.{request_of};
 ghost use Rattle.hickory_resolver_model.specs.Run.{moment_of};
-ghost use Rattle.replay_lines.specs.ReplyLine.{opened_response};
-ghost use Rattle.replay_lines.specs.declared.line.Line.{Line};
+ghost use Rattle.replay_script.specs.ReplyLine.{opened_response};
+ghost use Rattle.replay_script.specs.declared.line.Line.{Line};
 ghost use Rattle.replay_script.specs.Configuration.{configured, with_setting};
 ghost use Rattle.replay_script.specs.Reader.{IsAnswered, IsFinished, IsTaken, Keeps, failure_outcome, finished, opened};
 ghost use Rattle.replay_script.specs.Script.{IsScript};
 
 use crate::configuration::Configuration;
+use crate::fail_line::Failure;
+use crate::fault::{ScriptError, ScriptFault};
+use crate::fields::ScriptLines;
+use crate::line::{Line, read_line};
+use crate::record_line::Section;
+use crate::reply_line::ReplyHead;
+use crate::setting::Setting;
 use hickory_proto_core::dns_handle::Outcome;
 use hickory_proto_core::{DnsResponse, Message, Name, NetError, OpCode, Query, Record};
 use hickory_resolver_config::ResolverOpts;
 use hickory_resolver_lookup::Request;
-use replay_lines::{
-    Failure, Line, ReplyHead, ScriptError, ScriptFault, ScriptLines, Section, Setting, read_line,
-};
 use std::alloc::Global;
 use std::marker::Model;
 

@@ -1,6 +1,6 @@
 use Rattle.std.proofs.Common.{◌∙◌, refl, ap}
 use Rattle.std.specs.Option.{is_some}
-use Rattle.replay_lines.specs.declared.line.Line.TheVariants.{Blank}
+use Rattle.replay_script.specs.declared.line.Line.TheVariants.{Blank}
 use Rattle.replay_script.proofs.Said.{keeps-blank}
 use Rattle.replay_script.proofs.Taken.{read_as, taken-configuration, taken-failure, taken-record, taken-reply, taken-request}
 use Rattle.replay_script.proofs.script.Reader.read.Goals as goal

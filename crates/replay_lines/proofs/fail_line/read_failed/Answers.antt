@@ -1,5 +1,0 @@
-use Rattle.std.proofs.Common.{rules}
-use Rattle.replay_lines.proofs.fail_line.read_failed.Goals as goal
-
-pub returns : goal.returns
-returns c = search rules

@@ -1,9 +1,0 @@
-use Rattle.std.proofs.Common.{arith}
-use Rattle.std.proofs.lemmas.Grind.{common_steps}
-use Rattle.replay_lines.proofs.option_line.read_option.Goals as goal
-
-pub returns-in_err-key : goal.returns-in_err-key
-returns-in_err-key c = grind (arith, common_steps)
-
-pub returns : goal.returns
-returns c = grind (arith, common_steps)

@@ -1,5 +1,0 @@
-use Rattle.std.proofs.Common.{rules}
-use Rattle.replay_lines.proofs.reply_line.read_words.Goals as goal
-
-pub returns : goal.returns
-returns c = search rules

@@ -1,0 +1,60 @@
+-- A line that is a request: `at` MOMENT, a verb, and what it is about.
+use Rattle.std.specs.Prelude.{◌≡◌, ℕ, List, [], ◌∷◌, codes, Result, Ok, Err, MatchResult, if◌then◌else◌}
+use Rattle.std.specs.Option.{ok_or}
+use Rattle.hickory_proto_core.specs.Codes.{is_text, type_named}
+use Rattle.hickory_proto_core.specs.codes.record_type.RecordType.{RecordType}
+use Rattle.hickory_resolver_lookup.specs.Requests.{request_of}
+use Rattle.hickory_resolver_lookup.specs.declared.request.Request.{Request}
+use Rattle.hickory_resolver_model.specs.Run.{RequestValue, Lookup, LookupIp, ClearLookup, Clear}
+use Rattle.replay_script.specs.Words.{◌>>=◌, number_field}
+use Rattle.replay_script.specs.declared.fault.ScriptFault.{ScriptFault}
+use Rattle.replay_script.specs.declared.fault.ScriptFault.TheVariants.{FieldCount, UnknownWord}
+
+-- NAME TYPE; whether the name is one is found out when it is asked
+abbrev pub name_and_type : List (List ℕ) → Result (List ℕ × RecordType) ScriptFault
+name_and_type (name ∷ type ∷ []) = do
+  t ← ok_or (type_named type) UnknownWord
+  Ok (name, t)
+name_and_type fields = Err FieldCount
+
+-- `lookup` NAME TYPE
+abbrev pub lookup_asked : ℕ → List (List ℕ) → Result RequestValue ScriptFault
+lookup_asked now fields = do
+  asked ← name_and_type fields
+  Ok (Lookup asked.0 asked.1 now)
+
+-- `lookup_ip` HOST
+abbrev pub host_asked : ℕ → List (List ℕ) → Result RequestValue ScriptFault
+host_asked now (host ∷ []) = Ok (LookupIp host now)
+host_asked now fields = Err FieldCount
+
+-- `clear_lookup` NAME TYPE
+abbrev pub clear_lookup_asked : ℕ → List (List ℕ) → Result RequestValue ScriptFault
+clear_lookup_asked now fields = do
+  asked ← name_and_type fields
+  Ok (ClearLookup asked.0 asked.1 now)
+
+-- `clear`
+abbrev pub clear_asked : ℕ → List (List ℕ) → Result RequestValue ScriptFault
+clear_asked now [] = Ok (Clear now)
+clear_asked now (field ∷ fields) = Err FieldCount
+
+-- what is asked at a moment
+abbrev pub asked_by : ℕ → List ℕ → List (List ℕ) → Result RequestValue ScriptFault
+asked_by now verb fields =
+    if is_text (codes "lookup") verb then lookup_asked now fields else (
+    if is_text (codes "lookup_ip") verb then host_asked now fields else (
+    if is_text (codes "clear_lookup") verb then clear_lookup_asked now fields else (
+    if is_text (codes "clear") verb then clear_asked now fields else Err UnknownWord)))
+
+-- MOMENT and the verb come first
+abbrev pub request_asked : List (List ℕ) → Result RequestValue ScriptFault
+request_asked (moment ∷ verb ∷ fields) = do
+  now ← number_field 64 moment
+  asked_by now verb fields
+request_asked fields = Err FieldCount
+
+-- a request that is what was asked, or the same fault
+abbrev pub IsRequest : Result RequestValue ScriptFault → Result Request ScriptFault → Type 0
+IsRequest asked result =
+    MatchResult result (λ request. asked ≡ Ok (request_of request)) (λ fault. asked ≡ Err fault)

@@ -1,0 +1,116 @@
+//! What can be wrong with a script.
+ghost use Rattle.std.specs.Prelude.{◌≡◌};
+
+use hickory_proto_core::NameError;
+use std::alloc::{AllocError, AllocFailed};
+use std::fmt;
+use thiserror::Error;
+
+/// Why a line is refused.
+#[derive(Clone, Copy, Debug, PartialEq, Eq, Error)]
+pub enum ScriptFault {
+    /// A byte other than TAB and the printable ones of ASCII.
+    #[error("S1 bad byte")]
+    BadByte,
+    /// A first field that is no directive.
+    #[error("S2 unknown directive")]
+    UnknownDirective,
+    /// Too few fields, or too many.
+    #[error("S3 wrong number of fields")]
+    FieldCount,
+    /// A number with something else than digits, or out of its range.
+    #[error("S4 bad number")]
+    BadNumber,
+    /// A text that is no name.
+    #[error("S5 bad name")]
+    BadName,
+    /// A text that is no address of the record's family.
+    #[error("S6 bad address")]
+    BadAddress,
+    /// A word that cannot stand in its place.
+    #[error("S7 unknown word")]
+    UnknownWord,
+    /// A record with no reply before it that it could belong to.
+    #[error("S8 no open reply")]
+    NoReply,
+    /// A request that is earlier than the one before it.
+    #[error("S9 moment goes back")]
+    MomentBack,
+    /// Data that are not an even number of hex digits.
+    #[error("S10 bad hex")]
+    BadHex,
+    /// A least bound on times to live above the greatest one.
+    #[error("S11 reversed bounds")]
+    ReversedBounds,
+    /// No memory was left.
+    #[error("out of memory")]
+    OutOfMemory,
+}
+
+/// The first fault of a script, and the number of its line, counted from 1. Out of memory has no line, nor
+/// have bounds that are reversed once every line is read: their number is 0.
+#[derive(Clone, Copy, Debug, PartialEq, Eq)]
+pub struct ScriptError {
+    pub line: usize,
+    pub fault: ScriptFault,
+}
+
+impl ScriptError {
+    /// Out of memory.
+    pub const fn out_of_memory() -> ScriptError
+        ensures { result ≡ record { line = 0; fault = ScriptFault.OutOfMemory } }
+    {
+        ScriptError {
+            line: 0,
+            fault: ScriptFault::OutOfMemory,
+        }
+    }
+}
+
+impl fmt::Display for ScriptError {
+    fn fmt<W: fmt::Write>(&self, f: &mut fmt::Formatter<W>) -> fmt::Result {
+        let ScriptError { line, fault } = *self;
+        match fault {
+            ScriptFault::OutOfMemory => write!(f, "out of memory"),
+            fault => write!(f, "script line {line}: {fault}"),
+        }
+    }
+}
+
+impl std::error::Error for ScriptError {}
+
+impl<T: Drop> From<AllocFailed<T>> for ScriptFault {
+    ghost use Rattle.std.specs.Prelude.{◌≡◌};
+    ghost use Rattle.replay_script.specs.declared.fault.ScriptFault.TheVariants.{OutOfMemory};
+
+    ghost from_gives = { λ _ fault. fault ≡ OutOfMemory };
+
+    fn from(_: AllocFailed<T>) -> ScriptFault {
+        ScriptFault::OutOfMemory
+    }
+}
+
+impl From<AllocError> for ScriptFault {
+    ghost use Rattle.std.specs.Prelude.{◌≡◌};
+    ghost use Rattle.replay_script.specs.declared.fault.ScriptFault.TheVariants.{OutOfMemory};
+
+    ghost from_gives = { λ _ fault. fault ≡ OutOfMemory };
+
+    fn from(_: AllocError) -> ScriptFault {
+        ScriptFault::OutOfMemory
+    }
+}
+
+impl From<NameError> for ScriptFault {
+    ghost use Rattle.std.specs.Prelude.{◌≡◌};
+    ghost use Rattle.replay_script.specs.Faults.{name_fault};
+
+    ghost from_gives = { λ error fault. fault ≡ name_fault error };
+
+    fn from(error: NameError) -> ScriptFault {
+        match error {
+            NameError::OutOfMemory => ScriptFault::OutOfMemory,
+            _ => ScriptFault::BadName,
+        }
+    }
+}
