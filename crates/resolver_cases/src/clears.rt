@@ -1,6 +1,6 @@
 //! A resolver where every key of its cache has one hash, and whose cache is cleared.
-use crate::one_hash::OneHash;
 use crate::own_handle::OneAddress;
+use case_hashers::OneHash;
 use hickory_proto_core::{Name, NetError, RecordType};
 use hickory_resolver::{Resolver, ResolverConfig};
 use std::alloc::{AllocError, Global};

@@ -1,6 +1,6 @@
 //! A resolver over two hashers, of which each counts: which of them a clear of a name asks.
-use crate::counting::{Counting, no_calls};
 use crate::own_handle::OneAddress;
+use case_hashers::{Counting, no_calls};
 use hickory_proto_core::{NetError, RecordType};
 use hickory_resolver::{Resolver, ResolverConfig};
 use std::alloc::Global;

@@ -4,16 +4,13 @@
 //! little room, that in a file `.rooms` to one for each room that is too little.
 #![tactic(auto)]
 
-mod counting;
-mod one_hash;
 mod rooms;
 mod short_of_room;
 
-use crate::counting::{Counting, no_calls};
-use crate::one_hash::OneHash;
 use crate::rooms::print_beginnings;
 use crate::short_of_room::ShortOfRoom;
 use bstr::ByteSlice;
+use case_hashers::{Counting, OneHash, no_calls};
 use replay::{ReplayError, Watched, replay, replay_text, replay_text_with_hasher};
 use std::alloc::Global;
 use std::io::ErrorKind;

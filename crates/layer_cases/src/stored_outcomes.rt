@@ -1,5 +1,5 @@
 //! Outcomes, out of the words of a line.
-use crate::words::{NO_LINE, type_of};
+use crate::cache_words::{NO_LINE, type_of};
 use hickory_proto_core::{
     DnsError, ForwardNSData, Message, Name, NetError, NoRecords, OpCode, Query, RData, Record,
     RecordType, ResponseCode,

@@ -1,6 +1,5 @@
-//! Prints what bounds and caches answer. Each line of the file of cases is printed again with what comes of it; then
-//! come how many steps leave the cache and another body of it alike. The output that is wanted stands beside this
-//! crate's sources. A line is:
+//! The lines of a file of cases, each with what comes of it behind it, and then how many steps leave the cache and
+//! another body of it alike. A line is:
 //!
 //! - `# TEXT`, a heading;
 //! - `bounds LEAST NEGATIVE_LEAST GREATEST NEGATIVE_GREATEST`, bounds, where `-` stands for none;
@@ -10,34 +9,17 @@
 //!   `upsert_unclamped`, `clear_query` and `clear`. The outcome of a store is `NOERROR` with a section, a type and a
 //!   TTL for each record, `NXDOMAIN TTL`, which `full` may follow for records in all its parts, `REFUSED`, or
 //!   `timeout`.
-#![tactic(auto)]
-
-mod compared;
-mod comparison;
-mod limits;
-mod one_hash;
-mod outcomes;
-mod scanned;
-mod shown;
-mod steps;
-mod words;
-
+use crate::{cache_steps, cache_texts, comparison};
 use hickory_proto_core::NetError;
 use hickory_resolver_cache::ResponseCache;
 use hickory_resolver_lookup::TtlConfig;
 use std::alloc::Global;
-use std::fs;
 
-fn main(rt: HostRuntime) -> anyhow::Result<()> {
-    let cases = fs::read_to_string(&rt, "cache.cases")?;
-    rt.print(text_of(rt.alloc(), cases.as_str())?)?;
-    Ok(())
-}
-
-fn text_of(alloc: Global, cases: &str) -> Result<String, NetError> {
+/// The text of all of it.
+pub fn text_of(alloc: Global, cases: &str) -> Result<String, NetError> {
     let mut text = String::new(alloc);
     push_cases(alloc, &mut text, cases)?;
-    shown::push_equalities(alloc, &mut text)?;
+    cache_texts::push_equalities(alloc, &mut text)?;
     comparison::push_comparison(alloc, &mut text)?;
     Ok(text)
 }
@@ -68,7 +50,7 @@ fn push_case(
     line: &str,
 ) -> Result<(), NetError> {
     text.push_str(line)?;
-    steps::take_line(alloc, text, cache, line)?;
+    cache_steps::take_line(alloc, text, cache, line)?;
     text.push_str("\n")?;
     Ok(())
 }

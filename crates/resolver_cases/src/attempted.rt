@@ -1,10 +1,26 @@
-//! The names that are attempted for a name.
+//! The names that are attempted for a name. A line of a file of cases is `ndots`, the domain or `-`, and the search
+//! domains, and behind a tab the name.
 use hickory_proto_core::{Name, NameError};
 use hickory_resolver::attempts;
 use std::alloc::Global;
 
-/// The first text is `ndots`, the domain or `-`, and the search domains.
-pub fn attempted(alloc: Global, settings: &str, name: &str) -> Result<String, NameError> {
+/// Adds each line with the names behind it.
+pub fn push_attempts(alloc: Global, text: &mut String, cases: &str) -> Result<(), NameError> {
+    text.push_str("# attempts\n")?;
+    for line in cases.lines() {
+        push_line(alloc, text, line)?;
+    }
+    Ok(())
+}
+
+fn push_line(alloc: Global, text: &mut String, line: &str) -> Result<(), NameError> {
+    let (settings, name) = line.split_once('\t').unwrap_or((line, ""));
+    let names = attempted(alloc, settings, name)?;
+    write!(text, "{line}\t{names}\n")?;
+    Ok(())
+}
+
+fn attempted(alloc: Global, settings: &str, name: &str) -> Result<String, NameError> {
     let words: Vec<&str> = settings.split_whitespace().collect(alloc)?;
     match words.as_slice() {
         [ndots, domain, search @ ..] => {

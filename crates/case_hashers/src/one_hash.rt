@@ -1,7 +1,8 @@
 //! A hasher that gives everything the same hash.
 use std::hash::{BuildHasher, Hasher};
 
-#[derive(Clone, Copy)]
+/// Gives everything the same hash.
+#[derive(Clone, Copy, Default)]
 pub struct OneHash;
 
 impl Hasher for OneHash {

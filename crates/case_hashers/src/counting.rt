@@ -13,6 +13,7 @@ pub struct Counting {
 }
 
 impl Counting {
+    /// Counts its calls in this cell.
     pub fn over(calls: &Rc<Cell<u64>>) -> Result<Counting, AllocError> {
         let calls = calls.clone()?;
         let hasher = OneHash;

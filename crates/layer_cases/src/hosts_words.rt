@@ -1,15 +1,10 @@
-//! Prints what tables of hosts answer. A word of the arguments is a file, which is read into an empty table, or
-//! NAME/TYPE, which that table is asked.
-#![tactic(auto)]
-
-mod calls;
-mod hashers;
-mod pieces;
-mod shown;
-
+//! What tables of hosts answer. A word of the arguments is a file, which is read into an empty table, or NAME/TYPE,
+//! which that table is asked.
+use crate::hosts_calls::push_calls;
+use crate::hosts_texts::{push_found, push_read};
+use case_hashers::OneHash;
 use hickory_proto_core::{Name, NetError, Query, RecordType};
 use hickory_resolver_hosts::Hosts;
-use shown::{push_found, push_read};
 use std::alloc::Global;
 use std::hash::{BuildHasher, BuildHasherDefault, FoldHasher};
 use std::rt::{Env, Files};
@@ -18,22 +13,18 @@ use std::{env, fs};
 // The moment (seconds) at which files are read.
 const READ_AT: u64 = 7;
 
-fn main(rt: HostRuntime) -> anyhow::Result<()> {
-    rt.print(text_of(&rt)?.as_str())?;
-    Ok(())
-}
-
-fn text_of<R: AllocGlobal + Env + Files>(rt: &R) -> anyhow::Result<String> {
+/// What all the words come to, over two hashers, and then what the calls answer that no file makes.
+pub fn text_of<R: AllocGlobal + Env + Files>(rt: &R) -> anyhow::Result<String> {
     let usual: BuildHasherDefault<FoldHasher> = BuildHasherDefault::new();
     let mut text = words_text(rt, usual)?;
     push_same(rt, &mut text)?;
-    calls::push_calls(rt.alloc(), &mut text)?;
+    push_calls(rt.alloc(), &mut text)?;
     Ok(text)
 }
 
 // Says so where the words come to this text too if every key has one hash.
 fn push_same<R: AllocGlobal + Env + Files>(rt: &R, text: &mut String) -> anyhow::Result<()> {
-    let one: BuildHasherDefault<hashers::OneHash> = BuildHasherDefault::new();
+    let one: BuildHasherDefault<OneHash> = BuildHasherDefault::new();
     if words_text(rt, one)? == *text {
         text.push_str("the same where every key has one hash\n")?;
     }

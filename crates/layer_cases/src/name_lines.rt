@@ -1,5 +1,5 @@
 //! Calls on names and addresses that the lines of a file ask for.
-use crate::{addresses, attempted, names, zeros};
+use crate::{addresses, names, zeros};
 use hickory_proto_core::NameError;
 use std::alloc::Global;
 
@@ -32,7 +32,6 @@ fn answer(alloc: Global, line: &str) -> Result<String, NameError> {
         "trim" => names::trim(alloc, first, second),
         "base" => names::base(alloc, first),
         "localhost" => names::localhost(alloc, first),
-        "attempts" => attempted::attempted(alloc, first, second),
         "address" => addresses::read(alloc, first),
         "network" => addresses::network(alloc, first),
         "pointer" => addresses::pointer(alloc, first),

@@ -1,8 +1,8 @@
 //! Lines of cases: what is done to a cache, and what comes of it.
-use crate::limits::{insert_until, push_got_until};
-use crate::outcomes::outcome_of;
-use crate::shown::{push_bounds, push_hit};
-use crate::words::{NO_LINE, bounds_of, config_of, question, type_of};
+use crate::cache_limits::{insert_until, push_got_until};
+use crate::cache_texts::{push_bounds, push_hit};
+use crate::cache_words::{NO_LINE, bounds_of, config_of, question, type_of};
+use crate::stored_outcomes::outcome_of;
 use hickory_proto_core::{Message, NetError, Query};
 use hickory_resolver_cache::ResponseCache;
 use std::alloc::Global;

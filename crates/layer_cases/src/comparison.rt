@@ -1,8 +1,8 @@
 //! 500 steps with the cache and with another body of it, a list that is searched from end to end: stores, clamped
 //! stores and clears over 12 questions.
 use crate::compared::{outcome, shown};
-use crate::one_hash::OneHash;
 use crate::scanned::{Kept, Scanned};
+use case_hashers::OneHash;
 use hickory_proto_core::{Message, Name, NetError, Query, RecordType};
 use hickory_resolver_cache::ResponseCache;
 use hickory_resolver_lookup::TtlConfig;

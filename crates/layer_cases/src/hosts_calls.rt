@@ -1,6 +1,6 @@
 //! Calls of a table that no file makes: look-ups that a caller puts in, and readers that give a file in pieces.
+use crate::hosts_texts::{push_found, push_read};
 use crate::pieces::Pieces;
-use crate::shown::{push_found, push_read};
 use hickory_proto_core::{DNSClass, Name, NetError, Query, RData, RecordType};
 use hickory_resolver_hosts::{Hosts, HostsError, Watched};
 use hickory_resolver_lookup::Lookup;

@@ -1,7 +1,7 @@
 //! Stores with a limit, and hits with their deadlines.
-use crate::outcomes::outcome_of;
-use crate::shown::push_hit;
-use crate::words::NO_LINE;
+use crate::cache_texts::push_hit;
+use crate::cache_words::NO_LINE;
+use crate::stored_outcomes::outcome_of;
 use hickory_proto_core::{Message, NetError, Query};
 use hickory_resolver_cache::ResponseCache;
 use std::alloc::{AllocError, Global};

@@ -1,5 +1,5 @@
 //! The texts of what comes of a step.
-use crate::words::{bounds_of, config_of};
+use crate::cache_words::{bounds_of, config_of};
 use hickory_proto_core::{
     DnsError, ForwardNSData, Message, NetError, NoRecords, Record, RecordType,
 };
