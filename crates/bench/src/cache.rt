@@ -2,8 +2,8 @@
 ghost use Rattle.std.specs.Prelude.{◌<◌};
 
 use crate::measure::{Stopwatch, Subject};
+use crate::rows::{SIZES, print_row};
 use crate::samples::{BATCH, BATCHES, DAY, OPERATIONS, Visits, answer, question};
-use crate::table::{SIZES, print_row};
 use hickory_proto_core::{Message, NetError, Query};
 use hickory_resolver_cache::ResponseCache;
 use hickory_resolver_lookup::TtlConfig;

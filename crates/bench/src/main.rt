@@ -5,18 +5,18 @@
 mod bare;
 mod cache;
 mod client;
-mod hosts;
+mod host_times;
 mod measure;
-mod names;
+mod name_times;
+mod rows;
 mod samples;
-mod script;
-mod table;
+mod script_times;
 
 use measure::Stopwatch;
+use rows::print_head;
 use std::alloc::Global;
 use std::env;
 use std::rt::Clock;
-use table::print_head;
 
 fn main(rt: HostRuntime) -> anyhow::Result<()> {
     if env::args(&rt)?.nth(1).is_none() {
@@ -31,10 +31,10 @@ fn print_times<R: Clock + Print>(rt: &R, alloc: Global) -> anyhow::Result<()> {
     print_head(rt)?;
     cache::print_times(rt, alloc, &mut watch)?;
     bare::print_times(rt, alloc, &mut watch)?;
-    names::print_times(alloc, &mut watch)?;
+    name_times::print_times(alloc, &mut watch)?;
     client::print_times(alloc, &mut watch)?;
-    hosts::print_times(alloc, &mut watch)?;
-    script::print_times(alloc, &mut watch)?;
+    host_times::print_times(alloc, &mut watch)?;
+    script_times::print_times(alloc, &mut watch)?;
     let seen = watch.seen();
     println!(rt; "check sum {seen}")?;
     Ok(())

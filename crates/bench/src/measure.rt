@@ -1,7 +1,7 @@
 //! The time that an operation takes.
 ghost use Rattle.std.specs.Prelude.{◌<◌};
 
-use crate::table::print_figure;
+use crate::rows::print_figure;
 use hickory_proto_core::NetError;
 use std::rt::Clock;
 use std::time::Instant;

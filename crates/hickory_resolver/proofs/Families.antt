@@ -15,7 +15,7 @@ use Rattle.hickory_resolver_model.specs.Run.{address_plan}
 use Rattle.std.specs.Option.{is_some}
 use Rattle.hickory_resolver_config.specs.declared.strategies.LookupIpStrategy.{LookupIpStrategy}
 use Rattle.hickory_resolver.specs.Attempting.{Attempts, IsReplyOrLastResort}
-use Rattle.hickory_resolver.proofs.Attempting.{asks-append}
+use Rattle.hickory_resolver.proofs.AttemptChains.{asks-append}
 
 -- ---- an attempt of one type is one sub-look-up, or memory ran out before it
 

@@ -1,5 +1,5 @@
-pub mod Attempting
+pub mod AttemptChains
 pub mod Families
 pub mod Answering
-pub mod Serving
+pub mod ServedRuns
 pub mod ToldRuns

@@ -4,14 +4,14 @@ use Rattle.std.proofs.lemmas.List.{append-nil}
 use Rattle.hickory_proto_core.specs.Handles.{Step, RecordedValue}
 use Rattle.hickory_proto_core.specs.Recorded.{RecordedStep, recorded_leads}
 use Rattle.hickory_proto_core.specs.declared.recorded.Exchange.{Exchange}
-use Rattle.hickory_resolver_config.specs.Resolver.{ResolverConfigValue, OptionsValue}
+use Rattle.hickory_resolver_config.specs.ResolverConfig.{ResolverConfigValue, OptionsValue}
 use Rattle.hickory_resolver_model.specs.Hosts.{Host}
 use Rattle.hickory_resolver_model.specs.Resolver.{ResolverValue, new_resolver, settings}
 use Rattle.hickory_resolver_model.specs.Run.{RequestValue, StepValue, settings_of}
 use Rattle.hickory_resolver.specs.Serving.{AnswersAll}
 use Rattle.hickory_resolver.specs.Telling.{Told, Hears, HearsAll, told_of, MakesTold, TellsAll, Tells, ToldSoFar, IsToldRun}
-use Rattle.hickory_resolver_theorems.proofs.Promises.{promised_run}
-use Rattle.hickory_resolver.proofs.Serving.{KeepsRequest, is_run, resolver_is}
+use Rattle.hickory_resolver_theorems.proofs.PromisesHold.{promised_run}
+use Rattle.hickory_resolver.proofs.ServedRuns.{KeepsRequest, is_run, resolver_is}
 
 -- ---- a loop
 

@@ -26,4 +26,4 @@ pub use Rattle.hickory_resolver_theorems.specs.Provenance
 pub use Rattle.hickory_resolver_hosts.specs.Reading
 pub use Rattle.hickory_resolver_hosts.specs.Watched
 pub use Rattle.hickory_resolver_hosts.specs.declared as hosts
-pub use Rattle.hickory_resolver_lookup.specs.Addresses
+pub use Rattle.hickory_resolver_lookup.specs.LookupAddresses

@@ -5,7 +5,7 @@ ghost use Rattle.hickory_proto_core.specs.Name.{NameValue};
 ghost use Rattle.hickory_proto_core.specs.Records.{data_of};
 ghost use Rattle.hickory_proto_core.specs.codes.record_type.RecordType.TheVariants as type;
 ghost use Rattle.hickory_proto_core.specs.names.name_error.NameError.{NameError};
-ghost use Rattle.hickory_resolver_config.specs.Resolver.{default_options};
+ghost use Rattle.hickory_resolver_config.specs.ResolverConfig.{default_options};
 ghost use Rattle.hickory_resolver_model.specs.Attempts.{attempts};
 ghost use Rattle.hickory_resolver_model.specs.Calls.{last_resort, literal_at_last};
 ghost use Rattle.hickory_resolver_model.specs.Options.{request_options_of};

@@ -1,6 +1,6 @@
 //! What a resolver is built from.
 ghost use Rattle.std.specs.Prelude.{◌≡◌};
-ghost use Rattle.hickory_resolver_config.specs.Resolver.{default_options};
+ghost use Rattle.hickory_resolver_config.specs.ResolverConfig.{default_options};
 ghost use Rattle.hickory_resolver_model.specs.Resolver.{built};
 
 use crate::resolver::Resolver;

@@ -12,7 +12,7 @@ use Rattle.hickory_proto_core.specs.records.net_error.DnsError.TheVariants.{Resp
 use Rattle.hickory_resolver_model.specs.Bounds.{ConfigValue, clamped_message, negative_lifetime, positive_lifetime}
 use Rattle.hickory_resolver_model.specs.Cache.{CacheValue, Entry, IsNewest, NeverLater, current, entry_of, is_current, is_for, last_moment, negative_entry, not_after, not_after_current, positive_entry, insert_entry, room_for, saturating_sum, store, store_until}
 use Rattle.hickory_resolver_cache.specs.Outcome.{kept_entry}
-use Rattle.hickory_resolver_cache.proofs.Lists.{find-none, none_alike}
+use Rattle.hickory_resolver_cache.proofs.PairLists.{find-none, none_alike}
 use Rattle.std.specs.List.{IsDistinct}
 use Rattle.hickory_resolver_cache.proofs.Store.{room_for-none}
 

@@ -1,4 +1,4 @@
-mod Lists
+mod PairLists
 mod Listed
 mod TurnOrder
 mod Store

@@ -16,7 +16,7 @@ use Rattle.std.specs.Option.{option_or, option_map, option_to_list}
 use Rattle.indexmap.specs.Layout.{hash_map}
 use Rattle.indexmap.proofs.MapLemmas.{distinct_permutation, lookup_permutation}
 use Rattle.hickory_resolver_cache.specs.Turns.{Pair, by_number, numbered, listed, in_order, IsNumbered}
-use Rattle.hickory_resolver_cache.proofs.Lists.{all-append, lookup-append, list_any-keys, or-none}
+use Rattle.hickory_resolver_cache.proofs.PairLists.{all-append, lookup-append, list_any-keys, or-none}
 
 -- the pair, unless b
 abbrev unless : Bool → Option Pair → Option Pair

@@ -21,7 +21,7 @@ use Rattle.hickory_proto_core.specs.Query.{query_eq, query_equiv}
 use Rattle.std.specs.Prelude.{◌&&◌, nat_le}
 use Rattle.hickory_resolver_model.specs.Cache.{Entry, current, is_for, without, without_earliest, least_deadline, room_for, insert_entry}
 use Rattle.hickory_resolver_cache.specs.Turns.{Pair, Turn, Order, turn_cmp, stored_entry, by_number, numbered, listed, in_order, entries_of, IsNumbered, IsPlaced, IsKept, StandsAt, Gone, TurnGone, IsTaken, IsTurnOf, IsSomeTurn, IsFirstTurn, MakesRoom, Drops, shown, shown_entry}
-use Rattle.hickory_resolver_cache.proofs.Lists.{all-map, all-map_at, all-weaker, remove-first, list_any-filter_not, list_any-remove, filter-none}
+use Rattle.hickory_resolver_cache.proofs.PairLists.{all-map, all-map_at, all-weaker, remove-first, list_any-filter_not, list_any-remove, filter-none}
 use Rattle.hickory_resolver_cache.proofs.Listed.{listed-same, all-listed, Around, around, in_order-permutes, numbered-at}
 use Rattle.hickory_resolver_cache.proofs.TurnOrder.{left, turn-below, taken-from_stands, numbered-push, found-query, numbers-left, numbers-push, placed-left, placed-push, gone-push, stands-push}
 

@@ -14,7 +14,7 @@ use Rattle.hickory_proto_core.specs.records.net_error.NetError.TheVariants.{Mess
 use Rattle.hickory_proto_core.specs.records.net_error.DnsError.TheVariants.{ResponseCode, NoRecordsFound}
 use Rattle.hickory_resolver_model.specs.Bounds.{ConfigValue, bounds_for, clamped_message, clamped_record, clamped_records, greatest_ttl, least_ttl, living_records, positive_bounds, reduced_bound}
 use Rattle.hickory_resolver_model.specs.Cache.{Entry, IsTimelyAnswer, OutlivesNoAnswer, current, entry_of, is_for, negative_entry, not_after, not_after_current, positive_entry, insert_entry, room_for, without, without_earliest, least_deadline}
-use Rattle.hickory_resolver_cache.proofs.Lists.{all-append, all-filter, all-remove, all-weaker}
+use Rattle.hickory_resolver_cache.proofs.PairLists.{all-append, all-filter, all-remove, all-weaker}
 
 -- ---- the least TTL of some records
 least-below : (n : ℕ) (rs : List RecordValue) → fold min n (map (λ r. r.ttl) rs) ≤ n

@@ -22,7 +22,7 @@ use Rattle.hickory_proto_core.specs.records.query.Query.{Query}
 use Rattle.hickory_resolver_cache.specs.declared.kept.Kept.{Kept}
 use Rattle.hickory_proto_core.specs.Query.{query_eq, query_equiv}
 use Rattle.hickory_resolver_cache.specs.Turns.{Pair, Turn, Order, turn_cmp, by_number, numbered, query_at, IsNumbered, IsPlaced, StandsAt, Gone, TurnGone}
-use Rattle.hickory_resolver_cache.proofs.Lists.{or-none}
+use Rattle.hickory_resolver_cache.proofs.PairLists.{or-none}
 use Rattle.hickory_resolver_cache.proofs.Listed.{numbered-append, numbered-is, numbered-at, numbered-left, apart-left, apart-push, stands}
 
 pub at-turn : (t u : Turn) → is_at (turn_cmp t) u ≡ ((t.0 == u.0) && (t.1 == u.1))

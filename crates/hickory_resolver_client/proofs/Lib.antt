@@ -4,5 +4,5 @@ pub mod Walking
 pub mod Targets
 pub mod Selecting
 pub mod Stepping
-pub mod Stored
-pub mod Walks
+pub mod PassedStores
+pub mod LastHop

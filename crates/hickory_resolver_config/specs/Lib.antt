@@ -1,4 +1,4 @@
 pub mod Connections
 pub mod Encryption
 pub mod Servers
-pub mod Resolver
+pub mod ResolverConfig

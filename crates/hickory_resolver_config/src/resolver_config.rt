@@ -1,7 +1,7 @@
 //! The domain, the search list and the servers of a resolver.
 ghost use Rattle.std.specs.Prelude.{◌≡◌, false, [], ◌∷◌, ◌++◌, Some, IfOk, OnOk, OnErr, IsOkUnless, option_copied};
 ghost use Rattle.hickory_resolver_config.specs.Connections.{over_udp, over_tcp, over_tls, over_https, over_quic, over_h3};
-ghost use Rattle.hickory_resolver_config.specs.Resolver.{ResolverConfigValue, config_of_servers};
+ghost use Rattle.hickory_resolver_config.specs.ResolverConfig.{ResolverConfigValue, config_of_servers};
 ghost use Rattle.hickory_resolver_config.specs.Servers.{servers_over};
 
 use crate::name_server_config::NameServerConfig;
@@ -24,7 +24,7 @@ pub struct ResolverConfig {
 }
 
 impl Model for ResolverConfig {
-    ghost use Rattle.hickory_resolver_config.specs.Resolver.{ResolverConfigValue};
+    ghost use Rattle.hickory_resolver_config.specs.ResolverConfig.{ResolverConfigValue};
 
     ghost Value = { ResolverConfigValue };
 

@@ -1,6 +1,6 @@
 //! The options of a resolver.
 ghost use Rattle.std.specs.Prelude.{◌≡◌, IfOk, IsOkUnless};
-ghost use Rattle.hickory_resolver_config.specs.Resolver.{OptionsValue, default_options};
+ghost use Rattle.hickory_resolver_config.specs.ResolverConfig.{OptionsValue, default_options};
 
 use crate::strategies::{LookupIpStrategy, ResolveHosts, ServerOrderingStrategy};
 use hickory_proto_core::{IpNet, NetError};
@@ -67,7 +67,7 @@ pub struct ResolverOpts {
 }
 
 impl Model for ResolverOpts {
-    ghost use Rattle.hickory_resolver_config.specs.Resolver.{OptionsValue};
+    ghost use Rattle.hickory_resolver_config.specs.ResolverConfig.{OptionsValue};
 
     ghost Value = { OptionsValue };
 

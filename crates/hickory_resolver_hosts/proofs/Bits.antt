@@ -11,7 +11,7 @@ use Rattle.std.proofs.lemmas.Bool.Decides.{nat_tests}
 use Rattle.std.proofs.lemmas.Slice.Eq.{bytes_eq-Decides}
 use Rattle.hickory_proto_core.specs.Records.{data_eq, data_of_address}
 use Rattle.hickory_resolver_hosts.specs.Index.{same_address, AreOctets, HasOctets}
-use Rattle.hickory_resolver_hosts.proofs.Index.{and_with_true}
+use Rattle.hickory_resolver_hosts.proofs.IndexChanges.{and_with_true}
 
 -- the number of digits to the base 256, the highest first
 abbrev number : (ℕ → ℕ) → ℕ → ℕ

@@ -22,9 +22,9 @@ use Rattle.hickory_proto_core.specs.records.query.Query.{Query}
 use Rattle.hickory_resolver_model.specs.Lookup.{LookupValue, answers_for_day}
 use Rattle.hickory_resolver_model.specs.Hosts.{Host, has_address, as_fqdn, pointer_lookup, pointers}
 use Rattle.hickory_resolver_hosts.specs.Index.{has_owner, owner_cmp, owners_below}
-use Rattle.hickory_resolver_hosts.specs.Table.{host_at, hosts_of, has_address_at, no_lookups, pointer_at, pointer_to, HasPointers}
+use Rattle.hickory_resolver_hosts.specs.HostsTable.{host_at, hosts_of, has_address_at, no_lookups, pointer_at, pointer_to, HasPointers}
 use Rattle.hickory_resolver_hosts.specs.declared.host.HostLookups.{HostLookups}
-use Rattle.hickory_resolver_hosts.proofs.Index.{equal_from, is_below, is_below_by, tied_bits}
+use Rattle.hickory_resolver_hosts.proofs.IndexChanges.{equal_from, is_below, is_below_by, tied_bits}
 
 -- a turn of the loop over places
 pub turn_some : {X Y : Type 0} (g : X → Option Y) (rs new all : List Y) (s t : List X) (x : X) (r : Y) → s ≡ x ∷ t → g x ≡ Some r

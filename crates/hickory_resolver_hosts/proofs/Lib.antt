@@ -1,12 +1,12 @@
 pub mod Boxes
-pub mod Index
+pub mod IndexChanges
 pub mod Bits
-pub mod Addresses
+pub mod GivenAddresses
 pub mod Places
 pub mod InOrder
-pub mod Texts
+pub mod FieldTexts
 pub mod LinesRead
 pub mod FirstLine
 pub mod FileRead
 pub mod Whole
-pub mod Fields
+pub mod SplitFields

@@ -17,7 +17,7 @@ use Rattle.hickory_resolver_model.specs.Hosts.{Host, AreNames, AreLinePairs, IsA
 use Rattle.hickory_resolver_hosts.specs.Reading.{Pair, pairs_of, AreNamesRead, IsNameField, IsLineRead}
 use Rattle.hickory_resolver_hosts.specs.declared.hosts_error.HostsError.{HostsError}
 use Rattle.hickory_resolver_hosts.specs.declared.hosts_error.HostsError.TheVariants.{Read, InvalidData, OutOfMemory}
-use Rattle.hickory_resolver_hosts.proofs.Texts.{all_ascii, ascii_all, chars_of_ascii, text_of_ascii}
+use Rattle.hickory_resolver_hosts.proofs.FieldTexts.{all_ascii, ascii_all, chars_of_ascii, text_of_ascii}
 
 pub pairs_in_turn : (now : ℕ) (ps qs : List Pair) (hosts : List Host) → insert_pairs now (ps ++ qs) hosts ≡ insert_pairs now qs (insert_pairs now ps hosts)
 pairs_in_turn now [] qs hosts = refl

@@ -21,10 +21,10 @@ use Rattle.hickory_resolver_model.specs.Lookup.{LookupValue}
 use Rattle.hickory_resolver_model.specs.Hosts.{Host, address_type, append, family, has_address, has_answer, insert_host, is_host, as_fqdn, no_addresses, with_lookup}
 use Rattle.hickory_resolver_hosts.specs.Index.{is_owner, is_among, EachAddress}
 use Rattle.hickory_resolver_hosts.specs.declared.owners.Owners.{Owners}
-use Rattle.hickory_resolver_hosts.specs.Table.{host_at, hosts_of, no_lookups, place_in, put_host, has_address_at, IsIndexed, is_given}
+use Rattle.hickory_resolver_hosts.specs.HostsTable.{host_at, hosts_of, no_lookups, place_in, put_host, has_address_at, IsIndexed, is_given}
 use Rattle.hickory_resolver_hosts.specs.declared.host.HostLookups.{HostLookups}
-use Rattle.hickory_resolver_hosts.proofs.Addresses.{and_false}
-use Rattle.hickory_resolver_hosts.proofs.Index.{and_with_true, or_with_false}
+use Rattle.hickory_resolver_hosts.proofs.GivenAddresses.{and_false}
+use Rattle.hickory_resolver_hosts.proofs.IndexChanges.{and_with_true, or_with_false}
 
 abbrev Entries : Type 0
 Entries = List (NameValue × HostLookups)

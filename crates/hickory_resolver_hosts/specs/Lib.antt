@@ -1,5 +1,5 @@
 pub mod Index
-pub mod Table
+pub mod HostsTable
 pub mod Reading
 pub mod Text
 pub mod Watched

@@ -3,7 +3,7 @@ ghost use Rattle.std.specs.Prelude.{◌≡◌, IfOk, OnOk, OnErr, option_copied}
 ghost use Rattle.hickory_proto_core.specs.Name.{NameValue};
 ghost use Rattle.hickory_resolver_model.specs.Hosts.{append, family, no_addresses, with_lookup};
 ghost use Rattle.std.specs.Option.{option_map_or};
-ghost use Rattle.hickory_resolver_hosts.specs.Table.{host_at, no_lookups, put_family, unboxed};
+ghost use Rattle.hickory_resolver_hosts.specs.HostsTable.{host_at, no_lookups, put_family, unboxed};
 
 use hickory_proto_core::{Name, Query, RecordType};
 use hickory_resolver_lookup::Lookup;

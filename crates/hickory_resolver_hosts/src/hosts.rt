@@ -2,7 +2,7 @@
 ghost use Rattle.std.specs.Prelude.{◌≡◌, ◌⊎◌, ◌==◌, [], find, length, option_and_then, IfOk, OnOk, OnErr, IsOkUnless};
 ghost use Rattle.hickory_proto_core.specs.Codes.{type_code};
 ghost use Rattle.hickory_resolver_model.specs.Hosts.{family, insert_host, is_host, as_fqdn, pointer_lookup, IsStatic};
-ghost use Rattle.hickory_resolver_hosts.specs.Table.{HasPointers};
+ghost use Rattle.hickory_resolver_hosts.specs.HostsTable.{HasPointers};
 
 use crate::host::HostLookups;
 use crate::hosts_error::HostsError;
@@ -27,7 +27,7 @@ pub struct Hosts<S: BuildHasher = BuildHasherDefault<FoldHasher>> {
 impl<S: BuildHasher> Model for Hosts<S> {
     ghost use Rattle.std.specs.Prelude.{List};
     ghost use Rattle.hickory_resolver_model.specs.Hosts.{Host};
-    ghost use Rattle.hickory_resolver_hosts.specs.Table.{hosts_of, IsIndexed};
+    ghost use Rattle.hickory_resolver_hosts.specs.HostsTable.{hosts_of, IsIndexed};
 
     ghost Value = { List Host };
 

@@ -8,7 +8,7 @@ ghost use Rattle.hickory_proto_core.specs.Records.{data_eq, data_of_address};
 ghost use Rattle.hickory_resolver_model.specs.Hosts.{address_type};
 ghost use Rattle.hickory_resolver_hosts.specs.Index.{is_among, is_owner, same_address};
 ghost use Rattle.hickory_resolver_hosts.specs.Index.{AreOctets, EachAddress, HasOctets};
-ghost use Rattle.hickory_resolver_hosts.specs.Table.{gives, is_given, is_of_family};
+ghost use Rattle.hickory_resolver_hosts.specs.HostsTable.{gives, is_given, is_of_family};
 
 use hickory_proto_core::{Record, RecordType};
 use std::alloc::{AllocError, Global};

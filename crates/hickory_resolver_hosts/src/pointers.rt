@@ -5,7 +5,7 @@ ghost use Rattle.std.specs.List.{filter_map};
 ghost use Rattle.hickory_proto_core.specs.Records.{data_of_address};
 ghost use Rattle.hickory_resolver_model.specs.Hosts.{has_address, pointers};
 ghost use Rattle.hickory_resolver_hosts.specs.Index.{owner_cmp, owners_below};
-ghost use Rattle.hickory_resolver_hosts.specs.Table.{hosts_of, no_lookups, pointer_at, pointer_to, IsIndexed};
+ghost use Rattle.hickory_resolver_hosts.specs.HostsTable.{hosts_of, no_lookups, pointer_at, pointer_to, IsIndexed};
 
 use crate::host::HostLookups;
 use crate::owners::{Owners, bits_v4, bits_v6};

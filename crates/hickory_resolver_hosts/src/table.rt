@@ -3,7 +3,7 @@ ghost use Rattle.std.specs.Prelude.{◌≡◌, ◌<◌, ◌==◌, ◌||◌, ◌&
 ghost use Rattle.hickory_proto_core.specs.Name.{NameValue};
 ghost use Rattle.hickory_resolver_model.specs.Hosts.{insert_host, with_lookup};
 ghost use Rattle.hickory_resolver_hosts.specs.Index.{is_owner, EachAddress};
-ghost use Rattle.hickory_resolver_hosts.specs.Table.{host_at, hosts_of, is_given, no_lookups, place_in, put_host, IsIndexed};
+ghost use Rattle.hickory_resolver_hosts.specs.HostsTable.{host_at, hosts_of, is_given, no_lookups, place_in, put_host, IsIndexed};
 
 use crate::host::{HostLookups, first_lookup};
 use crate::hosts_error::HostsError;

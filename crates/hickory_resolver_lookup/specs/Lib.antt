@@ -1,3 +1,3 @@
-pub mod Addresses
+pub mod LookupAddresses
 pub mod ConfigLends
 pub mod Requests

@@ -2,7 +2,7 @@
 ghost use Rattle.std.specs.Prelude.{◌≡◌, ◌<◌, length, IfOk, IsOkUnless};
 ghost use Rattle.hickory_proto_core.specs.ResponseKind.{first_query};
 ghost use Rattle.hickory_resolver_model.specs.Lookup.{LookupValue};
-ghost use Rattle.hickory_resolver_lookup.specs.Addresses.{address_in, addresses_of};
+ghost use Rattle.hickory_resolver_lookup.specs.LookupAddresses.{address_in, addresses_of};
 
 use crate::lookup::Lookup;
 use hickory_proto_core::{NetError, Query, Record};
@@ -116,7 +116,7 @@ impl<'a> Model for LookupIpIter<'a> {
     ghost use Rattle.std.specs.Prelude.{List};
     ghost use Rattle.std.specs.Slice.Iter.{iter_rest};
     ghost use Rattle.std.specs.declared.net.IpAddr.{IpAddr};
-    ghost use Rattle.hickory_resolver_lookup.specs.Addresses.{addresses_of};
+    ghost use Rattle.hickory_resolver_lookup.specs.LookupAddresses.{addresses_of};
 
     ghost Value = { List IpAddr };
 
@@ -155,7 +155,7 @@ impl Model for LookupIpIntoIter {
     ghost use Rattle.std.specs.Prelude.{List};
     ghost use Rattle.std.specs.Vec.Iter.{into_iter_items};
     ghost use Rattle.std.specs.declared.net.IpAddr.{IpAddr};
-    ghost use Rattle.hickory_resolver_lookup.specs.Addresses.{addresses_of};
+    ghost use Rattle.hickory_resolver_lookup.specs.LookupAddresses.{addresses_of};
 
     ghost Value = { List IpAddr };
 

@@ -10,7 +10,7 @@ use Rattle.hickory_proto_core.specs.names.name_error.NameError.TheVariants as na
 use Rattle.hickory_proto_core.specs.records.net_error.NetError.{NetError}
 use Rattle.hickory_proto_core.specs.records.net_error.NetError.TheVariants.{Bounds, OutOfMemory}
 use Rattle.hickory_proto_core.specs.declared.dns_request.DnsRequestOptions.{DnsRequestOptions}
-use Rattle.hickory_resolver_config.specs.Resolver.{ResolverConfigValue, OptionsValue}
+use Rattle.hickory_resolver_config.specs.ResolverConfig.{ResolverConfigValue, OptionsValue}
 use Rattle.hickory_resolver_model.specs.Bounds.{bounds_fault}
 use Rattle.hickory_resolver_model.specs.Options.{bounds_of}
 use Rattle.hickory_resolver_model.specs.Lookup.{LookupResult}

@@ -25,7 +25,7 @@ use Rattle.hickory_resolver_theorems.specs.Covered.{Dated, dated_exchanges, IsCo
 use Rattle.hickory_resolver_theorems.specs.Statements.{HasNoLeast, IsFreshRecord, AreFreshRecords, IsFreshReply, IsFreshOutcome, IsFreshEntry, AreFreshEntries, IsFresh}
 use Rattle.hickory_resolver_theorems.proofs.Lists.{all-weaker, all-append, all-front, all-back, all-map, all-has, has-all, has-right, has-map, find-has, ContainsByRecursion, contains-from_recursion}
 use Rattle.hickory_resolver_theorems.proofs.Covers.{Arrives, arrived-fresh, fresh-arrives, fresh-sooner, covered-has, covered-lower, clamped_message-le, clamped_message-greatest, greatest-short, least-has, saturating-le}
-use Rattle.hickory_resolver_theorems.proofs.Verdicts.{KeepsType, leads-keep, found-answers}
+use Rattle.hickory_resolver_theorems.proofs.VerdictFacts.{KeepsType, leads-keep, found-answers}
 use Rattle.hickory_resolver_theorems.proofs.Stores.{StoresArrived, stores-fresh, entries-more, earlier-all}
 
 -- ---- special names

@@ -1,6 +1,6 @@
-pub mod Aliases
+pub mod AliasLifetimes
 pub mod Answered
-pub mod CallFacts
+pub mod PromisedCalls
 pub mod Chains
 pub mod Covers
 pub mod Few
@@ -17,6 +17,6 @@ pub mod Responses
 pub mod Runs
 pub mod Stores
 pub mod Transparent
-pub mod Verdicts
+pub mod VerdictFacts
 pub mod Weaker
-pub mod Promises
+pub mod PromisesHold

@@ -29,7 +29,7 @@ use Rattle.hickory_resolver_model.specs.Hops.{LookupContext, kind_verdict, kind_
 use Rattle.hickory_resolver_theorems.specs.Cacheless.{cacheless_context, ResolvesTo, at_special, at_last, at_alias}
 use Rattle.hickory_resolver_theorems.specs.WithoutTimes.{folded_name, folded_query, folded_data, record_without_times, sections, WithoutTimes, without_times}
 use Rattle.hickory_resolver_theorems.proofs.Folding.{lowers-twice, query_type-folded_name, query_class-folded_name, map-map}
-use Rattle.hickory_resolver_theorems.proofs.Verdicts.{alias-leads}
+use Rattle.hickory_resolver_theorems.proofs.VerdictFacts.{alias-leads}
 use Rattle.hickory_resolver_theorems.proofs.Responses.{Ends, GoesOn, next_verdict, next_class, next_outcome, next-same}
 
 -- ---- special names

@@ -26,7 +26,7 @@ use Rattle.hickory_resolver_theorems.specs.Statements.{IsWhatItResolvesTo, AreWh
 use Rattle.hickory_resolver_theorems.proofs.Lists.{all-weaker, all-append, all-front, all-back, all-has, find-has}
 use Rattle.hickory_resolver_theorems.proofs.Stores.{Makes, after_stores-all, earlier-all}
 use Rattle.hickory_resolver_theorems.proofs.Folding.{map-map, query-same}
-use Rattle.hickory_resolver_theorems.proofs.Verdicts.{passed}
+use Rattle.hickory_resolver_theorems.proofs.VerdictFacts.{passed}
 use Rattle.hickory_resolver_theorems.proofs.Fresh.{class-answer}
 use Rattle.hickory_resolver_theorems.proofs.Responses.{Ends, GoesOn, next_outcome, next-same}
 use Rattle.hickory_resolver_theorems.proofs.Meanings.{IsSomeCore, special_use_result-none, special_use_result-some, sections-clamped_message, GoesOnTo, EndsWith, hop-next, BySpecial, ByOutcome, ByAlias, means-cases, means-some, means-same, means-one}

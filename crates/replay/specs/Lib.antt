@@ -1,5 +1,5 @@
 pub mod Hearing
 pub mod Output
-pub mod Run
+pub mod ScriptRun
 pub mod Statuses
 pub mod Writing

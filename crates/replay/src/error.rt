@@ -40,7 +40,7 @@ impl ReplayError {
 
 impl From<ScriptError> for ReplayError {
     ghost use Rattle.std.specs.Prelude.{◌≡◌};
-    ghost use Rattle.replay.specs.Run.{replay_error_of};
+    ghost use Rattle.replay.specs.ScriptRun.{replay_error_of};
 
     ghost from_gives = { λ error x. x ≡ replay_error_of error };
 
@@ -54,7 +54,7 @@ impl From<ScriptError> for ReplayError {
 
 impl From<HostsError> for ReplayError {
     ghost use Rattle.std.specs.Prelude.{◌≡◌};
-    ghost use Rattle.replay.specs.Run.{hosts_fault};
+    ghost use Rattle.replay.specs.ScriptRun.{hosts_fault};
 
     ghost from_gives = { λ error x. x ≡ hosts_fault error };
 

@@ -5,7 +5,7 @@ ghost use Rattle.hickory_resolver.specs.Requests.{request_of};
 ghost use Rattle.hickory_resolver_model.specs.Bounds.{bounds_fault};
 ghost use Rattle.hickory_resolver_model.specs.Options.{bounds_of};
 ghost use Rattle.hickory_resolver_model.specs.Run.{settings_of};
-ghost use Rattle.replay.specs.Run.{IsNoTable, IsRefused, IsReplayed, IsScriptTold, IsTable, IsTableTold, IsTold, first_moment};
+ghost use Rattle.replay.specs.ScriptRun.{IsNoTable, IsRefused, IsReplayed, IsScriptTold, IsTable, IsTableTold, IsTold, first_moment};
 
 use crate::error::ReplayError;
 use crate::output::TextListener;

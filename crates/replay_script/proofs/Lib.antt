@@ -1,7 +1,7 @@
 pub mod FieldLists
 pub mod FirstBytes
 pub mod LineLists
-pub mod Counts
+pub mod WrongCounts
 pub mod Allowed
 pub mod Strings
 pub mod Settings

@@ -2,7 +2,7 @@
 use Rattle.std.proofs.Common.{◌≡◌, ◌∙◌, Bool, false, List, [], ◌∷◌, ◌++◌, Option, None, Some, refl, ap}
 use Rattle.std.proofs.lemmas.List.{append-nil}
 use Rattle.hickory_proto_core.specs.Name.{NameValue}
-use Rattle.hickory_resolver_config.specs.Resolver.{OptionsValue, default_options}
+use Rattle.hickory_resolver_config.specs.ResolverConfig.{OptionsValue, default_options}
 use Rattle.replay_script.specs.OptionLine.{with_option}
 use Rattle.replay_script.specs.Configuration.{options_from, domain_from, search_in, table_from, configured, with_setting}
 use Rattle.replay_script.specs.declared.setting.Setting.{Setting}

@@ -1,7 +1,7 @@
 -- What settings configure, one after another.
 use Rattle.std.specs.Prelude.{Bool, false, List, [], ◌∷◌, ◌++◌, Option, None, Some}
 use Rattle.hickory_proto_core.specs.Name.{NameValue}
-use Rattle.hickory_resolver_config.specs.Resolver.{OptionsValue, default_options}
+use Rattle.hickory_resolver_config.specs.ResolverConfig.{OptionsValue, default_options}
 use Rattle.replay_script.specs.OptionLine.{with_option}
 use Rattle.replay_script.specs.declared.setting.Setting.{Setting}
 use Rattle.replay_script.specs.declared.setting.Setting.TheVariants as set

@@ -5,10 +5,10 @@ pub mod Fields
 pub mod Line
 pub mod OptionLine
 pub mod Reader
-pub mod RecordData
+pub mod DataFields
 pub mod RecordLine
 pub mod ReplyLine
-pub mod Request
+pub mod RequestLine
 pub mod Script
 pub mod Setting
 pub mod Words

@@ -8,7 +8,7 @@ use Rattle.replay_script.specs.FailLine.{IsFailure}
 use Rattle.replay_script.specs.RecordLine.{IsRecord}
 use Rattle.replay_script.specs.ReplyLine.{reply_of}
 use Rattle.hickory_resolver_lookup.specs.declared.request.Request.{Request}
-use Rattle.replay_script.specs.Request.{IsRequest, request_asked}
+use Rattle.replay_script.specs.RequestLine.{IsRequest, request_asked}
 use Rattle.replay_script.specs.Setting.{setting_of}
 use Rattle.replay_script.specs.Words.{◌>>=◌}
 use Rattle.replay_script.specs.declared.fail_line.Failure.{Failure}

@@ -2,7 +2,7 @@
 use Rattle.std.specs.Prelude.{ℕ, Bool, true, false, List, [], ◌∷◌, codes, Option, None, Some, Result, Ok, Err, if◌then◌else◌}
 use Rattle.std.specs.Option.{ok_or}
 use Rattle.hickory_proto_core.specs.Codes.{is_text}
-use Rattle.hickory_resolver_config.specs.Resolver.{OptionsValue}
+use Rattle.hickory_resolver_config.specs.ResolverConfig.{OptionsValue}
 use Rattle.hickory_resolver_config.specs.declared.strategies.LookupIpStrategy.{LookupIpStrategy}
 use Rattle.hickory_resolver_config.specs.declared.strategies.LookupIpStrategy.TheVariants as strategy
 use Rattle.replay_script.specs.Words.{◌>>=◌, number_field}

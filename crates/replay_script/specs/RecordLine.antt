@@ -4,7 +4,7 @@ use Rattle.std.specs.Option.{ok_or}
 use Rattle.hickory_proto_core.specs.Codes.{class_named, type_named}
 use Rattle.hickory_proto_core.specs.Messages.{MessageValue}
 use Rattle.hickory_proto_core.specs.Records.{DataValue, RecordValue}
-use Rattle.replay_script.specs.RecordData.{IsData}
+use Rattle.replay_script.specs.DataFields.{IsData}
 use Rattle.replay_script.specs.Words.{◌>>=◌, name_field, number_field}
 use Rattle.replay_script.specs.declared.fault.ScriptFault.{ScriptFault}
 use Rattle.replay_script.specs.declared.fault.ScriptFault.TheVariants.{FieldCount, UnknownWord}

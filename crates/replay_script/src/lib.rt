@@ -3,16 +3,16 @@
 #![tactic(auto)]
 
 pub mod configuration;
+pub mod data_fields;
 pub mod fail_line;
 pub mod fault;
 pub mod fields;
 pub mod line;
 pub mod numbers;
 pub mod option_line;
-pub mod record_data;
 pub mod record_line;
 pub mod reply_line;
-pub mod request;
+pub mod request_line;
 pub mod script;
 pub mod setting;
 pub mod words;

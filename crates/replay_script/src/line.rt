@@ -10,7 +10,7 @@ use crate::fault::ScriptFault;
 use crate::fields::{Fields, is_allowed, is_skipped};
 use crate::record_line::{Section, read_record};
 use crate::reply_line::{ReplyHead, read_reply};
-use crate::request::read_request;
+use crate::request_line::read_request;
 use crate::setting::{Setting, SettingKind, read_setting};
 use hickory_proto_core::Record;
 use hickory_resolver_lookup::Request;

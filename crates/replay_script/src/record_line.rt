@@ -3,8 +3,8 @@ ghost use Rattle.std.specs.Prelude.{◌≡◌, ◌⊎◌, Err, IfOk};
 ghost use Rattle.replay_script.specs.RecordLine.{IsRecord, head_of};
 ghost use Rattle.replay_script.specs.Words.{texts};
 
+use crate::data_fields::read_data;
 use crate::fault::ScriptFault;
-use crate::record_data::read_data;
 use crate::words::{number32, read_name};
 use hickory_proto_core::{DNSClass, Name, Record, RecordType};
 use std::alloc::Global;

@@ -7,21 +7,21 @@
 mod attempted;
 mod bounds;
 mod clears;
-mod copies;
-mod given;
+mod copied_parts;
+mod given_names;
 mod hashers;
 mod in_turn;
 mod kinds;
-mod negative;
+mod large_table;
+mod negative_replies;
 mod no_names;
 mod options;
 mod outcomes;
 mod own_handle;
 mod replaced;
-mod runs;
 mod servers;
 mod shown;
-mod table;
+mod table_run;
 mod types;
 mod upstream;
 
@@ -47,18 +47,18 @@ fn push_all(alloc: Global, text: &mut String, cases: &str) -> Result<(), NetErro
     push_clients(alloc, text)?;
     push_resolvers(alloc, text)?;
     servers::push_configuration(alloc, text)?;
-    copies::push_copies(alloc, text)?;
+    copied_parts::push_copies(alloc, text)?;
     replaced::push_replaced(alloc, text)?;
-    runs::push_run(alloc, text)?;
+    table_run::push_run(alloc, text)?;
     attempted::push_attempts(alloc, text, cases)?;
     Ok(())
 }
 
 fn push_clients(alloc: Global, text: &mut String) -> Result<(), NetError> {
-    table::push_table(alloc, text)?;
+    large_table::push_table(alloc, text)?;
     options::push_of_clients(alloc, text)?;
     own_handle::push_own_handle(alloc, text)?;
-    negative::push_negative(alloc, text)?;
+    negative_replies::push_negative(alloc, text)?;
     kinds::push_kinds(alloc, text)?;
     in_turn::push_in_turn(alloc, text)?;
     no_names::push_no_names(alloc, text)
@@ -66,7 +66,7 @@ fn push_clients(alloc: Global, text: &mut String) -> Result<(), NetError> {
 
 fn push_resolvers(alloc: Global, text: &mut String) -> Result<(), NetError> {
     types::push_types(alloc, text)?;
-    given::push_given(alloc, text)?;
+    given_names::push_given(alloc, text)?;
     bounds::push_bounds(alloc, text)?;
     options::push_of_resolvers(alloc, text)?;
     hashers::push_hashers(alloc, text)?;

@@ -3,7 +3,7 @@ use Rattle.hickory_proto_core.specs.records.query.Query.{Query}
 use Rattle.hickory_resolver_model.specs.Lookup.{question_of}
 use Rattle.hickory_resolver_model.specs.Client.{IsLookup}
 use Rattle.hickory_resolver_model.specs.Hosts.{IsStatic}
-use Rattle.hickory_resolver.proofs.Attempting.{attempt_asked, attempt_static}
+use Rattle.hickory_resolver.proofs.AttemptChains.{attempt_asked, attempt_static}
 use Rattle.hickory_resolver.proofs.lookup_future.attempt_with_hosts.Goals as goal
 
 pub returns-then-has_none : goal.returns-then-has_none

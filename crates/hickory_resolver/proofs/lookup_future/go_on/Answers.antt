@@ -3,7 +3,7 @@ use Rattle.hickory_proto_core.specs.records.query.Query.{Query}
 use Rattle.hickory_resolver_model.specs.Lookup.{question_of}
 use Rattle.hickory_resolver_model.specs.Client.{IsLookup}
 use Rattle.hickory_resolver_model.specs.Run.{name_plan}
-use Rattle.hickory_resolver.proofs.Attempting.{attempt_asked, so_far_more, so_far_stopped, so_far_over}
+use Rattle.hickory_resolver.proofs.AttemptChains.{attempt_asked, so_far_more, so_far_stopped, so_far_over}
 use Rattle.hickory_resolver.proofs.lookup_future.go_on.Goals as goal
 
 pub loop-record_type-preserved : goal.loop-record_type-preserved

@@ -1,7 +1,7 @@
 use Rattle.std.proofs.Common.{List, reverse, vec_len}
 use Rattle.hickory_resolver_model.specs.Hosts.{Host}
 use Rattle.hickory_resolver_model.specs.Run.{name_plan}
-use Rattle.hickory_resolver.proofs.Attempting.{SoFar}
+use Rattle.hickory_resolver.proofs.AttemptChains.{SoFar}
 use Rattle.hickory_resolver.proofs.lookup_future.go_on.Given as goal
 
 abbrev pub invariant-loop-record_type : goal.invariant-loop-record_type

@@ -1,6 +1,6 @@
 use Rattle.std.proofs.Common.{◌≡◌, rules, [], None, refl, sym, ap, ◌∙◌, reverse}
 use Rattle.hickory_resolver_model.specs.Run.{address_plan}
-use Rattle.hickory_resolver.proofs.Attempting.{so_far_none, so_far_more, so_far_stopped, so_far_over}
+use Rattle.hickory_resolver.proofs.AttemptChains.{so_far_none, so_far_more, so_far_stopped, so_far_over}
 use Rattle.hickory_resolver.proofs.lookup_ip_future.go_on.Goals as goal
 
 pub loop-strategy-init : goal.loop-strategy-init

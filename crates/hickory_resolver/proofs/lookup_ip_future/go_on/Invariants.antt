@@ -1,6 +1,6 @@
 use Rattle.std.proofs.Common.{None, reverse, vec_len}
 use Rattle.hickory_resolver_model.specs.Run.{address_plan}
-use Rattle.hickory_resolver.proofs.Attempting.{SoFar}
+use Rattle.hickory_resolver.proofs.AttemptChains.{SoFar}
 use Rattle.hickory_resolver.proofs.lookup_ip_future.go_on.Given as goal
 
 abbrev pub invariant-loop-strategy : goal.invariant-loop-strategy

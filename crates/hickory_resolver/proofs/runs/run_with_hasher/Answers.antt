@@ -1,10 +1,10 @@
 use Rattle.std.proofs.Common.{◌≡◌, map, subst, sym}
 use Rattle.hickory_resolver_model.specs.Run.{settings_of}
 use Rattle.hickory_resolver_theorems.specs.Promises.{IsPromisedRun}
-use Rattle.hickory_resolver_theorems.proofs.Promises.{promised_run}
+use Rattle.hickory_resolver_theorems.proofs.PromisesHold.{promised_run}
 use Rattle.hickory_resolver_lookup.specs.Requests.{request_of}
 use Rattle.hickory_resolver.specs.Transcripts.{TranscriptValue}
-use Rattle.hickory_resolver.proofs.Serving.{is_run, resolver_is}
+use Rattle.hickory_resolver.proofs.ServedRuns.{is_run, resolver_is}
 use Rattle.hickory_resolver.proofs.runs.run_with_hasher.Goals as goal
 
 pub returns-in-Ok-clause-run : goal.returns-in-Ok-clause-run

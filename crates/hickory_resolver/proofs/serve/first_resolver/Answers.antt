@@ -1,5 +1,5 @@
 use Rattle.std.proofs.Common.{◌≡◌, ◌∙◌, [], ap}
-use Rattle.hickory_resolver_config.specs.Resolver.{OptionsValue}
+use Rattle.hickory_resolver_config.specs.ResolverConfig.{OptionsValue}
 use Rattle.hickory_resolver_model.specs.Cache.{CacheValue}
 use Rattle.hickory_resolver_model.specs.Client.{ClientValue}
 use Rattle.hickory_resolver_model.specs.Resolver.{ResolverValue}

@@ -1,4 +1,4 @@
-use Rattle.hickory_resolver.proofs.Serving.{answered_clear}
+use Rattle.hickory_resolver.proofs.ServedRuns.{answered_clear}
 use Rattle.hickory_resolver.proofs.serve.serve_clear.Goals as goal
 
 pub returns : goal.returns

@@ -1,4 +1,4 @@
-use Rattle.hickory_resolver.proofs.Serving.{answered_clear_lookup}
+use Rattle.hickory_resolver.proofs.ServedRuns.{answered_clear_lookup}
 use Rattle.hickory_resolver.proofs.serve.serve_clear_lookup.Goals as goal
 
 pub returns : goal.returns

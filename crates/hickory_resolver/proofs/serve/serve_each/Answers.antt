@@ -3,7 +3,7 @@ use Rattle.std.proofs.lemmas.Grind.{common_steps}
 use Rattle.hickory_resolver_model.specs.Run.{RequestValue, ends_run}
 use Rattle.hickory_resolver_lookup.specs.declared.request.Request.{Request}
 use Rattle.hickory_resolver_lookup.specs.Requests.{request_of}
-use Rattle.hickory_resolver.proofs.Serving.{answered_all, answered_last, answered_more}
+use Rattle.hickory_resolver.proofs.ServedRuns.{answered_all, answered_last, answered_more}
 use Rattle.hickory_resolver.proofs.serve.serve_each.Goals as goal
 
 pub returns-then-is_last : goal.returns-then-is_last

@@ -1,4 +1,4 @@
-use Rattle.hickory_resolver.proofs.Serving.{answered_lookup}
+use Rattle.hickory_resolver.proofs.ServedRuns.{answered_lookup}
 use Rattle.hickory_resolver.proofs.serve.serve_lookup.Goals as goal
 
 pub returns : goal.returns

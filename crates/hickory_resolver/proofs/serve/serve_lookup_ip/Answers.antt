@@ -1,4 +1,4 @@
-use Rattle.hickory_resolver.proofs.Serving.{answered_host}
+use Rattle.hickory_resolver.proofs.ServedRuns.{answered_host}
 use Rattle.hickory_resolver.proofs.serve.serve_lookup_ip.Goals as goal
 
 pub returns : goal.returns

@@ -2,7 +2,7 @@ use Rattle.std.proofs.Common.{◌∙◌, min, ap}
 use Rattle.hickory_resolver_model.specs.Cache.{store_until}
 use Rattle.hickory_resolver_model.specs.Hops.{as_outcome}
 use Rattle.hickory_resolver_client.specs.Steps.{PassedValue}
-use Rattle.hickory_resolver_client.proofs.Stored.{stored_lower}
+use Rattle.hickory_resolver_client.proofs.PassedStores.{stored_lower}
 use Rattle.hickory_resolver_client.proofs.caching_client.store_back.Goals as goal
 
 pub loop-last-preserved : goal.loop-last-preserved

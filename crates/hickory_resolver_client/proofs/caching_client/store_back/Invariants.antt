@@ -1,5 +1,5 @@
 use Rattle.std.proofs.Common.{vec_len}
-use Rattle.hickory_resolver_client.proofs.Stored.{StoresOn}
+use Rattle.hickory_resolver_client.proofs.PassedStores.{StoresOn}
 use Rattle.hickory_resolver_client.proofs.caching_client.store_back.Given as goal
 
 abbrev pub invariant-loop-last : goal.invariant-loop-last

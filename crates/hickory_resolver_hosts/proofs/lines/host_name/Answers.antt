@@ -1,7 +1,7 @@
 use Rattle.std.proofs.Common.{map, ap, sym, ◌∙◌, inl}
 use Rattle.std.specs.Char.{to_ascii_lowercase}
 use Rattle.std.specs.Str.{chars}
-use Rattle.hickory_resolver_hosts.proofs.Texts.{ascii_chars, chars_of_ascii, past_ascii, is_ascii_text, is_past_ascii, lower_parts, named_by}
+use Rattle.hickory_resolver_hosts.proofs.FieldTexts.{ascii_chars, chars_of_ascii, past_ascii, is_ascii_text, is_past_ascii, lower_parts, named_by}
 use Rattle.hickory_resolver_hosts.proofs.lines.host_name.Goals as goal
 
 pub returns-then-is_lower_ascii : goal.returns-then-is_lower_ascii

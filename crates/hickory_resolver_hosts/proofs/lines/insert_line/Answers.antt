@@ -2,7 +2,7 @@ use Rattle.std.proofs.Common.{ap, sym, subst, ◌∙◌}
 use Rattle.std.specs.Str.{chars, IsUtf8}
 use Rattle.std.specs.Str.Iter.{split_whitespace_rest}
 use Rattle.hickory_resolver_hosts.specs.Text.{words}
-use Rattle.hickory_resolver_hosts.proofs.Texts.{split_end, split_turn}
+use Rattle.hickory_resolver_hosts.proofs.FieldTexts.{split_end, split_turn}
 use Rattle.hickory_resolver_hosts.proofs.LinesRead.{line_empty, line_of_names, line_without, none_left}
 use Rattle.hickory_resolver_hosts.proofs.lines.insert_line.Goals as goal
 

@@ -7,7 +7,7 @@ use Rattle.std.proofs.lemmas.List.{length_push}
 use Rattle.hickory_proto_core.specs.Records.{data_of_address}
 use Rattle.hickory_resolver_hosts.specs.Reading.{IsNameField}
 use Rattle.hickory_resolver_hosts.specs.Text.{words}
-use Rattle.hickory_resolver_hosts.proofs.Fields.{splits}
+use Rattle.hickory_resolver_hosts.proofs.SplitFields.{splits}
 use Rattle.hickory_resolver_hosts.proofs.LinesRead.{name_put, name_passed, names_all}
 use Rattle.hickory_resolver_hosts.proofs.lines.insert_names.Goals as goal
 

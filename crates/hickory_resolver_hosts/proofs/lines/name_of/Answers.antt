@@ -1,4 +1,4 @@
-use Rattle.hickory_resolver_hosts.proofs.Texts.{no_name}
+use Rattle.hickory_resolver_hosts.proofs.FieldTexts.{no_name}
 use Rattle.hickory_resolver_hosts.proofs.lines.name_of.Goals as goal
 
 pub returns-in_ok-check_memory-in-Err : goal.returns-in_ok-check_memory-in-Err

@@ -1,5 +1,5 @@
 use Rattle.std.proofs.Common.{sym, ◌∙◌}
-use Rattle.hickory_resolver_hosts.proofs.Texts.{line_uncommented, plain_text}
+use Rattle.hickory_resolver_hosts.proofs.FieldTexts.{line_uncommented, plain_text}
 use Rattle.hickory_resolver_hosts.proofs.lines.text_of.Goals as goal
 
 pub from_utf8_unchecked-requires : goal.from_utf8_unchecked-requires

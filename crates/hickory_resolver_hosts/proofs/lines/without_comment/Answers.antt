@@ -1,4 +1,4 @@
-use Rattle.hickory_resolver_hosts.proofs.Texts.{before_comment, no_comment}
+use Rattle.hickory_resolver_hosts.proofs.FieldTexts.{before_comment, no_comment}
 use Rattle.hickory_resolver_hosts.proofs.lines.without_comment.Goals as goal
 
 pub returns-in-Some : goal.returns-in-Some

@@ -1,7 +1,7 @@
 use Rattle.std.proofs.Common.{◌||◌, ◌&&◌, ◌==◌, sym, ap, ◌∙◌}
 use Rattle.hickory_resolver_hosts.specs.Index.{is_owner}
-use Rattle.hickory_resolver_hosts.specs.Table.{gives}
-use Rattle.hickory_resolver_hosts.proofs.Addresses.{err_from, given_front, given_more, ok_from, told_more, undone}
+use Rattle.hickory_resolver_hosts.specs.HostsTable.{gives}
+use Rattle.hickory_resolver_hosts.proofs.GivenAddresses.{err_from, given_front, given_more, ok_from, told_more, undone}
 use Rattle.hickory_resolver_hosts.proofs.owners.add_first_owners.Goals as goal
 
 pub loop-entry-preserved : goal.loop-entry-preserved

@@ -1,6 +1,6 @@
 use Rattle.std.proofs.Common.{◌≡◌, ℕ, ◌||◌, ◌&&◌, ◌==◌, take}
 use Rattle.hickory_resolver_hosts.specs.Index.{is_owner, EachAddress}
-use Rattle.hickory_resolver_hosts.specs.Table.{is_given}
+use Rattle.hickory_resolver_hosts.specs.HostsTable.{is_given}
 use Rattle.hickory_resolver_hosts.proofs.owners.add_first_owners.Given as goal
 
 abbrev pub invariant-loop-entry : goal.invariant-loop-entry

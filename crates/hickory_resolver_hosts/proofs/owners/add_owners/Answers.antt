@@ -1,5 +1,5 @@
 use Rattle.std.proofs.Common.{sym, ◌∙◌}
-use Rattle.hickory_resolver_hosts.proofs.Addresses.{added_more, ok_from, owners_more}
+use Rattle.hickory_resolver_hosts.proofs.GivenAddresses.{added_more, ok_from, owners_more}
 use Rattle.hickory_resolver_hosts.proofs.owners.add_owners.Goals as goal
 
 pub loop-entry-preserved : goal.loop-entry-preserved

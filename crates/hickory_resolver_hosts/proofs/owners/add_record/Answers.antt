@@ -1,6 +1,6 @@
 use Rattle.std.proofs.Common.{◌||◌, ◌&&◌, ◌==◌, sym, ap, ◌∙◌}
 use Rattle.hickory_resolver_hosts.specs.Index.{is_among, is_owner, same_address}
-use Rattle.hickory_resolver_hosts.proofs.Addresses.{apart_alike, noted, not_noted, pushed, restored}
+use Rattle.hickory_resolver_hosts.proofs.GivenAddresses.{apart_alike, noted, not_noted, pushed, restored}
 use Rattle.hickory_resolver_hosts.proofs.Bits.{same_address_data}
 use Rattle.hickory_resolver_hosts.proofs.owners.add_record.Goals.{else-branch-via-then-branch+else-is_err}
 use Rattle.hickory_resolver_hosts.proofs.owners.add_record.Goals.{else-branch-via-else-branch}

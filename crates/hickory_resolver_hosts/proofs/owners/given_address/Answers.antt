@@ -1,6 +1,6 @@
 use Rattle.std.proofs.Common.{sym, ap, ◌∙◌, rules}
 use Rattle.std.specs.Bool.{then_some}
-use Rattle.hickory_resolver_hosts.proofs.Addresses.{given_if}
+use Rattle.hickory_resolver_hosts.proofs.GivenAddresses.{given_if}
 use Rattle.hickory_resolver_hosts.proofs.owners.given_address.Goals as goal
 
 pub returns : goal.returns

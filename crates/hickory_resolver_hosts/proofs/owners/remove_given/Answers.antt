@@ -1,7 +1,7 @@
 use Rattle.std.proofs.Common.{not, ◌&&◌, ◌==◌, sym, ap, ◌∙◌}
 use Rattle.hickory_resolver_hosts.specs.Index.{is_owner}
-use Rattle.hickory_resolver_hosts.specs.Table.{gives}
-use Rattle.hickory_resolver_hosts.proofs.Addresses.{given_more, forgot_more}
+use Rattle.hickory_resolver_hosts.specs.HostsTable.{gives}
+use Rattle.hickory_resolver_hosts.proofs.GivenAddresses.{given_more, forgot_more}
 use Rattle.hickory_resolver_hosts.proofs.owners.remove_given.Goals as goal
 
 pub loop-entry-preserved : goal.loop-entry-preserved

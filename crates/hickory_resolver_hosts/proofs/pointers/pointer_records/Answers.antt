@@ -4,7 +4,7 @@ use Rattle.std.proofs.lemmas.List.{length-map}
 use Rattle.hickory_proto_core.specs.Records.{data_of_address}
 use Rattle.hickory_resolver_model.specs.Hosts.{has_address, pointers}
 use Rattle.hickory_resolver_hosts.specs.Index.{has_owner}
-use Rattle.hickory_resolver_hosts.specs.Table.{host_at, hosts_of}
+use Rattle.hickory_resolver_hosts.specs.HostsTable.{host_at, hosts_of}
 use Rattle.hickory_resolver_hosts.proofs.InOrder.{if_ok, pointers_between}
 use Rattle.hickory_resolver_hosts.proofs.pointers.pointer_records.Goals as goal
 

@@ -1,8 +1,8 @@
 use Rattle.std.proofs.Common.{◌++◌, ap, ◌∙◌}
 use Rattle.std.specs.List.{filter_map}
 use Rattle.hickory_resolver_hosts.specs.Index.{owners_below}
-use Rattle.hickory_resolver_hosts.specs.Table.{hosts_of, pointer_at}
-use Rattle.hickory_resolver_hosts.proofs.Index.{from_least}
+use Rattle.hickory_resolver_hosts.specs.HostsTable.{hosts_of, pointer_at}
+use Rattle.hickory_resolver_hosts.proofs.IndexChanges.{from_least}
 use Rattle.hickory_resolver_hosts.proofs.InOrder.{turn_some, turn_none, pointed, not_pointed}
 use Rattle.hickory_resolver_hosts.proofs.pointers.pointers_of.Goals as goal
 

@@ -1,7 +1,7 @@
 use Rattle.std.proofs.Common.{◌≡◌, ◌++◌, length}
 use Rattle.std.specs.List.{filter_map}
 use Rattle.hickory_resolver_hosts.specs.Index.{owners_below}
-use Rattle.hickory_resolver_hosts.specs.Table.{hosts_of, pointer_at}
+use Rattle.hickory_resolver_hosts.specs.HostsTable.{hosts_of, pointer_at}
 use Rattle.hickory_resolver_hosts.proofs.pointers.pointers_of.Given as goal
 
 abbrev pub invariant-loop-pair : goal.invariant-loop-pair

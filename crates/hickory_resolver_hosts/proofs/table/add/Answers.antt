@@ -1,6 +1,6 @@
 use Rattle.std.proofs.Common.{sym}
 use Rattle.hickory_resolver_model.specs.Hosts.{with_lookup}
-use Rattle.hickory_resolver_hosts.proofs.Index.{on_err}
+use Rattle.hickory_resolver_hosts.proofs.IndexChanges.{on_err}
 use Rattle.hickory_resolver_hosts.proofs.Places.{put_at_place, same_at_place}
 use Rattle.hickory_resolver_hosts.proofs.table.add.Goals as goal
 

@@ -4,8 +4,8 @@ use Rattle.indexmap.specs.IndexMap.{insert_index, insert_entry}
 use Rattle.hickory_proto_core.specs.Name.{name_eq}
 use Rattle.hickory_proto_core.specs.Records.{data_of_address}
 use Rattle.hickory_resolver_model.specs.Hosts.{with_lookup}
-use Rattle.hickory_resolver_hosts.specs.Table.{hosts_of, place_in, put_host}
-use Rattle.hickory_resolver_hosts.proofs.Addresses.{on_ok}
+use Rattle.hickory_resolver_hosts.specs.HostsTable.{hosts_of, place_in, put_host}
+use Rattle.hickory_resolver_hosts.proofs.GivenAddresses.{on_ok}
 use Rattle.hickory_resolver_hosts.proofs.Places.{told_indexed, none_past, place_is, put_behind, put_is_insert}
 use Rattle.hickory_resolver_hosts.proofs.table.insert_indexed.Goals as goal
 

@@ -1,8 +1,8 @@
 use Rattle.std.proofs.Common.{◌&&◌, ◌==◌, not, ap, sym, ◌∙◌}
 use Rattle.hickory_proto_core.specs.Records.{data_of_address}
 use Rattle.hickory_resolver_hosts.specs.Index.{is_among, is_owner}
-use Rattle.hickory_resolver_hosts.specs.Table.{has_address_at, is_given}
-use Rattle.hickory_resolver_hosts.proofs.Addresses.{err_from, ok_from, restored}
+use Rattle.hickory_resolver_hosts.specs.HostsTable.{has_address_at, is_given}
+use Rattle.hickory_resolver_hosts.proofs.GivenAddresses.{err_from, ok_from, restored}
 use Rattle.hickory_resolver_hosts.proofs.Places.{indexed_after, new_is_apart}
 use Rattle.hickory_resolver_hosts.proofs.table.join.Goals.{then-is_err, else-is_err}
 use Rattle.hickory_resolver_hosts.proofs.table.join.Goals as goal

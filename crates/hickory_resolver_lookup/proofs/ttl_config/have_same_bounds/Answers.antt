@@ -1,7 +1,7 @@
 use Rattle.std.proofs.Common.{◌≡◌, length, sym, ◌∙◌}
 use Rattle.std.proofs.lemmas.Bool.{ne_eqb}
 use Rattle.std.specs.Cmp.Lexicographic.{unequal}
-use Rattle.hickory_resolver_lookup.proofs.Bounds.{same_entry, same_maps}
+use Rattle.hickory_resolver_lookup.proofs.BoundsByType.{same_entry, same_maps}
 use Rattle.hickory_resolver_lookup.proofs.ttl_config.have_same_bounds.Goals as goal
 
 pub returns-then-len : goal.returns-then-len

@@ -6,7 +6,7 @@ use Rattle.hickory_proto_core.specs.Codes.{type_code}
 use Rattle.hickory_proto_core.specs.ResponseKind.{record_type_code}
 use Rattle.hickory_proto_core.specs.Messages.{MessageValue}
 use Rattle.hickory_resolver_model.specs.Bounds.{least_ttl, living_records}
-use Rattle.hickory_resolver_lookup.proofs.Bounds.{least-reduce, living_others}
+use Rattle.hickory_resolver_lookup.proofs.BoundsByType.{least-reduce, living_others}
 use Rattle.hickory_resolver_lookup.proofs.ttl_config.least_living_ttl.Goals as goal
 
 pub returns : goal.returns

@@ -3,7 +3,7 @@ use Rattle.std.proofs.lemmas.Iterator.{YieldsList-from_slice, YieldsList-from_ma
 use Rattle.std.proofs.lemmas.Iterator.Adapters.{option_map_id}
 use Rattle.std.proofs.lemmas.Iterator.Consumers.{YieldsList-at, YieldsList-from_filter, YieldsList-from_chain, min_from_yields_List}
 use Rattle.hickory_proto_core.specs.ResponseKind.{record_type_code}
-use Rattle.hickory_resolver_lookup.proofs.Bounds.{least-reduce}
+use Rattle.hickory_resolver_lookup.proofs.BoundsByType.{least-reduce}
 use Rattle.hickory_resolver_lookup.proofs.ttl_config.least_ns_ttl.Goals as goal
 
 pub returns : goal.returns

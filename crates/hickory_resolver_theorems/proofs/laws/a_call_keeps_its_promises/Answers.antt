@@ -1,4 +1,4 @@
-use Rattle.hickory_resolver_theorems.proofs.CallFacts.{promised_call}
+use Rattle.hickory_resolver_theorems.proofs.PromisedCalls.{promised_call}
 use Rattle.hickory_resolver_theorems.proofs.laws.a_call_keeps_its_promises.Goals as goal
 
 pub returns : goal.returns

@@ -1,4 +1,4 @@
-use Rattle.hickory_resolver_theorems.proofs.CallFacts.{cleared-keeps, without_query-keeps, after_clear-keeps}
+use Rattle.hickory_resolver_theorems.proofs.PromisedCalls.{cleared-keeps, without_query-keeps, after_clear-keeps}
 use Rattle.hickory_resolver_theorems.proofs.laws.a_clear_keeps_what_is_known.Goals as goal
 
 pub returns : goal.returns

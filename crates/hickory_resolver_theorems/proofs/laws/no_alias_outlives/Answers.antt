@@ -1,4 +1,4 @@
-use Rattle.hickory_resolver_theorems.proofs.Aliases.{no_alias_outlives}
+use Rattle.hickory_resolver_theorems.proofs.AliasLifetimes.{no_alias_outlives}
 use Rattle.hickory_resolver_theorems.proofs.laws.no_alias_outlives.Goals as goal
 
 pub returns : goal.returns

@@ -1,4 +1,4 @@
-use Rattle.replay.proofs.Steps.{no_table}
+use Rattle.replay.proofs.TextSteps.{no_table}
 use Rattle.replay.proofs.run.read_table.Goals as goal
 
 pub returns-in-Err : goal.returns-in-Err

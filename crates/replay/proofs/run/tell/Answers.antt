@@ -3,8 +3,8 @@ use Rattle.std.specs.Global.{Global}
 use Rattle.hickory_resolver.specs.Requests.{request_of}
 use Rattle.hickory_resolver_model.specs.Run.{settings_of}
 use Rattle.replay.specs.declared.output.TextListener.{TextListener}
-use Rattle.replay.specs.Run.{IsTold}
-use Rattle.replay.proofs.Steps.{told_run}
+use Rattle.replay.specs.ScriptRun.{IsTold}
+use Rattle.replay.proofs.TextSteps.{told_run}
 use Rattle.replay.proofs.run.tell.Goals as goal
 
 pub returns-in-Ok-clause-ok : goal.returns-in-Ok-clause-ok

@@ -1,7 +1,7 @@
 use Rattle.std.proofs.Common.{◌≡◌, ◌∙◌, ap, map, rules, sym}
 use Rattle.hickory_resolver.specs.Requests.{request_of}
-use Rattle.replay.specs.Run.{config_of}
-use Rattle.replay.proofs.Steps.{told_in_order}
+use Rattle.replay.specs.ScriptRun.{config_of}
+use Rattle.replay.proofs.TextSteps.{told_in_order}
 use Rattle.replay.proofs.run.tell_script.Goals as goal
 
 pub returns-then-table-clause-ok : goal.returns-then-table-clause-ok

@@ -1,6 +1,6 @@
 use Rattle.std.proofs.Common.{◌∙◌, Err, ap, inl, inr, refl, string_bytes, subst}
 use Rattle.std.proofs.lemmas.Result.{err_from_is_err_and}
-use Rattle.replay.specs.Run.{IsRefused, IsReplayed}
+use Rattle.replay.specs.ScriptRun.{IsRefused, IsReplayed}
 use Rattle.replay.specs.Writing.{IsWritten}
 use Rattle.replay.proofs.writing.replay_with_hasher.Goals as goal
 

@@ -1,6 +1,6 @@
 use Rattle.std.proofs.Common.{◌≢◌, length, inl, arith}
 use Rattle.std.proofs.lemmas.Bool.Decides.{nat_tests}
-use Rattle.replay_script.proofs.Counts.{failure_other}
+use Rattle.replay_script.proofs.WrongCounts.{failure_other}
 use Rattle.replay_script.proofs.fail_line.read_fields.Goals as goal
 use Rattle.replay_script.proofs.fail_line.read_fields.Goals.{in_default-via-then-fields-lt3, in_default-via-else-fields-lt3+else-fields-lt4+else-fields-lt5}
 

@@ -1,6 +1,6 @@
 use Rattle.std.proofs.Common.{inl, arith}
 use Rattle.std.proofs.lemmas.Grind.{common_steps}
-use Rattle.replay_script.proofs.Counts.{record_short}
+use Rattle.replay_script.proofs.WrongCounts.{record_short}
 use Rattle.replay_script.proofs.record_line.read_record.Goals as goal
 
 pub returns-in_default : goal.returns-in_default

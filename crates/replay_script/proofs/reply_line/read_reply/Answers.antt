@@ -1,6 +1,6 @@
 use Rattle.std.proofs.Common.{inl, arith}
 use Rattle.std.proofs.lemmas.Grind.{common_steps}
-use Rattle.replay_script.proofs.Counts.{reply_short}
+use Rattle.replay_script.proofs.WrongCounts.{reply_short}
 use Rattle.replay_script.proofs.reply_line.read_reply.Goals as goal
 
 pub returns-in_default : goal.returns-in_default

@@ -1,5 +1,5 @@
 use Rattle.hickory_resolver_model.specs.Run.{name_plan}
-use Rattle.hickory_resolver.proofs.Attempting.{looks_up_first}
+use Rattle.hickory_resolver.proofs.AttemptChains.{looks_up_first}
 use Rattle.hickory_resolver.proofs.lookup_future.LookupFuture.lookup_with_hosts.Goals as goal
 
 pub returns : goal.returns

@@ -2,7 +2,7 @@ use Rattle.std.proofs.Common.{None, Err, refl, subst, reverse}
 use Rattle.hickory_proto_core.specs.records.net_error.NetError.{NetError}
 use Rattle.hickory_resolver_model.specs.Run.{address_plan}
 use Rattle.hickory_resolver.specs.Attempting.{GoesOn}
-use Rattle.hickory_resolver.proofs.Attempting.{looks_up}
+use Rattle.hickory_resolver.proofs.AttemptChains.{looks_up}
 use Rattle.hickory_resolver.proofs.Families.{looks_up_or_last_resort}
 use Rattle.hickory_resolver.proofs.lookup_ip_future.LookupIpFuture.lookup.Goals as goal
 

@@ -1,6 +1,6 @@
 use Rattle.std.proofs.Common.{rules, ◌≡◌, Ok, Err}
 use Rattle.hickory_proto_core.specs.NetErrors.{net_error_of}
-use Rattle.hickory_resolver_theorems.proofs.CallFacts.{promised_name}
+use Rattle.hickory_resolver_theorems.proofs.PromisedCalls.{promised_name}
 use Rattle.hickory_resolver.proofs.Answering.{call_fault, client_cache}
 use Rattle.hickory_resolver.proofs.resolver.Resolver.lookup.Goals as goal
 

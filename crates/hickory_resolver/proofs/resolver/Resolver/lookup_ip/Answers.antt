@@ -1,5 +1,5 @@
 use Rattle.std.proofs.Common.{Ok, inl, sym, subst}
-use Rattle.hickory_resolver_theorems.proofs.CallFacts.{promised_host}
+use Rattle.hickory_resolver_theorems.proofs.PromisedCalls.{promised_host}
 use Rattle.hickory_resolver.proofs.Answering.{client_cache}
 use Rattle.hickory_resolver.proofs.resolver.Resolver.lookup_ip.Goals as goal
 

@@ -1,5 +1,5 @@
 use Rattle.std.proofs.Common.{◌≡◌, ◌∙◌, rules, None, [], map, ap, subst}
-use Rattle.hickory_resolver_config.specs.Resolver.{OptionsValue}
+use Rattle.hickory_resolver_config.specs.ResolverConfig.{OptionsValue}
 use Rattle.hickory_resolver_model.specs.Bounds.{ConfigValue, bounds_fault}
 use Rattle.hickory_resolver_model.specs.Options.{bounds_of}
 use Rattle.hickory_resolver_model.specs.Resolver.{ResolverValue}

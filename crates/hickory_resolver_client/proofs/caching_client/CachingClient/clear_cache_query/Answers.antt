@@ -1,7 +1,7 @@
 use Rattle.std.proofs.Common.{sym, subst}
 use Rattle.hickory_resolver_model.specs.Client.{ClientValue}
 use Rattle.hickory_resolver_theorems.specs.CallFacts.{KeepsWhatIsKnown}
-use Rattle.hickory_resolver_theorems.proofs.CallFacts.{without_query-keeps}
+use Rattle.hickory_resolver_theorems.proofs.PromisedCalls.{without_query-keeps}
 use Rattle.hickory_resolver_client.proofs.caching_client.CachingClient.clear_cache_query.Goals as goal
 
 pub returns-clause-keeps : goal.returns-clause-keeps

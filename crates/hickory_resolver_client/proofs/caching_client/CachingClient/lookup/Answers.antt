@@ -1,7 +1,7 @@
 use Rattle.std.proofs.Common.{subst}
 use Rattle.hickory_resolver_model.specs.Cache.{IsCache}
 use Rattle.hickory_resolver_model.specs.Client.{ClientValue}
-use Rattle.hickory_resolver_theorems.proofs.Promises.{promised_lookup}
+use Rattle.hickory_resolver_theorems.proofs.PromisesHold.{promised_lookup}
 use Rattle.hickory_resolver_client.proofs.caching_client.CachingClient.lookup.Goals as goal
 
 pub returns : goal.returns

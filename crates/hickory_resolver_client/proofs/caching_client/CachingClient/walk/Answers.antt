@@ -1,5 +1,5 @@
 use Rattle.std.proofs.Common.{rules, refl}
-use Rattle.hickory_resolver_client.proofs.Walks.{goes_on, walk_cut, walk_out, walk_finished}
+use Rattle.hickory_resolver_client.proofs.LastHop.{goes_on, walk_cut, walk_out, walk_finished}
 use Rattle.hickory_resolver_client.proofs.caching_client.CachingClient.walk.Goals as goal
 
 pub returns-in_err-asked : goal.returns-in_err-asked

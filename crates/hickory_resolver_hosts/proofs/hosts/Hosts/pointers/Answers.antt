@@ -1,4 +1,4 @@
-use Rattle.hickory_resolver_hosts.specs.Table.{hosts_of}
+use Rattle.hickory_resolver_hosts.specs.HostsTable.{hosts_of}
 use Rattle.hickory_resolver_hosts.proofs.InOrder.{if_ok, has_pointers}
 use Rattle.hickory_resolver_hosts.proofs.hosts.Hosts.pointers.Goals as goal
 

@@ -1,6 +1,6 @@
 use Rattle.std.proofs.Common.{◌||◌, ◌&&◌, ◌==◌, sym, ap, ◌∙◌}
 use Rattle.hickory_resolver_hosts.specs.Index.{is_owner, same_address}
-use Rattle.hickory_resolver_hosts.proofs.Index.{added_v4, added_v6}
+use Rattle.hickory_resolver_hosts.proofs.IndexChanges.{added_v4, added_v6}
 use Rattle.hickory_resolver_hosts.proofs.owners.Owners.add.Goals as goal
 
 pub returns-in_ok-insert-in-V4-clause-ok : goal.returns-in_ok-insert-in-V4-clause-ok

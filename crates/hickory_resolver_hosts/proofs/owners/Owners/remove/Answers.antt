@@ -1,6 +1,6 @@
 use Rattle.std.proofs.Common.{not, ◌&&◌, ◌==◌, sym, ap, ◌∙◌}
 use Rattle.hickory_resolver_hosts.specs.Index.{is_owner, same_address}
-use Rattle.hickory_resolver_hosts.proofs.Index.{removed_v4, removed_v6}
+use Rattle.hickory_resolver_hosts.proofs.IndexChanges.{removed_v4, removed_v6}
 use Rattle.hickory_resolver_hosts.proofs.owners.Owners.remove.Goals as goal
 
 pub returns-in-V4-clause-removed : goal.returns-in-V4-clause-removed

@@ -1,6 +1,6 @@
 use Rattle.std.proofs.Common.{◌≡◌}
 use Rattle.std.specs.Vec.Iter.{into_iter_items, into_iter_len}
-use Rattle.hickory_resolver_lookup.specs.Addresses.{addresses_of}
+use Rattle.hickory_resolver_lookup.specs.LookupAddresses.{addresses_of}
 use Rattle.hickory_resolver_lookup.proofs.lookup_ip.LookupIpIntoIterIterator.next.Given as goal
 
 abbrev pub invariant-loop-taken : goal.invariant-loop-taken

@@ -1,6 +1,6 @@
 use Rattle.std.proofs.Common.{◌≡◌, length}
 use Rattle.std.specs.Slice.Iter.{iter_rest}
-use Rattle.hickory_resolver_lookup.specs.Addresses.{addresses_of}
+use Rattle.hickory_resolver_lookup.specs.LookupAddresses.{addresses_of}
 use Rattle.hickory_resolver_lookup.proofs.lookup_ip.LookupIpIterIterator.next.Given as goal
 
 abbrev pub invariant-loop-entry : goal.invariant-loop-entry

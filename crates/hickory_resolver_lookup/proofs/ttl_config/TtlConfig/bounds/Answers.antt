@@ -1,7 +1,7 @@
 use Rattle.std.proofs.Common.{◌∙◌, ap, sym, unwrap_or}
 use Rattle.hickory_proto_core.specs.Codes.{type_code}
 use Rattle.hickory_resolver_model.specs.Bounds.{bounds_for}
-use Rattle.hickory_resolver_lookup.proofs.Bounds.{bounds_by_code-lookup}
+use Rattle.hickory_resolver_lookup.proofs.BoundsByType.{bounds_by_code-lookup}
 use Rattle.hickory_resolver_lookup.proofs.ttl_config.TtlConfig.bounds.Goals as goal
 
 pub returns : goal.returns

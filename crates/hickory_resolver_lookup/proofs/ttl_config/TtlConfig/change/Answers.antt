@@ -1,5 +1,5 @@
 use Rattle.std.proofs.Common.{refl}
-use Rattle.hickory_resolver_lookup.proofs.Bounds.{sets_bounds}
+use Rattle.hickory_resolver_lookup.proofs.BoundsByType.{sets_bounds}
 use Rattle.hickory_resolver_lookup.proofs.ttl_config.TtlConfig.change.Goals as goal
 
 pub returns : goal.returns

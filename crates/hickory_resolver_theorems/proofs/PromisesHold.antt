@@ -1,0 +1,38 @@
+-- What is promised of look-ups and runs holds of those of the definition.
+use Rattle.std.proofs.Common.{ℕ, List}
+use Rattle.hickory_proto_core.specs.Handles.{Step}
+use Rattle.hickory_proto_core.specs.records.query.Query.{Query}
+use Rattle.hickory_proto_core.specs.declared.dns_request.DnsRequestOptions.{DnsRequestOptions}
+use Rattle.hickory_proto_core.specs.declared.recorded.Exchange.{Exchange}
+use Rattle.hickory_resolver_model.specs.Cache.{CacheValue, IsCache}
+use Rattle.hickory_resolver_model.specs.Lookup.{LookupResult}
+use Rattle.hickory_resolver_model.specs.Client.{ClientValue, start_of, IsLookup}
+use Rattle.hickory_resolver_model.specs.Run.{Settings, first_cache, RequestValue, StepValue, IsRun}
+use Rattle.hickory_resolver_theorems.specs.Promises.{IsPromisedLookup, IsPromisedRun}
+use Rattle.hickory_resolver_theorems.proofs.Few.{few}
+use Rattle.hickory_resolver_theorems.proofs.Provenances.{from_sources}
+use Rattle.hickory_resolver_theorems.proofs.Fresh.{fresh}
+use Rattle.hickory_resolver_theorems.proofs.Transparent.{transparent}
+use Rattle.hickory_resolver_theorems.proofs.Headlines.{headline}
+use Rattle.hickory_resolver_theorems.proofs.AliasLifetimes.{no_alias_outlives, run_limited}
+
+pub promised_lookup : {H : Type 0} (step : Step H) (options : DnsRequestOptions) (now : ℕ) (before : ClientValue H) (question : Query) (result : LookupResult) (after : ClientValue H) → IsCache before.cache.config before.cache.capacity before.cache.entries → IsLookup step options now before question result after
+    → IsPromisedLookup step options now before question result after
+promised_lookup step options now before question result after cache is =
+    let s = start_of before now in
+    record {
+      is = is;
+      few = few s question is.asks result after.cache is.reply;
+      provenance = from_sources s question is.asks result after.cache cache is.reply;
+      fresh = fresh s question is.asks result after.cache is.reply;
+      transparent = transparent s question is.asks result after.cache is.reply;
+      no_alias_outlives = no_alias_outlives s question is.asks result after.cache is.reply;
+    }
+
+pub promised_run : {H : Type 0} (step : Step H) (s : Settings) (handle : H) (requests : List RequestValue) (steps : List StepValue) (exchanges : List Exchange) (handle_after : H) (cache_after : CacheValue) → IsRun step s handle requests steps exchanges handle_after cache_after
+    → IsPromisedRun step s handle requests steps exchanges handle_after cache_after
+promised_run step s handle requests steps exchanges handle_after cache_after is = record {
+  is = is;
+  headline = headline s (first_cache s) requests steps exchanges cache_after is.run;
+  no_alias_outlives = run_limited s (first_cache s) requests steps exchanges cache_after is.run;
+}

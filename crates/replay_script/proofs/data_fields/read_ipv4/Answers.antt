@@ -1,0 +1,5 @@
+use Rattle.std.proofs.Common.{refl}
+use Rattle.replay_script.proofs.data_fields.read_ipv4.Goals as goal
+
+pub returns-in-Err : goal.returns-in-Err
+returns-in-Err c = (refl, λ d h. c.in-Err.ensures.value h.0 h.1)
