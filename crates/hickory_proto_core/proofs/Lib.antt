@@ -1,1 +1,4 @@
+pub mod Copies
+pub mod DataEq
+pub mod Forwards
 pub mod Tables

@@ -1,12 +1,12 @@
 -- What the handles may answer, and what stands after a request.
 use Rattle.std.specs.Prelude.{◌≡◌, List, [], ◌∷◌, ◌++◌, Result, Err}
 use Rattle.std.proofs.Common.{subst, sym}
-use Rattle.hickory_proto_records.specs.Messages.{MessageValue}
+use Rattle.hickory_proto_core.specs.Messages.{MessageValue}
 use Rattle.hickory_proto_core.specs.declared.dns_request.DnsRequest.{DnsRequest}
 use Rattle.hickory_proto_core.specs.declared.dns_request.DnsRequestOptions.{DnsRequestOptions}
 use Rattle.hickory_proto_core.specs.declared.recorded.Exchange.{Exchange}
-use Rattle.hickory_proto_records.specs.declared.net_error.NetError.{NetError}
-use Rattle.hickory_proto_records.specs.declared.net_error.NetError.TheVariants.{NoOutcome}
+use Rattle.hickory_proto_core.specs.declared.net_error.NetError.{NetError}
+use Rattle.hickory_proto_core.specs.declared.net_error.NetError.TheVariants.{NoOutcome}
 
 -- what came back for a question: a response or an error
 abbrev pub OutcomeValue : Type 0

@@ -1,6 +1,13 @@
+pub mod Errors
 pub mod Handles
+pub mod Messages
+pub mod NetErrors
+pub mod Query
 pub mod Recorded
+pub mod Records
+pub mod ResponseKind
 pub mod Table
+pub mod Texts
 pub use Rattle.hickory_proto_names.specs.Addresses
 pub use Rattle.hickory_proto_names.specs.Arpa
 pub use Rattle.hickory_proto_names.specs.Name
@@ -12,13 +19,5 @@ pub use Rattle.hickory_proto_names.specs.NameText
 pub use Rattle.hickory_proto_names.specs.NameTextParts
 pub use Rattle.hickory_proto_codes.specs.Codes
 pub use Rattle.hickory_proto_codes.specs.DecimalLaws
-pub use Rattle.hickory_proto_records.specs.ResponseKind
-pub use Rattle.hickory_proto_records.specs.Errors
-pub use Rattle.hickory_proto_records.specs.Messages
-pub use Rattle.hickory_proto_records.specs.NetErrors
-pub use Rattle.hickory_proto_records.specs.Query
-pub use Rattle.hickory_proto_records.specs.Records
-pub use Rattle.hickory_proto_records.specs.Texts
 pub use Rattle.hickory_proto_codes.specs.declared as codes
 pub use Rattle.hickory_proto_names.specs.declared as names
-pub use Rattle.hickory_proto_records.specs.declared as records

@@ -6,7 +6,7 @@ use Rattle.hickory_proto_core.specs.Handles.{OutcomeValue, Step, Leads, Recorded
 use Rattle.hickory_proto_core.specs.declared.dns_request.DnsRequest.{DnsRequest}
 use Rattle.hickory_proto_core.specs.declared.dns_request.DnsRequestOptions.{DnsRequestOptions}
 use Rattle.hickory_proto_core.specs.declared.recorded.Exchange.{Exchange}
-use Rattle.hickory_proto_records.specs.declared.net_error.NetError.TheVariants.{OutOfMemory}
+use Rattle.hickory_proto_core.specs.declared.net_error.NetError.TheVariants.{OutOfMemory}
 
 -- nothing was sent, and nothing changed
 pub record IsRefused

@@ -1,11 +1,11 @@
 -- A table from questions to outcomes, as a list of pairs.
 use Rattle.std.specs.Prelude.{◌≡◌, ◌⊎◌, List, reverse, Option, None, Some, Err}
 use Rattle.std.specs.Map.{lookup}
-use Rattle.hickory_proto_records.specs.Query.{query_eq}
+use Rattle.hickory_proto_core.specs.Query.{query_eq}
 use Rattle.hickory_proto_core.specs.Handles.{OutcomeValue}
-use Rattle.hickory_proto_records.specs.declared.query.Query.{Query}
+use Rattle.hickory_proto_core.specs.declared.query.Query.{Query}
 use Rattle.hickory_proto_core.specs.declared.dns_request.DnsRequest.{DnsRequest}
-use Rattle.hickory_proto_records.specs.declared.net_error.NetError.TheVariants.{NoOutcome, OutOfMemory}
+use Rattle.hickory_proto_core.specs.declared.net_error.NetError.TheVariants.{NoOutcome, OutOfMemory}
 
 abbrev pub TableValue : Type 0
 TableValue = List (Query × OutcomeValue)

@@ -3,7 +3,7 @@ ghost use Rattle.std.specs.Prelude.{◌≡◌, IfOk, IsOkUnless, string_bytes};
 ghost use Rattle.hickory_proto_names.specs.Addresses.{IsPrintedAddress, address_text};
 
 use hickory_proto_names::ip;
-use hickory_proto_records::NetError;
+use crate::net_error::NetError;
 use std::alloc::Global;
 use std::net::IpAddr;
 

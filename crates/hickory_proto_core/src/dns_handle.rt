@@ -1,11 +1,12 @@
 //! Handles, by which an upstream is asked.
 ghost use Rattle.std.specs.Prelude.{Result};
 ghost use Rattle.hickory_proto_core.specs.declared.dns_request.DnsRequest.{DnsRequest};
-ghost use Rattle.hickory_proto_records.specs.declared.net_error.NetError.{NetError};
-ghost use Rattle.hickory_proto_records.specs.Messages.{MessageValue};
+ghost use Rattle.hickory_proto_core.specs.declared.net_error.NetError.{NetError};
+ghost use Rattle.hickory_proto_core.specs.Messages.{MessageValue};
 
 use crate::dns_request::DnsRequest;
-use hickory_proto_records::{DnsResponse, NetError};
+use crate::dns_response::DnsResponse;
+use crate::net_error::NetError;
 
 /// What came back for a request.
 pub type Outcome = Result<DnsResponse, NetError>;

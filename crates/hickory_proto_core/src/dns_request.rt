@@ -1,7 +1,7 @@
 //! What is sent to an upstream.
 ghost use Rattle.std.specs.Prelude.{◌≡◌, true, false};
 
-use hickory_proto_records::Query;
+use crate::query::Query;
 
 /// A question with its options.
 #[derive(Debug, Drop)]

@@ -3,7 +3,9 @@ ghost use Rattle.std.specs.Prelude.{◌≡◌, [], IfOk, IsOkUnless};
 
 use crate::dns_handle::{DnsHandle, Outcome};
 use crate::dns_request::DnsRequest;
-use hickory_proto_records::{DnsResponse, NetError, Query};
+use crate::dns_response::DnsResponse;
+use crate::net_error::NetError;
+use crate::query::Query;
 use std::alloc::Global;
 use std::marker::Model;
 

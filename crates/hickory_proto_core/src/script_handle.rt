@@ -3,7 +3,8 @@ ghost use Rattle.std.specs.Prelude.{◌≡◌};
 
 use crate::dns_handle::{DnsHandle, Outcome};
 use crate::dns_request::DnsRequest;
-use hickory_proto_records::{DnsResponse, NetError};
+use crate::dns_response::DnsResponse;
+use crate::net_error::NetError;
 use std::marker::Model;
 use std::vec::IntoIter;
 

@@ -1,14 +1,16 @@
 //! A handle that looks its outcomes up in a table.
 ghost use Rattle.std.specs.Prelude.{◌≡◌, IfOk, IsOkUnless};
 ghost use Rattle.std.specs.HashMap.{IsFromIterResult};
-ghost use Rattle.hickory_proto_records.specs.Query.{query_eq};
+ghost use Rattle.hickory_proto_core.specs.Query.{query_eq};
 ghost use Rattle.hickory_proto_core.specs.Table.{outcome_in, last_given};
-ghost use Rattle.hickory_proto_records.specs.declared.query.Query.{Query};
+ghost use Rattle.hickory_proto_core.specs.declared.query.Query.{Query};
 
 use crate::dns_handle::{DnsHandle, Outcome};
 use crate::dns_request::DnsRequest;
 use crate::recorded::clone_outcome;
-use hickory_proto_records::{DnsResponse, NetError, Query};
+use crate::dns_response::DnsResponse;
+use crate::net_error::NetError;
+use crate::query::Query;
 use std::alloc::AllocError;
 use std::collections::HashMap;
 use std::marker::Model;

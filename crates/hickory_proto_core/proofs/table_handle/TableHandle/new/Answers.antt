@@ -1,5 +1,5 @@
 use Rattle.std.proofs.Common.{◌∙◌}
-use Rattle.hickory_proto_records.specs.Query.{query_eq, query_equiv}
+use Rattle.hickory_proto_core.specs.Query.{query_eq, query_equiv}
 use Rattle.hickory_proto_core.proofs.Tables.{update_all-empty}
 use Rattle.hickory_proto_core.proofs.table_handle.TableHandle.new.Goals as goal
 

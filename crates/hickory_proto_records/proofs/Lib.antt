@@ -1,3 +1,0 @@
-pub mod Copies
-pub mod DataEq
-pub mod Forwards

@@ -1,7 +1,0 @@
-use Rattle.std.proofs.Common.{◌≡◌, take}
-use Rattle.std.specs.List.{filter_map}
-use Rattle.hickory_proto_records.specs.ResponseKind.{forward_of}
-use Rattle.hickory_proto_records.proofs.dns_response.forwards.Given as goal
-
-abbrev pub invariant-loop-authority : goal.invariant-loop-authority
-invariant-loop-authority l = l.found.items ≡ filter_map (forward_of l.additionals) (take l.authority-index l.authorities.items)

@@ -1,6 +1,0 @@
-use Rattle.std.proofs.Common.{◌∙◌}
-use Rattle.hickory_proto_records.proofs.DataEq.{derived_data_eq}
-use Rattle.hickory_proto_records.proofs.resource.same_data.Goals as goal
-
-pub returns : goal.returns
-returns c = c.eq.ensures ∙ derived_data_eq c.args.a.now c.args.b.now
