@@ -9,7 +9,7 @@ use Rattle.hickory_resolver_model.specs.Cache.{CacheValue}
 use Rattle.hickory_resolver_model.specs.Lookup.{LookupValue, LookupResult, question_of}
 use Rattle.hickory_resolver_model.specs.Hosts.{Host}
 use Rattle.hickory_resolver_model.specs.Client.{ClientValue}
-use Rattle.hickory_resolver_model.specs.Calls.{Plan, One, Both, SubLookup, SubLookupRelation, IsSubLookupFor, Says, IsAttempt, AreSubLookups, AreAttempts, IsLastReply, IsAttemptResult, next_type, joins_results, takes_memory, both_results, has_answers, is_out_of_memory, stops, asks_of_sub_lookups}
+use Rattle.hickory_resolver_model.specs.Calls.{Plan, One, Both, SubLookup, SubLookupRelation, IsSubLookupFor, Says, IsAttempt, AreSubLookups, AreAttempts, IsLastReply, IsAttemptResult, next_type, joins_results, takes_memory, are_answers, both_results, has_answers, is_out_of_memory, stops, asks_of_sub_lookups}
 use Rattle.hickory_resolver_model.specs.Resolver.{call_context_of, LooksUp}
 use Rattle.hickory_resolver_model.specs.Run.{address_plan}
 use Rattle.std.specs.Option.{is_some}
@@ -128,20 +128,20 @@ live_is_not_out r live = right (has_answers r) (is_out_of_memory r) live
     right true b e = let clash : true ≡ false = e in cc
 
 -- two results were made one
-module _ (t u : RecordType) (r k result : LookupResult) (made : (result ≡ (if is_out_of_memory k then k else both_results r k)) ⊎ (result ≡ Err OutOfMemory)) where
+module _ (t u : RecordType) (r k result : LookupResult) (made : (result ≡ (if is_out_of_memory k then k else both_results r k)) ⊎ ((are_answers r k ≡ true) × (result ≡ Err OutOfMemory))) where
   pub joined_is : IsAttemptResult (Both t u) (r ∷ k ∷ []) result
   joined_is = by made
     where
-      by : (result ≡ (if is_out_of_memory k then k else both_results r k)) ⊎ (result ≡ Err OutOfMemory) → IsAttemptResult (Both t u) (r ∷ k ∷ []) result
+      by : (result ≡ (if is_out_of_memory k then k else both_results r k)) ⊎ ((are_answers r k ≡ true) × (result ≡ Err OutOfMemory)) → IsAttemptResult (Both t u) (r ∷ k ∷ []) result
       by (inl whole) = inl (refl, whole)
-      by (inr out) = inr (refl, out)
+      by (inr (both, out)) = inr (both, out)
 
   pub joined_out : k ≡ Err OutOfMemory → result ≡ Err OutOfMemory
   joined_out second_out = by made
     where
-      by : (result ≡ (if is_out_of_memory k then k else both_results r k)) ⊎ (result ≡ Err OutOfMemory) → result ≡ Err OutOfMemory
+      by : (result ≡ (if is_out_of_memory k then k else both_results r k)) ⊎ ((are_answers r k ≡ true) × (result ≡ Err OutOfMemory)) → result ≡ Err OutOfMemory
       by (inl whole) = whole ∙ ap (λ x. if is_out_of_memory x then x else both_results r x) second_out
-      by (inr out) = out
+      by (inr (both, out)) = out
 
 -- ---- the last resort
 

@@ -3,7 +3,7 @@ ghost use Rattle.std.specs.Prelude.{◌≡◌, ◌⊎◌, None, Ok, Err, true, r
 ghost use Rattle.std.specs.Option.{option_map};
 ghost use Rattle.hickory_proto_core.specs.Records.{data_of};
 ghost use Rattle.hickory_proto_core.specs.records.net_error.NetError.TheVariants.{OutOfMemory};
-ghost use Rattle.hickory_resolver_model.specs.Calls.{Both, Fallback, both_results, is_out_of_memory, last_resort};
+ghost use Rattle.hickory_resolver_model.specs.Calls.{Both, Fallback, are_answers, both_results, is_out_of_memory, last_resort};
 ghost use Rattle.hickory_resolver_model.specs.Resolver.{LooksUp};
 ghost use Rattle.hickory_resolver_model.specs.Run.{address_plan, plan_of};
 ghost use Rattle.hickory_resolver.specs.Attempting.{Attempts, GoesOn, IsReplyOrLastResort};
@@ -169,7 +169,7 @@ fn joined(
     second: Result<Lookup, NetError>,
 ) -> Result<Lookup, NetError>
     ensures { (result ≡ (if is_out_of_memory second then second else both_results first second))
-        ⊎ (result ≡ Err OutOfMemory) }
+        ⊎ ((are_answers first second ≡ true) × (result ≡ Err OutOfMemory)) }
 {
     match second {
         Ok(second) => joined_with(first, second),
@@ -179,7 +179,8 @@ fn joined(
 
 // A result, and a second one that is a look-up.
 fn joined_with(first: Result<Lookup, NetError>, second: Lookup) -> Result<Lookup, NetError>
-    ensures { (result ≡ both_results first (Ok second)) ⊎ (result ≡ Err OutOfMemory) }
+    ensures { (result ≡ both_results first (Ok second))
+        ⊎ ((are_answers first (Ok second) ≡ true) × (result ≡ Err OutOfMemory)) }
 {
     match first {
         Ok(first) => first.append(second),

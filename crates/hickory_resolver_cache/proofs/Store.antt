@@ -20,10 +20,21 @@ use Rattle.hickory_resolver_cache.specs.declared.kept.Kept.{Kept}
 use Rattle.hickory_proto_core.specs.Query.{query_eq, query_equiv}
 use Rattle.std.specs.Prelude.{◌&&◌, nat_le}
 use Rattle.hickory_resolver_model.specs.Cache.{Entry, current, is_for, without, without_earliest, least_deadline, room_for, insert_entry}
-use Rattle.hickory_resolver_cache.specs.Turns.{Pair, Turn, Order, turn_cmp, stored_entry, by_number, numbered, listed, in_order, entries_of, IsNumbered, IsPlaced, IsKept, StandsAt, Gone, TurnGone, IsTaken, IsTurnOf, IsSomeTurn, IsFirstTurn, MakesRoom, Drops, shown, shown_entry}
+use Rattle.hickory_resolver_cache.specs.Turns.{Pair, Turn, Order, turn_cmp, stored_entry, by_number, numbered, listed, in_order, entries_of, IsNumbered, IsPlaced, IsKept, StandsAt, Gone, TurnGone, IsTaken, IsTurnOf, IsSomeTurn, IsFirstTurn, shown, shown_entry}
 use Rattle.hickory_resolver_cache.proofs.PairLists.{all-map, all-map_at, all-weaker, remove-first, list_any-filter_not, list_any-remove, filter-none}
 use Rattle.hickory_resolver_cache.proofs.Listed.{listed-same, all-listed, Around, around, in_order-permutes, numbered-at}
 use Rattle.hickory_resolver_cache.proofs.TurnOrder.{left, turn-below, taken-from_stands, numbered-push, found-query, numbers-left, numbers-push, placed-left, placed-push, gone-push, stands-push}
+
+-- what the pairs become when the turn goes is what stays when an entry for the question comes in
+pub record MakesRoom (capacity next : ℕ) (q : Query) (ps : List Pair) (turn : Option Turn) : Type 0 where
+  pub stays : (rs : List Pair) → Gone turn ps rs
+      → entries_of rs next ≡ room_for capacity q (entries_of ps next)
+  pub room : turn ≡ None → length ps < capacity
+
+-- what the pairs become when the turn goes is what stays without an entry for the question
+abbrev pub Drops : ℕ → Query → List Pair → Option Turn → Type 0
+Drops next q ps turn =
+    (rs : List Pair) → Gone turn ps rs → entries_of rs next ≡ without q (entries_of ps next)
 
 -- ---- the question's entry is taken out
 passed-on : (q : Query) (a p : Query) → query_eq a p ≡ false → query_eq q p ≡ true → query_eq q a ≡ false

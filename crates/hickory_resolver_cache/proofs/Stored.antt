@@ -14,9 +14,9 @@ use Rattle.hickory_proto_core.specs.records.query.Query.{Query}
 use Rattle.hickory_proto_core.specs.Query.{query_eq}
 use Rattle.hickory_resolver_cache.specs.declared.kept.Kept.{Kept}
 use Rattle.hickory_resolver_model.specs.Cache.{insert_entry}
-use Rattle.hickory_resolver_cache.specs.Turns.{Pair, Turn, Order, turn_cmp, stored_entry, by_number, numbered, in_order, entries_of, IsNumbered, IsPlaced, IsKept, IsSameList, Gone, TurnGone, IsTurnOf, IsSomeTurn, IsLeaving, MakesRoom, Frees, IsOwnPlace, IsSpelledAt, IsStored}
+use Rattle.hickory_resolver_cache.specs.Turns.{Pair, Turn, Order, turn_cmp, stored_entry, by_number, numbered, in_order, entries_of, IsNumbered, IsPlaced, IsKept, IsSameList, Gone, TurnGone, IsTurnOf, IsSomeTurn, IsLeaving, Frees, IsOwnPlace, IsSpelledAt, IsStored}
 use Rattle.hickory_resolver_cache.proofs.Listed.{in_order-permutes, listed-same, numbered-at, stands}
-use Rattle.hickory_resolver_cache.proofs.Store.{makes_room-own, makes_room-none, makes_room-any, none-left, kept-store, entries-insert_entry}
+use Rattle.hickory_resolver_cache.proofs.Store.{MakesRoom, makes_room-own, makes_room-none, makes_room-any, none-left, kept-store, entries-insert_entry}
 use Rattle.hickory_resolver_cache.proofs.TurnOrder.{gone-push, left, numbers-left, numbers-push}
 use Rattle.hickory_resolver_cache.proofs.Renumbered.{kept-same, same_list-permuted}
 

@@ -13,7 +13,7 @@ use Rattle.hickory_resolver_cache.specs.declared.kept.Kept.{Kept}
 use Rattle.hickory_proto_core.specs.Handles.{OutcomeValue}
 use Rattle.hickory_proto_core.specs.Query.{query_eq}
 use Rattle.hickory_resolver_model.specs.Bounds.{ConfigValue}
-use Rattle.hickory_resolver_model.specs.Cache.{Entry, OutlivesNoAnswer, room_for, without}
+use Rattle.hickory_resolver_model.specs.Cache.{Entry, OutlivesNoAnswer}
 
 abbrev pub Pair : Type 0
 Pair = Query × Kept
@@ -154,12 +154,6 @@ abbrev pub IsSomeTurn : List Pair → Option Turn → Type 0
 IsSomeTurn ps None = Unit {0}
 IsSomeTurn ps (Some t) = (p : Pair) × StandsAt ps t p
 
--- what the pairs become when the turn goes is what stays when an entry for the question comes in
-pub record MakesRoom (capacity next : ℕ) (q : Query) (ps : List Pair) (turn : Option Turn) : Type 0 where
-  pub stays : (rs : List Pair) → Gone turn ps rs
-      → entries_of rs next ≡ room_for capacity q (entries_of ps next)
-  pub room : turn ≡ None → length ps < capacity
-
 -- no pair is left for the question once the turn goes
 abbrev pub Frees : Query → List Pair → Option Turn → Type 0
 Frees q ps turn =
@@ -188,11 +182,6 @@ pub record IsStored
 -- the same of a pair whose question had one, which has left
 abbrev pub Replaces : ℕ → List Pair → Order → Pair → List Pair → Order → Type 0
 Replaces n ps old p qs new = (t : Turn) × IsTurnOf p.0 ps (Some t) × IsStored (Some t) n ps old p qs new
-
--- the same of a removal
-abbrev pub Drops : ℕ → Query → List Pair → Option Turn → Type 0
-Drops next q ps turn =
-    (rs : List Pair) → Gone turn ps rs → entries_of rs next ≡ without q (entries_of ps next)
 
 -- the turn is the first, or there is none
 abbrev pub IsFirstTurn : Order → Option Turn → Type 0

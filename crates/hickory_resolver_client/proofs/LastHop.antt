@@ -11,11 +11,13 @@ use Rattle.hickory_proto_core.specs.records.net_error.NetError.TheVariants.{OutO
 use Rattle.hickory_resolver_model.specs.Cache.{CacheValue}
 use Rattle.hickory_resolver_model.specs.Lookup.{LookupResult}
 use Rattle.hickory_resolver_model.specs.Verdict.{Hop, first_hop, CnameChain}
-use Rattle.hickory_resolver_model.specs.Hops.{LookupContext, GoesUpstream, IsAliasHop, FollowsAliases, ChainEnd, Special, Hit, Asked, IsChainEnd, kind_verdict, result_of, alias_limit, end_limit, limit_of, result_until, reply_of, asks_of, Store, earlier_store, earlier_stores, last_stores, stores_of, after_store, after_stores, HopList}
+use Rattle.hickory_resolver_model.specs.Hops.{LookupContext, GoesUpstream, IsAliasHop, FollowsAliases, ChainEnd, Special, Hit, Asked, IsChainEnd, kind_verdict, result_of, alias_limit, end_limit, limit_of, result_until, is_kept, reply_of, asks_of, Store, earlier_store, earlier_stores, last_stores, stores_of, after_store, after_stores, HopList}
 use Rattle.hickory_resolver_model.specs.Client.{ClientValue, start_of, IsLookup, KeepsHandle}
-use Rattle.hickory_resolver_client.specs.Steps.{GoesOn, IsDone, IsOut, IsHopStep, PassedValue, passed_of, is_asked, IsWalked, limit_back, stores_back, IsBeginning, IsFinished}
+use Rattle.hickory_resolver_client.specs.Steps.{GoesOn, IsDone, IsOut, IsHopStep, PassedValue, is_asked, limit_back, stores_back, IsBeginning, IsFinished}
 use Rattle.hickory_resolver_client.specs.declared.caching_client.HopStep.TheVariants.{Done}
 use Rattle.hickory_resolver_client.proofs.PassedStores.{after_stores-append}
+use Rattle.hickory_resolver_client.proofs.Stepping.{worked_holds}
+use Rattle.hickory_resolver_client.proofs.Walked.{passed_of, IsWalked}
 use Rattle.hickory_resolver_theorems.proofs.Lists.{all-append}
 
 FollowsAliases-append : (s : LookupContext) (hop mid next : Hop) (xs : List Exchange) (x : Exchange) → FollowsAliases s hop xs mid → IsAliasHop s mid x next → FollowsAliases s hop (xs ++ x ∷ []) next
@@ -103,8 +105,8 @@ module _ {H : Type 0} (step : Step H) (options : DnsRequestOptions) (now count :
         }
         | inr d ↦ record {
           asks = w.asks ++ d.0 ∷ [];
-          led = Leads-append step options before.handle client.handle after.handle w.asks (d.0 ∷ []) w.led d.3;
-          reply = inr (is, inr (record { passed = w.asks; last_hop = hop; leads = w.follows; short = omega (arith, w.few, w.count_is); asks_are = inr (d.0, subst U same_start d.1, d.2, refl); after_is = e ∙ o.cache_is ∙ w.cache_is }));
+          led = Leads-append step options before.handle client.handle after.handle w.asks (d.0 ∷ []) w.led d.4;
+          reply = inr (is, inr (record { passed = w.asks; last_hop = hop; leads = w.follows; short = omega (arith, w.few, w.count_is); asks_are = inr (d.0, subst U same_start d.1, d.2, worked_holds d.0.outcome d.3, refl); after_is = e ∙ o.cache_is ∙ w.cache_is }));
           option_stays = o.option_is ∙ w.option_is;
         }
       ]
@@ -175,8 +177,8 @@ module _ {H : Type 0} (step : Step H) (options : DnsRequestOptions) (now count :
           option_stays = d.option_is ∙ w.option_is;
         }
 
-    done_cut : (answer : LookupResult) → answer ≡ Err OutOfMemory → (cache : CacheValue) → IsBeginning (stores_back result now limit passed) after.cache cache → IsLookup step options now before question answer (record after { cache = cache })
-    done_cut answer is cache b =
+    done_cut : (answer : LookupResult) → answer ≡ Err OutOfMemory → is_kept result ≡ true → (cache : CacheValue) → IsBeginning (stores_back result now limit passed) after.cache cache → IsLookup step options now before question answer (record after { cache = cache })
+    done_cut answer is kept cache b =
         record {
           asks = w.asks ++ asks_of hop d.last;
           led = all_led;
@@ -184,6 +186,7 @@ module _ {H : Type 0} (step : Step H) (options : DnsRequestOptions) (now count :
             is,
             inl (record {
               hops = hops_of d.last d.ends;
+              kept = ap is_kept (sym result_same) ∙ kept;
               front = last_stores s hop d.last ++ b.front;
               back = b.back;
               parts = append_assoc (last_stores s hop d.last) b.front b.back
@@ -203,11 +206,11 @@ module _ {H : Type 0} (step : Step H) (options : DnsRequestOptions) (now count :
   walk_done : (result : LookupResult) (limit : ℕ) (asked : Bool) (after : ClientValue H) → IsHopStep step options now count client hop (Ok (Done result limit asked)) after → (answer : LookupResult) (cache : CacheValue) → IsFinished passed result limit asked now after.cache answer cache
       → IsLookup step options now before question answer (record after { cache = cache })
   walk_done result limit asked after (inl d) answer cache (inl (is, e)) = done_whole result limit asked after d answer is cache e
-  walk_done result limit asked after (inl d) answer cache (inr (is, b)) = done_cut result limit asked after d answer is cache b
+  walk_done result limit asked after (inl d) answer cache (inr (is, kept, b)) = done_cut result limit asked after d answer is kept cache b
   walk_done result limit asked after (inr (oom, o)) answer cache (inl (is, e)) =
       walk_out after o answer (is ∙ out_until (asked || not (is_empty passed)) (limit_back passed limit) result oom) cache
       (e ∙ ap (λ r. after_stores (stores_back r now limit passed) after.cache) oom ∙ nothing_stored (stores_back (Err OutOfMemory) now limit passed) [] _ after.cache (append-nil _) (all_out now limit passed))
-  walk_done result limit asked after (inr (oom, o)) answer cache (inr (is, b)) =
+  walk_done result limit asked after (inr (oom, o)) answer cache (inr (is, kept, b)) =
       walk_out after o answer is cache
       (b.after_is ∙ nothing_stored b.front b.back _ after.cache (b.parts ∙ ap (λ r. stores_back r now limit passed) oom) (all_out now limit passed))
 

@@ -1,11 +1,17 @@
 -- Stores under the questions that were passed, from the last to the first.
-use Rattle.std.proofs.Common.{◌≡◌, ◌∙◌, ℕ, List, [], ◌∷◌, ◌++◌, min, refl, sym, ap, ap₂, subst, append_assoc}
+use Rattle.std.proofs.Common.{◌≡◌, ◌∙◌, ℕ, Bool, true, false, not, ◌||◌, List, [], ◌∷◌, ◌++◌, min, Ok, Err, if◌then◌else◌, refl, sym, ap, ap₂, subst, inl, append_assoc}
 use Rattle.std.proofs.lemmas.List.{append-nil}
 use Rattle.hickory_proto_core.specs.Handles.{OutcomeValue}
+use Rattle.hickory_proto_core.specs.NetErrors.{is_no_records_found}
+use Rattle.hickory_proto_core.specs.ResponseKind.{is_empty}
+use Rattle.hickory_proto_core.specs.records.query.Query.{Query}
+use Rattle.hickory_proto_core.specs.records.net_error.NetError.{NetError}
+use Rattle.hickory_proto_core.specs.records.net_error.NetError.TheVariants.{Message, Timeout, Proto, Dns, NoOutcome, Bounds, OutOfMemory}
+use Rattle.hickory_proto_core.specs.records.net_error.DnsError.TheVariants.{ResponseCode, NoRecordsFound}
 use Rattle.hickory_resolver_model.specs.Cache.{CacheValue, store_until}
 use Rattle.hickory_resolver_model.specs.Lookup.{LookupResult}
-use Rattle.hickory_resolver_model.specs.Hops.{Store, as_outcome, earlier_store, after_store, after_stores}
-use Rattle.hickory_resolver_client.specs.Steps.{PassedValue, limit_back, stores_back, IsBeginning, StoredSoFar}
+use Rattle.hickory_resolver_model.specs.Hops.{Store, store_of, as_outcome, result_until, is_kept, earlier_store, after_store, after_stores}
+use Rattle.hickory_resolver_client.specs.Steps.{PassedValue, limit_back, stores_back, IsBeginning, IsFinished}
 
 pub after_stores-append : (xs ys : List Store) (cache : CacheValue) → after_stores (xs ++ ys) cache ≡ after_stores ys (after_stores xs cache)
 after_stores-append [] ys cache = refl
@@ -20,6 +26,12 @@ stores_back-push : (reply : LookupResult) (now limit : ℕ) (passed : List Passe
 stores_back-push reply now limit [] p = refl
 stores_back-push reply now limit (q ∷ qs) p =
     ap₂ (λ ss n. ss ++ earlier_store reply now q.query n ∷ []) (stores_back-push reply now limit qs p) (limit_back-push (q ∷ qs) p limit)
+
+-- of all the stores these are left, and the cache has the others
+pub record StoredSoFar (rest all : List Store) (before after : CacheValue) : Type 0 where
+  pub front : List Store
+  pub parts : front ++ rest ≡ all
+  pub after_is : after ≡ after_stores front before
 
 -- what is left to store, of all, and the limit that comes of it
 pub record StoresOn (reply : LookupResult) (now limit first : ℕ) (passed all : List PassedValue) (before after : CacheValue) : Type 0 where
@@ -57,3 +69,31 @@ stored_all now reply limit first left all before after none on =
       ap (λ ps. limit_back ps limit) (sym none) ∙ on.same_limit,
       k.after_is ∙ ap (λ ss. after_stores ss before) (sym (append-nil k.front) ∙ ap (λ ps. k.front ++ stores_back reply now limit ps) (sym none) ∙ k.parts),
     )
+
+-- ---- a failure is not kept
+
+unchanged : (error : NetError) (q : Query) (now limit : ℕ) (cache : CacheValue) → is_no_records_found error ≡ false → after_store (store_of q (Err error) now limit) cache ≡ cache
+unchanged (Message text) q now limit cache none = refl
+unchanged Timeout q now limit cache none = refl
+unchanged (Proto e) q now limit cache none = refl
+unchanged (Dns (ResponseCode code)) q now limit cache none = refl
+unchanged (Dns (NoRecordsFound n)) q now limit cache none = let clash : true ≡ false = none in cc
+unchanged NoOutcome q now limit cache none = refl
+unchanged (Bounds e) q now limit cache none = refl
+unchanged OutOfMemory q now limit cache none = refl
+
+none_kept : (error : NetError) (now limit : ℕ) (passed : List PassedValue) (cache : CacheValue) → is_no_records_found error ≡ false → after_stores (stores_back (Err error) now limit passed) cache ≡ cache
+none_kept error now limit [] cache none = refl
+none_kept error now limit (p ∷ ps) cache none =
+    let s = earlier_store (Err error) now p.query (limit_back (p ∷ ps) limit) in
+    after_stores-append (stores_back (Err error) now limit ps) (s ∷ []) cache
+    ∙ ap (after_store s) (none_kept error now limit ps cache none) ∙ unchanged error p.query now (limit_back (p ∷ ps) limit) cache none
+
+error_until : (b : Bool) (limit : ℕ) (error : NetError) → (if b then result_until limit (Err error) else Err error) ≡ Err error
+error_until true limit error = refl
+error_until false limit error = refl
+
+pub finished_failure : (passed : List PassedValue) (result : LookupResult) (limit : ℕ) (asked : Bool) (now : ℕ) (cache : CacheValue) → is_kept result ≡ false → IsFinished passed result limit asked now cache result cache
+finished_failure passed (Ok l) limit asked now cache none = let clash : true ≡ false = none in cc
+finished_failure passed (Err error) limit asked now cache none =
+    inl (sym (error_until (asked || not (is_empty passed)) (limit_back passed limit) error), sym (none_kept error now limit passed cache none))

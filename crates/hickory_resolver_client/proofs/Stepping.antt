@@ -3,7 +3,7 @@ use Rattle.std.proofs.Common.{◌≡◌, ◌<◌, ◌≤◌, ◌∙◌, ℕ, Boo
 use Rattle.std.specs.Option.{option_map_or}
 use Rattle.hickory_proto_core.specs.Messages.{MessageValue}
 use Rattle.hickory_proto_core.specs.Errors.{NoRecordsValue}
-use Rattle.hickory_proto_core.specs.Handles.{OutcomeValue, Step}
+use Rattle.hickory_proto_core.specs.Handles.{OutcomeValue, holds_memory, Step}
 use Rattle.hickory_proto_core.specs.ResponseKind.{Answer, Negative, Failed, kind_of, negative_of}
 use Rattle.hickory_proto_core.specs.codes.response_code.ResponseCode.{ResponseCode as Code}
 use Rattle.hickory_proto_core.specs.declared.dns_request.DnsRequestOptions.{DnsRequestOptions}
@@ -21,7 +21,7 @@ use Rattle.hickory_resolver_model.specs.Client.{ClientValue, start_of}
 use Rattle.hickory_resolver_client.proofs.Limits.{earliest_deadline}
 use Rattle.hickory_resolver_client.specs.Special.{IsUnlessOut, IsSpecialReply}
 use Rattle.hickory_resolver_client.specs.Verdicts.{IsVerdict}
-use Rattle.hickory_resolver_client.specs.Steps.{NeverFailsNegative, SettledAs, IsSettled, IsHopStep}
+use Rattle.hickory_resolver_client.specs.Steps.{NeverFailsNegative, SettledAs, IsWorkedOn, IsSettled, IsHopStep}
 use Rattle.hickory_resolver_client.specs.declared.verdict.Verdict as response
 use Rattle.hickory_resolver_client.specs.declared.verdict.Verdict.TheVariants as variant
 use Rattle.hickory_resolver_client.specs.declared.caching_client.HopStep.{HopStep}
@@ -44,6 +44,29 @@ never_fails (Err (Dns (NoRecordsFound n))) k h = cc
 never_fails (Err NoOutcome) k h = cc
 never_fails (Err (Bounds e)) k h = cc
 never_fails (Err OutOfMemory) k h = cc
+
+-- something is made of what is no failure, and it holds memory
+pub worked_answer : (m : MessageValue) → IsWorkedOn (Answer m)
+worked_answer m error e = let clash : Answer m ≡ Failed error = e in cc
+
+pub worked_negative : (n : NoRecordsValue) → IsWorkedOn (Negative n)
+worked_negative n error e = let clash : Negative n ≡ Failed error = e in cc
+
+pub worked_holds : (outcome : OutcomeValue) → IsWorkedOn (kind_of outcome) → holds_memory outcome ≡ true
+worked_holds (Ok m) worked = refl
+worked_holds (Err (Message text)) worked = absurd (worked (Message text) refl)
+worked_holds (Err Timeout) worked = absurd (worked Timeout refl)
+worked_holds (Err (Proto e)) worked = absurd (worked (Proto e) refl)
+worked_holds (Err (Dns (ResponseCode code))) worked = absurd (worked (Dns (ResponseCode code)) refl)
+worked_holds (Err (Dns (NoRecordsFound n))) worked = refl
+worked_holds (Err NoOutcome) worked = absurd (worked NoOutcome refl)
+worked_holds (Err (Bounds e)) worked = absurd (worked (Bounds e) refl)
+worked_holds (Err OutOfMemory) worked = absurd (worked OutOfMemory refl)
+
+-- a negative answer is kept under its question
+pub settle_negative : (s : LookupContext) (hop : Hop) (depth : ℕ) (n : NoRecordsValue) (result : LookupResult) (after : CacheValue) → SettledAs s (Err (Dns (NoRecordsFound n))) (store_of hop.query (Err (Dns (NoRecordsFound n))) s.now last_moment ∷ []) result after → IsSettled s hop depth (Negative n) (Ok (Done result last_moment true)) after
+settle_negative s hop depth n result after (inl done) = inl ((λ next h. let clash : None ≡ Some (CnameChain next) = h in cc), done.0, refl, refl, done.1)
+settle_negative s hop depth n result after (inr out) = inr (out.0, worked_negative n, out.1)
 
 -- ---- an answer, by its verdict
 
@@ -80,7 +103,7 @@ module _ (s : LookupContext) (hop : Hop) (depth : ℕ) (m : MessageValue) (keep 
   limited = limit_same s hop given m ttl limit same_hop ttl_is limit_is
 
   pub settle_exists : (found : MessageValue) → held ≡ variant.Exists found → (result : LookupResult) (after : CacheValue) → SettledAs s (Ok (found_lookup s.cache.config given.query found s.now)) (store_of given.query (Ok found) s.now limit ∷ []) result after → IsSettled s hop depth (Answer m) (Ok (Done result limit true)) after
-  settle_exists found e result after (inr out) = inr out
+  settle_exists found e result after (inr out) = inr (out.0, worked_answer m, out.1)
   settle_exists found e result after (inl done) =
       let v = is_exists _ m found (judged (variant.Exists found) e) in
       inl (
@@ -92,7 +115,7 @@ module _ (s : LookupContext) (hop : Hop) (depth : ℕ) (m : MessageValue) (keep 
       )
 
   pub settle_none : (back : MessageValue) → held ≡ variant.NoMatch back → (result : LookupResult) → IsUnlessOut (Err (no_match given.query back)) result → IsSettled s hop depth (Answer m) (Ok (Done result limit true)) s.cache
-  settle_none back e result (inr out) = inr (out, refl)
+  settle_none back e result (inr out) = inr (out, worked_answer m, refl)
   settle_none back e result (inl done) =
       let v = is_none _ m back (judged (variant.NoMatch back) e) in
       inl (
@@ -104,7 +127,7 @@ module _ (s : LookupContext) (hop : Hop) (depth : ℕ) (m : MessageValue) (keep 
       )
 
   pub settle_last : (next : Hop) (back : MessageValue) → held ≡ variant.CnameChain next back → 7 ≤ depth → depth ≤ 7 → (result : LookupResult) → IsUnlessOut (Err (no_match given.query back)) result → IsSettled s hop depth (Answer m) (Ok (Done result limit true)) s.cache
-  settle_last next back e low high result (inr out) = inr (out, refl)
+  settle_last next back e low high result (inr out) = inr (out, worked_answer m, refl)
   settle_last next back e low high result (inl done) =
       let v = is_chain _ m next back (judged (variant.CnameChain next back) e) in
       inl (
@@ -184,6 +207,6 @@ module _ {H : Type 0} (step : Step H) (options : DnsRequestOptions) (now depth :
   step_asked upstream outcome after sent stays (Ok (Done result limit asked)) (inl settled) =
       inl (record { last = Asked outcome; ends = (upstream, settled.0); led = (after.handle, sent, refl); result_is = settled.1; limit_is = settled.2; asked_is = settled.3; after_is = settled.4; option_is = stays })
   step_asked upstream outcome after sent stays (Ok (Done result limit asked)) (inr out) =
-      inr (out.0, record { cause = inr (record { query = hop.query; outcome = outcome }, upstream, refl, (after.handle, sent, refl)); cache_is = out.1; option_is = stays })
+      inr (out.0, record { cause = inr (record { query = hop.query; outcome = outcome }, upstream, refl, out.1, (after.handle, sent, refl)); cache_is = out.2; option_is = stays })
   step_asked upstream outcome after sent stays (Err error) out =
-      (out.0, record { cause = inr (record { query = hop.query; outcome = outcome }, upstream, refl, (after.handle, sent, refl)); cache_is = out.1; option_is = stays })
+      (out.0, record { cause = inr (record { query = hop.query; outcome = outcome }, upstream, refl, out.1, (after.handle, sent, refl)); cache_is = out.2; option_is = stays })

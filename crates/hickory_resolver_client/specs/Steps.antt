@@ -13,7 +13,7 @@ use Rattle.hickory_proto_core.specs.records.net_error.DnsError.TheVariants.{NoRe
 use Rattle.hickory_resolver_model.specs.Cache.{CacheValue}
 use Rattle.hickory_resolver_model.specs.Lookup.{LookupResult}
 use Rattle.hickory_resolver_model.specs.Verdict.{Hop, first_hop, CnameChain}
-use Rattle.hickory_resolver_model.specs.Hops.{LookupContext, GoesUpstream, FollowsAliases, ChainEnd, Special, Hit, Asked, IsChainEnd, kind_verdict, kind_result, kind_stores, result_of, alias_limit, end_limit, result_until, asks_of, last_stores, Store, earlier_store, after_stores}
+use Rattle.hickory_resolver_model.specs.Hops.{LookupContext, GoesUpstream, FollowsAliases, ChainEnd, Special, Hit, Asked, IsChainEnd, kind_verdict, kind_result, kind_stores, result_of, alias_limit, end_limit, result_until, is_kept, asks_of, last_stores, Store, earlier_store, after_stores}
 use Rattle.hickory_resolver_model.specs.Client.{ClientValue, start_of}
 use Rattle.hickory_resolver_client.specs.declared.caching_client.HopStep as code
 use Rattle.hickory_resolver_client.specs.declared.caching_client.HopStep.TheVariants.{Next, Done}
@@ -32,7 +32,11 @@ SettledAs s reply stores result after =
 abbrev pub EndsAt : LookupContext → Hop → ℕ → ResponseKind → Type 0
 EndsAt s hop depth kind = (next : Hop) → kind_verdict s hop kind ≡ Some (CnameChain next) → depth ≡ 7
 
--- what a hop that was asked comes to, by the kind of what came back
+-- something is made of what came back: it is no failure
+abbrev pub IsWorkedOn : ResponseKind → Type 0
+IsWorkedOn kind = (error : NetError) → kind ≡ Failed error → ⊥
+
+-- what a hop that was asked comes to, by the kind of what came back. A failure is the result as it is
 abbrev pub IsSettled : LookupContext → Hop → ℕ → ResponseKind → Result code.HopStep NetError → CacheValue
     → Type 0
 IsSettled s hop depth kind (Ok (Next asked limit next)) after =
@@ -41,8 +45,8 @@ IsSettled s hop depth kind (Ok (Next asked limit next)) after =
 IsSettled s hop depth kind (Ok (Done result limit asked)) after =
     (EndsAt s hop depth kind × (result ≡ kind_result s hop kind) × (limit ≡ alias_limit s hop.query kind)
     × (asked ≡ true) × (after ≡ after_stores (kind_stores s hop kind) s.cache))
-    ⊎ ((result ≡ Err OutOfMemory) × (after ≡ s.cache))
-IsSettled s hop depth kind (Err error) after = (error ≡ OutOfMemory) × (after ≡ s.cache)
+    ⊎ ((result ≡ Err OutOfMemory) × IsWorkedOn kind × (after ≡ s.cache))
+IsSettled s hop depth kind (Err error) after = (error ≡ OutOfMemory) × IsWorkedOn kind × (after ≡ s.cache)
 
 -- the question was asked, and an alias came back, which is not the eighth
 pub record GoesOn
@@ -79,14 +83,14 @@ pub record IsDone
   pub after_is : after.cache ≡ after_stores (last_stores (start_of before now) hop last) before.cache
   pub option_is : after.preserve_intermediates ≡ before.preserve_intermediates
 
--- memory ran out, before the question was asked or after it; nothing was stored
+-- memory ran out, before the question was asked, or after it where what came back is no failure; nothing was stored
 pub record IsOut
     {H : Type 0} (step : Step H) (options : DnsRequestOptions) (now : ℕ) (before : ClientValue H) (hop : Hop)
     (after : ClientValue H)
     : Type 0 where
   pub cause : (after.handle ≡ before.handle)
       ⊎ ((x : Exchange) × GoesUpstream (start_of before now) hop.query × (x.query ≡ hop.query)
-      × Leads step options before.handle (x ∷ []) after.handle)
+      × IsWorkedOn (kind_of x.outcome) × Leads step options before.handle (x ∷ []) after.handle)
   pub cache_is : after.cache ≡ before.cache
   pub option_is : after.preserve_intermediates ≡ before.preserve_intermediates
 
@@ -106,23 +110,6 @@ pub record PassedValue : Type 0 where
   pub query : Query
   pub limit : ℕ
 
-abbrev pub passed_of : LookupContext → Exchange → PassedValue
-passed_of s x = record { query = x.query; limit = alias_limit s x.query (kind_of x.outcome) }
-
--- so many questions were passed, and this hop comes next
-pub record IsWalked
-    {H : Type 0} (step : Step H) (options : DnsRequestOptions) (now count : ℕ) (before : ClientValue H)
-    (question : Query) (passed : List PassedValue) (hop : Hop) (client : ClientValue H)
-    : Type 0 where
-  pub asks : List Exchange
-  pub led : Leads step options before.handle asks client.handle
-  pub follows : FollowsAliases (start_of before now) (first_hop question) asks hop
-  pub passed_are : map (passed_of (start_of before now)) asks ≡ passed
-  pub count_is : length asks ≡ count
-  pub few : count ≤ 7
-  pub cache_is : client.cache ≡ before.cache
-  pub option_is : client.preserve_intermediates ≡ before.preserve_intermediates
-
 -- the limit of the first of some passed questions, where that of the hop after them is given
 abbrev pub limit_back : List PassedValue → ℕ → ℕ
 limit_back [] limit = limit
@@ -141,12 +128,6 @@ pub record IsBeginning (stores : List Store) (before after : CacheValue) : Type 
   pub parts : front ++ back ≡ stores
   pub after_is : after ≡ after_stores front before
 
--- of all the stores these are left, and the cache has the others
-pub record StoredSoFar (rest all : List Store) (before after : CacheValue) : Type 0 where
-  pub front : List Store
-  pub parts : front ++ rest ≡ all
-  pub after_is : after ≡ after_stores front before
-
 -- what a look-up comes to after its last hop: the result is kept under each question that was passed, and given up
 -- to the limit of the first hop where that was asked; or memory ran out, and a beginning of the stores was made
 abbrev pub IsFinished : List PassedValue → LookupResult → ℕ → Bool → ℕ → CacheValue → LookupResult → CacheValue
@@ -154,4 +135,5 @@ abbrev pub IsFinished : List PassedValue → LookupResult → ℕ → Bool → �
 IsFinished passed result limit asked now before answer after =
     ((answer ≡ (if asked || not (is_empty passed) then result_until (limit_back passed limit) result else result))
     × (after ≡ after_stores (stores_back result now limit passed) before))
-    ⊎ ((answer ≡ Err OutOfMemory) × IsBeginning (stores_back result now limit passed) before after)
+    ⊎ ((answer ≡ Err OutOfMemory) × (is_kept result ≡ true)
+    × IsBeginning (stores_back result now limit passed) before after)

@@ -6,7 +6,7 @@ ghost use Rattle.hickory_proto_core.specs.records.net_error.DnsError.TheVariants
 ghost use Rattle.std.specs.Option.{option_map_or};
 ghost use Rattle.hickory_resolver_model.specs.Cache.{last_moment, without_query};
 ghost use Rattle.hickory_resolver_model.specs.Lookup.{found_lookup};
-ghost use Rattle.hickory_resolver_model.specs.Hops.{no_match, hit_result, store_of, as_outcome, alias_deadline, result_until, after_stores};
+ghost use Rattle.hickory_resolver_model.specs.Hops.{no_match, hit_result, store_of, as_outcome, alias_deadline, result_until, is_kept, after_stores};
 ghost use Rattle.hickory_resolver_model.specs.Client.{ClientValue, IsLookup, start_of, KeepsHandle, empty_cache};
 ghost use Rattle.hickory_resolver_theorems.specs.CallFacts.{KeepsWhatIsKnown};
 ghost use Rattle.hickory_resolver_theorems.specs.Promises.{IsPromisedLookup};
@@ -204,7 +204,7 @@ impl<H: DnsHandle, S: BuildHasher> CachingClient<H, S> {
     }
 
     // Keeps the result under each question that was passed, and gives it: where the first question was asked, up
-    // to the limit of its hop at the most.
+    // to the limit of its hop at the most. A failure is not kept, and given as it is.
     fn finish(
         &mut self,
         passed: Vec<Passed>,
@@ -216,6 +216,9 @@ impl<H: DnsHandle, S: BuildHasher> CachingClient<H, S> {
         ensures finished { IsFinished passed.items reply limit asked now self.old.cache result self.new.cache }
         ensures stays { KeepsHandle self.old self.new }
     {
+        if !is_kept(&reply) {
+            return reply;
+        }
         let first_asked = asked || !passed.is_empty();
         match store_back(&mut self.cache, passed, &reply, limit, now) {
             Ok(limit) if first_asked => result_until(reply, limit),
@@ -453,6 +456,16 @@ fn store_back<S: BuildHasher>(
         cache.insert_until(last.query, outcome, now, limit)?;
     }
     Ok(limit)
+}
+
+// Whether a result is kept: an answer, or a negative answer.
+fn is_kept(reply: &Result<Lookup, NetError>) -> bool
+    ensures { result ≡ is_kept reply.now }
+{
+    match reply {
+        Ok(_) => true,
+        Err(error) => error.is_no_records_found(),
+    }
 }
 
 // What is kept of a result under another question: a fresh response with its sections, or its error.

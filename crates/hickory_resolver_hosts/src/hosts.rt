@@ -85,9 +85,13 @@ impl<S: BuildHasher> Hosts<S> {
 
     /// What the table has for a question at this moment (seconds), if it has something: the addresses of the
     /// name for A and AAAA, and for PTR the names of the address that the asked name stands for, in the order
-    /// in which they were first seen, for a day. The class is not looked at.
+    /// in which they were first seen, for a day. The class is not looked at. For other types it has nothing, and takes
+    /// no memory to say so.
     pub fn lookup_static_host(&self, query: &Query, now: u64) -> Result<Option<Lookup>, NetError>
         ensures ok { IfOk result (IsStatic query.now now self.now) }
+        ensures other { type_code query.now.query_type ≢ type_code type.A
+            → type_code query.now.query_type ≢ type_code type.AAAA
+            → type_code query.now.query_type ≢ type_code type.PTR → result ≡ Ok None }
         ensures err { IsOkUnless result NetError.OutOfMemory }
     {
         match query.query_type.code() {

@@ -1,4 +1,6 @@
--- The walk along the aliases among the answers of a response (RFC 1034, section 3.6.2; RFC 2782).
+-- The walk along the aliases among the answers of a response (RFC 1034, section 3.6.2; RFC 2782). The answer section
+-- is read once, in order, with the name that was reached so far, at first the asked one. A record that leads on is said
+-- to count; all others, those of DNAME among them, are passed over. Classes are not looked at.
 use Rattle.std.specs.Prelude.{◌≡◌, ◌≤◌, ◌<◌, ◌+◌, ℕ, Bool, true, false, not, ◌||◌, List, [], ◌∷◌, length, min, Option, Some, None, slice_get, if◌then◌else◌}
 use Rattle.std.specs.Option.{option_map_or}
 use Rattle.std.specs.List.{list_any}
@@ -82,8 +84,8 @@ walk_step place ttl (Server target) rest = record rest {
   ttl = min ttl rest.ttl;
 }
 
--- These are the places of a walk from a place on: each is after the one before it, and its record counts there;
--- no record that is left out would have counted at its place.
+-- The walk again, by its places alone: these are the places of a walk from a place on. Each is after the one before it,
+-- and its record counts there; no record that is left out would have counted at its place.
 abbrev pub IsWalk : List RecordValue → NameValue → ℕ → NameValue → List ℕ → Walk → Type 0
 IsWalk answers asked low reached [] walk =
     (walk ≡ standing reached) × CountNowhere answers asked reached low (length answers)
@@ -93,7 +95,8 @@ IsWalk answers asked low reached (p ∷ ps) walk =
     × (counted asked reached r ≡ Some c) × IsWalk answers asked (p + 1) (reached_by reached c) ps rest
     × (walk ≡ walk_step p r.ttl c rest))
 
--- the walk over these records, the first of which has this place
+-- the walk over these records, the first of which has this place. It is the one walk by its places (the laws of the
+-- walk say so)
 abbrev pub walk_from : ℕ → NameValue → NameValue → List RecordValue → Walk
 walk_from place asked reached [] = standing reached
 walk_from place asked reached (r ∷ rs) =

@@ -116,16 +116,22 @@ attempt_result (One t) (r ∷ k ∷ rs) = k
 attempt_result (Both t u) (r ∷ k ∷ rs) = if is_out_of_memory k then k else both_results r k
 attempt_result (Fallback t u) (r ∷ k ∷ rs) = k
 
--- whether two results are made one, which may find no memory
+-- both results are answers
+abbrev pub are_answers : LookupResult → LookupResult → Bool
+are_answers (Ok l) (Ok k) = true
+are_answers (Ok l) (Err e) = false
+are_answers (Err e) k = false
+
+-- whether two results are made one, which may find no memory: only where both are answers
 abbrev pub joins_results : Plan → List LookupResult → Bool
-joins_results (Both t u) (r ∷ k ∷ rs) = true
+joins_results (Both t u) (r ∷ k ∷ rs) = are_answers r k
 joins_results plan results = false
 
--- what an attempt comes to: the results of its sub-look-ups as one; or memory runs out, which is taken for the
--- question of each sub-look-up and to make two results one
+-- memory is taken for the question of each sub-look-up, and to make two answers one
 abbrev pub takes_memory : Plan → List LookupResult → Bool
 takes_memory plan results = is_some (next_type plan results) || joins_results plan results
 
+-- what an attempt comes to: the results of its sub-look-ups as one; or memory runs out, where it is taken
 abbrev pub IsAttemptResult : Plan → List LookupResult → LookupResult → Type 0
 IsAttemptResult plan results result =
     ((next_type plan results ≡ None) × (result ≡ attempt_result plan results))

@@ -1,10 +1,11 @@
 -- What a look-up asks, answers and stores, as a list of hops: each is a question on the way of an alias to
 -- the next, and the last one has the result.
-use Rattle.std.specs.Prelude.{◌≡◌, ◌⊎◌, ◌≤◌, ℕ, Bool, List, [], ◌∷◌, ◌++◌, length, map, min, Option, Some, None, Ok, Err}
+use Rattle.std.specs.Prelude.{◌≡◌, ◌⊎◌, ◌≤◌, ℕ, Bool, true, false, List, [], ◌∷◌, ◌++◌, length, map, min, Option, Some, None, Ok, Err}
 use Rattle.std.specs.Option.{option_map}
 use Rattle.hickory_proto_core.specs.Codes.{type_code}
 use Rattle.hickory_proto_core.specs.Messages.{MessageValue}
-use Rattle.hickory_proto_core.specs.Handles.{OutcomeValue}
+use Rattle.hickory_proto_core.specs.Handles.{OutcomeValue, holds_memory}
+use Rattle.hickory_proto_core.specs.NetErrors.{is_no_records_found}
 use Rattle.hickory_proto_core.specs.ResponseKind.{ResponseKind, Answer, Negative, Failed, kind_of, first_soa, negative_ttl_of}
 use Rattle.hickory_proto_core.specs.codes.record_type.RecordType.TheVariants as type
 use Rattle.hickory_proto_core.specs.records.query.Query.{Query}
@@ -42,7 +43,8 @@ pub record IsAliasHop (s : LookupContext) (hop : Hop) (x : Exchange) (next : Hop
   pub asked : x.query ≡ hop.query
   pub alias : kind_verdict s hop (kind_of x.outcome) ≡ Some (CnameChain next)
 
--- these exchanges lead by aliases from a hop to another
+-- these exchanges lead by aliases from a hop to another. The first target of a service's SRV records is one, where no
+-- CNAME counted
 abbrev pub FollowsAliases : LookupContext → Hop → List Exchange → Hop → Type 0
 FollowsAliases s hop [] last = last ≡ hop
 FollowsAliases s hop (x ∷ xs) last = (next : Hop) × IsAliasHop s hop x next × FollowsAliases s next xs last
@@ -102,8 +104,7 @@ asks_of hop (Special reply) = []
 asks_of hop (Hit entry) = []
 asks_of hop (Asked outcome) = record { query = hop.query; outcome = outcome } ∷ []
 
--- ---- how long an alias lives: no longer than the CNAMEs on its way (RFC 2181, section 5.2; RFC 1034, section
--- 3.6.2)
+-- ---- how long an alias lives: no longer than the CNAMEs on its way (RFC 2181, section 8; RFC 1034, section 3.6.2)
 
 -- the least of some moments, or the last moment where there are none
 abbrev pub earliest : List ℕ → ℕ
@@ -122,7 +123,8 @@ alias_limit s q (Answer response) =
 alias_limit s q (Negative none) = last_moment
 alias_limit s q (Failed error) = last_moment
 
--- the limit of a last hop: of a hit the deadline of its entry
+-- the limit of a last hop: of a hit the deadline of its entry; where it was asked, until when the CNAMEs live that
+-- counted in what came back; a special name has none
 abbrev pub end_limit : LookupContext → Hop → ChainEnd → ℕ
 end_limit s hop (Special reply) = last_moment
 end_limit s hop (Hit entry) = entry.valid_until
@@ -164,7 +166,8 @@ made_entry config s = option_map (not_after s.limit) (entry_of config s.query s.
 abbrev pub store_of : Query → OutcomeValue → ℕ → ℕ → Store
 store_of q outcome now limit = record { query = q; outcome = outcome; now = now; limit = limit }
 
--- what the last hop stores under its own question: an accepted response or a negative answer
+-- what the last hop stores under its own question: an accepted response or a negative answer. Only an answer is
+-- walked, so that no CNAME limits a negative answer there
 abbrev pub verdict_stores : Query → ℕ → ℕ → Verdict → List Store
 verdict_stores q now limit (Exists m) = store_of q (Ok m) now limit ∷ []
 verdict_stores q now limit (CnameChain next) = []
@@ -235,18 +238,25 @@ pub record IsWhole
   pub result_is : result ≡ reply_of s hops.passed hops.last_hop hops.last
   pub after_is : after ≡ after_stores (stores_of s hops.passed hops.last_hop hops.last) s.cache
 
--- memory ran out among the stores: a beginning of them was made
+-- a result that is kept, and so takes memory after it came: an answer, or a negative answer. Any other error is the
+-- reply as it is
+abbrev pub is_kept : LookupResult → Bool
+is_kept (Ok lookup) = true
+is_kept (Err error) = is_no_records_found error
+
+-- memory ran out among the stores of a result that is kept: a beginning of them was made
 pub record IsCutInStores
     (s : LookupContext) (question : Query) (asks : List Exchange) (after : CacheValue)
     : Type 0 where
   pub hops : HopList s question asks
+  pub kept : is_kept (result_of s hops.last_hop hops.last) ≡ true
   pub front : List Store
   pub back : List Store
   pub parts : front ++ back ≡ stores_of s hops.passed hops.last_hop hops.last
   pub after_is : after ≡ after_stores front s.cache
 
--- memory ran out among the hops: first hops were asked, the last of them with any outcome, and nothing was
--- stored
+-- memory ran out among the hops: first hops were asked, and nothing was stored. What came back to the last of them
+-- holds memory, so that there may have been none to copy it or to make something of it
 pub record IsCutInAsks
     (s : LookupContext) (question : Query) (asks : List Exchange) (after : CacheValue)
     : Type 0 where
@@ -256,7 +266,7 @@ pub record IsCutInAsks
   pub short : length passed ≤ 7
   pub asks_are : (asks ≡ passed)
       ⊎ ((x : Exchange) × GoesUpstream s last_hop.query × (x.query ≡ last_hop.query)
-      × (asks ≡ passed ++ x ∷ []))
+      × (holds_memory x.outcome ≡ true) × (asks ≡ passed ++ x ∷ []))
   pub after_is : after ≡ s.cache
 
 -- what is left of a look-up where memory ran out: a beginning of its events

@@ -1,5 +1,6 @@
 -- A look-up makes eight exchanges at most.
-use Rattle.std.proofs.Common.{◌≡◌, ◌⊎◌, ◌≤◌, List, [], ◌∷◌, ◌++◌, length, ap, ◌∙◌, arith, length-append, inl, inr}
+use Rattle.std.proofs.Common.{◌≡◌, ◌⊎◌, ◌≤◌, true, List, [], ◌∷◌, ◌++◌, length, ap, ◌∙◌, arith, length-append, inl, inr}
+use Rattle.hickory_proto_core.specs.Handles.{holds_memory}
 use Rattle.hickory_proto_core.specs.records.query.Query.{Query}
 use Rattle.hickory_proto_core.specs.declared.recorded.Exchange.{Exchange}
 use Rattle.hickory_resolver_model.specs.Cache.{CacheValue}
@@ -18,9 +19,9 @@ hops-few s q asks h = omega (arith, ap length h.asks_are ∙ length-append h.pas
 cut-few : (s : LookupContext) (q : Query) (asks : List Exchange) (after : CacheValue) → IsCutInAsks s q asks after → length asks ≤ 8
 cut-few s q asks after h = by h.asks_are
   where
-    by : (asks ≡ h.passed) ⊎ ((x : Exchange) × GoesUpstream s h.last_hop.query × (x.query ≡ h.last_hop.query) × (asks ≡ h.passed ++ x ∷ [])) → length asks ≤ 8
+    by : (asks ≡ h.passed) ⊎ ((x : Exchange) × GoesUpstream s h.last_hop.query × (x.query ≡ h.last_hop.query) × (holds_memory x.outcome ≡ true) × (asks ≡ h.passed ++ x ∷ [])) → length asks ≤ 8
     by (inl e) = omega (arith, ap length e, h.short)
-    by (inr (x, up, same, e)) = omega (arith, ap length e ∙ length-append h.passed (x ∷ []), h.short)
+    by (inr (x, up, same, holds, e)) = omega (arith, ap length e ∙ length-append h.passed (x ∷ []), h.short)
 
 pub few : (s : LookupContext) (q : Query) (asks : List Exchange) (result : LookupResult) (after : CacheValue) → IsReply s q asks result after → length asks ≤ 8
 few s q asks result after (inl whole) = hops-few s q asks whole.hops

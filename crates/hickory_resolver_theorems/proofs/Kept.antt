@@ -1,8 +1,8 @@
 -- A reply over the exchanges that were answered is one over those that a recording handle kept.
-use Rattle.std.proofs.Common.{◌≡◌, ◌⊎◌, ◌≤◌, ℕ, List, [], ◌∷◌, ◌++◌, length, Some, None, Err, refl, sym, ap, ◌∙◌, subst, inl, inr}
+use Rattle.std.proofs.Common.{◌≡◌, ◌⊎◌, ◌≤◌, ℕ, true, List, [], ◌∷◌, ◌++◌, length, Some, None, Err, refl, sym, ap, ◌∙◌, subst, inl, inr}
 use Rattle.std.proofs.lemmas.List.{append-nil}
 use Rattle.std.specs.List.{AllByRecursion}
-use Rattle.hickory_proto_core.specs.Handles.{OutcomeValue}
+use Rattle.hickory_proto_core.specs.Handles.{OutcomeValue, holds_memory}
 use Rattle.hickory_proto_core.specs.Messages.{MessageValue}
 use Rattle.hickory_proto_core.specs.Recorded.{RecordedAs}
 use Rattle.hickory_proto_core.specs.ResponseKind.{ResponseKind, Answer, Negative, Failed, kind_of}
@@ -73,30 +73,34 @@ no_alias s hop next outcome out alias = let clash : None ≡ Some (CnameChain ne
 front_kept : (s : LookupContext) (hop last : Hop) (front tail kept : List Exchange) → FollowsAliases s hop front last → RecordedAs (front ++ tail) kept → FrontKept front tail kept
 front_kept s hop last [] tail kept leads r = record { rest = kept; parts = refl; recorded = r }
 front_kept s hop last (x ∷ xs) tail kept (next, p, leads) (inl (out, r)) = absurd (no_alias s hop next x.outcome out p.alias)
-front_kept s hop last (x ∷ xs) tail kept (next, p, leads) (inr (y, ys, e, q, inr out, r)) = absurd (no_alias s hop next x.outcome out p.alias)
+front_kept s hop last (x ∷ xs) tail kept (next, p, leads) (inr (y, ys, e, q, inr (out, holds), r)) = absurd (no_alias s hop next x.outcome out p.alias)
 front_kept s hop last (x ∷ xs) tail kept (next, p, leads) (inr (y, ys, e, q, inl same, r)) =
     let f = front_kept s next last xs tail ys leads r in
     let here = same_exchange x y q same in
     record { rest = f.rest; parts = e ∙ ap (λ z. z ∷ ys) here ∙ ap (λ zs. x ∷ zs) f.parts; recorded = f.recorded }
 
+-- memory ran out at an exchange: nothing was kept, or what was kept holds memory
+abbrev CutKept : Exchange → List Exchange → Type 0
+CutKept x rest = (rest ≡ []) ⊎ ((y : Exchange) × (y.query ≡ x.query) × (holds_memory y.outcome ≡ true) × (rest ≡ y ∷ []))
+
 -- one exchange at the end: kept as it is, or memory had run out
 abbrev EndKept : Exchange → List Exchange → Type 0
-EndKept x rest = (rest ≡ x ∷ []) ⊎ ((x.outcome ≡ Err OutOfMemory) × ((rest ≡ []) ⊎ ((y : Exchange) × (y.query ≡ x.query) × (rest ≡ y ∷ []))))
+EndKept x rest = (rest ≡ x ∷ []) ⊎ ((x.outcome ≡ Err OutOfMemory) × CutKept x rest)
 
 end_kept : (x : Exchange) (rest : List Exchange) → RecordedAs (x ∷ []) rest → EndKept x rest
 end_kept x rest (inl (out, r)) = inr (out, inl r)
 end_kept x rest (inr (y, ys, e, q, inl same, r)) =
     let here = same_exchange x y q same in
     inl (e ∙ ap (λ zs. y ∷ zs) r ∙ ap (λ z. z ∷ []) here)
-end_kept x rest (inr (y, ys, e, q, inr out, r)) = inr (out, inr (y, q, e ∙ ap (λ zs. y ∷ zs) r))
+end_kept x rest (inr (y, ys, e, q, inr (out, holds), r)) = inr (out, inr (y, q, holds, e ∙ ap (λ zs. y ∷ zs) r))
 
 module _ (s : LookupContext) (question : Query) where
   cut_by : (passed : List Exchange) (hop : Hop) → FollowsAliases s (first_hop question) passed hop → length passed ≤ 7 → GoesUpstream s hop.query → (x : Exchange) → x.query ≡ hop.query → (rest kept : List Exchange) → kept ≡ passed ++ rest
-      → ((rest ≡ []) ⊎ ((y : Exchange) × (y.query ≡ x.query) × (rest ≡ y ∷ []))) → IsCutInAsks s question kept s.cache
+      → CutKept x rest → IsCutInAsks s question kept s.cache
   cut_by passed hop leads short upstream x asked rest kept parts (inl none) =
       record { passed = passed; last_hop = hop; leads = leads; short = short; asks_are = inl (parts ∙ ap (λ zs. passed ++ zs) none ∙ append-nil passed); after_is = refl }
-  cut_by passed hop leads short upstream x asked rest kept parts (inr (y, q, one)) =
-      record { passed = passed; last_hop = hop; leads = leads; short = short; asks_are = inr (y, upstream, q ∙ asked, parts ∙ ap (λ zs. passed ++ zs) one); after_is = refl }
+  cut_by passed hop leads short upstream x asked rest kept parts (inr (y, q, holds, one)) =
+      record { passed = passed; last_hop = hop; leads = leads; short = short; asks_are = inr (y, upstream, q ∙ asked, holds, parts ∙ ap (λ zs. passed ++ zs) one); after_is = refl }
 
   module _ (asks kept passed : List Exchange) (hop : Hop) (leads : FollowsAliases s (first_hop question) passed hop) (short : length passed ≤ 7) where
     kept_by_last : (last : ChainEnd) → IsChainEnd s (length passed) hop last → asks ≡ passed ++ asks_of hop last → (rest : List Exchange) → kept ≡ passed ++ rest → RecordedAs (asks_of hop last) rest → (kept ≡ asks) ⊎ ((result_of s hop last ≡ Err OutOfMemory) × IsCutInAsks s question kept s.cache)
@@ -141,7 +145,7 @@ module _ (s : LookupContext) (question : Query) where
         o,
         inr (subst Q (sym c.after_is) (elim c.asks_are [
           | inl e ↦ whole e
-          | inr d ↦ more d.0 d.1 d.2 d.3
+          | inr d ↦ more d.0 d.1 d.2 d.3 d.4
         ])),
       )
     where
@@ -151,11 +155,11 @@ module _ (s : LookupContext) (question : Query) where
           let f = front_kept s (first_hop question) c.last_hop c.passed [] kept c.leads (subst P (e ∙ sym (append-nil c.passed)) r) in
           record { passed = c.passed; last_hop = c.last_hop; leads = c.leads; short = c.short; asks_are = inl (f.parts ∙ ap (λ zs. c.passed ++ zs) f.recorded ∙ append-nil c.passed); after_is = refl }
 
-      more : (x : Exchange) → GoesUpstream s c.last_hop.query → x.query ≡ c.last_hop.query → asks ≡ c.passed ++ x ∷ [] → IsCutInAsks s question kept s.cache
-      more x upstream asked e =
+      more : (x : Exchange) → GoesUpstream s c.last_hop.query → x.query ≡ c.last_hop.query → holds_memory x.outcome ≡ true → asks ≡ c.passed ++ x ∷ [] → IsCutInAsks s question kept s.cache
+      more x upstream asked holds e =
           let P : List Exchange → Type 0 = λ xs. RecordedAs xs kept in
           let f = front_kept s (first_hop question) c.last_hop c.passed (x ∷ []) kept c.leads (subst P e r) in
           elim (end_kept x f.rest f.recorded) [
-            | inl same ↦ cut_by c.passed c.last_hop c.leads c.short upstream x asked f.rest kept f.parts (inr (x, refl, same))
+            | inl same ↦ cut_by c.passed c.last_hop c.leads c.short upstream x asked f.rest kept f.parts (inr (x, refl, holds, same))
             | inr d ↦ cut_by c.passed c.last_hop c.leads c.short upstream x asked f.rest kept f.parts d.1
           ]

@@ -1,4 +1,4 @@
-use Rattle.hickory_resolver_client.specs.Steps.{IsWalked}
+use Rattle.hickory_resolver_client.proofs.Walked.{IsWalked}
 use Rattle.hickory_resolver_client.proofs.caching_client.CachingClient.walk.Given as goal
 
 abbrev pub invariant-loop-depth : goal.invariant-loop-depth
