@@ -7,7 +7,7 @@ use Rattle.hickory_proto_core.specs.Name.{NameValue}
 use Rattle.hickory_proto_core.specs.Handles.{Step, Leads, Leads-append}
 use Rattle.hickory_proto_core.specs.codes.record_type.RecordType.{RecordType}
 use Rattle.hickory_proto_core.specs.declared.dns_request.DnsRequestOptions.{DnsRequestOptions}
-use Rattle.hickory_proto_core.specs.records.net_error.NetError.TheVariants.{Message, OutOfMemory}
+use Rattle.hickory_proto_core.specs.declared.net_error.NetError.TheVariants.{Message, OutOfMemory}
 use Rattle.hickory_resolver_model.specs.Cache.{CacheValue}
 use Rattle.hickory_resolver_model.specs.Lookup.{LookupValue, LookupResult, question_of}
 use Rattle.hickory_resolver_model.specs.Hosts.{Host, IsStatic}

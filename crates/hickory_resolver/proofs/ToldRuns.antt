@@ -2,7 +2,8 @@
 use Rattle.std.proofs.Common.{◌≡◌, Bool, true, false, List, [], ◌∷◌, ◌++◌, ◌-◌, length, map, take, drop, Result, Ok, Err, IfOk, MatchResult, refl, sym, ap, ◌∙◌, subst, inl, inr, arith, append_assoc, length-append}
 use Rattle.std.proofs.lemmas.List.{append-nil}
 use Rattle.hickory_proto_core.specs.Handles.{Step, RecordedValue}
-use Rattle.hickory_proto_core.specs.Recorded.{RecordedStep, recorded_leads}
+use Rattle.hickory_proto_core.specs.Recorded.{RecordedStep}
+use Rattle.hickory_proto_core.proofs.Recordings.{recorded_leads}
 use Rattle.hickory_proto_core.specs.declared.recorded.Exchange.{Exchange}
 use Rattle.hickory_resolver_config.specs.ResolverConfig.{ResolverConfigValue, OptionsValue}
 use Rattle.hickory_resolver_model.specs.Hosts.{Host}

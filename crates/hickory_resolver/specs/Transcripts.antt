@@ -1,9 +1,9 @@
 -- What a caller sees of the transcript of a run.
 use Rattle.std.specs.Prelude.{◌≡◌, List, Option, None, Some}
 use Rattle.hickory_proto_core.specs.Handles.{RecordedValue}
-use Rattle.hickory_proto_core.specs.records.bounds_error.BoundsError.{BoundsError}
-use Rattle.hickory_proto_core.specs.records.net_error.NetError.{NetError}
-use Rattle.hickory_proto_core.specs.records.net_error.NetError.TheVariants.{Bounds, OutOfMemory}
+use Rattle.hickory_proto_core.specs.declared.bounds_error.BoundsError.{BoundsError}
+use Rattle.hickory_proto_core.specs.declared.net_error.NetError.{NetError}
+use Rattle.hickory_proto_core.specs.declared.net_error.NetError.TheVariants.{Bounds, OutOfMemory}
 use Rattle.hickory_resolver_model.specs.Resolver.{ResolverValue}
 use Rattle.hickory_resolver_model.specs.Run.{StepValue}
 

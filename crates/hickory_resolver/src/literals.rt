@@ -1,7 +1,7 @@
 //! Addresses that are given in place of a name, as the replies that they are by themselves.
 ghost use Rattle.std.specs.Prelude.{◌≡◌, ◌⊎◌, Ok, Err};
 ghost use Rattle.hickory_proto_core.specs.Records.{data_of};
-ghost use Rattle.hickory_proto_core.specs.records.net_error.NetError.TheVariants.{OutOfMemory};
+ghost use Rattle.hickory_proto_core.specs.declared.net_error.NetError.TheVariants.{OutOfMemory};
 ghost use Rattle.hickory_resolver_model.specs.Calls.{literal_at_once, last_resort};
 
 use hickory_proto_core::{Name, NetError, Query, RData, Record};

@@ -2,7 +2,7 @@
 ghost use Rattle.std.specs.Prelude.{◌≡◌, ◌⊎◌, None, Ok, Err, true, reverse, if◌then◌else◌};
 ghost use Rattle.std.specs.Option.{option_map};
 ghost use Rattle.hickory_proto_core.specs.Records.{data_of};
-ghost use Rattle.hickory_proto_core.specs.records.net_error.NetError.TheVariants.{OutOfMemory};
+ghost use Rattle.hickory_proto_core.specs.declared.net_error.NetError.TheVariants.{OutOfMemory};
 ghost use Rattle.hickory_resolver_model.specs.Calls.{Both, Fallback, are_answers, both_results, is_out_of_memory, last_resort};
 ghost use Rattle.hickory_resolver_model.specs.Resolver.{LooksUp};
 ghost use Rattle.hickory_resolver_model.specs.Run.{address_plan, plan_of};

@@ -17,7 +17,7 @@ use Rattle.indexmap.proofs.MapLemmas.{distinct_permutation, lookup_permutation}
 use Rattle.indexmap.specs.Layout.{set_value_at}
 use Rattle.hickory_resolver_cache.specs.Turns.{Pair, Order, Turn, turn_cmp, by_number, numbered, listed, in_order, stored_entry, query_at, with_number, renumbered, IsNumbered, IsPlaced, IsKept, IsOrderOf, IsSameList, IsSound}
 use Rattle.hickory_resolver_cache.specs.declared.kept.Kept.{Kept}
-use Rattle.hickory_proto_core.specs.records.query.Query.{Query}
+use Rattle.hickory_proto_core.specs.declared.query.Query.{Query}
 use Rattle.hickory_resolver_model.specs.Bounds.{ConfigValue}
 use Rattle.hickory_resolver_model.specs.Cache.{OutlivesNoAnswer}
 use Rattle.hickory_resolver_cache.proofs.Listed.{listed-same}

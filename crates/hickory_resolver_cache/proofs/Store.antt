@@ -14,7 +14,7 @@ use Rattle.std.specs.Map.{lookup, keys_of}
 use Rattle.std.specs.BTreeMap.{get, is_at, IsLowerBound}
 use Rattle.std.specs.Option.{option_map, option_to_list, IsSome}
 use Rattle.indexmap.proofs.MapLemmas.{distinct_permutation, lookup_permutation}
-use Rattle.hickory_proto_core.specs.records.query.Query.{Query}
+use Rattle.hickory_proto_core.specs.declared.query.Query.{Query}
 use Rattle.hickory_proto_core.specs.Handles.{OutcomeValue}
 use Rattle.hickory_resolver_cache.specs.declared.kept.Kept.{Kept}
 use Rattle.hickory_proto_core.specs.Query.{query_eq, query_equiv}

@@ -9,9 +9,9 @@ use Rattle.hickory_proto_core.specs.Handles.{OutcomeValue}
 use Rattle.hickory_proto_core.specs.Errors.{NoRecordsValue}
 use Rattle.hickory_proto_core.specs.Messages.{MessageValue}
 use Rattle.hickory_proto_core.specs.Records.{RecordValue}
-use Rattle.hickory_proto_core.specs.records.query.Query.{Query}
-use Rattle.hickory_proto_core.specs.records.net_error.NetError.TheVariants.{Message, Timeout, Proto, Dns, NoOutcome, Bounds, OutOfMemory}
-use Rattle.hickory_proto_core.specs.records.net_error.DnsError.TheVariants.{ResponseCode, NoRecordsFound}
+use Rattle.hickory_proto_core.specs.declared.query.Query.{Query}
+use Rattle.hickory_proto_core.specs.declared.net_error.NetError.TheVariants.{Message, Timeout, Proto, Dns, NoOutcome, Bounds, OutOfMemory}
+use Rattle.hickory_proto_core.specs.declared.net_error.DnsError.TheVariants.{ResponseCode, NoRecordsFound}
 use Rattle.hickory_resolver_model.specs.Bounds.{ConfigValue, bounds_for, clamped_message, clamped_record, clamped_records, greatest_ttl, least_ttl, living_records, positive_bounds, reduced_bound}
 use Rattle.hickory_resolver_model.specs.Cache.{Entry, IsTimelyAnswer, OutlivesNoAnswer, current, entry_of, is_for, negative_entry, not_after, not_after_current, positive_entry, insert_entry, room_for, without, without_earliest, least_deadline}
 use Rattle.hickory_resolver_cache.proofs.PairLists.{all-append, all-filter, all-remove, all-weaker}

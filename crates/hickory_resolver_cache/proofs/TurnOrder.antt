@@ -18,7 +18,7 @@ use Rattle.std.specs.Ordering.{nat_cmp, ordering_then, is_eq, is_gt}
 use Rattle.std.specs.Option.{option_or, option_map, IfSome}
 use Rattle.indexmap.specs.IndexMap.{swap_remove_entry}
 use Rattle.indexmap.proofs.MapLemmas.{some_index, value_index, swap_remove_entry-found}
-use Rattle.hickory_proto_core.specs.records.query.Query.{Query}
+use Rattle.hickory_proto_core.specs.declared.query.Query.{Query}
 use Rattle.hickory_resolver_cache.specs.declared.kept.Kept.{Kept}
 use Rattle.hickory_proto_core.specs.Query.{query_eq, query_equiv}
 use Rattle.hickory_resolver_cache.specs.Turns.{Pair, Turn, Order, turn_cmp, by_number, numbered, query_at, IsNumbered, IsPlaced, StandsAt, Gone, TurnGone}

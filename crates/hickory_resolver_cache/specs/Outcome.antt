@@ -4,7 +4,7 @@ use Rattle.std.specs.declared.net.IpAddr.{IpAddr}
 use Rattle.hickory_proto_core.specs.Handles.{OutcomeValue}
 use Rattle.hickory_proto_core.specs.Messages.{MessageValue}
 use Rattle.hickory_proto_core.specs.Records.{data_of_address}
-use Rattle.hickory_proto_core.specs.records.query.Query.{Query}
+use Rattle.hickory_proto_core.specs.declared.query.Query.{Query}
 use Rattle.hickory_resolver_model.specs.Cache.{CacheValue, Entry, entry_of}
 use Rattle.hickory_resolver_cache.specs.declared.outcome.Form.{Form}
 use Rattle.hickory_resolver_cache.specs.declared.outcome.Form.TheVariants.{Address, Answer, Failure}

@@ -4,10 +4,10 @@ use Rattle.std.proofs.lemmas.List.{append-nil}
 use Rattle.hickory_proto_core.specs.Handles.{OutcomeValue}
 use Rattle.hickory_proto_core.specs.NetErrors.{is_no_records_found}
 use Rattle.hickory_proto_core.specs.ResponseKind.{is_empty}
-use Rattle.hickory_proto_core.specs.records.query.Query.{Query}
-use Rattle.hickory_proto_core.specs.records.net_error.NetError.{NetError}
-use Rattle.hickory_proto_core.specs.records.net_error.NetError.TheVariants.{Message, Timeout, Proto, Dns, NoOutcome, Bounds, OutOfMemory}
-use Rattle.hickory_proto_core.specs.records.net_error.DnsError.TheVariants.{ResponseCode, NoRecordsFound}
+use Rattle.hickory_proto_core.specs.declared.query.Query.{Query}
+use Rattle.hickory_proto_core.specs.declared.net_error.NetError.{NetError}
+use Rattle.hickory_proto_core.specs.declared.net_error.NetError.TheVariants.{Message, Timeout, Proto, Dns, NoOutcome, Bounds, OutOfMemory}
+use Rattle.hickory_proto_core.specs.declared.net_error.DnsError.TheVariants.{ResponseCode, NoRecordsFound}
 use Rattle.hickory_resolver_model.specs.Cache.{CacheValue, store_until}
 use Rattle.hickory_resolver_model.specs.Lookup.{LookupResult}
 use Rattle.hickory_resolver_model.specs.Hops.{Store, store_of, as_outcome, result_until, is_kept, earlier_store, after_store, after_stores}

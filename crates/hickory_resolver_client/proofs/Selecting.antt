@@ -10,7 +10,7 @@ use Rattle.hickory_proto_core.specs.Records.{RecordValue}
 use Rattle.hickory_proto_core.specs.Messages.{MessageValue, some_record}
 use Rattle.hickory_proto_core.specs.ResponseKind.{is_empty}
 use Rattle.hickory_proto_core.specs.codes.dns_class.DNSClass.TheVariants as class
-use Rattle.hickory_proto_core.specs.records.query.Query.{Query}
+use Rattle.hickory_proto_core.specs.declared.query.Query.{Query}
 use Rattle.hickory_resolver_model.specs.Bounds.{least}
 use Rattle.hickory_resolver_model.specs.AliasWalk.{Walk, ends_at, has_target, is_moved}
 use Rattle.hickory_resolver_model.specs.Verdict.{Hop, Verdict, Exists, CnameChain, NoMatch, has_class, has_type, is_led_match, is_intermediate, is_accepted, is_filtered, filtered_answers, first_or, next_name, next_hop, with_ttl_at_most, all_records, walk_verdict}

@@ -7,9 +7,9 @@ use Rattle.hickory_proto_core.specs.Handles.{OutcomeValue, holds_memory, Step}
 use Rattle.hickory_proto_core.specs.ResponseKind.{Answer, Negative, Failed, kind_of, negative_of}
 use Rattle.hickory_proto_core.specs.codes.response_code.ResponseCode.{ResponseCode as Code}
 use Rattle.hickory_proto_core.specs.declared.dns_request.DnsRequestOptions.{DnsRequestOptions}
-use Rattle.hickory_proto_core.specs.records.net_error.NetError.{NetError}
-use Rattle.hickory_proto_core.specs.records.net_error.NetError.TheVariants.{Message, Timeout, Proto, Dns, NoOutcome, Bounds, OutOfMemory}
-use Rattle.hickory_proto_core.specs.records.net_error.DnsError.TheVariants.{ResponseCode, NoRecordsFound}
+use Rattle.hickory_proto_core.specs.declared.net_error.NetError.{NetError}
+use Rattle.hickory_proto_core.specs.declared.net_error.NetError.TheVariants.{Message, Timeout, Proto, Dns, NoOutcome, Bounds, OutOfMemory}
+use Rattle.hickory_proto_core.specs.declared.net_error.DnsError.TheVariants.{ResponseCode, NoRecordsFound}
 use Rattle.hickory_resolver_model.specs.Cache.{CacheValue, Entry, last_moment, current, aged_result, IsGotUntil}
 use Rattle.hickory_resolver_model.specs.Lookup.{LookupResult, found_lookup}
 use Rattle.hickory_resolver_model.specs.Bounds.{least}

@@ -1,8 +1,8 @@
 //! A client that asks an upstream through a cache.
 ghost use Rattle.std.specs.Prelude.{◌≡◌, ◌⊎◌, ◌≤◌, ◌∷◌, List, [], length, Ok, Err, OnOk, OnErr, IfOk, IsOkUnless};
 ghost use Rattle.hickory_proto_core.specs.ResponseKind.{ResponseKind, Answer, IsClassified, first_soa, kind_of};
-ghost use Rattle.hickory_proto_core.specs.records.net_error.NetError.TheVariants.{Dns};
-ghost use Rattle.hickory_proto_core.specs.records.net_error.DnsError.TheVariants.{NoRecordsFound};
+ghost use Rattle.hickory_proto_core.specs.declared.net_error.NetError.TheVariants.{Dns};
+ghost use Rattle.hickory_proto_core.specs.declared.net_error.DnsError.TheVariants.{NoRecordsFound};
 ghost use Rattle.std.specs.Option.{option_map_or};
 ghost use Rattle.hickory_resolver_model.specs.Cache.{last_moment, without_query};
 ghost use Rattle.hickory_resolver_model.specs.Lookup.{found_lookup};

@@ -2,8 +2,8 @@
 use Rattle.std.specs.Prelude.{◌≡◌, ◌⊎◌, ℕ, Bool, true, false, List, [], ◌∷◌, map, Option, None, Some, Result, Ok, Err, codes}
 use Rattle.std.specs.declared.net.IpAddr.{IpAddr}
 use Rattle.std.specs.declared.net.IpAddr.TheVariants.{V4, V6}
-use Rattle.hickory_proto_core.specs.records.net_error.NetError.{NetError}
-use Rattle.hickory_proto_core.specs.records.net_error.NetError.TheVariants.{OutOfMemory}
+use Rattle.hickory_proto_core.specs.declared.net_error.NetError.{NetError}
+use Rattle.hickory_proto_core.specs.declared.net_error.NetError.TheVariants.{OutOfMemory}
 use Rattle.hickory_resolver_config.specs.Connections.{ProtocolValue, over_udp, over_tcp, over_tls, over_https, over_quic, over_h3, ConnectionValue, connection_over}
 use Rattle.hickory_resolver_config.specs.declared.server_group_iter.Transport.{Transport}
 use Rattle.hickory_resolver_config.specs.declared.server_group_iter.Transport.TheVariants.{UdpAndTcp, Udp, Tcp, Tls, Https, Quic, H3}

@@ -9,8 +9,8 @@ use Rattle.std.proofs.lemmas.List.{take-append-drop}
 use Rattle.std.proofs.lemmas.List.Folds.{list_any_more, list_any-append}
 use Rattle.std.proofs.lemmas.Bool.{eqb-true, eq-eqb}
 use Rattle.hickory_proto_core.specs.Records.{RecordValue, data_eq, data_of, data_of_address, address_of}
-use Rattle.hickory_proto_core.specs.records.record_data.RData.{RData}
-use Rattle.hickory_proto_core.specs.records.record_data.RData.TheVariants.{A, AAAA, CNAME, NS, PTR, SOA, SRV, MX, TXT, Unknown}
+use Rattle.hickory_proto_core.specs.declared.record_data.RData.{RData}
+use Rattle.hickory_proto_core.specs.declared.record_data.RData.TheVariants.{A, AAAA, CNAME, NS, PTR, SOA, SRV, MX, TXT, Unknown}
 use Rattle.hickory_proto_core.specs.codes.record_type.RecordType.{RecordType}
 use Rattle.hickory_resolver_hosts.specs.Index.{same_address, is_among, is_owner}
 use Rattle.hickory_resolver_hosts.specs.declared.owners.Owners.{Owners}

@@ -18,7 +18,7 @@ use Rattle.hickory_proto_core.specs.Name.{NameValue}
 use Rattle.hickory_proto_core.specs.Records.{RecordValue, DataValue, data_of_address}
 use Rattle.hickory_proto_core.specs.Arpa.{IsArpaNameOf}
 use Rattle.hickory_proto_core.specs.names.ip.IpNet.{IpNet}
-use Rattle.hickory_proto_core.specs.records.query.Query.{Query}
+use Rattle.hickory_proto_core.specs.declared.query.Query.{Query}
 use Rattle.hickory_resolver_model.specs.Lookup.{LookupValue, answers_for_day}
 use Rattle.hickory_resolver_model.specs.Hosts.{Host, has_address, as_fqdn, pointer_lookup, pointers}
 use Rattle.hickory_resolver_hosts.specs.Index.{has_owner, owner_cmp, owners_below}

@@ -10,7 +10,7 @@ use Rattle.hickory_proto_core.specs.Codes.{type_code}
 use Rattle.hickory_proto_core.specs.Records.{RecordValue, DataValue, ptr_data, data_eq, data_of_address}
 use Rattle.hickory_proto_core.specs.codes.record_type.RecordType.{RecordType}
 use Rattle.hickory_proto_core.specs.codes.dns_class.DNSClass.TheVariants as class
-use Rattle.hickory_proto_core.specs.records.query.Query.{Query}
+use Rattle.hickory_proto_core.specs.declared.query.Query.{Query}
 use Rattle.hickory_resolver_model.specs.Bounds.{day}
 use Rattle.hickory_resolver_model.specs.Lookup.{LookupValue}
 use Rattle.hickory_resolver_model.specs.Hosts.{Host, StandsFor, address_type, has_address, is_host, is_ipv4_type, as_fqdn, pointer_lookup, pointers}

@@ -13,9 +13,9 @@ use Rattle.hickory_proto_core.specs.Messages.{MessageValue}
 use Rattle.hickory_proto_core.specs.Errors.{NoRecordsValue}
 use Rattle.hickory_proto_core.specs.ResponseKind.{record_type_code, is_of_type, asks_for}
 use Rattle.hickory_proto_core.specs.codes.record_type.RecordType.TheVariants as type
-use Rattle.hickory_proto_core.specs.records.query.Query.{Query}
-use Rattle.hickory_proto_core.specs.records.bounds_error.BoundsError.{BoundsError}
-use Rattle.hickory_proto_core.specs.records.bounds_error.BoundsError.TheVariants.{PositiveReversed, NegativeReversed}
+use Rattle.hickory_proto_core.specs.declared.query.Query.{Query}
+use Rattle.hickory_proto_core.specs.declared.bounds_error.BoundsError.{BoundsError}
+use Rattle.hickory_proto_core.specs.declared.bounds_error.BoundsError.TheVariants.{PositiveReversed, NegativeReversed}
 
 -- bounds as they are given: each may be left out
 pub record BoundsValue : Type 0 where

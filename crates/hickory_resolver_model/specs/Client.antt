@@ -1,7 +1,7 @@
 -- A client: a cache over a handle, and what a look-up by it does.
 use Rattle.std.specs.Prelude.{◌≡◌, ℕ, Bool, List, []}
 use Rattle.hickory_proto_core.specs.Handles.{Step, Leads}
-use Rattle.hickory_proto_core.specs.records.query.Query.{Query}
+use Rattle.hickory_proto_core.specs.declared.query.Query.{Query}
 use Rattle.hickory_proto_core.specs.declared.dns_request.DnsRequestOptions.{DnsRequestOptions}
 use Rattle.hickory_proto_core.specs.declared.recorded.Exchange.{Exchange}
 use Rattle.hickory_resolver_model.specs.Bounds.{no_bounds}

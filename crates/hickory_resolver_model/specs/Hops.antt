@@ -8,11 +8,11 @@ use Rattle.hickory_proto_core.specs.Handles.{OutcomeValue, holds_memory}
 use Rattle.hickory_proto_core.specs.NetErrors.{is_no_records_found}
 use Rattle.hickory_proto_core.specs.ResponseKind.{ResponseKind, Answer, Negative, Failed, kind_of, first_soa, negative_ttl_of}
 use Rattle.hickory_proto_core.specs.codes.record_type.RecordType.TheVariants as type
-use Rattle.hickory_proto_core.specs.records.query.Query.{Query}
+use Rattle.hickory_proto_core.specs.declared.query.Query.{Query}
 use Rattle.hickory_proto_core.specs.declared.recorded.Exchange.{Exchange}
-use Rattle.hickory_proto_core.specs.records.net_error.NetError.{NetError}
-use Rattle.hickory_proto_core.specs.records.net_error.NetError.TheVariants.{Dns, OutOfMemory}
-use Rattle.hickory_proto_core.specs.records.net_error.DnsError.TheVariants.{NoRecordsFound}
+use Rattle.hickory_proto_core.specs.declared.net_error.NetError.{NetError}
+use Rattle.hickory_proto_core.specs.declared.net_error.NetError.TheVariants.{Dns, OutOfMemory}
+use Rattle.hickory_proto_core.specs.declared.net_error.DnsError.TheVariants.{NoRecordsFound}
 use Rattle.hickory_resolver_model.specs.Bounds.{ConfigValue, bounds_for, positive_bounds, reduced_bounds, clamp}
 use Rattle.hickory_resolver_model.specs.Cache.{CacheValue, Entry, last_moment, saturating_sum, current, aged_result, entry_of, not_after, store_until}
 use Rattle.hickory_resolver_model.specs.Lookup.{LookupResult, hit_lookup, found_lookup, response_to}

@@ -7,8 +7,8 @@ use Rattle.hickory_proto_core.specs.Records.{RecordValue}
 use Rattle.hickory_proto_core.specs.codes.op_code.OpCode.TheVariants as op
 use Rattle.hickory_proto_core.specs.codes.record_type.RecordType.{RecordType}
 use Rattle.hickory_proto_core.specs.codes.dns_class.DNSClass.TheVariants as class
-use Rattle.hickory_proto_core.specs.records.query.Query.{Query}
-use Rattle.hickory_proto_core.specs.records.net_error.NetError.{NetError}
+use Rattle.hickory_proto_core.specs.declared.query.Query.{Query}
+use Rattle.hickory_proto_core.specs.declared.net_error.NetError.{NetError}
 use Rattle.hickory_resolver_model.specs.Bounds.{ConfigValue, day, least, clamped_message, positive_lifetime}
 use Rattle.hickory_resolver_model.specs.Cache.{saturating_sum}
 

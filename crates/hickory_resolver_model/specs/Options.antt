@@ -4,7 +4,7 @@ use Rattle.std.specs.Option.{option_map_or}
 use Rattle.hickory_proto_core.specs.declared.dns_request.DnsRequestOptions.{DnsRequestOptions}
 use Rattle.hickory_resolver_config.specs.ResolverConfig.{ResolverConfigValue, OptionsValue}
 use Rattle.hickory_resolver_model.specs.Attempts.{Search}
-use Rattle.hickory_proto_core.specs.records.bounds_error.BoundsError.{BoundsError}
+use Rattle.hickory_proto_core.specs.declared.bounds_error.BoundsError.{BoundsError}
 use Rattle.hickory_resolver_model.specs.Bounds.{BoundsValue, ConfigValue, bounds_fault}
 
 -- how names are attempted

@@ -9,7 +9,7 @@ use Rattle.hickory_proto_core.specs.Records.{RecordValue}
 use Rattle.hickory_proto_core.specs.ResponseKind.{is_empty}
 use Rattle.hickory_proto_core.specs.codes.record_type.RecordType.{RecordType}
 use Rattle.hickory_proto_core.specs.names.name_error.NameError.{NameError}
-use Rattle.hickory_proto_core.specs.records.net_error.NetError.TheVariants.{OutOfMemory}
+use Rattle.hickory_proto_core.specs.declared.net_error.NetError.TheVariants.{OutOfMemory}
 use Rattle.hickory_resolver_model.specs.Bounds.{ConfigValue, greatest_ttl}
 use Rattle.hickory_resolver_model.specs.Cache.{CacheValue}
 use Rattle.hickory_resolver_model.specs.Lookup.{LookupValue, LookupResult}

@@ -9,11 +9,11 @@ use Rattle.hickory_proto_core.specs.Records.{RecordValue, DataValue}
 use Rattle.hickory_proto_core.specs.Messages.{MessageValue}
 use Rattle.hickory_proto_core.specs.ResponseKind.{ResponseKind, Answer, Negative, Failed, kind_of, contains_answer, negative_of, record_type_code, is_empty}
 use Rattle.hickory_proto_core.specs.Handles.{OutcomeValue}
-use Rattle.hickory_proto_core.specs.records.query.Query.{Query}
+use Rattle.hickory_proto_core.specs.declared.query.Query.{Query}
 use Rattle.hickory_proto_core.specs.declared.recorded.Exchange.{Exchange}
 use Rattle.hickory_proto_core.specs.codes.response_code.ResponseCode.TheVariants.{NoError, NXDomain}
-use Rattle.hickory_proto_core.specs.records.net_error.NetError.TheVariants.{Message, Timeout, Proto, Dns, NoOutcome, Bounds, OutOfMemory}
-use Rattle.hickory_proto_core.specs.records.net_error.DnsError.TheVariants.{ResponseCode, NoRecordsFound}
+use Rattle.hickory_proto_core.specs.declared.net_error.NetError.TheVariants.{Message, Timeout, Proto, Dns, NoOutcome, Bounds, OutOfMemory}
+use Rattle.hickory_proto_core.specs.declared.net_error.DnsError.TheVariants.{ResponseCode, NoRecordsFound}
 use Rattle.hickory_resolver_model.specs.Bounds.{ConfigValue, clamped_record, greatest_ttl}
 use Rattle.hickory_resolver_model.specs.Cache.{CacheValue, Entry, current, is_for, is_current, age, aged_record, aged_records, aged_outcome, aged_message}
 use Rattle.hickory_resolver_model.specs.Lookup.{LookupResult, hit_lookup, hit_seconds}

@@ -14,12 +14,12 @@ use Rattle.hickory_proto_core.specs.Query.{query_eq}
 use Rattle.hickory_proto_core.specs.Table.{TableValue, outcome_in}
 use Rattle.hickory_proto_core.specs.Handles.{OutcomeValue}
 use Rattle.hickory_proto_core.specs.ResponseKind.{ResponseKind, Answer, Negative, Failed, kind_of}
-use Rattle.hickory_proto_core.specs.records.query.Query.{Query}
+use Rattle.hickory_proto_core.specs.declared.query.Query.{Query}
 use Rattle.hickory_proto_core.specs.codes.dns_class.DNSClass.TheVariants as class
 use Rattle.hickory_proto_core.specs.codes.response_code.ResponseCode.{ResponseCode as Code}
 use Rattle.hickory_proto_core.specs.codes.response_code.ResponseCode.TheVariants.{NoError, NXDomain}
-use Rattle.hickory_proto_core.specs.records.net_error.NetError.TheVariants.{Dns}
-use Rattle.hickory_proto_core.specs.records.net_error.DnsError.TheVariants.{NoRecordsFound}
+use Rattle.hickory_proto_core.specs.declared.net_error.NetError.TheVariants.{Dns}
+use Rattle.hickory_proto_core.specs.declared.net_error.DnsError.TheVariants.{NoRecordsFound}
 use Rattle.hickory_resolver_model.specs.Bounds.{ConfigValue, clamped_message, clamped_record}
 use Rattle.hickory_resolver_model.specs.Lookup.{LookupResult}
 use Rattle.hickory_resolver_model.specs.SpecialUse.{special_use_result, loopback_zones, is_loopback_name, is_nonexistent_name, loopback_data, one_record, no_records, full_name}

@@ -17,10 +17,10 @@ use Rattle.hickory_proto_core.specs.names.ip.IpNet.{IpNet}
 use Rattle.hickory_proto_core.specs.Records.{DataValue, data_of_address}
 use Rattle.hickory_proto_core.specs.ResponseKind.{is_empty, asks_for}
 use Rattle.hickory_proto_core.specs.Table.{TableValue}
-use Rattle.hickory_proto_core.specs.records.query.Query.{Query}
+use Rattle.hickory_proto_core.specs.declared.query.Query.{Query}
 use Rattle.hickory_proto_core.specs.codes.record_type.RecordType.TheVariants as type
 use Rattle.hickory_proto_core.specs.names.name_error.NameError.{NameError}
-use Rattle.hickory_proto_core.specs.records.net_error.NetError.TheVariants.{OutOfMemory}
+use Rattle.hickory_proto_core.specs.declared.net_error.NetError.TheVariants.{OutOfMemory}
 use Rattle.hickory_resolver_model.specs.Cache.{CacheValue}
 use Rattle.hickory_resolver_model.specs.Lookup.{LookupValue, LookupResult, question_of}
 use Rattle.hickory_resolver_model.specs.Hosts.{Host, as_fqdn, family, is_host, has_address, pointers, pointer_lookup, StandsFor, static_answer, IsStatic}

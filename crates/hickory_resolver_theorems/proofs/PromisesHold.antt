@@ -1,7 +1,7 @@
 -- What is promised of look-ups and runs holds of those of the definition.
 use Rattle.std.proofs.Common.{ℕ, List}
 use Rattle.hickory_proto_core.specs.Handles.{Step}
-use Rattle.hickory_proto_core.specs.records.query.Query.{Query}
+use Rattle.hickory_proto_core.specs.declared.query.Query.{Query}
 use Rattle.hickory_proto_core.specs.declared.dns_request.DnsRequestOptions.{DnsRequestOptions}
 use Rattle.hickory_proto_core.specs.declared.recorded.Exchange.{Exchange}
 use Rattle.hickory_resolver_model.specs.Cache.{CacheValue, IsCache}

@@ -11,12 +11,12 @@ use Rattle.hickory_proto_core.specs.Messages.{MessageValue, response_metadata, s
 use Rattle.hickory_proto_core.specs.Errors.{ForwardValue}
 use Rattle.hickory_proto_core.specs.Handles.{OutcomeValue}
 use Rattle.hickory_proto_core.specs.ResponseKind.{ResponseKind, Answer, Negative, Failed, kind_of, is_asked, is_empty, answers_question, contains_answer, first_query, section_or_none, first_soa, is_address_of, forward_of, forwards_of, forwards_or_none, negative_of}
-use Rattle.hickory_proto_core.specs.records.query.Query.{Query}
+use Rattle.hickory_proto_core.specs.declared.query.Query.{Query}
 use Rattle.hickory_proto_core.specs.codes.dns_class.DNSClass.TheVariants as class
 use Rattle.hickory_proto_core.specs.codes.op_code.OpCode.TheVariants as op
-use Rattle.hickory_proto_core.specs.records.net_error.NetError.{NetError}
-use Rattle.hickory_proto_core.specs.records.net_error.NetError.TheVariants.{Message, Timeout, Proto, Dns, NoOutcome, Bounds, OutOfMemory}
-use Rattle.hickory_proto_core.specs.records.net_error.DnsError.TheVariants.{ResponseCode, NoRecordsFound}
+use Rattle.hickory_proto_core.specs.declared.net_error.NetError.{NetError}
+use Rattle.hickory_proto_core.specs.declared.net_error.NetError.TheVariants.{Message, Timeout, Proto, Dns, NoOutcome, Bounds, OutOfMemory}
+use Rattle.hickory_proto_core.specs.declared.net_error.DnsError.TheVariants.{ResponseCode, NoRecordsFound}
 use Rattle.hickory_resolver_model.specs.AliasWalk.{Walk, Counted, Alias, Server, counted, reached_by, ends_at, has_target, is_moved, standing, walk_step, walk_from, walk_of, follows_aliases}
 use Rattle.hickory_resolver_model.specs.Verdict.{Verdict, Exists, CnameChain, NoMatch, is_match, is_led_match, is_accepted, is_filtered, is_intermediate, found_message, filtered_answers, first_or, next_name, next_hop, all_records, with_ttl_at_most, verdict, first_hop}
 use Rattle.hickory_resolver_model.specs.Hops.{no_match}

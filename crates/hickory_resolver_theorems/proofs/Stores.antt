@@ -5,9 +5,9 @@ use Rattle.hickory_proto_core.specs.Codes.{type_code}
 use Rattle.hickory_proto_core.specs.Errors.{NoRecordsValue}
 use Rattle.hickory_proto_core.specs.Handles.{OutcomeValue}
 use Rattle.hickory_proto_core.specs.Messages.{MessageValue}
-use Rattle.hickory_proto_core.specs.records.query.Query.{Query}
-use Rattle.hickory_proto_core.specs.records.net_error.NetError.TheVariants.{Message, Timeout, Proto, Dns, NoOutcome, Bounds, OutOfMemory}
-use Rattle.hickory_proto_core.specs.records.net_error.DnsError.TheVariants.{ResponseCode, NoRecordsFound}
+use Rattle.hickory_proto_core.specs.declared.query.Query.{Query}
+use Rattle.hickory_proto_core.specs.declared.net_error.NetError.TheVariants.{Message, Timeout, Proto, Dns, NoOutcome, Bounds, OutOfMemory}
+use Rattle.hickory_proto_core.specs.declared.net_error.DnsError.TheVariants.{ResponseCode, NoRecordsFound}
 use Rattle.hickory_resolver_model.specs.Bounds.{ConfigValue, greatest_ttl}
 use Rattle.hickory_resolver_model.specs.Cache.{CacheValue, Entry, is_for, without, without_earliest, least_deadline, room_for, insert_entry, positive_entry, negative_entry, not_after}
 use Rattle.hickory_resolver_model.specs.Hops.{LookupContext, ChainEnd, Store, result_of, limit_of, earlier_store, earlier_stores, made_entry, after_store, after_stores}

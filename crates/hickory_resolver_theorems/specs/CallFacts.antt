@@ -10,7 +10,7 @@ use Rattle.hickory_proto_core.specs.Table.{TableValue}
 use Rattle.hickory_proto_core.specs.codes.record_type.RecordType.{RecordType}
 use Rattle.hickory_proto_core.specs.names.name_error.NameError.{NameError}
 use Rattle.hickory_proto_core.specs.names.name_error.NameError.TheVariants as name_fault
-use Rattle.hickory_proto_core.specs.records.net_error.NetError.TheVariants.{OutOfMemory}
+use Rattle.hickory_proto_core.specs.declared.net_error.NetError.TheVariants.{OutOfMemory}
 use Rattle.hickory_resolver_model.specs.Bounds.{ConfigValue}
 use Rattle.hickory_resolver_model.specs.Cache.{CacheValue, Entry}
 use Rattle.hickory_resolver_model.specs.Lookup.{LookupValue, LookupResult}

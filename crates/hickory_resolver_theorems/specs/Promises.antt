@@ -2,7 +2,7 @@
 -- of the definition which is what was done, and of it these hold.
 use Rattle.std.specs.Prelude.{◌≤◌, ℕ, List, length}
 use Rattle.hickory_proto_core.specs.Handles.{Step}
-use Rattle.hickory_proto_core.specs.records.query.Query.{Query}
+use Rattle.hickory_proto_core.specs.declared.query.Query.{Query}
 use Rattle.hickory_proto_core.specs.declared.dns_request.DnsRequestOptions.{DnsRequestOptions}
 use Rattle.hickory_proto_core.specs.declared.recorded.Exchange.{Exchange}
 use Rattle.hickory_resolver_model.specs.Cache.{CacheValue}

@@ -4,7 +4,7 @@ use Rattle.hickory_proto_core.specs.Name.{NameValue, localhost}
 use Rattle.hickory_proto_core.specs.Records.{RecordValue, DataValue, a_data, aaaa_data, cname_data, ns_data}
 use Rattle.hickory_proto_core.specs.Messages.{MessageValue}
 use Rattle.hickory_proto_core.specs.Handles.{OutcomeValue}
-use Rattle.hickory_proto_core.specs.records.query.Query.{Query}
+use Rattle.hickory_proto_core.specs.declared.query.Query.{Query}
 use Rattle.hickory_proto_core.specs.codes.record_type.RecordType.TheVariants as type
 use Rattle.hickory_proto_core.specs.codes.dns_class.DNSClass.TheVariants as class
 use Rattle.hickory_proto_core.specs.codes.response_code.ResponseCode.TheVariants.{NoError, NXDomain}
@@ -18,7 +18,7 @@ use Rattle.hickory_resolver_model.specs.Verdict.{Hop, first_hop, Exists, CnameCh
 use Rattle.hickory_resolver_model.specs.Hops.{LookupContext}
 use Rattle.hickory_resolver_model.specs.Attempts.{Search, attempts}
 use Rattle.hickory_resolver_model.specs.Client.{empty_cache}
-use Rattle.hickory_proto_core.specs.records.bounds_error.BoundsError.TheVariants.{PositiveReversed}
+use Rattle.hickory_proto_core.specs.declared.bounds_error.BoundsError.TheVariants.{PositiveReversed}
 
 -- ---- the things that the cases are about
 

@@ -16,9 +16,9 @@ use Rattle.hickory_proto_core.specs.Records.{DataValue, aaaa_data, ptr_data}
 use Rattle.hickory_proto_core.specs.ResponseKind.{asks_for}
 use Rattle.hickory_proto_core.specs.Handles.{OutcomeValue}
 use Rattle.hickory_proto_core.specs.names.ip.IpNet.{IpNet}
-use Rattle.hickory_proto_core.specs.records.query.Query.{Query}
+use Rattle.hickory_proto_core.specs.declared.query.Query.{Query}
 use Rattle.hickory_proto_core.specs.codes.record_type.RecordType.TheVariants as type
-use Rattle.hickory_proto_core.specs.records.net_error.NetError.TheVariants.{Timeout, OutOfMemory}
+use Rattle.hickory_proto_core.specs.declared.net_error.NetError.TheVariants.{Timeout, OutOfMemory}
 use Rattle.hickory_resolver_config.specs.declared.strategies.LookupIpStrategy.TheVariants.{Ipv4AndIpv6}
 use Rattle.hickory_resolver_model.specs.Cache.{CacheValue, Entry}
 use Rattle.hickory_resolver_model.specs.Lookup.{LookupValue, question_of}

@@ -3,7 +3,7 @@ use Rattle.std.specs.Prelude.{◌≡◌, ℕ, true, false, List, [], ◌∷◌, 
 use Rattle.hickory_proto_core.specs.Name.{NameValue}
 use Rattle.hickory_proto_core.specs.Records.{RecordValue, cname_data, srv_data}
 use Rattle.hickory_proto_core.specs.Messages.{MessageValue}
-use Rattle.hickory_proto_core.specs.records.query.Query.{Query}
+use Rattle.hickory_proto_core.specs.declared.query.Query.{Query}
 use Rattle.hickory_proto_core.specs.codes.record_type.RecordType.TheVariants as type
 use Rattle.hickory_resolver_model.specs.Lookup.{question_of}
 use Rattle.hickory_resolver_model.specs.SpecialUse.{full_name}

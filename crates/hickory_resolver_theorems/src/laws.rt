@@ -4,7 +4,7 @@ ghost use Rattle.hickory_proto_core.specs.Name.{NameValue};
 ghost use Rattle.hickory_proto_core.specs.Records.{RecordValue};
 ghost use Rattle.hickory_proto_core.specs.Recorded.{RecordedAs};
 ghost use Rattle.hickory_proto_core.specs.Table.{TableValue};
-ghost use Rattle.hickory_proto_core.specs.records.query.Query.{Query};
+ghost use Rattle.hickory_proto_core.specs.declared.query.Query.{Query};
 ghost use Rattle.hickory_proto_core.specs.declared.recorded.Exchange.{Exchange};
 ghost use Rattle.hickory_proto_core.specs.codes.record_type.RecordType.{RecordType};
 ghost use Rattle.hickory_proto_core.specs.names.name_error.NameError.{NameError};

@@ -3,7 +3,7 @@ use Rattle.std.specs.Prelude.{◌≡◌, ◌⊎◌, ℕ, Bool, true, not, List, 
 use Rattle.std.specs.List.{list_all}
 use Rattle.hickory_proto_core.specs.Handles.{OutcomeValue, Step, ScriptStep}
 use Rattle.hickory_proto_core.specs.Table.{TableValue, TableStep, outcome_in, last_given}
-use Rattle.hickory_proto_core.specs.records.query.Query.{Query}
+use Rattle.hickory_proto_core.specs.declared.query.Query.{Query}
 use Rattle.hickory_proto_core.specs.declared.recorded.Exchange.{Exchange}
 use Rattle.hickory_resolver_config.specs.ResolverConfig.{ResolverConfigValue}
 use Rattle.hickory_resolver.specs.Reading.{IsBytesRead}

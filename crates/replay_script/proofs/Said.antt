@@ -5,7 +5,7 @@ use Rattle.std.specs.Option.{is_some}
 use Rattle.hickory_proto_core.specs.Handles.{OutcomeValue}
 use Rattle.hickory_proto_core.specs.Messages.{MessageValue}
 use Rattle.hickory_proto_core.specs.Records.{RecordValue}
-use Rattle.hickory_proto_core.specs.records.query.Query.{Query}
+use Rattle.hickory_proto_core.specs.declared.query.Query.{Query}
 use Rattle.hickory_resolver_lookup.specs.Requests.{request_of}
 use Rattle.hickory_resolver_lookup.specs.declared.request.Request.{Request as AskedRequest}
 use Rattle.hickory_resolver_model.specs.Run.{moment_of}

@@ -10,7 +10,7 @@ use Rattle.hex.specs.declared.error.FromHexError.{FromHexError}
 use Rattle.hickory_proto_core.specs.Codes.{is_text, type_code}
 use Rattle.hickory_proto_core.specs.Name.{label_bytes}
 use Rattle.hickory_proto_core.specs.Records.{DataValue, a_data, aaaa_data, cname_data, data_of, mx_data, ns_data, ptr_data, soa_data, srv_data, txt_data, unknown_data}
-use Rattle.hickory_proto_core.specs.records.record_data.RData.{RData}
+use Rattle.hickory_proto_core.specs.declared.record_data.RData.{RData}
 use Rattle.hickory_proto_core.specs.codes.record_type.RecordType.{RecordType}
 use Rattle.hickory_proto_core.specs.codes.record_type.RecordType.TheVariants as type
 use Rattle.replay_script.specs.Words.{◌>>=◌, name_field, number_field, only_name}

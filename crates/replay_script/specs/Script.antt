@@ -5,7 +5,7 @@ use Rattle.std.specs.Str.Lines.{lines}
 use Rattle.hickory_proto_core.specs.Handles.{OutcomeValue}
 use Rattle.hickory_proto_core.specs.Messages.{MessageValue}
 use Rattle.hickory_proto_core.specs.Name.{NameValue}
-use Rattle.hickory_proto_core.specs.records.query.Query.{Query}
+use Rattle.hickory_proto_core.specs.declared.query.Query.{Query}
 use Rattle.hickory_resolver_config.specs.ResolverConfig.{OptionsValue, default_options}
 use Rattle.hickory_resolver_model.specs.Bounds.{bounds_fault}
 use Rattle.hickory_resolver_model.specs.Options.{bounds_of}

@@ -1,5 +1,5 @@
 use Rattle.std.proofs.Common.{◌≡◌, rules, [], subst, inl, refl, sym, ap, ◌∙◌, reverse}
-use Rattle.hickory_proto_core.specs.records.query.Query.{Query}
+use Rattle.hickory_proto_core.specs.declared.query.Query.{Query}
 use Rattle.hickory_resolver_model.specs.Lookup.{question_of}
 use Rattle.hickory_resolver_model.specs.Client.{IsLookup}
 use Rattle.hickory_resolver_model.specs.Run.{name_plan}

@@ -1,5 +1,5 @@
 use Rattle.std.proofs.Common.{None, Err, refl, subst, reverse}
-use Rattle.hickory_proto_core.specs.records.net_error.NetError.{NetError}
+use Rattle.hickory_proto_core.specs.declared.net_error.NetError.{NetError}
 use Rattle.hickory_resolver_model.specs.Run.{address_plan}
 use Rattle.hickory_resolver.specs.Attempting.{GoesOn}
 use Rattle.hickory_resolver.proofs.AttemptChains.{looks_up}
