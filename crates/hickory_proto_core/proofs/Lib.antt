@@ -1,4 +1,5 @@
 pub mod Copies
 pub mod DataEq
 pub mod Forwards
+pub mod Recordings
 pub mod Tables

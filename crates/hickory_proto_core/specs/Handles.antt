@@ -1,7 +1,8 @@
 -- What the handles may answer, and what stands after a request.
-use Rattle.std.specs.Prelude.{◌≡◌, List, [], ◌∷◌, ◌++◌, Result, Err}
+use Rattle.std.specs.Prelude.{◌≡◌, Bool, true, List, [], ◌∷◌, ◌++◌, Result, Ok, Err}
 use Rattle.std.proofs.Common.{subst, sym}
 use Rattle.hickory_proto_core.specs.Messages.{MessageValue}
+use Rattle.hickory_proto_core.specs.NetErrors.{error_holds_memory}
 use Rattle.hickory_proto_core.specs.declared.dns_request.DnsRequest.{DnsRequest}
 use Rattle.hickory_proto_core.specs.declared.dns_request.DnsRequestOptions.{DnsRequestOptions}
 use Rattle.hickory_proto_core.specs.declared.recorded.Exchange.{Exchange}
@@ -11,6 +12,11 @@ use Rattle.hickory_proto_core.specs.declared.net_error.NetError.TheVariants.{NoO
 -- what came back for a question: a response or an error
 abbrev pub OutcomeValue : Type 0
 OutcomeValue = Result MessageValue NetError
+
+-- whether what came back holds memory, so that a copy of it may be refused: a response, or a negative answer
+abbrev pub holds_memory : OutcomeValue → Bool
+holds_memory (Ok response) = true
+holds_memory (Err error) = error_holds_memory error
 
 -- a handle of type H before it, a request, what is answered, and the handle after it
 abbrev pub Step : Type 0 → Type 1

@@ -9,6 +9,7 @@ use Rattle.hickory_proto_names.specs.declared.name_error.NameError.{NameError}
 use Rattle.hickory_proto_names.specs.declared.name_error.NameError.TheVariants as name_error
 use Rattle.hickory_proto_core.specs.declared.net_error.NetError.{NetError}
 use Rattle.hickory_proto_core.specs.declared.net_error.NetError.TheVariants.{Message, Timeout, Proto, Dns, NoOutcome, Bounds, OutOfMemory}
+use Rattle.hickory_proto_core.specs.declared.net_error.DnsError.{DnsError}
 use Rattle.hickory_proto_core.specs.declared.net_error.DnsError.TheVariants.{ResponseCode, NoRecordsFound}
 
 abbrev pub net_error_of : NameError → NetError
@@ -44,3 +45,17 @@ is_nx_domain other = false
 abbrev pub soa_of_error : NetError → Option RecordValue
 soa_of_error (Dns (NoRecordsFound none)) = none.soa
 soa_of_error other = None
+
+-- whether an error holds memory, so that a copy of it may be refused: a negative answer does, and no other
+abbrev pub dns_error_holds_memory : DnsError → Bool
+dns_error_holds_memory (ResponseCode code) = false
+dns_error_holds_memory (NoRecordsFound none) = true
+
+abbrev pub error_holds_memory : NetError → Bool
+error_holds_memory (Dns error) = dns_error_holds_memory error
+error_holds_memory (Message text) = false
+error_holds_memory Timeout = false
+error_holds_memory (Proto error) = false
+error_holds_memory NoOutcome = false
+error_holds_memory (Bounds error) = false
+error_holds_memory OutOfMemory = false

@@ -1,10 +1,7 @@
 -- A handle that keeps what the handle below it gave.
-use Rattle.std.proofs.Common.{refl, sym, ap, ◌∙◌, subst, inl, inr, append_assoc}
-use Rattle.std.proofs.lemmas.List.{append-nil}
-use Rattle.std.specs.Prelude.{◌≡◌, ◌⊎◌, List, [], ◌∷◌, ◌++◌, Err}
-use Rattle.hickory_proto_core.specs.Handles.{OutcomeValue, Step, Leads, RecordedValue}
+use Rattle.std.specs.Prelude.{◌≡◌, ◌⊎◌, true, List, [], ◌∷◌, ◌++◌, Err}
+use Rattle.hickory_proto_core.specs.Handles.{OutcomeValue, Step, holds_memory, RecordedValue}
 use Rattle.hickory_proto_core.specs.declared.dns_request.DnsRequest.{DnsRequest}
-use Rattle.hickory_proto_core.specs.declared.dns_request.DnsRequestOptions.{DnsRequestOptions}
 use Rattle.hickory_proto_core.specs.declared.recorded.Exchange.{Exchange}
 use Rattle.hickory_proto_core.specs.declared.net_error.NetError.TheVariants.{OutOfMemory}
 
@@ -15,7 +12,8 @@ pub record IsRefused
   pub answer_is : answer ≡ Err OutOfMemory
   pub unchanged : after ≡ before
 
--- the handle below was asked. What it gave is kept, and is answered unless there was no memory for the copy
+-- the handle below was asked. What it gave is kept, and is answered unless there was no memory for the copy of
+-- what holds memory
 pub record IsKept
     {H : Type 0} (step : Step H) (before : RecordedValue H) (request : DnsRequest) (answer : OutcomeValue)
     (after : RecordedValue H)
@@ -26,59 +24,19 @@ pub record IsKept
     query = request.query;
     outcome = outcome;
   } ∷ []
-  pub answer_is : (answer ≡ outcome) ⊎ (answer ≡ Err OutOfMemory)
+  pub answer_is : (answer ≡ outcome) ⊎ ((answer ≡ Err OutOfMemory) × (holds_memory outcome ≡ true))
 
 abbrev pub RecordedStep : {H : Type 0} → Step H → RecordedValue H → DnsRequest → OutcomeValue
     → RecordedValue H → Type 0
 RecordedStep step before request answer after =
     IsRefused before answer after ⊎ IsKept step before request answer after
 
--- what was answered, and what was kept: the same, or another outcome in place of out of memory. Where
--- nothing was sent there is no exchange
+-- what was answered, and what was kept: the same, or an outcome that holds memory in place of out of memory.
+-- Where nothing was sent there is no exchange
 abbrev pub RecordedAs : List Exchange → List Exchange → Type 0
 RecordedAs [] kept = kept ≡ []
 RecordedAs (x ∷ xs) kept =
     ((x.outcome ≡ Err OutOfMemory) × RecordedAs xs kept)
     ⊎ ((y : Exchange) × (ys : List Exchange) × (kept ≡ y ∷ ys) × (y.query ≡ x.query)
-    × ((x.outcome ≡ y.outcome) ⊎ (x.outcome ≡ Err OutOfMemory)) × RecordedAs xs ys)
-
--- a handle that was led by what it answered has led the handle below it by what it kept
-pub record IsRecorded
-    {H : Type 0} (step : Step H) (options : DnsRequestOptions) (before : RecordedValue H)
-    (asks : List Exchange) (after : RecordedValue H)
-    : Type 0 where
-  pub kept : List Exchange
-  pub recorded : RecordedAs asks kept
-  pub led : Leads step options before.handle kept after.handle
-  pub exchanges_are : after.exchanges ≡ before.exchanges ++ kept
-
-pub recorded_leads : {H : Type 0} (step : Step H) (options : DnsRequestOptions)
-    (before after : RecordedValue H) (asks : List Exchange)
-    → Leads (RecordedStep step) options before asks after → IsRecorded step options before asks after
-recorded_leads step options before after [] e =
-    record {
-      kept = [];
-      recorded = refl;
-      led = ap (λ r. r.handle) e;
-      exchanges_are = ap (λ r. r.exchanges) e ∙ sym (append-nil _);
-    }
-recorded_leads {H} step options before after (x ∷ xs) (mid, inl refused, rest) =
-    let r = recorded_leads step options mid after xs rest in
-    record {
-      kept = r.kept;
-      recorded = inl (refused.answer_is, r.recorded);
-      led =
-          subst (λ h. Leads step options h r.kept after.handle) (ap (λ v. v.handle) refused.unchanged) r.led;
-      exchanges_are = r.exchanges_are ∙ ap (λ v. v.exchanges ++ r.kept) refused.unchanged;
-    }
-recorded_leads {H} step options before after (x ∷ xs) (mid, inr k, rest) =
-    let r = recorded_leads step options mid after xs rest in
-    let y : Exchange = record { query = x.query; outcome = k.outcome } in
-    record {
-      kept = y ∷ r.kept;
-      recorded = inr (y, r.kept, refl, refl, k.answer_is, r.recorded);
-      led = (mid.handle, k.asked, r.led);
-      exchanges_are =
-          r.exchanges_are ∙ ap (λ es. es ++ r.kept) k.exchanges_are
-          ∙ append_assoc before.exchanges (y ∷ []) r.kept;
-    }
+    × ((x.outcome ≡ y.outcome) ⊎ ((x.outcome ≡ Err OutOfMemory) × (holds_memory y.outcome ≡ true)))
+    × RecordedAs xs ys)

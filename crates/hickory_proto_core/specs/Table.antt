@@ -1,8 +1,8 @@
 -- A table from questions to outcomes, as a list of pairs.
-use Rattle.std.specs.Prelude.{◌≡◌, ◌⊎◌, List, reverse, Option, None, Some, Err}
+use Rattle.std.specs.Prelude.{◌≡◌, ◌⊎◌, true, List, reverse, Option, None, Some, Err}
 use Rattle.std.specs.Map.{lookup}
 use Rattle.hickory_proto_core.specs.Query.{query_eq}
-use Rattle.hickory_proto_core.specs.Handles.{OutcomeValue}
+use Rattle.hickory_proto_core.specs.Handles.{OutcomeValue, holds_memory}
 use Rattle.hickory_proto_core.specs.declared.query.Query.{Query}
 use Rattle.hickory_proto_core.specs.declared.dns_request.DnsRequest.{DnsRequest}
 use Rattle.hickory_proto_core.specs.declared.net_error.NetError.TheVariants.{NoOutcome, OutOfMemory}
@@ -18,11 +18,12 @@ outcome_in q table = lookup (query_eq q) table
 abbrev pub last_given : Query → TableValue → Option OutcomeValue
 last_given q pairs = outcome_in q (reverse pairs)
 
--- what a table answers for the outcome that it found: that outcome, or that it has none; a copy may find no
--- memory
+-- what a table answers for the outcome that it found: that outcome, or that it has none; a copy of what holds
+-- memory may find none
 abbrev pub IsTableAnswer : Option OutcomeValue → OutcomeValue → Type 0
 IsTableAnswer None answer = answer ≡ Err NoOutcome
-IsTableAnswer (Some outcome) answer = (answer ≡ outcome) ⊎ (answer ≡ Err OutOfMemory)
+IsTableAnswer (Some outcome) answer =
+    (answer ≡ outcome) ⊎ ((answer ≡ Err OutOfMemory) × (holds_memory outcome ≡ true))
 
 -- the table stays, and answers what it has for the question
 abbrev pub TableStep : TableValue → DnsRequest → OutcomeValue → TableValue → Type 0

@@ -1,7 +1,7 @@
 //! What an upstream or a resolver answers where it has no records.
-ghost use Rattle.std.specs.Prelude.{◌≡◌, None, IfOk, IsOkUnless};
+ghost use Rattle.std.specs.Prelude.{◌≡◌, true, None, IfOk, OnErr, IsOkUnless};
 ghost use Rattle.hickory_proto_core.specs.Errors.{items_or_none};
-ghost use Rattle.hickory_proto_core.specs.NetErrors.{is_no_records_found, is_nx_domain, no_records_or, soa_of_error};
+ghost use Rattle.hickory_proto_core.specs.NetErrors.{dns_error_holds_memory, error_holds_memory, is_no_records_found, is_nx_domain, no_records_or, soa_of_error};
 
 use crate::bounds_error::BoundsError;
 use crate::query::Query;
@@ -149,20 +149,24 @@ impl Clone for NoRecords {
 }
 
 impl DnsError {
-    /// A copy of every field.
+    /// A copy of every field. Only that of a negative answer may find no memory.
     pub fn clone(&self) -> Result<DnsError, NetError>
         ensures ok { IfOk result (λ e. e ≡ self.now) }
         ensures err { IsOkUnless result NetError.OutOfMemory }
+        ensures memory { OnErr result (dns_error_holds_memory self.now ≡ true) }
     {
         Ok(Clone::clone(self)?)
     }
 }
 
-/// A copy equals its source.
+/// A copy equals its source. Only that of a negative answer may find no memory.
 impl Clone for DnsError {
-    ghost use Rattle.std.specs.Prelude.{◌≡◌};
+    ghost use Rattle.std.specs.Prelude.{◌≡◌, false};
+    ghost use Rattle.hickory_proto_core.specs.NetErrors.{dns_error_holds_memory};
 
     ghost is_clone = { λ error copy. copy ≡ error };
+
+    ghost is_infallible = { λ error. dns_error_holds_memory error ≡ false };
 
     fn clone(&self) -> Result<DnsError, AllocError> {
         match self {
@@ -220,20 +224,24 @@ impl NetError {
         }
     }
 
-    /// A copy of every field.
+    /// A copy of every field. Only that of a negative answer may find no memory.
     pub fn clone(&self) -> Result<NetError, NetError>
         ensures ok { IfOk result (λ e. e ≡ self.now) }
         ensures err { IsOkUnless result NetError.OutOfMemory }
+        ensures memory { OnErr result (error_holds_memory self.now ≡ true) }
     {
         Ok(Clone::clone(self)?)
     }
 }
 
-/// A copy equals its source.
+/// A copy equals its source. Only that of a negative answer may find no memory.
 impl Clone for NetError {
-    ghost use Rattle.std.specs.Prelude.{◌≡◌};
+    ghost use Rattle.std.specs.Prelude.{◌≡◌, false};
+    ghost use Rattle.hickory_proto_core.specs.NetErrors.{error_holds_memory};
 
     ghost is_clone = { λ error copy. copy ≡ error };
+
+    ghost is_infallible = { λ error. error_holds_memory error ≡ false };
 
     fn clone(&self) -> Result<NetError, AllocError> {
         match self {

@@ -1,5 +1,6 @@
 //! A handle that keeps what it was asked, and what came back.
-ghost use Rattle.std.specs.Prelude.{◌≡◌, [], IfOk, IsOkUnless};
+ghost use Rattle.std.specs.Prelude.{◌≡◌, [], true, IfOk, OnErr, IsOkUnless};
+ghost use Rattle.hickory_proto_core.specs.Handles.{holds_memory};
 
 use crate::dns_handle::{DnsHandle, Outcome};
 use crate::dns_request::DnsRequest;
@@ -18,7 +19,8 @@ pub struct Exchange {
 
 /// A handle over another, which keeps each question that was sent and what the other handle gave for it.
 /// Where there is no memory to keep more, nothing is sent. Where there is none for the copy to answer with,
-/// the outcome is kept, and out of memory is answered.
+/// the outcome is kept, and out of memory is answered; a failure, of which a copy takes no memory, is answered
+/// always.
 #[derive(Drop)]
 pub struct Recorded<H: DnsHandle> {
     handle: H,
@@ -79,10 +81,11 @@ impl<H: DnsHandle> DnsHandle for Recorded<H> {
     }
 }
 
-/// A copy of an outcome.
+/// A copy of an outcome. Only that of a response or of a negative answer may find no memory.
 pub fn clone_outcome(outcome: &Outcome) -> Result<Outcome, NetError>
     ensures ok { IfOk result (λ copy. copy ≡ outcome.now) }
     ensures err { IsOkUnless result NetError.OutOfMemory }
+    ensures memory { OnErr result (holds_memory outcome.now ≡ true) }
 {
     match outcome {
         Ok(response) => Ok(Ok(response.clone()?)),
