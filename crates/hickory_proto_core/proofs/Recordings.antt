@@ -1,14 +1,14 @@
 -- What a handle that records is led by, the handle below it is led by.
 use Rattle.std.proofs.Common.{◌≡◌, List, [], ◌∷◌, ◌++◌, refl, sym, ap, ◌∙◌, subst, inl, inr, append_assoc}
 use Rattle.std.proofs.lemmas.List.{append-nil}
-use Rattle.hickory_proto_core.specs.Handles.{Step, Leads, RecordedValue}
+use Rattle.hickory_proto_core.specs.Handles.{HandleStep, Leads, RecordedValue}
 use Rattle.hickory_proto_core.specs.Recorded.{RecordedStep, RecordedAs}
 use Rattle.hickory_proto_core.specs.declared.dns_request.DnsRequestOptions.{DnsRequestOptions}
 use Rattle.hickory_proto_core.specs.declared.recorded.Exchange.{Exchange}
 
 -- a handle that was led by what it answered has led the handle below it by what it kept
 pub record IsRecorded
-    {H : Type 0} (step : Step H) (options : DnsRequestOptions) (before : RecordedValue H)
+    {H : Type 0} (step : HandleStep H) (options : DnsRequestOptions) (before : RecordedValue H)
     (asks : List Exchange) (after : RecordedValue H)
     : Type 0 where
   pub kept : List Exchange
@@ -16,7 +16,7 @@ pub record IsRecorded
   pub led : Leads step options before.handle kept after.handle
   pub exchanges_are : after.exchanges ≡ before.exchanges ++ kept
 
-pub recorded_leads : {H : Type 0} (step : Step H) (options : DnsRequestOptions)
+pub recorded_leads : {H : Type 0} (step : HandleStep H) (options : DnsRequestOptions)
     (before after : RecordedValue H) (asks : List Exchange)
     → Leads (RecordedStep step) options before asks after → IsRecorded step options before asks after
 recorded_leads step options before after [] e =

@@ -19,8 +19,8 @@ holds_memory (Ok response) = true
 holds_memory (Err error) = error_holds_memory error
 
 -- a handle of type H before it, a request, what is answered, and the handle after it
-abbrev pub Step : Type 0 → Type 1
-Step H = H → DnsRequest → OutcomeValue → H → Type 0
+abbrev pub HandleStep : Type 0 → Type 1
+HandleStep H = H → DnsRequest → OutcomeValue → H → Type 0
 
 -- a script answers its first outcome and keeps the rest; an empty one answers that it has none
 abbrev pub ScriptStep : List OutcomeValue → DnsRequest → OutcomeValue → List OutcomeValue → Type 0
@@ -29,14 +29,14 @@ ScriptStep (o ∷ os) request outcome after = (outcome ≡ o) × (after ≡ os)
 
 -- one handle leads by these exchanges to another: each question was sent with these options, and its outcome
 -- came back
-abbrev pub Leads : {H : Type 0} → Step H → DnsRequestOptions → H → List Exchange → H → Type 0
+abbrev pub Leads : {H : Type 0} → HandleStep H → DnsRequestOptions → H → List Exchange → H → Type 0
 Leads step options before [] after = after ≡ before
 Leads {H} step options before (x ∷ xs) after =
     (mid : H) × (step before (record { query = x.query; options = options }) x.outcome mid)
     × Leads step options mid xs after
 
 -- exchanges after exchanges
-pub Leads-append : {H : Type 0} (step : Step H) (options : DnsRequestOptions) (before mid after : H)
+pub Leads-append : {H : Type 0} (step : HandleStep H) (options : DnsRequestOptions) (before mid after : H)
     (xs ys : List Exchange) → Leads step options before xs mid → Leads step options mid ys after
     → Leads step options before (xs ++ ys) after
 Leads-append step options before mid after [] ys e l = subst (λ h. Leads step options h ys after) e l
@@ -44,7 +44,7 @@ Leads-append step options before mid after (x ∷ xs) ys (next, sent, rest) l =
     (next, sent, Leads-append step options next mid after xs ys rest l)
 
 -- what each step keeps, a chain of exchanges keeps
-pub Leads-keeps : {H : Type 0} (step : Step H) (options : DnsRequestOptions) (Holds : H → Type 0)
+pub Leads-keeps : {H : Type 0} (step : HandleStep H) (options : DnsRequestOptions) (Holds : H → Type 0)
     → ((before : H) (request : DnsRequest) (outcome : OutcomeValue) (after : H)
     → step before request outcome after → Holds before → Holds after)
     → (before after : H) (xs : List Exchange) → Leads step options before xs after → Holds before

@@ -1,6 +1,6 @@
 -- A handle that keeps what the handle below it gave.
 use Rattle.std.specs.Prelude.{◌≡◌, ◌⊎◌, true, List, [], ◌∷◌, ◌++◌, Err}
-use Rattle.hickory_proto_core.specs.Handles.{OutcomeValue, Step, holds_memory, RecordedValue}
+use Rattle.hickory_proto_core.specs.Handles.{OutcomeValue, HandleStep, holds_memory, RecordedValue}
 use Rattle.hickory_proto_core.specs.declared.dns_request.DnsRequest.{DnsRequest}
 use Rattle.hickory_proto_core.specs.declared.recorded.Exchange.{Exchange}
 use Rattle.hickory_proto_core.specs.declared.net_error.NetError.TheVariants.{OutOfMemory}
@@ -15,7 +15,7 @@ pub record IsRefused
 -- the handle below was asked. What it gave is kept, and is answered unless there was no memory for the copy of
 -- what holds memory
 pub record IsKept
-    {H : Type 0} (step : Step H) (before : RecordedValue H) (request : DnsRequest) (answer : OutcomeValue)
+    {H : Type 0} (step : HandleStep H) (before : RecordedValue H) (request : DnsRequest) (answer : OutcomeValue)
     (after : RecordedValue H)
     : Type 0 where
   pub outcome : OutcomeValue
@@ -26,7 +26,7 @@ pub record IsKept
   } ∷ []
   pub answer_is : (answer ≡ outcome) ⊎ ((answer ≡ Err OutOfMemory) × (holds_memory outcome ≡ true))
 
-abbrev pub RecordedStep : {H : Type 0} → Step H → RecordedValue H → DnsRequest → OutcomeValue
+abbrev pub RecordedStep : {H : Type 0} → HandleStep H → RecordedValue H → DnsRequest → OutcomeValue
     → RecordedValue H → Type 0
 RecordedStep step before request answer after =
     IsRefused before answer after ⊎ IsKept step before request answer after

@@ -2,7 +2,7 @@
 use Rattle.std.proofs.Common.{◌≡◌, ◌⊎◌, ℕ, true, nat_le, if◌then◌else◌, List, [], Option, Some, Ok, Err, refl, sym, ap, subst, inl, inr}
 use Rattle.hickory_proto_core.specs.Name.{NameValue}
 use Rattle.std.specs.declared.net.IpAddr.{IpAddr}
-use Rattle.hickory_proto_core.specs.Handles.{Step}
+use Rattle.hickory_proto_core.specs.Handles.{HandleStep}
 use Rattle.hickory_resolver_config.specs.declared.strategies.LookupIpStrategy.{LookupIpStrategy}
 use Rattle.hickory_proto_core.specs.NetErrors.{net_error_of}
 use Rattle.hickory_proto_core.specs.names.name_error.NameError.{NameError}
@@ -30,7 +30,7 @@ client_cache inside before cache view_is cache_is is =
 pub names_keep : (t : RecordType) (names : List NameValue) (cache : CacheValue) → KeepsWhatIsKnown cache (drop_each t names cache)
 names_keep t names cache = record { covered = λ sources entries. drop_each-fresh sources t names cache entries; meant = λ table entries. drop_each-meant table t names cache entries }
 
-module _ {H : Type 0} (step : Step H) (now : ℕ) (before : ResolverValue H) where
+module _ {H : Type 0} (step : HandleStep H) (now : ℕ) (before : ResolverValue H) where
   -- memory ran out before anything was asked
   pub call_unserved : (call : Call) (result : LookupResult) → result ≡ Err OutOfMemory → AnswersCall step now call before result before
   call_unserved call result out = record { parts = []; led = refl; is = inr (refl, out, refl); option_stays = refl; others_stay = refl }
@@ -41,14 +41,14 @@ module _ {H : Type 0} (step : Step H) (now : ℕ) (before : ResolverValue H) whe
 
   -- the names that are attempted were looked up
   pub call_looked_up : (plan : CallPlan) (n : NameValue) (options : DnsRequestOptions) (hosts : List Host) (names : List NameValue) (client after_client : ClientValue H) (result : LookupResult) (after : ResolverValue H)
-      → options ≡ (settings before).requests → hosts ≡ before.hosts → client ≡ before.client → names ≡ attempts (settings before).search n
+      → options ≡ (settings before).request_options → hosts ≡ before.hosts → client ≡ before.client → names ≡ attempts (settings before).search n
       → LooksUp step options hosts now plan true names client result after_client → after ≡ record before { client = after_client }
       → AnswersCall step now (Attempt n plan) before result after
   call_looked_up plan n options hosts names client after_client result after options_are hosts_are client_is names_are looked_up after_is =
       let O : DnsRequestOptions → Type 0 = λ o. LooksUp step o hosts now plan true names client result after_client in
-      let P : List Host → Type 0 = λ hs. LooksUp step (settings before).requests hs now plan true names client result after_client in
-      let C : ClientValue H → Type 0 = λ c. LooksUp step (settings before).requests before.hosts now plan true names c result after_client in
-      let N : List NameValue → Type 0 = λ ns. LooksUp step (settings before).requests before.hosts now plan true ns before.client result after_client in
+      let P : List Host → Type 0 = λ hs. LooksUp step (settings before).request_options hs now plan true names client result after_client in
+      let C : ClientValue H → Type 0 = λ c. LooksUp step (settings before).request_options before.hosts now plan true names c result after_client in
+      let N : List NameValue → Type 0 = λ ns. LooksUp step (settings before).request_options before.hosts now plan true ns before.client result after_client in
       let l = subst N names_are (subst C client_is (subst P hosts_are (subst O options_are looked_up))) in
       let A : ResolverValue H → Type 0 = λ r. AnswersCall step now (Attempt n plan) before result r in
       subst A (sym after_is) (record { parts = l.parts; led = l.led; is = inl l.are; option_stays = l.option_stays; others_stay = refl })
@@ -61,7 +61,7 @@ module _ {H : Type 0} (step : Step H) (now : ℕ) (before : ResolverValue H) whe
 
   -- the same of addresses
   pub call_addresses : (literal : Option LookupValue) (strategy : LookupIpStrategy) (n : NameValue) (options : DnsRequestOptions) (hosts : List Host) (names : List NameValue) (client after_client : ClientValue H) (result : LookupResult) (after : ResolverValue H)
-      → strategy ≡ (settings before).strategy → options ≡ (settings before).requests → hosts ≡ before.hosts → client ≡ before.client → names ≡ attempts (settings before).search n
+      → strategy ≡ (settings before).strategy → options ≡ (settings before).request_options → hosts ≡ before.hosts → client ≡ before.client → names ≡ attempts (settings before).search n
       → LooksUp step options hosts now (address_plan strategy literal) true names client result after_client → after ≡ record before { client = after_client }
       → AnswersCall step now (Attempt n (address_plan (settings before).strategy literal)) before result after
   call_addresses literal strategy n options hosts names client after_client result after strategy_is options_are hosts_are client_is names_are looked_up after_is =

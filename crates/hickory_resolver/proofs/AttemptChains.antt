@@ -4,7 +4,7 @@ use Rattle.std.proofs.lemmas.List.{append-nil, reverse-append}
 use Rattle.std.proofs.lemmas.Grind.{flat_map-append}
 use Rattle.std.specs.Borrow.{Bor}
 use Rattle.hickory_proto_core.specs.Name.{NameValue}
-use Rattle.hickory_proto_core.specs.Handles.{Step, Leads, Leads-append}
+use Rattle.hickory_proto_core.specs.Handles.{HandleStep, Leads, Leads-append}
 use Rattle.hickory_proto_core.specs.codes.record_type.RecordType.{RecordType}
 use Rattle.hickory_proto_core.specs.declared.dns_request.DnsRequestOptions.{DnsRequestOptions}
 use Rattle.hickory_proto_core.specs.declared.net_error.NetError.TheVariants.{Message, OutOfMemory}
@@ -12,13 +12,13 @@ use Rattle.hickory_resolver_model.specs.Cache.{CacheValue}
 use Rattle.hickory_resolver_model.specs.Lookup.{LookupValue, LookupResult, question_of}
 use Rattle.hickory_resolver_model.specs.Hosts.{Host, IsStatic}
 use Rattle.hickory_resolver_model.specs.Client.{ClientValue, IsLookup}
-use Rattle.hickory_resolver_model.specs.Calls.{Plan, One, Static, Client, SubLookup, SubLookupRelation, IsSubLookupFor, CallPlan, Says, IsAttempt, AreAttempts, IsLastReply, takes_memory, stops, asks_of_sub_lookups}
+use Rattle.hickory_resolver_model.specs.Calls.{Plan, One, Static, Client, SubLookup, SubLookupRelation, IsAnsweredFor, CallPlan, Says, IsAttempt, AreAttempts, IsLastReply, takes_memory, stops, asks_of_sub_lookups}
 use Rattle.hickory_resolver_model.specs.Resolver.{call_context_of, LooksUp}
 use Rattle.hickory_resolver.specs.Attempting.{Attempts, AreFurther, GoesOn}
 
 -- ---- one attempt
 
-module _ {H : Type 0} (step : Step H) (options : DnsRequestOptions) (hosts : List Host) (now : ℕ) (t : RecordType) (looked : Bool) (n : NameValue) (before : ClientValue H) where
+module _ {H : Type 0} (step : HandleStep H) (options : DnsRequestOptions) (hosts : List Host) (now : ℕ) (t : RecordType) (looked : Bool) (n : NameValue) (before : ClientValue H) where
   -- the client's look-up, where the table is not looked at or has nothing
   pub attempt_asked : (looked ≡ false) ⊎ IsStatic (question_of n t) now hosts None → (result : LookupResult) (after : ClientValue H) → IsLookup step options now before (question_of n t) result after
       → Attempts step options hosts now (One t) looked n before result after
@@ -52,7 +52,7 @@ asks-append ps qs = flat_map-append (λ p. p.asks) ps qs
 
 -- since this result these attempts were made, this one was the last, and these names are left
 pub record SoFar
-    {H : Type 0} (step : Step H) (options : DnsRequestOptions) (hosts : List Host) (now : ℕ) (plan : CallPlan)
+    {H : Type 0} (step : HandleStep H) (options : DnsRequestOptions) (hosts : List Host) (now : ℕ) (plan : CallPlan)
     (names : List NameValue) (last : LookupResult) (before : ClientValue H)
     (left : List NameValue) (latest : LookupResult) (client : ClientValue H)
     : Type 0 where
@@ -60,10 +60,10 @@ pub record SoFar
   pub led : Leads step options before.handle (asks_of_sub_lookups parts) client.handle
   pub option_stays : client.preserve_intermediates ≡ before.preserve_intermediates
   pub on : (more : List SubLookup) (result : LookupResult) (after : CacheValue)
-      → AreFurther (IsSubLookupFor (call_context_of before hosts now)) plan client.cache left latest more result after
-      → AreFurther (IsSubLookupFor (call_context_of before hosts now)) plan before.cache names last (parts ++ more) result after
+      → AreFurther (IsAnsweredFor (call_context_of before hosts now)) plan client.cache left latest more result after
+      → AreFurther (IsAnsweredFor (call_context_of before hosts now)) plan before.cache names last (parts ++ more) result after
 
-module _ {H : Type 0} (step : Step H) (options : DnsRequestOptions) (hosts : List Host) (now : ℕ) (plan : CallPlan) (names : List NameValue) (last : LookupResult) (before : ClientValue H) where
+module _ {H : Type 0} (step : HandleStep H) (options : DnsRequestOptions) (hosts : List Host) (now : ℕ) (plan : CallPlan) (names : List NameValue) (last : LookupResult) (before : ClientValue H) where
   pub so_far_none : SoFar step options hosts now plan names last before names last before
   so_far_none = record { parts = []; led = refl; option_stays = refl; on = λ more result after h. h }
 
@@ -86,25 +86,25 @@ module _ {H : Type 0} (step : Step H) (options : DnsRequestOptions) (hosts : Lis
         same : call_context_of client hosts now ≡ call_context_of before hosts now
         same = ap (λ b. record { now = now; preserve_intermediates = b; hosts = hosts }) s.option_stays
 
-        here : IsAttempt (IsSubLookupFor (call_context_of before hosts now)) plan.hosts_for_all client.cache n plan.types a.parts result after.cache
-        here = subst (λ setting. IsAttempt (IsSubLookupFor setting) plan.hosts_for_all client.cache n plan.types a.parts result after.cache) same a.is
+        here : IsAttempt (IsAnsweredFor (call_context_of before hosts now)) plan.hosts_for_all client.cache n plan.types a.parts result after.cache
+        here = subst (λ setting. IsAttempt (IsAnsweredFor setting) plan.hosts_for_all client.cache n plan.types a.parts result after.cache) same a.is
 
         on : (more : List SubLookup) (r : LookupResult) (c : CacheValue)
-            → AreFurther (IsSubLookupFor (call_context_of before hosts now)) plan after.cache (reverse left) result more r c
-            → AreFurther (IsSubLookupFor (call_context_of before hosts now)) plan before.cache names last ((s.parts ++ a.parts) ++ more) r c
+            → AreFurther (IsAnsweredFor (call_context_of before hosts now)) plan after.cache (reverse left) result more r c
+            → AreFurther (IsAnsweredFor (call_context_of before hosts now)) plan before.cache names last ((s.parts ++ a.parts) ++ more) r c
         on more r c further =
-            let next : AreFurther (IsSubLookupFor (call_context_of before hosts now)) plan client.cache (n ∷ reverse left) latest (a.parts ++ more) r c =
+            let next : AreFurther (IsAnsweredFor (call_context_of before hosts now)) plan client.cache (n ∷ reverse left) latest (a.parts ++ more) r c =
             inr (live, (a.parts, more, result, after.cache, refl, here, further)) in
-            let next_of : AreFurther (IsSubLookupFor (call_context_of before hosts now)) plan client.cache (reverse all) latest (a.parts ++ more) r c =
-            subst (λ ns. AreFurther (IsSubLookupFor (call_context_of before hosts now)) plan client.cache ns latest (a.parts ++ more) r c) (sym turned) next in
-            subst (λ ps. AreFurther (IsSubLookupFor (call_context_of before hosts now)) plan before.cache names last ps r c) (sym (append_assoc s.parts a.parts more)) (s.on (a.parts ++ more) r c next_of)
+            let next_of : AreFurther (IsAnsweredFor (call_context_of before hosts now)) plan client.cache (reverse all) latest (a.parts ++ more) r c =
+            subst (λ ns. AreFurther (IsAnsweredFor (call_context_of before hosts now)) plan client.cache ns latest (a.parts ++ more) r c) (sym turned) next in
+            subst (λ ps. AreFurther (IsAnsweredFor (call_context_of before hosts now)) plan before.cache names last ps r c) (sym (append_assoc s.parts a.parts more)) (s.on (a.parts ++ more) r c next_of)
 
     module _ (left : List NameValue) (s : SoFar step options hosts now plan names last before left latest client) where
-      ended : AreFurther (IsSubLookupFor (call_context_of before hosts now)) plan client.cache left latest [] latest client.cache → GoesOn step options hosts now plan names last before latest client
+      ended : AreFurther (IsAnsweredFor (call_context_of before hosts now)) plan client.cache left latest [] latest client.cache → GoesOn step options hosts now plan names last before latest client
       ended over = record {
         parts = s.parts;
         led = s.led;
-        are = subst (λ ps. AreFurther (IsSubLookupFor (call_context_of before hosts now)) plan before.cache names last ps latest client.cache) (append-nil s.parts) (s.on [] latest client.cache over);
+        are = subst (λ ps. AreFurther (IsAnsweredFor (call_context_of before hosts now)) plan before.cache names last ps latest client.cache) (append-nil s.parts) (s.on [] latest client.cache over);
         option_stays = s.option_stays;
       }
 
@@ -114,7 +114,7 @@ module _ {H : Type 0} (step : Step H) (options : DnsRequestOptions) (hosts : Lis
 
       -- no name is left, and there is no last resort
       pub so_far_over : plan.literal ≡ None → stops latest ≡ false → left ≡ [] → GoesOn step options hosts now plan names last before latest client
-      so_far_over plain live none = ended (subst (λ ns. AreFurther (IsSubLookupFor (call_context_of before hosts now)) plan client.cache ns latest [] latest client.cache) (sym none) (inr (live, (refl, subst (λ o. IsLastReply o (λ x. x ≡ latest) latest) (sym plain) refl, refl))))
+      so_far_over plain live none = ended (subst (λ ns. AreFurther (IsAnsweredFor (call_context_of before hosts now)) plan client.cache ns latest [] latest client.cache) (sym none) (inr (live, (refl, subst (λ o. IsLastReply o (λ x. x ≡ latest) latest) (sym plain) refl, refl))))
 
 -- ---- whole look-ups
 
@@ -124,17 +124,17 @@ weaker A plan plain looked before [] P Q parts result after more (none, is, same
     (none, subst (λ o. IsLastReply o Q result) (sym plain) (more result (subst (λ o. IsLastReply o P result) plain is)), same)
 weaker A plan plain looked before (n ∷ ns) P Q parts result after more are = are
 
-module _ {H : Type 0} (step : Step H) (options : DnsRequestOptions) (hosts : List Host) (now : ℕ) (before : ClientValue H) (result : LookupResult) (after : ClientValue H) where
+module _ {H : Type 0} (step : HandleStep H) (options : DnsRequestOptions) (hosts : List Host) (now : ℕ) (before : ClientValue H) (result : LookupResult) (after : ClientValue H) where
   -- without a first attempt
   pub looks_up : (plan : CallPlan) → plan.literal ≡ None → (names : List NameValue) (text : Bor (List ℕ)) → text.now ≡ plan.no_names → GoesOn step options hosts now plan names (Err (Message text)) before result after
       → LooksUp step options hosts now plan plan.hosts_for_all names before result after
   looks_up plan plain names text says g = record { parts = g.parts; led = g.led; are = by g.are; option_stays = g.option_stays }
     where
-      by : AreFurther (IsSubLookupFor (call_context_of before hosts now)) plan before.cache names (Err (Message text)) g.parts result after.cache
-          → AreAttempts (IsSubLookupFor (call_context_of before hosts now)) plan plan.hosts_for_all before.cache names (Says plan.no_names) g.parts result after.cache
+      by : AreFurther (IsAnsweredFor (call_context_of before hosts now)) plan before.cache names (Err (Message text)) g.parts result after.cache
+          → AreAttempts (IsAnsweredFor (call_context_of before hosts now)) plan plan.hosts_for_all before.cache names (Says plan.no_names) g.parts result after.cache
       by (inl (stopped, none, e, same)) = let clash : false ≡ true = stopped in cc
       by (inr (live, are)) =
-          weaker (IsSubLookupFor (call_context_of before hosts now)) plan plain plan.hosts_for_all before.cache names (λ x. x ≡ Err (Message text)) (Says plan.no_names) g.parts result after.cache
+          weaker (IsAnsweredFor (call_context_of before hosts now)) plan plain plan.hosts_for_all before.cache names (λ x. x ≡ Err (Message text)) (Says plan.no_names) g.parts result after.cache
           (λ r e. subst (Says plan.no_names) (sym e) says) are
 
   -- with the hosts, for the first name
@@ -144,7 +144,7 @@ module _ {H : Type 0} (step : Step H) (options : DnsRequestOptions) (hosts : Lis
     parts = a.parts ++ g.parts;
     led = subst (λ xs. Leads step options before.handle xs after.handle) (sym (asks-append a.parts g.parts))
         (Leads-append step options before.handle mid.handle after.handle (asks_of_sub_lookups a.parts) (asks_of_sub_lookups g.parts) a.led g.led);
-    are = subst (λ ns. AreAttempts (IsSubLookupFor (call_context_of before hosts now)) plan true before.cache ns (Says plan.no_names) (a.parts ++ g.parts) result after.cache) (sym turned)
+    are = subst (λ ns. AreAttempts (IsAnsweredFor (call_context_of before hosts now)) plan true before.cache ns (Says plan.no_names) (a.parts ++ g.parts) result after.cache) (sym turned)
         (a.parts, g.parts, first, mid.cache, refl, a.is, further);
     option_stays = g.option_stays ∙ a.option_stays;
   }
@@ -155,5 +155,5 @@ module _ {H : Type 0} (step : Step H) (options : DnsRequestOptions) (hosts : Lis
       same : call_context_of mid hosts now ≡ call_context_of before hosts now
       same = ap (λ b. record { now = now; preserve_intermediates = b; hosts = hosts }) a.option_stays
 
-      further : AreFurther (IsSubLookupFor (call_context_of before hosts now)) plan mid.cache (reverse left) first g.parts result after.cache
-      further = subst (λ setting. AreFurther (IsSubLookupFor setting) plan mid.cache (reverse left) first g.parts result after.cache) same g.are
+      further : AreFurther (IsAnsweredFor (call_context_of before hosts now)) plan mid.cache (reverse left) first g.parts result after.cache
+      further = subst (λ setting. AreFurther (IsAnsweredFor setting) plan mid.cache (reverse left) first g.parts result after.cache) same g.are

@@ -1,7 +1,7 @@
 -- An attempt of two types, made of attempts of one; and the last resort behind the attempts.
 use Rattle.std.proofs.Common.{◌≡◌, ◌⊎◌, ℕ, Bool, true, false, ◌||◌, List, [], ◌∷◌, ◌++◌, Option, Some, None, Ok, Err, refl, sym, ap, ◌∙◌, subst, inl, inr, if◌then◌else◌}
 use Rattle.hickory_proto_core.specs.Name.{NameValue}
-use Rattle.hickory_proto_core.specs.Handles.{Step, Leads, Leads-append}
+use Rattle.hickory_proto_core.specs.Handles.{HandleStep, Leads, Leads-append}
 use Rattle.hickory_proto_core.specs.codes.record_type.RecordType.{RecordType}
 use Rattle.hickory_proto_core.specs.declared.dns_request.DnsRequestOptions.{DnsRequestOptions}
 use Rattle.hickory_proto_core.specs.declared.net_error.NetError.TheVariants.{Message, Timeout, Proto, Dns, NoOutcome, Bounds, OutOfMemory}
@@ -9,7 +9,7 @@ use Rattle.hickory_resolver_model.specs.Cache.{CacheValue}
 use Rattle.hickory_resolver_model.specs.Lookup.{LookupValue, LookupResult, question_of}
 use Rattle.hickory_resolver_model.specs.Hosts.{Host}
 use Rattle.hickory_resolver_model.specs.Client.{ClientValue}
-use Rattle.hickory_resolver_model.specs.Calls.{Plan, One, Both, SubLookup, SubLookupRelation, IsSubLookupFor, Says, IsAttempt, AreSubLookups, AreAttempts, IsLastReply, IsAttemptResult, next_type, joins_results, takes_memory, are_answers, both_results, has_answers, is_out_of_memory, stops, asks_of_sub_lookups}
+use Rattle.hickory_resolver_model.specs.Calls.{Plan, One, Both, SubLookup, SubLookupRelation, IsAnsweredFor, Says, IsAttempt, AreSubLookups, AreAttempts, IsLastReply, IsAttemptResult, next_type, joins_results, takes_memory, are_answers, both_results, has_answers, is_out_of_memory, stops, asks_of_sub_lookups}
 use Rattle.hickory_resolver_model.specs.Resolver.{call_context_of, LooksUp}
 use Rattle.hickory_resolver_model.specs.Run.{address_plan}
 use Rattle.std.specs.Option.{is_some}
@@ -93,12 +93,12 @@ module _ (A : SubLookupRelation) (looked : Bool) (n : NameValue) (plan : Plan) (
 
 -- ---- the same of a client
 
-module _ {H : Type 0} (step : Step H) (options : DnsRequestOptions) (hosts : List Host) (now : ℕ) (looked : Bool) (n : NameValue) (before : ClientValue H) (plan : Plan) (t : RecordType) (begins : next_type plan [] ≡ Some t) where
+module _ {H : Type 0} (step : HandleStep H) (options : DnsRequestOptions) (hosts : List Host) (now : ℕ) (looked : Bool) (n : NameValue) (before : ClientValue H) (plan : Plan) (t : RecordType) (begins : next_type plan [] ≡ Some t) where
   pub attempt_first : (r : LookupResult) (after : ClientValue H) → next_type plan (r ∷ []) ≡ None → Attempts step options hosts now (One t) looked n before r after → Attempts step options hosts now plan looked n before r after
   attempt_first r after over a = record {
     parts = a.parts;
     led = a.led;
-    is = first_alone (IsSubLookupFor (call_context_of before hosts now)) looked n plan t begins before.cache a.parts r after.cache a.is over;
+    is = first_alone (IsAnsweredFor (call_context_of before hosts now)) looked n plan t begins before.cache a.parts r after.cache a.is over;
     option_stays = a.option_stays;
   }
 
@@ -109,15 +109,15 @@ module _ {H : Type 0} (step : Step H) (options : DnsRequestOptions) (hosts : Lis
     parts = a.parts ++ b.parts;
     led = subst (λ xs. Leads step options before.handle xs after.handle) (sym (asks-append a.parts b.parts))
         (Leads-append step options before.handle mid.handle after.handle (asks_of_sub_lookups a.parts) (asks_of_sub_lookups b.parts) a.led b.led);
-    is = second_after (IsSubLookupFor (call_context_of before hosts now)) looked n plan t begins u before.cache mid.cache after.cache a.parts b.parts r k result goes live made out a.is here;
+    is = second_after (IsAnsweredFor (call_context_of before hosts now)) looked n plan t begins u before.cache mid.cache after.cache a.parts b.parts r k result goes live made out a.is here;
     option_stays = b.option_stays ∙ a.option_stays;
   }
     where
       same : call_context_of mid hosts now ≡ call_context_of before hosts now
       same = ap (λ b. record { now = now; preserve_intermediates = b; hosts = hosts }) a.option_stays
 
-      here : IsAttempt (IsSubLookupFor (call_context_of before hosts now)) looked mid.cache n (One u) b.parts k after.cache
-      here = subst (λ setting. IsAttempt (IsSubLookupFor setting) looked mid.cache n (One u) b.parts k after.cache) same b.is
+      here : IsAttempt (IsAnsweredFor (call_context_of before hosts now)) looked mid.cache n (One u) b.parts k after.cache
+      here = subst (λ setting. IsAttempt (IsAnsweredFor setting) looked mid.cache n (One u) b.parts k after.cache) same b.is
 
 -- a result after which another type is asked is not out of memory
 pub live_is_not_out : (r : LookupResult) → stops r ≡ false → is_out_of_memory r ≡ false
@@ -176,13 +176,13 @@ module _ (A : SubLookupRelation) (strategy : LookupIpStrategy) (literal : Option
   with_last_resort looked before (n ∷ ns) IsLast parts after goes_on (front, back, r, mid, cut, attempt, inr (live, rest)) =
       (front, back, r, mid, cut, attempt, inr (live, with_last_resort true mid ns (λ x. x ≡ r) back after (λ x e. ap (λ y. stops y) e ∙ live) rest))
 
-pub looks_up_or_last_resort : {H : Type 0} (step : Step H) (options : DnsRequestOptions) (hosts : List Host) (now : ℕ) (strategy : LookupIpStrategy) (literal : Option LookupValue) (names : List NameValue) (before after : ClientValue H) (reply result : LookupResult)
+pub looks_up_or_last_resort : {H : Type 0} (step : HandleStep H) (options : DnsRequestOptions) (hosts : List Host) (now : ℕ) (strategy : LookupIpStrategy) (literal : Option LookupValue) (names : List NameValue) (before after : ClientValue H) (reply result : LookupResult)
     → LooksUp step options hosts now (address_plan strategy None) true names before reply after → IsReplyOrLastResort literal reply result
     → LooksUp step options hosts now (address_plan strategy literal) true names before result after
 looks_up_or_last_resort step options hosts now strategy literal names before after reply result l final = record {
   parts = l.parts;
   led = l.led;
-  are = with_last_resort (IsSubLookupFor (call_context_of before hosts now)) strategy literal reply result final true before.cache names
+  are = with_last_resort (IsAnsweredFor (call_context_of before hosts now)) strategy literal reply result final true before.cache names
       (Says (address_plan strategy None).no_names) l.parts after.cache (said_goes_on (address_plan strategy None).no_names) l.are;
   option_stays = l.option_stays;
 }

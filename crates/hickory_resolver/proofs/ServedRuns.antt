@@ -5,7 +5,7 @@ use Rattle.std.proofs.lemmas.Grind.{flat_map-append}
 use Rattle.hickory_proto_core.specs.Name.{NameValue}
 use Rattle.hickory_proto_core.specs.NameDecided.{IsReading}
 use Rattle.hickory_proto_core.specs.NameGiven.{IsReadAddress, IsReadName}
-use Rattle.hickory_proto_core.specs.Handles.{Step, Leads, Leads-append, RecordedValue}
+use Rattle.hickory_proto_core.specs.Handles.{HandleStep, Leads, Leads-append, RecordedValue}
 use Rattle.hickory_proto_core.specs.Recorded.{RecordedAs, RecordedStep}
 use Rattle.hickory_proto_core.proofs.Recordings.{IsRecorded, recorded_leads}
 use Rattle.hickory_proto_core.specs.codes.record_type.RecordType.{RecordType}
@@ -18,9 +18,9 @@ use Rattle.hickory_resolver_config.specs.ResolverConfig.{ResolverConfigValue, Op
 use Rattle.hickory_resolver_model.specs.Cache.{CacheValue}
 use Rattle.hickory_resolver_model.specs.Hosts.{Host}
 use Rattle.hickory_resolver_model.specs.Lookup.{LookupResult}
-use Rattle.hickory_resolver_model.specs.Calls.{SubLookup, IsSubLookupFor, asks_of_sub_lookups}
+use Rattle.hickory_resolver_model.specs.Calls.{SubLookup, IsAnsweredFor, asks_of_sub_lookups}
 use Rattle.hickory_resolver_model.specs.Resolver.{ResolverValue, after_clear_lookup, new_resolver, settings}
-use Rattle.hickory_resolver_model.specs.Run.{Settings, call_context_at, RequestValue, Lookup, LookupIp, ClearLookup, Clear, StepReply, LookedUp, LookedUpIp, Cleared, StepValue, ends_run, after_clear, name_call, address_call, IsCall, IsUnserved, IsServed, Stage, IsStage, AreStages, exchanges_of, moment_of, settings_of, IsRun}
+use Rattle.hickory_resolver_model.specs.Run.{Settings, call_context_at, RequestValue, Lookup, LookupIp, ClearLookup, Clear, StepReply, LookedUp, LookedUpIp, Cleared, StepValue, ends_run, after_clear, name_call, address_call, IsCall, RanOutBeforeAsking, IsServed, Stage, IsStage, AreStages, exchanges_of, moment_of, settings_of, IsRun}
 use Rattle.hickory_resolver_theorems.specs.CallFacts.{PromisesName, PromisesHost}
 use Rattle.hickory_resolver_theorems.specs.Keeping.{IsServedOver}
 use Rattle.hickory_resolver.specs.Serving.{Answered, MakesStep, AnswersAll, AnsweredSoFar, Serves, KeptSoFar, ServesAll}
@@ -30,19 +30,19 @@ use Rattle.hickory_resolver.specs.Serving.{Answered, MakesStep, AnswersAll, Answ
 -- the law that what is served over what was answered is served over what was kept
 abbrev pub KeepsRequest : Type 0
 KeepsRequest = (s : Settings) (before : CacheValue) (request : RequestValue) (parts : List SubLookup) (reply : StepReply) (after : CacheValue) (kept : List Exchange)
-    → IsServed (λ now. IsSubLookupFor (call_context_at s now)) s before request parts reply after → RecordedAs (asks_of_sub_lookups parts) kept → IsServedOver s before request kept reply after
+    → IsServed (λ now. IsAnsweredFor (call_context_at s now)) s before request parts reply after → RecordedAs (asks_of_sub_lookups parts) kept → IsServedOver s before request kept reply after
 
-module _ {R : Type 0} (step : Step R) (before : ResolverValue R) where
+module _ {R : Type 0} (step : HandleStep R) (before : ResolverValue R) where
   -- a look-up of a name that is read
   name_served : (text : List ℕ) (t : RecordType) (now : ℕ) (name : Result NameValue NameError) (parts : List SubLookup) (reply : LookupResult) (after : CacheValue) → IsReadName text name
-      → IsCall (IsSubLookupFor (call_context_at (settings before) now)) (settings before) before.client.cache (name_call t name) parts reply after ⊎ IsUnserved before.client.cache parts reply after
-      → IsServed (λ at. IsSubLookupFor (call_context_at (settings before) at)) (settings before) before.client.cache (Lookup text t now) parts (LookedUp reply) after
+      → IsCall (IsAnsweredFor (call_context_at (settings before) now)) (settings before) before.client.cache (name_call t name) parts reply after ⊎ RanOutBeforeAsking before.client.cache parts reply after
+      → IsServed (λ at. IsAnsweredFor (call_context_at (settings before) at)) (settings before) before.client.cache (Lookup text t now) parts (LookedUp reply) after
   name_served text t now (Ok n) parts reply after given (inl is) = inl (Ok n, given.ok, is)
   name_served text t now (Err e) parts reply after given (inl is) = by given.err
     where
-      by : (e ≡ name_error.OutOfMemory) ⊎ IsReading text (Err e) → IsServed (λ at. IsSubLookupFor (call_context_at (settings before) at)) (settings before) before.client.cache (Lookup text t now) parts (LookedUp reply) after
+      by : (e ≡ name_error.OutOfMemory) ⊎ IsReading text (Err e) → IsServed (λ at. IsAnsweredFor (call_context_at (settings before) at)) (settings before) before.client.cache (Lookup text t now) parts (LookedUp reply) after
       by (inl out) =
-          let P : NameError → Type 0 = λ x. IsCall (IsSubLookupFor (call_context_at (settings before) now)) (settings before) before.client.cache (name_call t (Err x)) parts reply after in
+          let P : NameError → Type 0 = λ x. IsCall (IsAnsweredFor (call_context_at (settings before) now)) (settings before) before.client.cache (name_call t (Err x)) parts reply after in
           inr (subst P out is)
       by (inr fault) = inl (Err e, fault, is)
   name_served text t now (Ok n) parts reply after given (inr is) = inr is
@@ -55,7 +55,7 @@ module _ {R : Type 0} (step : Step R) (before : ResolverValue R) where
 
   -- a request that asks nothing
   answered_unasked : (request : RequestValue) (reply : StepReply) (cache : CacheValue) (after : ResolverValue R) → after ≡ record before { client = record before.client { cache = cache } }
-      → IsServed (λ now. IsSubLookupFor (call_context_at (settings before) now)) (settings before) before.client.cache request [] reply cache → Answered step request before reply after
+      → IsServed (λ now. IsAnsweredFor (call_context_at (settings before) now)) (settings before) before.client.cache request [] reply cache → Answered step request before reply after
   answered_unasked request reply cache after e served = subst (λ r. Answered step request before reply r) (sym e) (record {
     parts = [];
     led = refl;
@@ -87,15 +87,15 @@ module _ {R : Type 0} (step : Step R) (before : ResolverValue R) where
   pub answered_host : (text : List ℕ) (now : ℕ) (reply : LookupResult) (after : ResolverValue R) → PromisesHost step (IsReadAddress text) (IsReadName text) now before reply after → Answered step (LookupIp text now) before (LookedUpIp reply) after
   answered_host text now reply after (address, spells, name, given, inl (live, promised)) = let a = promised.is in record { parts = a.parts; led = a.led; served = by a.is; option_stays = a.option_stays; others_stay = a.others_stay }
     where
-      by : IsCall (IsSubLookupFor (call_context_at (settings before) now)) (settings before) before.client.cache (address_call (settings before) address name now) promised.is.parts reply after.client.cache ⊎ IsUnserved before.client.cache promised.is.parts reply after.client.cache
-          → IsServed (λ at. IsSubLookupFor (call_context_at (settings before) at)) (settings before) before.client.cache (LookupIp text now) promised.is.parts (LookedUpIp reply) after.client.cache
+      by : IsCall (IsAnsweredFor (call_context_at (settings before) now)) (settings before) before.client.cache (address_call (settings before) address name now) promised.is.parts reply after.client.cache ⊎ RanOutBeforeAsking before.client.cache promised.is.parts reply after.client.cache
+          → IsServed (λ at. IsAnsweredFor (call_context_at (settings before) at)) (settings before) before.client.cache (LookupIp text now) promised.is.parts (LookedUpIp reply) after.client.cache
       by (inl is) = inl (record { address = address; name = name }, (spells, read_name text name given live), is)
       by (inr is) = inr is
   answered_host text now reply after (address, spells, name, given, inr (out, e, same)) = answered_unasked (LookupIp text now) (LookedUpIp reply) before.client.cache after same (inr (refl, e, refl))
 
 -- ---- a loop
 
-module _ {R : Type 0} (step : Step R) (kept : R → List Exchange) (first : ResolverValue R) (requests : List RequestValue) where
+module _ {R : Type 0} (step : HandleStep R) (kept : R → List Exchange) (first : ResolverValue R) (requests : List RequestValue) where
   -- no step was made
   pub answered_none : (steps : List StepValue) → steps ≡ [] → AnsweredSoFar step kept first requests requests steps first
   answered_none steps none = record { on = λ more after h. subst (λ ss. AnswersAll step kept first requests (ss ++ more) after) (sym none) h }
@@ -120,23 +120,23 @@ module _ {R : Type 0} (step : Step R) (kept : R → List Exchange) (first : Reso
 
 -- ---- what was kept
 
-module _ {H : Type 0} (step : Step H) (before : ResolverValue (RecordedValue H)) where
+module _ {H : Type 0} (step : HandleStep H) (before : ResolverValue (RecordedValue H)) where
   -- what was answered is turned into what was kept
   serves_kept : (law : KeepsRequest) (request : RequestValue) (parts : List SubLookup) (reply : StepReply) (after : ResolverValue (RecordedValue H))
-      → Leads (RecordedStep step) (settings before).requests before.client.handle (asks_of_sub_lookups parts) after.client.handle
-      → IsServed (λ now. IsSubLookupFor (call_context_at (settings before) now)) (settings before) before.client.cache request parts reply after.client.cache
+      → Leads (RecordedStep step) (settings before).request_options before.client.handle (asks_of_sub_lookups parts) after.client.handle
+      → IsServed (λ now. IsAnsweredFor (call_context_at (settings before) now)) (settings before) before.client.cache request parts reply after.client.cache
       → after.client.preserve_intermediates ≡ before.client.preserve_intermediates → after ≡ record before { client = after.client } → Serves step request before reply after
   serves_kept law request parts reply after led served option_stays others_stay = record {
     parts = over.parts;
-    led = subst (λ xs. Leads step (settings before).requests before.client.handle.handle xs after.client.handle.handle) (sym over.asks_are) kept.led;
+    led = subst (λ xs. Leads step (settings before).request_options before.client.handle.handle xs after.client.handle.handle) (sym over.asks_are) kept.led;
     exchanges_are = kept.exchanges_are ∙ ap (λ xs. before.client.handle.exchanges ++ xs) (sym over.asks_are);
     served = over.served;
     option_stays = option_stays;
     others_stay = others_stay;
   }
     where
-      kept : IsRecorded step (settings before).requests before.client.handle (asks_of_sub_lookups parts) after.client.handle
-      kept = recorded_leads step (settings before).requests before.client.handle after.client.handle (asks_of_sub_lookups parts) led
+      kept : IsRecorded step (settings before).request_options before.client.handle (asks_of_sub_lookups parts) after.client.handle
+      kept = recorded_leads step (settings before).request_options before.client.handle after.client.handle (asks_of_sub_lookups parts) led
 
       over : IsServedOver (settings before) before.client.cache request kept.kept reply after.client.cache
       over = law (settings before) before.client.cache request parts reply after.client.cache kept.kept served kept.recorded
@@ -146,12 +146,12 @@ settings-stay before after option others =
     let with_option : Bool → Settings = λ b. record (settings before) { preserve_intermediates = b } in
     ap (λ r. settings r) others ∙ ap with_option option
 
-record Kept {H : Type 0} (step : Step H) (request : RequestValue) (before : ResolverValue (RecordedValue H)) (made : StepValue) (after : ResolverValue (RecordedValue H)) : Type 0 where
+record Kept {H : Type 0} (step : HandleStep H) (request : RequestValue) (before : ResolverValue (RecordedValue H)) (made : StepValue) (after : ResolverValue (RecordedValue H)) : Type 0 where
   serves : Serves step request before made.reply after
   now_is : made.now ≡ moment_of request
   count_is : made.exchanges ≡ length (asks_of_sub_lookups serves.parts)
 
-kept_step : {H : Type 0} (law : KeepsRequest) (step : Step H) (request : RequestValue) (before : ResolverValue (RecordedValue H)) (made : StepValue) (after : ResolverValue (RecordedValue H)) → MakesStep (RecordedStep step) (λ h. h.exchanges) request before made after → Kept step request before made after
+kept_step : {H : Type 0} (law : KeepsRequest) (step : HandleStep H) (request : RequestValue) (before : ResolverValue (RecordedValue H)) (made : StepValue) (after : ResolverValue (RecordedValue H)) → MakesStep (RecordedStep step) (λ h. h.exchanges) request before made after → Kept step request before made after
 kept_step law step request before made after m =
     let s = serves_kept step before law request m.answered.parts made.reply after m.answered.led m.answered.served m.answered.option_stays m.answered.others_stay in
     record {
@@ -165,7 +165,7 @@ kept_step law step request before made after m =
 exchanges-push : (stages : List Stage) (stage : Stage) → exchanges_of (stages ++ stage ∷ []) ≡ exchanges_of stages ++ stage.piece
 exchanges-push stages stage = flat_map-append (λ s. s.piece) stages (stage ∷ []) ∙ ap (λ xs. exchanges_of stages ++ xs) (append-nil stage.piece)
 
-module _ {H : Type 0} (step : Step H) (first : ResolverValue (RecordedValue H)) (requests : List RequestValue) where
+module _ {H : Type 0} (step : HandleStep H) (first : ResolverValue (RecordedValue H)) (requests : List RequestValue) where
   -- no step was made
   so_far_none : (steps : List StepValue) → steps ≡ [] → KeptSoFar step first requests requests steps first
   so_far_none steps none = record {
@@ -204,16 +204,16 @@ module _ {H : Type 0} (step : Step H) (first : ResolverValue (RecordedValue H)) 
 
       is_stage : IsStage (settings first) stage after.client.cache
       is_stage = record {
-        served = subst (λ s. IsServed (λ now. IsSubLookupFor (call_context_at s now)) s resolver.client.cache request m.serves.parts made.reply after.client.cache) same_settings m.serves.served;
+        served = subst (λ s. IsServed (λ now. IsAnsweredFor (call_context_at s now)) s resolver.client.cache request m.serves.parts made.reply after.client.cache) same_settings m.serves.served;
         piece_is = refl;
         now_is = m.now_is;
         count_is = m.count_is;
       }
 
-      led_on : Leads step (settings first).requests first.client.handle.handle (exchanges_of (so.stages ++ stage ∷ [])) after.client.handle.handle
-      led_on = subst (λ xs. Leads step (settings first).requests first.client.handle.handle xs after.client.handle.handle) (sym (exchanges-push so.stages stage))
-          (Leads-append step (settings first).requests first.client.handle.handle resolver.client.handle.handle after.client.handle.handle (exchanges_of so.stages) piece so.led
-          (subst (λ s. Leads step s.requests resolver.client.handle.handle piece after.client.handle.handle) same_settings m.serves.led))
+      led_on : Leads step (settings first).request_options first.client.handle.handle (exchanges_of (so.stages ++ stage ∷ [])) after.client.handle.handle
+      led_on = subst (λ xs. Leads step (settings first).request_options first.client.handle.handle xs after.client.handle.handle) (sym (exchanges-push so.stages stage))
+          (Leads-append step (settings first).request_options first.client.handle.handle resolver.client.handle.handle after.client.handle.handle (exchanges_of so.stages) piece so.led
+          (subst (λ s. Leads step s.request_options resolver.client.handle.handle piece after.client.handle.handle) same_settings m.serves.led))
 
       exchanges_on : after.client.handle.exchanges ≡ first.client.handle.exchanges ++ exchanges_of (so.stages ++ stage ∷ [])
       exchanges_on =
@@ -258,7 +258,7 @@ module _ {H : Type 0} (step : Step H) (first : ResolverValue (RecordedValue H)) 
       }
 
 -- what was answered for all requests, as it was kept
-kept_all : {H : Type 0} (law : KeepsRequest) (step : Step H) (first : ResolverValue (RecordedValue H)) (requests left : List RequestValue) (done more : List StepValue) (resolver after : ResolverValue (RecordedValue H)) → KeptSoFar step first requests left done resolver
+kept_all : {H : Type 0} (law : KeepsRequest) (step : HandleStep H) (first : ResolverValue (RecordedValue H)) (requests left : List RequestValue) (done more : List StepValue) (resolver after : ResolverValue (RecordedValue H)) → KeptSoFar step first requests left done resolver
     → AnswersAll (RecordedStep step) (λ h. h.exchanges) resolver left more after → ServesAll step first requests (done ++ more) after
 kept_all law step first requests [] done more resolver after so (none, same) =
     subst (λ r. ServesAll step first requests (done ++ more) r) (sym same)
@@ -275,7 +275,7 @@ kept_all law step first requests (request ∷ rest) done more resolver after so 
 
 -- ---- the contract of a run
 
-module _ {H : Type 0} (law : KeepsRequest) (step : Step H) (config : ResolverConfigValue) (options : OptionsValue) (hosts : List Host) (handle : H) (start : RecordedValue H) (starts : start ≡ record { handle = handle; exchanges = [] }) (requests : List RequestValue) (steps : List StepValue) (resolver : ResolverValue (RecordedValue H))
+module _ {H : Type 0} (law : KeepsRequest) (step : HandleStep H) (config : ResolverConfigValue) (options : OptionsValue) (hosts : List Host) (handle : H) (start : RecordedValue H) (starts : start ≡ record { handle = handle; exchanges = [] }) (requests : List RequestValue) (steps : List StepValue) (resolver : ResolverValue (RecordedValue H))
     (all : AnswersAll (RecordedStep step) (λ h. h.exchanges) (record (new_resolver config options start) { hosts = hosts }) requests steps resolver) where
   abbrev first : ResolverValue (RecordedValue H)
   first = record (new_resolver config options (record { handle = handle; exchanges = [] })) { hosts = hosts }
@@ -287,7 +287,7 @@ module _ {H : Type 0} (law : KeepsRequest) (step : Step H) (config : ResolverCon
 
   pub is_run : IsRun step (settings_of config options hosts) handle requests steps resolver.client.handle.exchanges resolver.client.handle.handle resolver.client.cache
   is_run = record {
-    led = subst (λ xs. Leads step (settings first).requests handle xs resolver.client.handle.handle) (sym served.exchanges_are) served.led;
+    led = subst (λ xs. Leads step (settings first).request_options handle xs resolver.client.handle.handle) (sym served.exchanges_are) served.led;
     run = record { stages = served.stages; joined = sym served.exchanges_are; steps_are = served.steps_are; are = served.are };
   }
 

@@ -1,7 +1,7 @@
 -- Runs that are told: what is told is that of the run, and the listener hears of it in order.
 use Rattle.std.proofs.Common.{◌≡◌, Bool, true, false, List, [], ◌∷◌, ◌++◌, ◌-◌, length, map, take, drop, Result, Ok, Err, IfOk, MatchResult, refl, sym, ap, ◌∙◌, subst, inl, inr, arith, append_assoc, length-append}
 use Rattle.std.proofs.lemmas.List.{append-nil}
-use Rattle.hickory_proto_core.specs.Handles.{Step, RecordedValue}
+use Rattle.hickory_proto_core.specs.Handles.{HandleStep, RecordedValue}
 use Rattle.hickory_proto_core.specs.Recorded.{RecordedStep}
 use Rattle.hickory_proto_core.proofs.Recordings.{recorded_leads}
 use Rattle.hickory_proto_core.specs.declared.recorded.Exchange.{Exchange}
@@ -16,7 +16,7 @@ use Rattle.hickory_resolver.proofs.ServedRuns.{KeepsRequest, is_run, resolver_is
 
 -- ---- a loop
 
-module _ {R L : Type 0} (step : Step R) (kept : R → List Exchange) (hears : Hears L) (first : ResolverValue R) (listener : L) (requests : List RequestValue) where
+module _ {R L : Type 0} (step : HandleStep R) (kept : R → List Exchange) (hears : Hears L) (first : ResolverValue R) (listener : L) (requests : List RequestValue) where
   -- nothing was told
   pub told_none : ToldSoFar step kept hears first listener requests requests first listener
   told_none = record { on = λ more after listened h. (more, h) }
@@ -44,7 +44,7 @@ abbrev pub steps_of : List Told → List StepValue
 steps_of told = map (λ one. one.step) told
 
 -- what was told was answered
-pub answers_all : {R L : Type 0} (step : Step R) (kept : R → List Exchange) (hears : Hears L) (before : ResolverValue R) (listener : L) (requests : List RequestValue) (told : List Told) (after : ResolverValue R) (listened : L)
+pub answers_all : {R L : Type 0} (step : HandleStep R) (kept : R → List Exchange) (hears : Hears L) (before : ResolverValue R) (listener : L) (requests : List RequestValue) (told : List Told) (after : ResolverValue R) (listened : L)
     → TellsAll step kept hears before listener requests told after listened → AnswersAll step kept before requests (steps_of told) after
 answers_all step kept hears before listener [] told after listened (none, same, heard) = (ap steps_of none, same)
 answers_all step kept hears before listener (request ∷ rest) told after listened (one, more, mid, heard, is, m, h, inl (ends, none, same, last)) =
@@ -53,7 +53,7 @@ answers_all step kept hears before listener (request ∷ rest) told after listen
     (one.step, steps_of more, mid, ap steps_of is, m.made, inr (goes, answers_all step kept hears mid heard rest more after listened t))
 
 -- and was heard in order
-pub hears_all : {R L : Type 0} (step : Step R) (kept : R → List Exchange) (hears : Hears L) (before : ResolverValue R) (listener : L) (requests : List RequestValue) (told : List Told) (after : ResolverValue R) (listened : L)
+pub hears_all : {R L : Type 0} (step : HandleStep R) (kept : R → List Exchange) (hears : Hears L) (before : ResolverValue R) (listener : L) (requests : List RequestValue) (told : List Told) (after : ResolverValue R) (listened : L)
     → TellsAll step kept hears before listener requests told after listened → HearsAll hears listener told listened
 hears_all step kept hears before listener [] told after listened (none, same, heard) =
     subst (λ ts. HearsAll hears listener ts listened) (sym none) heard
@@ -83,10 +83,10 @@ record Piece {H : Type 0} (request : RequestValue) (before : ResolverValue (Reco
   count_is : one.step.exchanges ≡ length piece
   sent_is : one.sent ≡ piece
 
-piece_of : {H : Type 0} (step : Step H) (request : RequestValue) (before : ResolverValue (RecordedValue H)) (one : Told) (after : ResolverValue (RecordedValue H)) → MakesTold (RecordedStep step) (λ h. h.exchanges) request before one after → Piece request before one after
+piece_of : {H : Type 0} (step : HandleStep H) (request : RequestValue) (before : ResolverValue (RecordedValue H)) (one : Told) (after : ResolverValue (RecordedValue H)) → MakesTold (RecordedStep step) (λ h. h.exchanges) request before one after → Piece request before one after
 piece_of step request before one after m =
     let a = m.made.answered in
-    let r = recorded_leads step (settings before).requests before.client.handle after.client.handle _ a.led in
+    let r = recorded_leads step (settings before).request_options before.client.handle after.client.handle _ a.led in
     record {
       piece = r.kept;
       exchanges_are = r.exchanges_are;
@@ -112,7 +112,7 @@ pub record IsKeptTold {H : Type 0} (requests : List RequestValue) (before : Reso
   pub exchanges_are : after.client.handle.exchanges ≡ before.client.handle.exchanges ++ all
   pub told_is : told ≡ told_of requests (steps_of told) all
 
-pub kept_told : {H L : Type 0} (step : Step H) (hears : Hears L) (before : ResolverValue (RecordedValue H)) (listener : L) (requests : List RequestValue) (told : List Told) (after : ResolverValue (RecordedValue H)) (listened : L)
+pub kept_told : {H L : Type 0} (step : HandleStep H) (hears : Hears L) (before : ResolverValue (RecordedValue H)) (listener : L) (requests : List RequestValue) (told : List Told) (after : ResolverValue (RecordedValue H)) (listened : L)
     → TellsAll (RecordedStep step) (λ h. h.exchanges) hears before listener requests told after listened → IsKeptTold requests before told after
 kept_told step hears before listener [] told after listened (none, same, heard) = record {
   all = [];
@@ -138,7 +138,7 @@ kept_told step hears before listener (request ∷ rest) told after listened (one
 
 -- ---- the contract of a run that is told
 
-module _ {H L : Type 0} (law : KeepsRequest) (step : Step H) (hears : Hears L) (config : ResolverConfigValue) (options : OptionsValue) (hosts : List Host) (handle : H) (start : RecordedValue H) (starts : start ≡ record { handle = handle; exchanges = [] }) (requests : List RequestValue) (listener : L)
+module _ {H L : Type 0} (law : KeepsRequest) (step : HandleStep H) (hears : Hears L) (config : ResolverConfigValue) (options : OptionsValue) (hosts : List Host) (handle : H) (start : RecordedValue H) (starts : start ≡ record { handle = handle; exchanges = [] }) (requests : List RequestValue) (listener : L)
     (resolver : ResolverValue (RecordedValue H)) (listened : L) (told : List Told) (all : TellsAll (RecordedStep step) (λ h. h.exchanges) hears (record (new_resolver config options start) { hosts = hosts }) listener requests told resolver listened) where
   abbrev as_first : ResolverValue (RecordedValue H)
   as_first = record (new_resolver config options start) { hosts = hosts }

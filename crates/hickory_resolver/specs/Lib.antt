@@ -19,7 +19,7 @@ pub use Rattle.hickory_resolver_model.specs.Run
 pub use Rattle.hickory_resolver_model.specs.SpecialUse
 pub use Rattle.hickory_resolver_model.specs.Verdict
 pub use Rattle.hickory_resolver_theorems.specs.Cacheless
-pub use Rattle.hickory_resolver_theorems.specs.WithoutTimes
+pub use Rattle.hickory_resolver_theorems.specs.Cores
 pub use Rattle.hickory_resolver_theorems.specs.Covered
 pub use Rattle.hickory_resolver_theorems.specs.Statements
 pub use Rattle.hickory_resolver_theorems.specs.Provenance

@@ -1,9 +1,9 @@
 -- Requests that a resolver serves one by one, over a handle that keeps what it sends.
 use Rattle.std.specs.Prelude.{◌≡◌, ◌⊎◌, ◌-◌, true, false, List, [], ◌∷◌, ◌++◌, length, map}
 use Rattle.hickory_proto_core.specs.declared.recorded.Exchange.{Exchange}
-use Rattle.hickory_proto_core.specs.Handles.{Step, Leads, RecordedValue}
+use Rattle.hickory_proto_core.specs.Handles.{HandleStep, Leads, RecordedValue}
 use Rattle.hickory_resolver_model.specs.Cache.{CacheValue}
-use Rattle.hickory_resolver_model.specs.Calls.{SubLookup, IsSubLookupFor, asks_of_sub_lookups}
+use Rattle.hickory_resolver_model.specs.Calls.{SubLookup, IsAnsweredFor, asks_of_sub_lookups}
 use Rattle.hickory_resolver_model.specs.Resolver.{ResolverValue, settings}
 use Rattle.hickory_resolver_model.specs.Run.{call_context_at, RequestValue, StepReply, StepValue, ends_run, IsServed, Stage, AreStages, exchanges_of, moment_of}
 
@@ -12,20 +12,20 @@ use Rattle.hickory_resolver_model.specs.Run.{call_context_at, RequestValue, Step
 -- A resolver answers a request: the exchanges of the request's sub-look-ups led its handle. Nothing but the
 -- client changes.
 pub record Answered
-    {R : Type 0} (step : Step R) (request : RequestValue) (before : ResolverValue R) (reply : StepReply)
+    {R : Type 0} (step : HandleStep R) (request : RequestValue) (before : ResolverValue R) (reply : StepReply)
     (after : ResolverValue R)
     : Type 0 where
   pub parts : List SubLookup
-  pub led : Leads step (settings before).requests before.client.handle (asks_of_sub_lookups parts)
+  pub led : Leads step (settings before).request_options before.client.handle (asks_of_sub_lookups parts)
       after.client.handle
-  pub served : IsServed (λ now. IsSubLookupFor (call_context_at (settings before) now)) (settings before)
+  pub served : IsServed (λ now. IsAnsweredFor (call_context_at (settings before) now)) (settings before)
       before.client.cache request parts reply after.client.cache
   pub option_stays : after.client.preserve_intermediates ≡ before.client.preserve_intermediates
   pub others_stay : after ≡ record before { client = after.client }
 
 -- a request makes a step: its moment, how many exchanges the handle kept for it, and its reply
 pub record MakesStep
-    {R : Type 0} (step : Step R) (kept : R → List Exchange) (request : RequestValue)
+    {R : Type 0} (step : HandleStep R) (kept : R → List Exchange) (request : RequestValue)
     (before : ResolverValue R) (made : StepValue) (after : ResolverValue R)
     : Type 0 where
   pub answered : Answered step request before made.reply after
@@ -33,7 +33,7 @@ pub record MakesStep
   pub count_is : made.exchanges ≡ length (kept after.client.handle) - length (kept before.client.handle)
 
 -- requests are answered one after the other, up to one that finds no memory
-abbrev pub AnswersAll : {R : Type 0} → Step R → (R → List Exchange) → ResolverValue R → List RequestValue
+abbrev pub AnswersAll : {R : Type 0} → HandleStep R → (R → List Exchange) → ResolverValue R → List RequestValue
     → List StepValue → ResolverValue R → Type 0
 AnswersAll step kept before [] steps after = (steps ≡ []) × (after ≡ before)
 AnswersAll {R} step kept before (request ∷ requests) steps after =
@@ -44,7 +44,7 @@ AnswersAll {R} step kept before (request ∷ requests) steps after =
 
 -- these steps were made, and these requests are left: what answers those answers all
 pub record AnsweredSoFar
-    {R : Type 0} (step : Step R) (kept : R → List Exchange) (first : ResolverValue R)
+    {R : Type 0} (step : HandleStep R) (kept : R → List Exchange) (first : ResolverValue R)
     (requests left : List RequestValue) (steps : List StepValue) (resolver : ResolverValue R)
     : Type 0 where
   pub on : (more : List StepValue) (after : ResolverValue R)
@@ -55,15 +55,15 @@ pub record AnsweredSoFar
 -- A request is served: what the handle kept for it are the exchanges of its sub-look-ups, and they led the
 -- handle below. Nothing but the client changes.
 pub record Serves
-    {H : Type 0} (step : Step H) (request : RequestValue) (before : ResolverValue (RecordedValue H))
+    {H : Type 0} (step : HandleStep H) (request : RequestValue) (before : ResolverValue (RecordedValue H))
     (reply : StepReply) (after : ResolverValue (RecordedValue H))
     : Type 0 where
   pub parts : List SubLookup
-  pub led : Leads step (settings before).requests before.client.handle.handle (asks_of_sub_lookups parts)
+  pub led : Leads step (settings before).request_options before.client.handle.handle (asks_of_sub_lookups parts)
       after.client.handle.handle
   pub exchanges_are : after.client.handle.exchanges
       ≡ before.client.handle.exchanges ++ asks_of_sub_lookups parts
-  pub served : IsServed (λ now. IsSubLookupFor (call_context_at (settings before) now)) (settings before)
+  pub served : IsServed (λ now. IsAnsweredFor (call_context_at (settings before) now)) (settings before)
       before.client.cache request parts reply after.client.cache
   pub option_stays : after.client.preserve_intermediates ≡ before.client.preserve_intermediates
   pub others_stay : after ≡ record before { client = after.client }
@@ -71,11 +71,11 @@ pub record Serves
 -- these steps were made, and these requests are left: a run over what is left goes on from here to a run over
 -- all
 pub record KeptSoFar
-    {H : Type 0} (step : Step H) (first : ResolverValue (RecordedValue H)) (requests left : List RequestValue)
+    {H : Type 0} (step : HandleStep H) (first : ResolverValue (RecordedValue H)) (requests left : List RequestValue)
     (steps : List StepValue) (resolver : ResolverValue (RecordedValue H))
     : Type 0 where
   pub stages : List Stage
-  pub led : Leads step (settings first).requests first.client.handle.handle (exchanges_of stages)
+  pub led : Leads step (settings first).request_options first.client.handle.handle (exchanges_of stages)
       resolver.client.handle.handle
   pub exchanges_are : resolver.client.handle.exchanges ≡ first.client.handle.exchanges ++ exchanges_of stages
   pub steps_are : map (λ stage. stage.step) stages ≡ steps
@@ -87,11 +87,11 @@ pub record KeptSoFar
 
 -- the requests were served: their stages, up to one that ran out of memory
 pub record ServesAll
-    {H : Type 0} (step : Step H) (first : ResolverValue (RecordedValue H)) (requests : List RequestValue)
+    {H : Type 0} (step : HandleStep H) (first : ResolverValue (RecordedValue H)) (requests : List RequestValue)
     (steps : List StepValue) (resolver : ResolverValue (RecordedValue H))
     : Type 0 where
   pub stages : List Stage
-  pub led : Leads step (settings first).requests first.client.handle.handle (exchanges_of stages)
+  pub led : Leads step (settings first).request_options first.client.handle.handle (exchanges_of stages)
       resolver.client.handle.handle
   pub exchanges_are : resolver.client.handle.exchanges ≡ first.client.handle.exchanges ++ exchanges_of stages
   pub steps_are : map (λ stage. stage.step) stages ≡ steps

@@ -1,7 +1,7 @@
 -- Runs that are told step by step to a listener.
 use Rattle.std.specs.Prelude.{◌≡◌, ◌⊎◌, Bool, true, false, List, [], ◌∷◌, length, map, take, drop}
 use Rattle.hickory_proto_core.specs.declared.recorded.Exchange.{Exchange}
-use Rattle.hickory_proto_core.specs.Handles.{Step, RecordedValue}
+use Rattle.hickory_proto_core.specs.Handles.{HandleStep, RecordedValue}
 use Rattle.hickory_resolver_model.specs.Resolver.{ResolverValue}
 use Rattle.hickory_resolver_model.specs.Run.{RequestValue, Settings, StepValue, ends_run}
 use Rattle.hickory_resolver_theorems.specs.Promises.{IsPromisedRun}
@@ -35,7 +35,7 @@ told_of (request ∷ requests) (step ∷ steps) exchanges =
 
 -- a request makes a step, of which is told what the handle kept for it
 pub record MakesTold
-    {R : Type 0} (step : Step R) (kept : R → List Exchange) (request : RequestValue)
+    {R : Type 0} (step : HandleStep R) (kept : R → List Exchange) (request : RequestValue)
     (before : ResolverValue R) (told : Told) (after : ResolverValue R)
     : Type 0 where
   pub made : MakesStep step kept request before told.step after
@@ -43,7 +43,7 @@ pub record MakesTold
   pub sent_is : told.sent ≡ drop (length (kept before.client.handle)) (kept after.client.handle)
 
 -- requests are answered one after the other, up to one that finds no memory, and all is told
-abbrev pub TellsAll : {R L : Type 0} → Step R → (R → List Exchange) → Hears L → ResolverValue R → L
+abbrev pub TellsAll : {R L : Type 0} → HandleStep R → (R → List Exchange) → Hears L → ResolverValue R → L
     → List RequestValue → List Told → ResolverValue R → L → Type 0
 TellsAll step kept hears before listener [] told after listened =
     (told ≡ []) × (after ≡ before) × (listened ≡ listener)
@@ -55,7 +55,7 @@ TellsAll {R} {L} step kept hears before listener (request ∷ requests) told aft
 
 -- these requests are left: what tells of those tells of all
 pub record ToldSoFar
-    {R L : Type 0} (step : Step R) (kept : R → List Exchange) (hears : Hears L) (first : ResolverValue R)
+    {R L : Type 0} (step : HandleStep R) (kept : R → List Exchange) (hears : Hears L) (first : ResolverValue R)
     (listener : L) (requests left : List RequestValue) (resolver : ResolverValue R) (heard : L)
     : Type 0 where
   pub on : (more : List Told) (after : ResolverValue R) (listened : L)
@@ -63,7 +63,7 @@ pub record ToldSoFar
       → (told : List Told) × TellsAll step kept hears first listener requests told after listened
 
 -- a request is answered and told of: whether it found no memory
-abbrev pub Tells : {R L : Type 0} → Step R → (R → List Exchange) → Hears L → RequestValue → ResolverValue R
+abbrev pub Tells : {R L : Type 0} → HandleStep R → (R → List Exchange) → Hears L → RequestValue → ResolverValue R
     → L → Bool → ResolverValue R → L → Type 0
 Tells step kept hears request before listener is_last after listened =
     (one : Told) × MakesTold step kept request before one after × hears listener one listened
@@ -74,7 +74,7 @@ Tells step kept hears request before listener is_last after listened =
 -- A run that was told: it is a run of the definition, of which all holds that is promised of one, and the listener
 -- heard of all of its steps in order.
 pub record IsToldRun
-    {H L : Type 0} (step : Step H) (hears : Hears L) (s : Settings) (handle : H)
+    {H L : Type 0} (step : HandleStep H) (hears : Hears L) (s : Settings) (handle : H)
     (requests : List RequestValue) (listener : L) (resolver : ResolverValue (RecordedValue H)) (listened : L)
     : Type 0 where
   pub steps : List StepValue

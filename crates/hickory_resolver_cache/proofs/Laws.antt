@@ -10,11 +10,11 @@ use Rattle.hickory_proto_core.specs.Handles.{OutcomeValue}
 use Rattle.hickory_proto_core.specs.declared.net_error.NetError.TheVariants.{Message, Timeout, Proto, Dns, NoOutcome, Bounds, OutOfMemory}
 use Rattle.hickory_proto_core.specs.declared.net_error.DnsError.TheVariants.{ResponseCode, NoRecordsFound}
 use Rattle.hickory_resolver_model.specs.Bounds.{ConfigValue, clamped_message, negative_lifetime, positive_lifetime}
-use Rattle.hickory_resolver_model.specs.Cache.{CacheValue, Entry, IsNewest, NeverLater, current, entry_of, is_current, is_for, last_moment, negative_entry, not_after, not_after_current, positive_entry, insert_entry, room_for, saturating_sum, store, store_until}
+use Rattle.hickory_resolver_model.specs.Cache.{CacheValue, Entry, IsNewest, NeverLater, current, entry_of, is_current, is_for, last_moment, negative_entry, not_after, not_after_current, positive_entry, insert_entry, kept_beside, saturating_sum, store, store_until}
 use Rattle.hickory_resolver_cache.specs.Outcome.{kept_entry}
 use Rattle.hickory_resolver_cache.proofs.PairLists.{find-none, none_alike}
 use Rattle.std.specs.List.{IsDistinct}
-use Rattle.hickory_resolver_cache.proofs.Store.{room_for-none}
+use Rattle.hickory_resolver_cache.proofs.Store.{kept_beside-none}
 
 abbrev pub AreApart : List Entry → Type 0
 AreApart es = IsDistinct query_eq (map (λ e. e.query) es)
@@ -53,14 +53,14 @@ never_later-insert_entry capacity now es e apart was is h k = by (capacity == 0)
     stored = not_after_current es now e
 
     room : List Entry
-    room = room_for capacity e.query es
+    room = kept_beside capacity e.query es
 
     by : (b : Bool) → (capacity == 0) ≡ b → is.valid_until ≤ was.valid_until
     by true z = never_later-same e.query now es apart was is h (sym (ap (λ b. find (is_for e.query) (if b then es else room ++ stored ∷ [])) z) ∙ k)
     by false z =
         let last : find (is_for e.query) (room ++ stored ∷ []) ≡ Some is = sym (ap (λ b. find (is_for e.query) (if b then es else room ++ stored ∷ [])) z) ∙ k in
         let found = find-append (is_for e.query) room (stored ∷ [])
-        ∙ ap₂ (λ o b. option_or o (cond b (Some stored) None)) (find-none (is_for e.query) room (room_for-none capacity e.query es)) (query_equiv.refl e.query) in
+        ∙ ap₂ (λ o b. option_or o (cond b (Some stored) None)) (find-none (is_for e.query) room (kept_beside-none capacity e.query es)) (query_equiv.refl e.query) in
         let same : Some stored ≡ Some is = sym found ∙ last in
         let limit = ap (λ o. option_map_or (λ c. min e.valid_until c.valid_until) o e.valid_until) h in
         let deadlines : stored.valid_until ≡ is.valid_until = cc in
@@ -89,10 +89,10 @@ find-stored : (capacity : ℕ) (es : List Entry) (e : Entry) → 0 < capacity �
 find-stored capacity es e pos =
     ap (λ b. find (is_for e.query) (if b then es else room ++ e ∷ [])) (ne_eqb capacity 0 (λ e. omega (arith, e, pos)))
     ∙ find-append (is_for e.query) room (e ∷ [])
-    ∙ ap₂ (λ o b. option_or o (cond b (Some e) None)) (find-none (is_for e.query) room (room_for-none capacity e.query es)) (query_equiv.refl e.query)
+    ∙ ap₂ (λ o b. option_or o (cond b (Some e) None)) (find-none (is_for e.query) room (kept_beside-none capacity e.query es)) (query_equiv.refl e.query)
   where
     room : List Entry
-    room = room_for capacity e.query es
+    room = kept_beside capacity e.query es
 
 pub within-stored : (capacity limit : ℕ) (q : Query) (es after : List Entry) (e : Entry) → 0 < capacity → e.query ≡ q → after ≡ insert_entry capacity es (not_after limit e) → IfSome (find (is_for q) after) (λ kept. kept.valid_until ≤ limit)
 within-stored capacity limit q es after e pos for h =

@@ -19,7 +19,7 @@ use Rattle.hickory_proto_core.specs.Handles.{OutcomeValue}
 use Rattle.hickory_resolver_cache.specs.declared.kept.Kept.{Kept}
 use Rattle.hickory_proto_core.specs.Query.{query_eq, query_equiv}
 use Rattle.std.specs.Prelude.{◌&&◌, nat_le}
-use Rattle.hickory_resolver_model.specs.Cache.{Entry, current, is_for, without, without_earliest, least_deadline, room_for, insert_entry}
+use Rattle.hickory_resolver_model.specs.Cache.{Entry, current, is_for, without, without_earliest, least_deadline, kept_beside, insert_entry}
 use Rattle.hickory_resolver_cache.specs.Turns.{Pair, Turn, Order, turn_cmp, stored_entry, by_number, numbered, listed, in_order, entries_of, IsNumbered, IsPlaced, IsKept, StandsAt, Gone, TurnGone, IsTaken, IsTurnOf, IsSomeTurn, IsFirstTurn, shown, shown_entry}
 use Rattle.hickory_resolver_cache.proofs.PairLists.{all-map, all-map_at, all-weaker, remove-first, list_any-filter_not, list_any-remove, filter-none}
 use Rattle.hickory_resolver_cache.proofs.Listed.{listed-same, all-listed, Around, around, in_order-permutes, numbered-at}
@@ -28,7 +28,7 @@ use Rattle.hickory_resolver_cache.proofs.TurnOrder.{left, turn-below, taken-from
 -- what the pairs become when the turn goes is what stays when an entry for the question comes in
 pub record MakesRoom (capacity next : ℕ) (q : Query) (ps : List Pair) (turn : Option Turn) : Type 0 where
   pub stays : (rs : List Pair) → Gone turn ps rs
-      → entries_of rs next ≡ room_for capacity q (entries_of ps next)
+      → entries_of rs next ≡ kept_beside capacity q (entries_of ps next)
   pub room : turn ≡ None → length ps < capacity
 
 -- what the pairs become when the turn goes is what stays without an entry for the question
@@ -258,13 +258,13 @@ module _ (next : ℕ) (ps : List Pair) (h : IsNumbered next ps) where
             turn-below t (x.1.valid_until, n) (lower (x.1.valid_until, n) (subst IsSome (sym (taken-from_stands ps order (x.1.valid_until, n) x placed (record { number = e; valid_until = refl }))) refl))
 
 -- ---- a store
-pub room_for-none : (capacity : ℕ) (q : Query) (es : List Entry) → list_any (is_for q) (room_for capacity q es) ≡ false
-room_for-none capacity q es = by (list_any (is_for q) es) refl (nat_lt (length es) capacity) refl
+pub kept_beside-none : (capacity : ℕ) (q : Query) (es : List Entry) → list_any (is_for q) (kept_beside capacity q es) ≡ false
+kept_beside-none capacity q es = by (list_any (is_for q) es) refl (nat_lt (length es) capacity) refl
   where
     rest : Bool → Bool → List Entry
     rest own room = if own then without q es else (if room then es else without_earliest es)
 
-    by : (own : Bool) → list_any (is_for q) es ≡ own → (room : Bool) → nat_lt (length es) capacity ≡ room → list_any (is_for q) (room_for capacity q es) ≡ false
+    by : (own : Bool) → list_any (is_for q) es ≡ own → (room : Bool) → nat_lt (length es) capacity ≡ room → list_any (is_for q) (kept_beside capacity q es) ≡ false
     by true h room k = ap (λ b. list_any (is_for q) (rest b (nat_lt (length es) capacity))) h ∙ list_any-filter_not (is_for q) es
     by false h true k = ap₂ (λ b r. list_any (is_for q) (rest b r)) h k ∙ h
     by false h false k = ap₂ (λ b r. list_any (is_for q) (rest b r)) h k ∙ list_any-remove (is_for q) es _ h
@@ -277,7 +277,7 @@ none-from_is_some (Some x) h = cc
 pub none-left : (capacity next : ℕ) (q : Query) (ps rs : List Pair) (o : Option Turn) → IsNumbered next ps → IsDistinct query_eq (keys_of rs) → MakesRoom capacity next q ps o → Gone o ps rs → lookup (query_eq q) rs ≡ None
 none-left capacity next q ps rs o h apart room gone =
     none-from_is_some (lookup (query_eq q) rs)
-    (sym (any-lookup next rs (numbers-left next ps rs o h gone) apart q) ∙ ap (list_any (is_for q)) (room.stays rs gone) ∙ room_for-none capacity q (entries_of ps next))
+    (sym (any-lookup next rs (numbers-left next ps rs o h gone) apart q) ∙ ap (list_any (is_for q)) (room.stays rs gone) ∙ kept_beside-none capacity q (entries_of ps next))
 
 -- the pair that comes in stands last
 pub entries-push : (next : ℕ) (rs : List Pair) (p : Pair) → IsNumbered next rs → p.1.number ≡ next → entries_of (rs ++ p ∷ []) (next + 1) ≡ entries_of rs next ++ stored_entry p ∷ []
@@ -333,12 +333,12 @@ taken-pushed next ps p old mid (Some t) h is placed some updates =
     let stays = stands-push next ps p t some.0 some.1 in
     (some.0, stays, taken-from_stands (ps ++ p ∷ []) mid t some.0 (placed-push next ps p old mid h is placed updates) stays)
 
-pub insert_entry-room_for : (capacity : ℕ) (es : List Entry) (e : Entry) → 0 < capacity → room_for capacity e.query es ++ e ∷ [] ≡ insert_entry capacity es e
+pub insert_entry-room_for : (capacity : ℕ) (es : List Entry) (e : Entry) → 0 < capacity → kept_beside capacity e.query es ++ e ∷ [] ≡ insert_entry capacity es e
 insert_entry-room_for capacity es e pos = by (capacity == 0) refl
   where
-    by : (b : Bool) → (capacity == 0) ≡ b → room_for capacity e.query es ++ e ∷ [] ≡ insert_entry capacity es e
+    by : (b : Bool) → (capacity == 0) ≡ b → kept_beside capacity e.query es ++ e ∷ [] ≡ insert_entry capacity es e
     by true h = let z = eqb-true capacity 0 h in absurd (omega (arith, z, pos))
-    by false h = sym (ap (λ b. if b then es else room_for capacity e.query es ++ e ∷ []) h)
+    by false h = sym (ap (λ b. if b then es else kept_beside capacity e.query es ++ e ∷ []) h)
 
 -- a turn of the question's entry, from the look-up
 pub turn-found : (q : Query) (ps : List Pair) (k : Kept) → IsDistinct nat_eq (keys_of (by_number ps)) → lookup (query_eq q) ps ≡ Some k → IsTurnOf q ps (Some (k.valid_until, k.number))

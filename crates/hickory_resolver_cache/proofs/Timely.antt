@@ -13,7 +13,7 @@ use Rattle.hickory_proto_core.specs.declared.query.Query.{Query}
 use Rattle.hickory_proto_core.specs.declared.net_error.NetError.TheVariants.{Message, Timeout, Proto, Dns, NoOutcome, Bounds, OutOfMemory}
 use Rattle.hickory_proto_core.specs.declared.net_error.DnsError.TheVariants.{ResponseCode, NoRecordsFound}
 use Rattle.hickory_resolver_model.specs.Bounds.{ConfigValue, bounds_for, clamped_message, clamped_record, clamped_records, greatest_ttl, least_ttl, living_records, positive_bounds, reduced_bound}
-use Rattle.hickory_resolver_model.specs.Cache.{Entry, IsTimelyAnswer, OutlivesNoAnswer, current, entry_of, is_for, negative_entry, not_after, not_after_current, positive_entry, insert_entry, room_for, without, without_earliest, least_deadline}
+use Rattle.hickory_resolver_model.specs.Cache.{Entry, IsTimelyAnswer, OutlivesNoAnswer, current, entry_of, is_for, negative_entry, not_after, not_after_current, positive_entry, insert_entry, kept_beside, without, without_earliest, least_deadline}
 use Rattle.hickory_resolver_cache.proofs.PairLists.{all-append, all-filter, all-remove, all-weaker}
 
 -- ---- the least TTL of some records
@@ -141,7 +141,7 @@ timely-not_after config limit e h = timely-sooner config e (min e.valid_until li
 pub timely-without : (config : ConfigValue) (q : Query) (es : List Entry) → AllByRecursion (OutlivesNoAnswer config) es → AllByRecursion (OutlivesNoAnswer config) (without q es)
 timely-without config q es h = all-filter (OutlivesNoAnswer config) (λ e. not (is_for q e)) es h
 
-timely-room : (config : ConfigValue) (capacity : ℕ) (q : Query) (es : List Entry) → AllByRecursion (OutlivesNoAnswer config) es → AllByRecursion (OutlivesNoAnswer config) (room_for capacity q es)
+timely-room : (config : ConfigValue) (capacity : ℕ) (q : Query) (es : List Entry) → AllByRecursion (OutlivesNoAnswer config) es → AllByRecursion (OutlivesNoAnswer config) (kept_beside capacity q es)
 timely-room config capacity q es h = by (list_any (is_for q) es) (nat_lt (length es) capacity)
   where
     by : (own room : Bool) → AllByRecursion (OutlivesNoAnswer config) (if own then without q es else (if room then es else without_earliest es))
@@ -152,6 +152,6 @@ timely-room config capacity q es h = by (list_any (is_for q) es) (nat_lt (length
 pub timely-insert_entry : (config : ConfigValue) (capacity : ℕ) (es : List Entry) (e : Entry) → AllByRecursion (OutlivesNoAnswer config) es → OutlivesNoAnswer config e → AllByRecursion (OutlivesNoAnswer config) (insert_entry capacity es e)
 timely-insert_entry config capacity es e h new = by (capacity == 0)
   where
-    by : (b : Bool) → AllByRecursion (OutlivesNoAnswer config) (if b then es else room_for capacity e.query es ++ e ∷ [])
+    by : (b : Bool) → AllByRecursion (OutlivesNoAnswer config) (if b then es else kept_beside capacity e.query es ++ e ∷ [])
     by true = h
-    by false = all-append (OutlivesNoAnswer config) (room_for capacity e.query es) (e ∷ []) (timely-room config capacity e.query es h) (new, tt)
+    by false = all-append (OutlivesNoAnswer config) (kept_beside capacity e.query es) (e ∷ []) (timely-room config capacity e.query es h) (new, tt)

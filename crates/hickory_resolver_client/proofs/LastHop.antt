@@ -2,7 +2,7 @@
 use Rattle.std.proofs.Common.{◌≡◌, ◌+◌, ℕ, Bool, true, false, not, ◌||◌, List, [], ◌∷◌, ◌++◌, map, min, Some, Ok, Err, refl, sym, ap, ap₂, ◌∙◌, subst, inl, inr, arith, append_assoc, length-append, if◌then◌else◌}
 use Rattle.std.specs.List.{AllByRecursion}
 use Rattle.std.proofs.lemmas.List.{map-append, append-nil}
-use Rattle.hickory_proto_core.specs.Handles.{OutcomeValue, Step, Leads, Leads-append}
+use Rattle.hickory_proto_core.specs.Handles.{OutcomeValue, HandleStep, Leads, Leads-append}
 use Rattle.hickory_proto_core.specs.ResponseKind.{kind_of, is_empty}
 use Rattle.hickory_proto_core.specs.declared.query.Query.{Query}
 use Rattle.hickory_proto_core.specs.declared.dns_request.DnsRequestOptions.{DnsRequestOptions}
@@ -10,8 +10,8 @@ use Rattle.hickory_proto_core.specs.declared.recorded.Exchange.{Exchange}
 use Rattle.hickory_proto_core.specs.declared.net_error.NetError.TheVariants.{OutOfMemory}
 use Rattle.hickory_resolver_model.specs.Cache.{CacheValue}
 use Rattle.hickory_resolver_model.specs.Lookup.{LookupResult}
-use Rattle.hickory_resolver_model.specs.Verdict.{Hop, first_hop, CnameChain}
-use Rattle.hickory_resolver_model.specs.Hops.{LookupContext, GoesUpstream, IsAliasHop, FollowsAliases, ChainEnd, Special, Hit, Asked, IsChainEnd, kind_verdict, result_of, alias_limit, end_limit, limit_of, result_until, is_kept, reply_of, asks_of, Store, earlier_store, earlier_stores, last_stores, stores_of, after_store, after_stores, HopList}
+use Rattle.hickory_resolver_model.specs.Verdict.{Hop, first_hop, Alias}
+use Rattle.hickory_resolver_model.specs.Hops.{LookupContext, GoesUpstream, IsAliasHop, FollowsAliases, ChainEnd, Special, Hit, Asked, IsChainEnd, verdict_on, result_of, alias_limit, end_limit, limit_of, result_until, is_kept, reply_of, asks_of, Store, earlier_store, earlier_stores, last_stores, stores_of, after_store, after_stores, HopList}
 use Rattle.hickory_resolver_model.specs.Client.{ClientValue, start_of, IsLookup, KeepsHandle}
 use Rattle.hickory_resolver_client.specs.Steps.{GoesOn, IsDone, IsOut, IsHopStep, PassedValue, is_asked, limit_back, stores_back, IsBeginning, IsFinished}
 use Rattle.hickory_resolver_client.specs.declared.caching_client.HopStep.TheVariants.{Done}
@@ -56,7 +56,7 @@ nothing_stored (t ∷ ts) back (u ∷ us) cache e all =
     let rest : ts ++ back ≡ us = cc in
     ap (λ (o : OutcomeValue). after_stores ts (after_store (record t { outcome = o }) cache)) (ap (λ (x : Store). x.outcome) first ∙ all.0) ∙ nothing_stored ts back us cache rest all.1
 
-module _ {H : Type 0} (step : Step H) (options : DnsRequestOptions) (now count : ℕ) (before : ClientValue H) (question : Query) (passed : List PassedValue) (hop : Hop) (client : ClientValue H) (w : IsWalked step options now count before question passed hop client) where
+module _ {H : Type 0} (step : HandleStep H) (options : DnsRequestOptions) (now count : ℕ) (before : ClientValue H) (question : Query) (passed : List PassedValue) (hop : Hop) (client : ClientValue H) (w : IsWalked step options now count before question passed hop client) where
   -- hits and options are those of the start
   same_start : start_of client now ≡ start_of before now
   same_start = ap₂ (λ c p. record { cache = c; now = now; preserve_intermediates = p }) w.cache_is w.option_is
@@ -66,7 +66,7 @@ module _ {H : Type 0} (step : Step H) (options : DnsRequestOptions) (now count :
       let x : Exchange = record { query = hop.query; outcome = h.outcome } in
       let pair : Query → ℕ → PassedValue = λ q l. record { query = q; limit = l } in
       let P : LookupContext → Type 0 = λ s. GoesUpstream s hop.query in
-      let Q : LookupContext → Type 0 = λ s. kind_verdict s hop (kind_of h.outcome) ≡ Some (CnameChain next) in
+      let Q : LookupContext → Type 0 = λ s. verdict_on s hop (kind_of h.outcome) ≡ Some (Alias next) in
       record {
         asks = w.asks ++ x ∷ [];
         led = Leads-append step options before.handle client.handle after.handle w.asks (x ∷ []) w.led (after.handle, h.sent, refl);

@@ -3,7 +3,7 @@ use Rattle.std.proofs.Common.{◌≡◌, ◌<◌, ◌≤◌, ◌∙◌, ℕ, Boo
 use Rattle.std.specs.Option.{option_map_or}
 use Rattle.hickory_proto_core.specs.Messages.{MessageValue}
 use Rattle.hickory_proto_core.specs.Errors.{NoRecordsValue}
-use Rattle.hickory_proto_core.specs.Handles.{OutcomeValue, holds_memory, Step}
+use Rattle.hickory_proto_core.specs.Handles.{OutcomeValue, holds_memory, HandleStep}
 use Rattle.hickory_proto_core.specs.ResponseKind.{Answer, Negative, Failed, kind_of, negative_of}
 use Rattle.hickory_proto_core.specs.codes.response_code.ResponseCode.{ResponseCode as Code}
 use Rattle.hickory_proto_core.specs.declared.dns_request.DnsRequestOptions.{DnsRequestOptions}
@@ -15,8 +15,8 @@ use Rattle.hickory_resolver_model.specs.Lookup.{LookupResult, found_lookup}
 use Rattle.hickory_resolver_model.specs.Bounds.{least}
 use Rattle.hickory_resolver_model.specs.SpecialUse.{special_use_result}
 use Rattle.hickory_resolver_model.specs.AliasWalk.{walk_of}
-use Rattle.hickory_resolver_model.specs.Verdict.{Hop, Verdict, Exists, CnameChain, NoMatch, verdict}
-use Rattle.hickory_resolver_model.specs.Hops.{LookupContext, GoesUpstream, Special, Hit, Asked, alias_deadline, alias_limit, verdict_result, verdict_stores, store_of, after_stores, no_match, hit_result}
+use Rattle.hickory_resolver_model.specs.Verdict.{Hop, Verdict, Accepted, Alias, NoMatch, verdict}
+use Rattle.hickory_resolver_model.specs.Hops.{LookupContext, GoesUpstream, Special, Hit, Asked, alias_deadline, alias_limit, result_of_verdict, stores_of_verdict, store_of, after_stores, no_match, hit_result}
 use Rattle.hickory_resolver_model.specs.Client.{ClientValue, start_of}
 use Rattle.hickory_resolver_client.proofs.Limits.{earliest_deadline}
 use Rattle.hickory_resolver_client.specs.Special.{IsUnlessOut, IsSpecialReply}
@@ -65,24 +65,24 @@ worked_holds (Err OutOfMemory) worked = absurd (worked OutOfMemory refl)
 
 -- a negative answer is kept under its question
 pub settle_negative : (s : LookupContext) (hop : Hop) (depth : ℕ) (n : NoRecordsValue) (result : LookupResult) (after : CacheValue) → SettledAs s (Err (Dns (NoRecordsFound n))) (store_of hop.query (Err (Dns (NoRecordsFound n))) s.now last_moment ∷ []) result after → IsSettled s hop depth (Negative n) (Ok (Done result last_moment true)) after
-settle_negative s hop depth n result after (inl done) = inl ((λ next h. let clash : None ≡ Some (CnameChain next) = h in cc), done.0, refl, refl, done.1)
+settle_negative s hop depth n result after (inl done) = inl ((λ next h. let clash : None ≡ Some (Alias next) = h in cc), done.0, refl, refl, done.1)
 settle_negative s hop depth n result after (inr out) = inr (out.0, worked_negative n, out.1)
 
 -- ---- an answer, by its verdict
 
-is_exists : (v : Verdict) (m found : MessageValue) → IsVerdict v m (variant.Exists found) → v ≡ Exists found
-is_exists (Exists n) m found e = ap Exists (sym e)
-is_exists (CnameChain hop) m found e = absurd e
+is_exists : (v : Verdict) (m found : MessageValue) → IsVerdict v m (variant.Accepted found) → v ≡ Accepted found
+is_exists (Accepted n) m found e = ap Accepted (sym e)
+is_exists (Alias hop) m found e = absurd e
 is_exists NoMatch m found e = absurd e
 
-is_chain : (v : Verdict) (m : MessageValue) (next : Hop) (held : MessageValue) → IsVerdict v m (variant.CnameChain next held) → (v ≡ CnameChain next) × (held ≡ m)
-is_chain (Exists n) m next held e = absurd e
-is_chain (CnameChain hop) m next held e = (ap CnameChain (sym e.0), e.1)
+is_chain : (v : Verdict) (m : MessageValue) (next : Hop) (held : MessageValue) → IsVerdict v m (variant.Alias next held) → (v ≡ Alias next) × (held ≡ m)
+is_chain (Accepted n) m next held e = absurd e
+is_chain (Alias hop) m next held e = (ap Alias (sym e.0), e.1)
 is_chain NoMatch m next held e = absurd e
 
 is_none : (v : Verdict) (m held : MessageValue) → IsVerdict v m (variant.NoMatch held) → (v ≡ NoMatch) × (held ≡ m)
-is_none (Exists n) m held e = absurd e
-is_none (CnameChain hop) m held e = absurd e
+is_none (Accepted n) m held e = absurd e
+is_none (Alias hop) m held e = absurd e
 is_none NoMatch m held e = (refl, e)
 
 -- the least TTL of the CNAMEs that counted gives their limit
@@ -102,16 +102,16 @@ module _ (s : LookupContext) (hop : Hop) (depth : ℕ) (m : MessageValue) (keep 
   limited : limit ≡ alias_limit s hop.query (Answer m)
   limited = limit_same s hop given m ttl limit same_hop ttl_is limit_is
 
-  pub settle_exists : (found : MessageValue) → held ≡ variant.Exists found → (result : LookupResult) (after : CacheValue) → SettledAs s (Ok (found_lookup s.cache.config given.query found s.now)) (store_of given.query (Ok found) s.now limit ∷ []) result after → IsSettled s hop depth (Answer m) (Ok (Done result limit true)) after
+  pub settle_exists : (found : MessageValue) → held ≡ variant.Accepted found → (result : LookupResult) (after : CacheValue) → SettledAs s (Ok (found_lookup s.cache.config given.query found s.now)) (store_of given.query (Ok found) s.now limit ∷ []) result after → IsSettled s hop depth (Answer m) (Ok (Done result limit true)) after
   settle_exists found e result after (inr out) = inr (out.0, worked_answer m, out.1)
   settle_exists found e result after (inl done) =
-      let v = is_exists _ m found (judged (variant.Exists found) e) in
+      let v = is_exists _ m found (judged (variant.Accepted found) e) in
       inl (
-        (λ next h. let w : Some (Exists found) ≡ Some (CnameChain next) = sym (ap (λ u. Some u) v) ∙ h in cc),
-        (done.0 ∙ ap (λ h. Ok (found_lookup s.cache.config h.query found s.now)) same_hop ∙ ap (verdict_result s.cache.config hop.query s.now m) (sym v)),
+        (λ next h. let w : Some (Accepted found) ≡ Some (Alias next) = sym (ap (λ u. Some u) v) ∙ h in cc),
+        (done.0 ∙ ap (λ h. Ok (found_lookup s.cache.config h.query found s.now)) same_hop ∙ ap (result_of_verdict s.cache.config hop.query s.now m) (sym v)),
         limited,
         refl,
-        (done.1 ∙ ap₂ (λ h l. after_stores (store_of h.query (Ok found) s.now l ∷ []) s.cache) same_hop limited ∙ ap (λ u. after_stores (verdict_stores hop.query s.now (alias_limit s hop.query (Answer m)) u) s.cache) (sym v)),
+        (done.1 ∙ ap₂ (λ h l. after_stores (store_of h.query (Ok found) s.now l ∷ []) s.cache) same_hop limited ∙ ap (λ u. after_stores (stores_of_verdict hop.query s.now (alias_limit s hop.query (Answer m)) u) s.cache) (sym v)),
       )
 
   pub settle_none : (back : MessageValue) → held ≡ variant.NoMatch back → (result : LookupResult) → IsUnlessOut (Err (no_match given.query back)) result → IsSettled s hop depth (Answer m) (Ok (Done result limit true)) s.cache
@@ -119,28 +119,28 @@ module _ (s : LookupContext) (hop : Hop) (depth : ℕ) (m : MessageValue) (keep 
   settle_none back e result (inl done) =
       let v = is_none _ m back (judged (variant.NoMatch back) e) in
       inl (
-        (λ next h. let w : Some NoMatch ≡ Some (CnameChain next) = sym (ap (λ u. Some u) v.0) ∙ h in cc),
-        (done ∙ ap₂ (λ h r. Err (no_match h.query r)) same_hop v.1 ∙ ap (verdict_result s.cache.config hop.query s.now m) (sym v.0)),
+        (λ next h. let w : Some NoMatch ≡ Some (Alias next) = sym (ap (λ u. Some u) v.0) ∙ h in cc),
+        (done ∙ ap₂ (λ h r. Err (no_match h.query r)) same_hop v.1 ∙ ap (result_of_verdict s.cache.config hop.query s.now m) (sym v.0)),
         limited,
         refl,
-        (ap (λ u. after_stores (verdict_stores hop.query s.now (alias_limit s hop.query (Answer m)) u) s.cache) (sym v.0)),
+        (ap (λ u. after_stores (stores_of_verdict hop.query s.now (alias_limit s hop.query (Answer m)) u) s.cache) (sym v.0)),
       )
 
-  pub settle_last : (next : Hop) (back : MessageValue) → held ≡ variant.CnameChain next back → 7 ≤ depth → depth ≤ 7 → (result : LookupResult) → IsUnlessOut (Err (no_match given.query back)) result → IsSettled s hop depth (Answer m) (Ok (Done result limit true)) s.cache
+  pub settle_last : (next : Hop) (back : MessageValue) → held ≡ variant.Alias next back → 7 ≤ depth → depth ≤ 7 → (result : LookupResult) → IsUnlessOut (Err (no_match given.query back)) result → IsSettled s hop depth (Answer m) (Ok (Done result limit true)) s.cache
   settle_last next back e low high result (inr out) = inr (out, worked_answer m, refl)
   settle_last next back e low high result (inl done) =
-      let v = is_chain _ m next back (judged (variant.CnameChain next back) e) in
+      let v = is_chain _ m next back (judged (variant.Alias next back) e) in
       inl (
         (λ other h. omega arith),
-        (done ∙ ap₂ (λ h r. Err (no_match h.query r)) same_hop v.1 ∙ ap (verdict_result s.cache.config hop.query s.now m) (sym v.0)),
+        (done ∙ ap₂ (λ h r. Err (no_match h.query r)) same_hop v.1 ∙ ap (result_of_verdict s.cache.config hop.query s.now m) (sym v.0)),
         limited,
         refl,
-        (ap (λ u. after_stores (verdict_stores hop.query s.now (alias_limit s hop.query (Answer m)) u) s.cache) (sym v.0)),
+        (ap (λ u. after_stores (stores_of_verdict hop.query s.now (alias_limit s hop.query (Answer m)) u) s.cache) (sym v.0)),
       )
 
-  pub settle_next : (next : Hop) (back : MessageValue) → held ≡ variant.CnameChain next back → depth < 7 → IsSettled s hop depth (Answer m) (Ok (Next given.query limit next)) s.cache
+  pub settle_next : (next : Hop) (back : MessageValue) → held ≡ variant.Alias next back → depth < 7 → IsSettled s hop depth (Answer m) (Ok (Next given.query limit next)) s.cache
   settle_next next back e early =
-      let v = is_chain _ m next back (judged (variant.CnameChain next back) e) in
+      let v = is_chain _ m next back (judged (variant.Alias next back) e) in
       (ap (λ h. h.query) same_hop, limited, ap (λ u. Some u) v.0, early, refl)
 
 -- ---- one hop
@@ -155,7 +155,7 @@ missed None now got none is_got = refl
 missed (Some entry) now got none (inl e) = absurd (none _ e)
 missed (Some entry) now got none (inr e) = absurd (none _ e)
 
-module _ {H : Type 0} (step : Step H) (options : DnsRequestOptions) (now depth : ℕ) (before : ClientValue H) (hop : Hop) where
+module _ {H : Type 0} (step : HandleStep H) (options : DnsRequestOptions) (now depth : ℕ) (before : ClientValue H) (hop : Hop) where
   out_unasked : (result : LookupResult) (limit : ℕ) → result ≡ Err OutOfMemory → IsHopStep step options now depth before hop (Ok (Done result limit false)) before
   out_unasked result limit e = inr (e, record { cause = inl refl; cache_is = refl; option_is = refl })
 

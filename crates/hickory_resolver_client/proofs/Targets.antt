@@ -13,7 +13,7 @@ use Rattle.hickory_proto_core.specs.Name.{NameValue, name_eq, name_cmp}
 use Rattle.hickory_proto_core.specs.NameLaws.{name_ties, name_equiv}
 use Rattle.hickory_proto_core.specs.ResponseKind.{is_empty}
 use Rattle.hickory_resolver_model.specs.Bounds.{least}
-use Rattle.hickory_resolver_model.specs.AliasWalk.{Walk, Alias, Server, has_target}
+use Rattle.hickory_resolver_model.specs.AliasWalk.{Walk, AliasTo, Server, has_target}
 use Rattle.hickory_resolver_client.specs.declared.alias_walk.Targets.{Targets}
 use Rattle.hickory_resolver_client.specs.Walks.{ShowsWith, shown_walk}
 
@@ -94,7 +94,7 @@ among_push w before name target e =
 -- an alias
 pub shows_alias : (before after : Walk) (target : NameValue) (t : ℕ)
     → after.last ≡ target → after.ttl ≡ min before.ttl t → least after.alias_ttls ≡ Some (option_map_or (λ n. min n t) (least before.alias_ttls) t) → is_empty after.places ≡ false → after.targets ≡ before.targets
-    → ShowsWith (Alias target) t before after
+    → ShowsWith (AliasTo target) t before after
 shows_alias before after target t last_is ttl_is alias_ttl_is leads_is targets_are = λ w place shows. record {
   last_is = last_is;
   ttl_is = ttl_is ∙ ap (λ m. min m t) shows.ttl_is;

@@ -1,6 +1,6 @@
 -- The hops of a look-up so far.
 use Rattle.std.specs.Prelude.{◌≡◌, ◌≤◌, ℕ, List, map, length}
-use Rattle.hickory_proto_core.specs.Handles.{Step, Leads}
+use Rattle.hickory_proto_core.specs.Handles.{HandleStep, Leads}
 use Rattle.hickory_proto_core.specs.ResponseKind.{kind_of}
 use Rattle.hickory_proto_core.specs.declared.query.Query.{Query}
 use Rattle.hickory_proto_core.specs.declared.dns_request.DnsRequestOptions.{DnsRequestOptions}
@@ -15,7 +15,7 @@ passed_of s x = record { query = x.query; limit = alias_limit s x.query (kind_of
 
 -- so many questions were passed, and this hop comes next
 pub record IsWalked
-    {H : Type 0} (step : Step H) (options : DnsRequestOptions) (now count : ℕ) (before : ClientValue H)
+    {H : Type 0} (step : HandleStep H) (options : DnsRequestOptions) (now count : ℕ) (before : ClientValue H)
     (question : Query) (passed : List PassedValue) (hop : Hop) (client : ClientValue H)
     : Type 0 where
   pub asks : List Exchange

@@ -3,21 +3,21 @@ use Rattle.std.proofs.Common.{◌≡◌, ℕ, ◌+◌, List, [], ◌∷◌, ◌+
 use Rattle.std.specs.Option.{option_map_or}
 use Rattle.hickory_proto_core.specs.Name.{NameValue}
 use Rattle.hickory_proto_core.specs.Records.{RecordValue}
-use Rattle.hickory_resolver_model.specs.AliasWalk.{Walk, Counted, Alias, Server, counted, reached_by, standing, walk_step, walk_from}
+use Rattle.hickory_resolver_model.specs.AliasWalk.{Walk, Counted, AliasTo, Server, counted, reached_by, standing, walk_step, walk_from}
 use Rattle.hickory_resolver_client.specs.Walks.{ShowsAs, ShowsWith, ShowsNext, with_counted, with_next}
 
 -- ---- a walk over one answer more
 
 -- what is added at the end may be added first, after the first record
 step_ends : (place n t : ℕ) (asked : NameValue) (r : RecordValue) (c : Counted) (w : Walk) → walk_step place t c (with_next n asked r w) ≡ with_next n asked r (walk_step place t c w)
-step_ends place n t asked r (Alias target) w = on (counted asked w.last r)
+step_ends place n t asked r (AliasTo target) w = on (counted asked w.last r)
   where
     first : Walk → Walk
-    first v = walk_step place t (Alias target) v
+    first v = walk_step place t (AliasTo target) v
 
     on : (o : Option Counted) → first (option_map_or (λ c. with_counted n r.ttl c w) o w) ≡ option_map_or (λ c. with_counted n r.ttl c (first w)) o (first w)
     on None = refl
-    on (Some (Alias next)) = ap (λ m. record { places = place ∷ (w.places ++ n ∷ []); last = next; targets = w.targets; alias_ttls = t ∷ (w.alias_ttls ++ r.ttl ∷ []); ttl = m }) (omega arith)
+    on (Some (AliasTo next)) = ap (λ m. record { places = place ∷ (w.places ++ n ∷ []); last = next; targets = w.targets; alias_ttls = t ∷ (w.alias_ttls ++ r.ttl ∷ []); ttl = m }) (omega arith)
     on (Some (Server next)) = ap (λ m. record { places = place ∷ (w.places ++ n ∷ []); last = w.last; targets = w.targets ++ next ∷ []; alias_ttls = t ∷ w.alias_ttls; ttl = m }) (omega arith)
 step_ends place n t asked r (Server target) w = on (counted asked w.last r)
   where
@@ -26,7 +26,7 @@ step_ends place n t asked r (Server target) w = on (counted asked w.last r)
 
     on : (o : Option Counted) → first (option_map_or (λ c. with_counted n r.ttl c w) o w) ≡ option_map_or (λ c. with_counted n r.ttl c (first w)) o (first w)
     on None = refl
-    on (Some (Alias next)) = ap (λ m. record { places = place ∷ (w.places ++ n ∷ []); last = next; targets = target ∷ w.targets; alias_ttls = w.alias_ttls ++ r.ttl ∷ []; ttl = m }) (omega arith)
+    on (Some (AliasTo next)) = ap (λ m. record { places = place ∷ (w.places ++ n ∷ []); last = next; targets = target ∷ w.targets; alias_ttls = w.alias_ttls ++ r.ttl ∷ []; ttl = m }) (omega arith)
     on (Some (Server next)) = ap (λ m. record { places = place ∷ (w.places ++ n ∷ []); last = w.last; targets = target ∷ (w.targets ++ next ∷ []); alias_ttls = w.alias_ttls; ttl = m }) (omega arith)
 
 pub walk_push : (asked : NameValue) (place n : ℕ) (reached : NameValue) (rs : List RecordValue) (r : RecordValue) → n ≡ place + length rs → walk_from place asked reached (rs ++ r ∷ []) ≡ with_next n asked r (walk_from place asked reached rs)
@@ -37,7 +37,7 @@ walk_push asked place n reached [] r e = on (counted asked reached r)
 
     on : (o : Option Counted) → option_map_or (λ c. walk_step place r.ttl c (standing (reached_by reached c))) o (standing reached) ≡ option_map_or (λ c. with_counted n r.ttl c (standing reached)) o (standing reached)
     on None = refl
-    on (Some (Alias next)) = let least : min r.ttl 86400 ≡ min 86400 r.ttl = omega arith in λ i. record { places = same i ∷ []; last = next; targets = []; alias_ttls = r.ttl ∷ []; ttl = least i }
+    on (Some (AliasTo next)) = let least : min r.ttl 86400 ≡ min 86400 r.ttl = omega arith in λ i. record { places = same i ∷ []; last = next; targets = []; alias_ttls = r.ttl ∷ []; ttl = least i }
     on (Some (Server next)) = let least : min r.ttl 86400 ≡ min 86400 r.ttl = omega arith in λ i. record { places = same i ∷ []; last = reached; targets = next ∷ []; alias_ttls = []; ttl = least i }
 walk_push asked place n reached (s ∷ ss) r e = on (counted asked reached s) (λ next. walk_push asked (place + 1) n next ss r later)
   where

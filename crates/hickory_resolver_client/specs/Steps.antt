@@ -2,7 +2,7 @@
 -- passed.
 use Rattle.std.specs.Prelude.{◌≡◌, ◌⊎◌, ◌<◌, ◌≤◌, ℕ, Bool, true, false, not, ◌||◌, List, [], ◌∷◌, ◌++◌, map, min, length, Result, Some, Ok, Err, if◌then◌else◌}
 use Rattle.hickory_proto_core.specs.Errors.{NoRecordsValue}
-use Rattle.hickory_proto_core.specs.Handles.{OutcomeValue, Step, Leads}
+use Rattle.hickory_proto_core.specs.Handles.{OutcomeValue, HandleStep, Leads}
 use Rattle.hickory_proto_core.specs.ResponseKind.{ResponseKind, Failed, kind_of, is_empty}
 use Rattle.hickory_proto_core.specs.declared.query.Query.{Query}
 use Rattle.hickory_proto_core.specs.declared.dns_request.DnsRequestOptions.{DnsRequestOptions}
@@ -12,8 +12,8 @@ use Rattle.hickory_proto_core.specs.declared.net_error.NetError.TheVariants.{Dns
 use Rattle.hickory_proto_core.specs.declared.net_error.DnsError.TheVariants.{NoRecordsFound}
 use Rattle.hickory_resolver_model.specs.Cache.{CacheValue}
 use Rattle.hickory_resolver_model.specs.Lookup.{LookupResult}
-use Rattle.hickory_resolver_model.specs.Verdict.{Hop, first_hop, CnameChain}
-use Rattle.hickory_resolver_model.specs.Hops.{LookupContext, GoesUpstream, FollowsAliases, ChainEnd, Special, Hit, Asked, IsChainEnd, kind_verdict, kind_result, kind_stores, result_of, alias_limit, end_limit, result_until, is_kept, asks_of, last_stores, Store, earlier_store, after_stores}
+use Rattle.hickory_resolver_model.specs.Verdict.{Hop, first_hop, Alias}
+use Rattle.hickory_resolver_model.specs.Hops.{LookupContext, GoesUpstream, FollowsAliases, ChainEnd, Special, Hit, Asked, IsChainEnd, verdict_on, result_when_asked, stores_when_asked, result_of, alias_limit, end_limit, result_until, is_kept, asks_of, last_stores, Store, earlier_store, after_stores}
 use Rattle.hickory_resolver_model.specs.Client.{ClientValue, start_of}
 use Rattle.hickory_resolver_client.specs.declared.caching_client.HopStep as code
 use Rattle.hickory_resolver_client.specs.declared.caching_client.HopStep.TheVariants.{Next, Done}
@@ -30,7 +30,7 @@ SettledAs s reply stores result after =
 
 -- an alias ends a look-up only at the eighth question
 abbrev pub EndsAt : LookupContext → Hop → ℕ → ResponseKind → Type 0
-EndsAt s hop depth kind = (next : Hop) → kind_verdict s hop kind ≡ Some (CnameChain next) → depth ≡ 7
+EndsAt s hop depth kind = (next : Hop) → verdict_on s hop kind ≡ Some (Alias next) → depth ≡ 7
 
 -- something is made of what came back: it is no failure
 abbrev pub IsWorkedOn : ResponseKind → Type 0
@@ -41,16 +41,16 @@ abbrev pub IsSettled : LookupContext → Hop → ℕ → ResponseKind → Result
     → Type 0
 IsSettled s hop depth kind (Ok (Next asked limit next)) after =
     (asked ≡ hop.query) × (limit ≡ alias_limit s hop.query kind)
-    × (kind_verdict s hop kind ≡ Some (CnameChain next)) × (depth < 7) × (after ≡ s.cache)
+    × (verdict_on s hop kind ≡ Some (Alias next)) × (depth < 7) × (after ≡ s.cache)
 IsSettled s hop depth kind (Ok (Done result limit asked)) after =
-    (EndsAt s hop depth kind × (result ≡ kind_result s hop kind) × (limit ≡ alias_limit s hop.query kind)
-    × (asked ≡ true) × (after ≡ after_stores (kind_stores s hop kind) s.cache))
+    (EndsAt s hop depth kind × (result ≡ result_when_asked s hop kind) × (limit ≡ alias_limit s hop.query kind)
+    × (asked ≡ true) × (after ≡ after_stores (stores_when_asked s hop kind) s.cache))
     ⊎ ((result ≡ Err OutOfMemory) × IsWorkedOn kind × (after ≡ s.cache))
 IsSettled s hop depth kind (Err error) after = (error ≡ OutOfMemory) × IsWorkedOn kind × (after ≡ s.cache)
 
 -- the question was asked, and an alias came back, which is not the eighth
 pub record GoesOn
-    {H : Type 0} (step : Step H) (options : DnsRequestOptions) (now depth : ℕ) (before : ClientValue H)
+    {H : Type 0} (step : HandleStep H) (options : DnsRequestOptions) (now depth : ℕ) (before : ClientValue H)
     (hop : Hop) (asked : Query) (limit : ℕ) (next : Hop) (after : ClientValue H)
     : Type 0 where
   pub asked_is : asked ≡ hop.query
@@ -58,7 +58,7 @@ pub record GoesOn
   pub outcome : OutcomeValue
   pub sent : step before.handle (record { query = hop.query; options = options }) outcome after.handle
   pub limit_is : limit ≡ alias_limit (start_of before now) hop.query (kind_of outcome)
-  pub alias : kind_verdict (start_of before now) hop (kind_of outcome) ≡ Some (CnameChain next)
+  pub alias : verdict_on (start_of before now) hop (kind_of outcome) ≡ Some (Alias next)
   pub early : depth < 7
   pub cache_is : after.cache ≡ before.cache
   pub option_is : after.preserve_intermediates ≡ before.preserve_intermediates
@@ -71,7 +71,7 @@ is_asked (Asked outcome) = true
 
 -- the hop is the last, and its own store is made
 pub record IsDone
-    {H : Type 0} (step : Step H) (options : DnsRequestOptions) (now depth : ℕ) (before : ClientValue H)
+    {H : Type 0} (step : HandleStep H) (options : DnsRequestOptions) (now depth : ℕ) (before : ClientValue H)
     (hop : Hop) (result : LookupResult) (limit : ℕ) (asked : Bool) (after : ClientValue H)
     : Type 0 where
   pub last : ChainEnd
@@ -85,7 +85,7 @@ pub record IsDone
 
 -- memory ran out, before the question was asked, or after it where what came back is no failure; nothing was stored
 pub record IsOut
-    {H : Type 0} (step : Step H) (options : DnsRequestOptions) (now : ℕ) (before : ClientValue H) (hop : Hop)
+    {H : Type 0} (step : HandleStep H) (options : DnsRequestOptions) (now : ℕ) (before : ClientValue H) (hop : Hop)
     (after : ClientValue H)
     : Type 0 where
   pub cause : (after.handle ≡ before.handle)
@@ -95,7 +95,7 @@ pub record IsOut
   pub option_is : after.preserve_intermediates ≡ before.preserve_intermediates
 
 -- what one hop comes to
-abbrev pub IsHopStep : {H : Type 0} → Step H → DnsRequestOptions → ℕ → ℕ → ClientValue H → Hop
+abbrev pub IsHopStep : {H : Type 0} → HandleStep H → DnsRequestOptions → ℕ → ℕ → ClientValue H → Hop
     → Result code.HopStep NetError → ClientValue H → Type 0
 IsHopStep step options now depth before hop (Ok (Next asked limit next)) after =
     GoesOn step options now depth before hop asked limit next after

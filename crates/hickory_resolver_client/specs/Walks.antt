@@ -5,7 +5,7 @@ use Rattle.hickory_proto_core.specs.Name.{NameValue}
 use Rattle.hickory_proto_core.specs.Records.{RecordValue}
 use Rattle.hickory_proto_core.specs.ResponseKind.{is_empty}
 use Rattle.hickory_resolver_model.specs.Bounds.{least}
-use Rattle.hickory_resolver_model.specs.AliasWalk.{Walk, Counted, Alias, Server, counted, has_target}
+use Rattle.hickory_resolver_model.specs.AliasWalk.{Walk, Counted, AliasTo, Server, counted, has_target}
 use Rattle.hickory_resolver_client.specs.declared.alias_walk.Targets.{Targets}
 
 -- a walk shows what another one does: the last name reached, the least TTLs, whether a record counted, which
@@ -20,7 +20,7 @@ pub record ShowsAs (w shown : Walk) : Type 0 where
 
 -- a walk and, at its end, one more record of this place and TTL, which counts
 abbrev pub with_counted : ℕ → ℕ → Counted → Walk → Walk
-with_counted place ttl (Alias target) w = record w {
+with_counted place ttl (AliasTo target) w = record w {
   places = w.places ++ place ∷ [];
   last = target;
   alias_ttls = w.alias_ttls ++ ttl ∷ [];

@@ -4,7 +4,7 @@ ghost use Rattle.std.specs.Prelude.{◌≡◌, ◌||◌, not, IfOk, OnOk};
 ghost use Rattle.std.specs.Option.{option_map};
 ghost use Rattle.hickory_proto_core.specs.ResponseKind.{is_empty};
 ghost use Rattle.hickory_resolver_model.specs.Bounds.{least};
-ghost use Rattle.hickory_resolver_model.specs.AliasWalk.{Alias, Server, ends_at, has_target, is_moved, standing, walk_of, walk_from, counted, follows_aliases};
+ghost use Rattle.hickory_resolver_model.specs.AliasWalk.{AliasTo, Server, ends_at, has_target, is_moved, standing, walk_of, walk_from, counted, follows_aliases};
 ghost use Rattle.hickory_resolver_model.specs.Verdict.{next_name};
 ghost use Rattle.hickory_resolver_client.specs.Counts.{counted_value};
 ghost use Rattle.hickory_resolver_client.specs.Walks.{ShowsAs, ShowsWith, ShowsNext};
@@ -35,7 +35,7 @@ struct Targets<'a> {
 #[derive(Drop)]
 enum Counted<'a> {
     // An alias, whose target is reached next.
-    Alias(&'a Name),
+    AliasTo(&'a Name),
     // A server, whose name is a target.
     Server(&'a Name),
 }
@@ -126,7 +126,7 @@ impl<'a> AliasWalk<'a> {
         ensures { OnOk result (ShowsNext asked.now answer.now self.old self.new) }
     {
         match counts_as(asked, self.last, answer) {
-            Some(Counted::Alias(target)) => {
+            Some(Counted::AliasTo(target)) => {
                 self.follow(target, answer.ttl);
                 Ok(())
             }
@@ -137,7 +137,7 @@ impl<'a> AliasWalk<'a> {
 
     // Follows an alias of this TTL.
     fn follow(&mut self, target: &'a Name, ttl: u32)
-        ensures { ShowsWith (Alias target.now) ttl self.old self.new }
+        ensures { ShowsWith (AliasTo target.now) ttl self.old self.new }
     {
         self.last = target;
         self.ttl = self.ttl.min(ttl);
@@ -203,7 +203,7 @@ fn counts_as<'a>(asked: &Name, reached: &Name, answer: &'a Record) -> Option<Cou
     ensures { option_map counted_value result ≡ counted asked.now reached.now answer.now }
 {
     match &answer.rdata {
-        RData::CNAME(target) => (*reached == answer.name).then_some(Counted::Alias(target)),
+        RData::CNAME(target) => (*reached == answer.name).then_some(Counted::AliasTo(target)),
         RData::SRV { target, .. } => {
             (*reached == answer.name || *asked == answer.name).then_some(Counted::Server(target))
         }

@@ -318,12 +318,12 @@ impl<H: DnsHandle, S: BuildHasher> CachingClient<H, S> {
         )?;
         let limit = alias_limit(self.cache.ttl_config(), alias_ttl, now);
         match verdict {
-            Verdict::Exists(message) => Ok(HopStep::Done {
+            Verdict::Accepted(message) => Ok(HopStep::Done {
                 result: self.cache_answer(query, message, limit, now),
                 limit,
                 asked: true,
             }),
-            Verdict::CnameChain { next, response } => {
+            Verdict::Alias { next, response } => {
                 if depth < 7 {
                     return Ok(HopStep::Next {
                         asked: query,

@@ -30,9 +30,9 @@ impl Model for Hop {
 #[derive(Drop)]
 pub enum Verdict {
     /// It is accepted, with these sections.
-    Exists(Message),
+    Accepted(Message),
     /// It leads to another hop.
-    CnameChain {
+    Alias {
         /// Where it leads.
         next: Hop,
         /// The response itself.
@@ -124,13 +124,13 @@ fn carry_out(decision: Decision, response: DnsResponse) -> Verdict
     ensures { (v : VerdictValue) → IsDecision v response decision → IsVerdict v response result }
 {
     match decision {
-        Decision::Whole => Verdict::Exists(response.into_message()),
+        Decision::Whole => Verdict::Accepted(response.into_message()),
         Decision::Filtered(answers) => {
             let mut accepted = response.into_message();
             accepted.answers = answers;
-            Verdict::Exists(accepted)
+            Verdict::Accepted(accepted)
         }
-        Decision::Next(next) => Verdict::CnameChain { next, response },
+        Decision::Next(next) => Verdict::Alias { next, response },
         Decision::Nothing => Verdict::NoMatch(response),
     }
 }

@@ -14,7 +14,7 @@ use Rattle.hickory_resolver_model.specs.Bounds.{day}
 -- What a record counts as at its place on the walk: an alias of the name reached, whose target is reached next,
 -- or a server of the service that was asked for, whose name is a target.
 pub data Counted : Type 0 where
-  Alias : NameValue → Counted
+  AliasTo : NameValue → Counted
   Server : NameValue → Counted
 
 -- by its data, where the name reached owns it, and where the asked name does. Data of an unknown kind do not
@@ -22,7 +22,7 @@ pub data Counted : Type 0 where
 abbrev pub counted_data : Bool → Bool → DataValue → Option Counted
 counted_data reached asked (a_data octets) = None
 counted_data reached asked (aaaa_data segments) = None
-counted_data reached asked (cname_data target) = if reached then Some (Alias target) else None
+counted_data reached asked (cname_data target) = if reached then Some (AliasTo target) else None
 counted_data reached asked (ns_data target) = None
 counted_data reached asked (ptr_data target) = None
 counted_data reached asked (soa_data mname rname serial refresh retry expire minimum) = None
@@ -38,7 +38,7 @@ counted asked reached r = counted_data (name_eq reached r.name) (name_eq asked r
 
 -- the name reached after a record that counts
 abbrev pub reached_by : NameValue → Counted → NameValue
-reached_by reached (Alias target) = target
+reached_by reached (AliasTo target) = target
 reached_by reached (Server target) = reached
 
 -- no record from one place up to another counts
@@ -73,7 +73,7 @@ standing reached = record { places = []; last = reached; targets = []; alias_ttl
 
 -- a walk that begins with a record of this place and TTL, which counts
 abbrev pub walk_step : ℕ → ℕ → Counted → Walk → Walk
-walk_step place ttl (Alias target) rest = record rest {
+walk_step place ttl (AliasTo target) rest = record rest {
   places = place ∷ rest.places;
   alias_ttls = ttl ∷ rest.alias_ttls;
   ttl = min ttl rest.ttl;

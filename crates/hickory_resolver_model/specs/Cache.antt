@@ -122,8 +122,8 @@ without_earliest es = remove es (position_or_len (λ e. e.valid_until == least_d
 
 -- what stays when an entry for the question comes in: its old entry leaves, or where there is none and the
 -- cache is full, the entry of the least deadline
-abbrev pub room_for : ℕ → Query → List Entry → List Entry
-room_for capacity q es =
+abbrev pub kept_beside : ℕ → Query → List Entry → List Entry
+kept_beside capacity q es =
     if list_any (is_for q) es then without q es
     else (if nat_lt (length es) capacity then es else without_earliest es)
 
@@ -172,7 +172,7 @@ not_after_current es now e =
 
 -- the list with an entry put in as the newest
 abbrev pub insert_entry : ℕ → List Entry → Entry → List Entry
-insert_entry capacity es e = if capacity == 0 then es else room_for capacity e.query es ++ e ∷ []
+insert_entry capacity es e = if capacity == 0 then es else kept_beside capacity e.query es ++ e ∷ []
 
 -- an entry that is current up to a limit at the most
 abbrev pub not_after : ℕ → Entry → Entry

@@ -40,7 +40,7 @@ pub record SubLookup : Type 0 where
   pub result : LookupResult
 
 -- the table of hosts is looked at for this question, and has it; a copy may find no memory
-pub record IsStaticSubLookup
+pub record IsAnsweredByHosts
     (s : CallContext) (looked : Bool) (before : CacheValue) (p : SubLookup) (after : CacheValue)
     : Type 0 where
   pub asks_hosts : looked ≡ true
@@ -51,18 +51,18 @@ pub record IsStaticSubLookup
   pub unchanged : after ≡ before
 
 -- the table is not looked at, or has nothing, and the client's look-up is the hops'
-pub record IsClientSubLookup
+pub record IsAnsweredByClient
     (s : CallContext) (looked : Bool) (before : CacheValue) (p : SubLookup) (after : CacheValue)
     : Type 0 where
   pub not_static : (looked ≡ false) ⊎ IsStatic p.question s.now s.hosts None
   pub reply : IsReply (start_at s before) p.question p.asks p.result after
 
-abbrev pub IsSubLookupBy : Source → CallContext → Bool → CacheValue → SubLookup → CacheValue → Type 0
-IsSubLookupBy Static s looked before p after = IsStaticSubLookup s looked before p after
-IsSubLookupBy Client s looked before p after = IsClientSubLookup s looked before p after
+abbrev pub IsAnsweredFrom : Source → CallContext → Bool → CacheValue → SubLookup → CacheValue → Type 0
+IsAnsweredFrom Static s looked before p after = IsAnsweredByHosts s looked before p after
+IsAnsweredFrom Client s looked before p after = IsAnsweredByClient s looked before p after
 
-abbrev pub IsSubLookup : CallContext → Bool → CacheValue → SubLookup → CacheValue → Type 0
-IsSubLookup s looked before p after = IsSubLookupBy p.source s looked before p after
+abbrev pub IsAnswered : CallContext → Bool → CacheValue → SubLookup → CacheValue → Type 0
+IsAnswered s looked before p after = IsAnsweredFrom p.source s looked before p after
 
 -- how a question of a call is answered, over the cache that the part before left; the flag says whether the
 -- hosts are looked at
@@ -70,8 +70,8 @@ abbrev pub SubLookupRelation : Type 1
 SubLookupRelation = Bool → CacheValue → Query → SubLookup → CacheValue → Type 0
 
 -- by the table of hosts or by the client
-abbrev pub IsSubLookupFor : CallContext → SubLookupRelation
-IsSubLookupFor s looked before q p after = (p.question ≡ q) × IsSubLookup s looked before p after
+abbrev pub IsAnsweredFor : CallContext → SubLookupRelation
+IsAnsweredFor s looked before q p after = (p.question ≡ q) × IsAnswered s looked before p after
 
 -- which types are looked up for a name: one; both; or the second where the first has no answers
 pub data Plan : Type 0 where

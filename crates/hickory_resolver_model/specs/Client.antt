@@ -1,6 +1,6 @@
 -- A client: a cache over a handle, and what a look-up by it does.
 use Rattle.std.specs.Prelude.{◌≡◌, ℕ, Bool, List, []}
-use Rattle.hickory_proto_core.specs.Handles.{Step, Leads}
+use Rattle.hickory_proto_core.specs.Handles.{HandleStep, Leads}
 use Rattle.hickory_proto_core.specs.declared.query.Query.{Query}
 use Rattle.hickory_proto_core.specs.declared.dns_request.DnsRequestOptions.{DnsRequestOptions}
 use Rattle.hickory_proto_core.specs.declared.recorded.Exchange.{Exchange}
@@ -22,7 +22,7 @@ start_of client now =
 -- A look-up: the exchanges that it made led the handle, each with these options; the reply and the cache
 -- after it are those of the hops of the question.
 pub record IsLookup
-    {H : Type 0} (step : Step H) (options : DnsRequestOptions) (now : ℕ) (before : ClientValue H)
+    {H : Type 0} (step : HandleStep H) (options : DnsRequestOptions) (now : ℕ) (before : ClientValue H)
     (question : Query) (result : LookupResult) (after : ClientValue H)
     : Type 0 where
   pub asks : List Exchange

@@ -18,7 +18,7 @@ use Rattle.hickory_resolver_model.specs.Cache.{CacheValue, Entry, last_moment, s
 use Rattle.hickory_resolver_model.specs.Lookup.{LookupResult, hit_lookup, found_lookup, response_to}
 use Rattle.hickory_resolver_model.specs.SpecialUse.{special_use_result}
 use Rattle.hickory_resolver_model.specs.AliasWalk.{walk_of}
-use Rattle.hickory_resolver_model.specs.Verdict.{Hop, first_hop, Verdict, Exists, CnameChain, NoMatch, verdict}
+use Rattle.hickory_resolver_model.specs.Verdict.{Hop, first_hop, Verdict, Accepted, Alias, NoMatch, verdict}
 
 -- where a look-up starts: the cache before it, the moment, and whether intermediate records are preserved
 pub record LookupContext : Type 0 where
@@ -32,16 +32,16 @@ abbrev pub GoesUpstream : LookupContext → Query → Type 0
 GoesUpstream s q = (special_use_result q s.now ≡ None) × (current q s.now s.cache.entries ≡ None)
 
 -- what a response of the kind Answer is worth to a hop
-abbrev pub kind_verdict : LookupContext → Hop → ResponseKind → Option Verdict
-kind_verdict s hop (Answer response) = Some (verdict s.preserve_intermediates hop response)
-kind_verdict s hop (Negative none) = None
-kind_verdict s hop (Failed error) = None
+abbrev pub verdict_on : LookupContext → Hop → ResponseKind → Option Verdict
+verdict_on s hop (Answer response) = Some (verdict s.preserve_intermediates hop response)
+verdict_on s hop (Negative none) = None
+verdict_on s hop (Failed error) = None
 
 -- a hop before the last: it was asked, and an alias to the next came back
 pub record IsAliasHop (s : LookupContext) (hop : Hop) (x : Exchange) (next : Hop) : Type 0 where
   pub upstream : GoesUpstream s hop.query
   pub asked : x.query ≡ hop.query
-  pub alias : kind_verdict s hop (kind_of x.outcome) ≡ Some (CnameChain next)
+  pub alias : verdict_on s hop (kind_of x.outcome) ≡ Some (Alias next)
 
 -- these exchanges lead by aliases from a hop to another. The first target of a service's SRV records is one, where no
 -- CNAME counted
@@ -62,7 +62,7 @@ IsChainEnd s count hop (Hit entry) =
     (special_use_result hop.query s.now ≡ None) × (current hop.query s.now s.cache.entries ≡ Some entry)
 IsChainEnd s count hop (Asked outcome) =
     GoesUpstream s hop.query
-    × ((next : Hop) → kind_verdict s hop (kind_of outcome) ≡ Some (CnameChain next) → count ≡ 7)
+    × ((next : Hop) → verdict_on s hop (kind_of outcome) ≡ Some (Alias next) → count ≡ 7)
 
 -- no such records, as a response without what was asked for says (RFC 2308, section 2.2)
 abbrev pub no_match : Query → MessageValue → NetError
@@ -82,21 +82,21 @@ hit_result q now (Ok m) = Ok (hit_lookup q m now)
 hit_result q now (Err e) = Err e
 
 -- the result of a last hop that was asked. An alias too many comes to no records
-abbrev pub verdict_result : ConfigValue → Query → ℕ → MessageValue → Verdict → LookupResult
-verdict_result config q now response (Exists m) = Ok (found_lookup config q m now)
-verdict_result config q now response (CnameChain next) = Err (no_match q response)
-verdict_result config q now response NoMatch = Err (no_match q response)
+abbrev pub result_of_verdict : ConfigValue → Query → ℕ → MessageValue → Verdict → LookupResult
+result_of_verdict config q now response (Accepted m) = Ok (found_lookup config q m now)
+result_of_verdict config q now response (Alias next) = Err (no_match q response)
+result_of_verdict config q now response NoMatch = Err (no_match q response)
 
-abbrev pub kind_result : LookupContext → Hop → ResponseKind → LookupResult
-kind_result s hop (Answer response) =
-    verdict_result s.cache.config hop.query s.now response (verdict s.preserve_intermediates hop response)
-kind_result s hop (Negative none) = Err (Dns (NoRecordsFound none))
-kind_result s hop (Failed error) = Err error
+abbrev pub result_when_asked : LookupContext → Hop → ResponseKind → LookupResult
+result_when_asked s hop (Answer response) =
+    result_of_verdict s.cache.config hop.query s.now response (verdict s.preserve_intermediates hop response)
+result_when_asked s hop (Negative none) = Err (Dns (NoRecordsFound none))
+result_when_asked s hop (Failed error) = Err error
 
 abbrev pub result_of : LookupContext → Hop → ChainEnd → LookupResult
 result_of s hop (Special reply) = reply
 result_of s hop (Hit entry) = hit_result hop.query s.now (aged_result s.now entry)
-result_of s hop (Asked outcome) = kind_result s hop (kind_of outcome)
+result_of s hop (Asked outcome) = result_when_asked s hop (kind_of outcome)
 
 -- the exchange of the last hop, where it was asked
 abbrev pub asks_of : Hop → ChainEnd → List Exchange
@@ -168,23 +168,23 @@ store_of q outcome now limit = record { query = q; outcome = outcome; now = now;
 
 -- what the last hop stores under its own question: an accepted response or a negative answer. Only an answer is
 -- walked, so that no CNAME limits a negative answer there
-abbrev pub verdict_stores : Query → ℕ → ℕ → Verdict → List Store
-verdict_stores q now limit (Exists m) = store_of q (Ok m) now limit ∷ []
-verdict_stores q now limit (CnameChain next) = []
-verdict_stores q now limit NoMatch = []
+abbrev pub stores_of_verdict : Query → ℕ → ℕ → Verdict → List Store
+stores_of_verdict q now limit (Accepted m) = store_of q (Ok m) now limit ∷ []
+stores_of_verdict q now limit (Alias next) = []
+stores_of_verdict q now limit NoMatch = []
 
-abbrev pub kind_stores : LookupContext → Hop → ResponseKind → List Store
-kind_stores s hop (Answer response) =
-    verdict_stores hop.query s.now (alias_limit s hop.query (Answer response))
+abbrev pub stores_when_asked : LookupContext → Hop → ResponseKind → List Store
+stores_when_asked s hop (Answer response) =
+    stores_of_verdict hop.query s.now (alias_limit s hop.query (Answer response))
     (verdict s.preserve_intermediates hop response)
-kind_stores s hop (Negative none) =
+stores_when_asked s hop (Negative none) =
     store_of hop.query (Err (Dns (NoRecordsFound none))) s.now last_moment ∷ []
-kind_stores s hop (Failed error) = []
+stores_when_asked s hop (Failed error) = []
 
 abbrev pub last_stores : LookupContext → Hop → ChainEnd → List Store
 last_stores s hop (Special reply) = []
 last_stores s hop (Hit entry) = []
-last_stores s hop (Asked outcome) = kind_stores s hop (kind_of outcome)
+last_stores s hop (Asked outcome) = stores_when_asked s hop (kind_of outcome)
 
 -- what is stored under an earlier question: a result as a fresh response with its sections, and an error as
 -- it is

@@ -3,7 +3,7 @@ use Rattle.std.specs.Prelude.{◌≡◌, ◌≢◌, ◌⊎◌, ℕ, Bool, List, 
 use Rattle.std.specs.Option.{option_map_or}
 use Rattle.std.specs.declared.net.IpAddr.{IpAddr}
 use Rattle.hickory_proto_core.specs.Name.{NameValue}
-use Rattle.hickory_proto_core.specs.Handles.{Step, Leads}
+use Rattle.hickory_proto_core.specs.Handles.{HandleStep, Leads}
 use Rattle.hickory_proto_core.specs.codes.record_type.RecordType.{RecordType}
 use Rattle.hickory_proto_core.specs.names.name_error.NameError.{NameError}
 use Rattle.hickory_proto_core.specs.names.name_error.NameError.TheVariants as name_fault
@@ -16,8 +16,8 @@ use Rattle.hickory_resolver_model.specs.Options.{bounds_of}
 use Rattle.hickory_resolver_model.specs.Lookup.{LookupResult}
 use Rattle.hickory_resolver_model.specs.Hosts.{Host}
 use Rattle.hickory_resolver_model.specs.Client.{ClientValue}
-use Rattle.hickory_resolver_model.specs.Calls.{CallContext, SubLookup, CallPlan, IsSubLookupFor, Says, AreAttempts, asks_of_sub_lookups}
-use Rattle.hickory_resolver_model.specs.Run.{Settings, settings_of, call_context_at, first_cache, Call, IsCall, IsUnserved, name_call, address_call, after_clear}
+use Rattle.hickory_resolver_model.specs.Calls.{CallContext, SubLookup, CallPlan, IsAnsweredFor, Says, AreAttempts, asks_of_sub_lookups}
+use Rattle.hickory_resolver_model.specs.Run.{Settings, settings_of, call_context_at, first_cache, Call, IsCall, RanOutBeforeAsking, name_call, address_call, after_clear}
 
 -- where a call of a client starts, over a table of hosts
 abbrev pub call_context_of : {H : Type 0} → ClientValue H → List Host → ℕ → CallContext
@@ -28,14 +28,14 @@ call_context_of client hosts now =
 -- the reply and the cache after it are those of the attempts at the names. The flag says whether the hosts are
 -- looked at for the first name.
 pub record LooksUp
-    {H : Type 0} (step : Step H) (options : DnsRequestOptions) (hosts : List Host) (now : ℕ) (plan : CallPlan)
+    {H : Type 0} (step : HandleStep H) (options : DnsRequestOptions) (hosts : List Host) (now : ℕ) (plan : CallPlan)
     (looked : Bool) (names : List NameValue) (before : ClientValue H) (result : LookupResult)
     (after : ClientValue H)
     : Type 0 where
   pub parts : List SubLookup
   pub led : Leads step options before.handle (asks_of_sub_lookups parts) after.handle
   pub are : AreAttempts
-      (IsSubLookupFor
+      (IsAnsweredFor
       (call_context_of before hosts now)) plan looked before.cache names
       (Says plan.no_names) parts result after.cache
   pub option_stays : after.preserve_intermediates ≡ before.preserve_intermediates
@@ -71,28 +71,28 @@ new_resolver config options handle = record {
 -- A resolver answers a call: the exchanges of the call's sub-look-ups led its handle, each with its options;
 -- the reply and the cache after it are those of the call. All else stays.
 pub record AnswersCall
-    {H : Type 0} (step : Step H) (now : ℕ) (call : Call) (before : ResolverValue H) (result : LookupResult)
+    {H : Type 0} (step : HandleStep H) (now : ℕ) (call : Call) (before : ResolverValue H) (result : LookupResult)
     (after : ResolverValue H)
     : Type 0 where
   pub parts : List SubLookup
-  pub led : Leads step (settings before).requests before.client.handle (asks_of_sub_lookups parts)
+  pub led : Leads step (settings before).request_options before.client.handle (asks_of_sub_lookups parts)
       after.client.handle
   pub is :
-      IsCall (IsSubLookupFor (call_context_at (settings before) now)) (settings before) before.client.cache call
+      IsCall (IsAnsweredFor (call_context_at (settings before) now)) (settings before) before.client.cache call
       parts result after.client.cache
-      ⊎ IsUnserved before.client.cache parts result after.client.cache
+      ⊎ RanOutBeforeAsking before.client.cache parts result after.client.cache
   pub option_stays : after.client.preserve_intermediates ≡ before.client.preserve_intermediates
   pub others_stay : after ≡ record before { client = after.client }
 
 -- what is given for a name is looked up: it gives a name, or its fault
-abbrev pub AnswersName : {H : Type 0} → Step H → (Result NameValue NameError → Type 0) → RecordType → ℕ
+abbrev pub AnswersName : {H : Type 0} → HandleStep H → (Result NameValue NameError → Type 0) → RecordType → ℕ
     → ResolverValue H → LookupResult → ResolverValue H → Type 0
 AnswersName step Gives t now before result after =
     (name : Result NameValue NameError) × Gives name × AnswersCall step now (name_call t name) before result after
 
 -- What is given for a host is looked up: it spells an address or none, and gives a name, or its fault. Where
 -- memory runs out while the name is read, that is the answer, and nothing is asked.
-abbrev pub AnswersHost : {H : Type 0} → Step H → (Option IpAddr → Type 0)
+abbrev pub AnswersHost : {H : Type 0} → HandleStep H → (Option IpAddr → Type 0)
     → (Result NameValue NameError → Type 0) → ℕ → ResolverValue H → LookupResult → ResolverValue H → Type 0
 AnswersHost step Spells Gives now before result after =
     (address : Option IpAddr) × Spells address × (name : Result NameValue NameError) × Gives name

@@ -5,7 +5,7 @@ use Rattle.hickory_proto_core.specs.Name.{NameValue}
 use Rattle.hickory_proto_core.specs.NameDecided.{IsReading}
 use Rattle.hickory_proto_core.specs.NameGiven.{IsReadAddress}
 use Rattle.hickory_proto_core.specs.NetErrors.{net_error_of}
-use Rattle.hickory_proto_core.specs.Handles.{Step, Leads}
+use Rattle.hickory_proto_core.specs.Handles.{HandleStep, Leads}
 use Rattle.hickory_proto_core.specs.codes.record_type.RecordType.{RecordType}
 use Rattle.hickory_proto_core.specs.codes.record_type.RecordType.TheVariants as type
 use Rattle.hickory_proto_core.specs.declared.dns_request.DnsRequestOptions.{DnsRequestOptions}
@@ -23,7 +23,7 @@ use Rattle.hickory_resolver_model.specs.Lookup.{LookupValue, LookupResult, quest
 use Rattle.hickory_resolver_model.specs.Hosts.{Host}
 use Rattle.hickory_resolver_model.specs.Attempts.{Search, attempts}
 use Rattle.hickory_resolver_model.specs.Options.{search_of, bounds_of, request_options_of}
-use Rattle.hickory_resolver_model.specs.Calls.{CallContext, Plan, One, Both, Fallback, SubLookup, SubLookupRelation, IsSubLookupFor, CallPlan, Says, AreAttempts, no_name, literal_at_once, literal_at_last, asks_of_sub_lookups, is_out_of_memory}
+use Rattle.hickory_resolver_model.specs.Calls.{CallContext, Plan, One, Both, Fallback, SubLookup, SubLookupRelation, IsAnsweredFor, CallPlan, Says, AreAttempts, no_name, literal_at_once, literal_at_last, asks_of_sub_lookups, is_out_of_memory}
 
 -- which addresses a look-up of addresses asks for
 abbrev pub plan_of : LookupIpStrategy → Plan
@@ -43,7 +43,7 @@ pub record Settings : Type 0 where
   pub preserve_intermediates : Bool
   pub capacity : ℕ
   pub bounds : BoundsValue
-  pub requests : DnsRequestOptions
+  pub request_options : DnsRequestOptions
   pub hosts : List Host
 
 -- the settings of a resolver with this configuration, these options and this table of hosts
@@ -54,7 +54,7 @@ settings_of config options hosts = record {
   preserve_intermediates = options.preserve_intermediates;
   capacity = options.cache_size;
   bounds = bounds_of options;
-  requests = request_options_of options;
+  request_options = request_options_of options;
   hosts = hosts;
 }
 
@@ -146,8 +146,8 @@ IsCall Answers s before (Attempt n plan) parts reply after =
     AreAttempts Answers plan true before (attempts s.search n) (Says plan.no_names) parts reply after
 
 -- memory ran out before anything was asked
-abbrev pub IsUnserved : CacheValue → List SubLookup → LookupResult → CacheValue → Type 0
-IsUnserved before parts reply after = (parts ≡ []) × (reply ≡ Err OutOfMemory) × (after ≡ before)
+abbrev pub RanOutBeforeAsking : CacheValue → List SubLookup → LookupResult → CacheValue → Type 0
+RanOutBeforeAsking before parts reply after = (parts ≡ []) × (reply ≡ Err OutOfMemory) × (after ≡ before)
 
 -- the cache without the questions of a name's attempts; what is no name clears nothing
 abbrev pub drop_each : RecordType → List NameValue → CacheValue → CacheValue
@@ -165,11 +165,11 @@ abbrev pub IsServed : (ℕ → SubLookupRelation) → Settings → CacheValue �
 IsServed Answers s before (Lookup text t now) parts (LookedUp reply) after =
     ((name : Result NameValue NameError) × IsReading text name
     × IsCall (Answers now) s before (name_call t name) parts reply after)
-    ⊎ IsUnserved before parts reply after
+    ⊎ RanOutBeforeAsking before parts reply after
 IsServed Answers s before (LookupIp text now) parts (LookedUpIp reply) after =
     ((given : GivenName) × IsGivenBy text given
     × IsCall (Answers now) s before (address_call s given.address given.name now) parts reply after)
-    ⊎ IsUnserved before parts reply after
+    ⊎ RanOutBeforeAsking before parts reply after
 IsServed Answers s before (ClearLookup text t now) parts (Cleared (Ok u)) after =
     (parts ≡ []) × ((name : Result NameValue NameError) × IsReading text name
     × (after ≡ after_clear s t name before))
@@ -216,7 +216,7 @@ AreStagesBy Answers s before _ _ after = ⊥
 
 -- by the table of hosts and by the client
 abbrev pub answers_at : Settings → ℕ → SubLookupRelation
-answers_at s now = IsSubLookupFor (call_context_at s now)
+answers_at s now = IsAnsweredFor (call_context_at s now)
 
 abbrev pub IsStage : Settings → Stage → CacheValue → Type 0
 IsStage s stage after = IsStageBy (answers_at s) s stage after
@@ -230,19 +230,19 @@ exchanges_of stages = flat_map (λ stage. stage.piece) stages
 -- A run: the exchanges are cut into pieces, one a request, and the steps are those of the requests over these
 -- pieces.
 pub record Run
-    (s : Settings) (empty : CacheValue) (requests : List RequestValue) (steps : List StepValue)
+    (s : Settings) (before : CacheValue) (requests : List RequestValue) (steps : List StepValue)
     (exchanges : List Exchange) (after : CacheValue)
     : Type 0 where
   pub stages : List Stage
   pub joined : exchanges_of stages ≡ exchanges
   pub steps_are : map (λ stage. stage.step) stages ≡ steps
-  pub are : AreStages s empty requests stages after
+  pub are : AreStages s before requests stages after
 
 -- A run over a handle: the exchanges led the handle, each with the options of the settings, and the replies
 -- and the cache are those of a run from a new resolver's cache.
 pub record IsRun
-    {H : Type 0} (step : Step H) (s : Settings) (handle : H) (requests : List RequestValue)
+    {H : Type 0} (step : HandleStep H) (s : Settings) (handle : H) (requests : List RequestValue)
     (steps : List StepValue) (exchanges : List Exchange) (handle_after : H) (cache_after : CacheValue)
     : Type 0 where
-  pub led : Leads step s.requests handle exchanges handle_after
+  pub led : Leads step s.request_options handle exchanges handle_after
   pub run : Run s (first_cache s) requests steps exchanges cache_after

@@ -23,8 +23,8 @@ first_hop q = record { query = q; preserved = [] }
 -- the response is accepted, with these sections; or it leads to another hop; or it has nothing that was asked
 -- for
 pub data Verdict : Type 0 where
-  Exists : MessageValue → Verdict
-  CnameChain : Hop → Verdict
+  Accepted : MessageValue → Verdict
+  Alias : Hop → Verdict
   NoMatch : Verdict
 
 abbrev pub has_class : Query → RecordValue → Bool
@@ -98,8 +98,8 @@ next_hop keep hop walk m = record {
 
 abbrev pub walk_verdict : Bool → Hop → Walk → MessageValue → Verdict
 walk_verdict keep hop walk m =
-    if is_accepted hop walk m then Exists (found_message keep hop walk m)
-    else (if is_empty walk.places then NoMatch else CnameChain (next_hop keep hop walk m))
+    if is_accepted hop walk m then Accepted (found_message keep hop walk m)
+    else (if is_empty walk.places then NoMatch else Alias (next_hop keep hop walk m))
 
 -- the verdict on a response to a hop; `keep` says whether intermediate records are wanted
 abbrev pub verdict : Bool → Hop → MessageValue → Verdict

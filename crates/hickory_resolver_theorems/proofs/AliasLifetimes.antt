@@ -14,15 +14,15 @@ use Rattle.hickory_resolver_model.specs.Bounds.{ConfigValue, bounds_for, positiv
 use Rattle.hickory_resolver_model.specs.Cache.{CacheValue, Entry, last_moment, entry_of, not_after}
 use Rattle.hickory_resolver_model.specs.Lookup.{LookupValue, LookupResult}
 use Rattle.hickory_resolver_model.specs.AliasWalk.{walk_of}
-use Rattle.hickory_resolver_model.specs.Verdict.{Hop, Verdict, Exists, CnameChain, NoMatch, verdict}
-use Rattle.hickory_resolver_model.specs.Hops.{LookupContext, ChainEnd, Special, Hit, Asked, Store, IsReply, made_entry, asks_of, earliest, alias_deadline, alias_limit, end_limit, limit_of, result_of, result_until, reply_of, last_stores, earlier_store, earlier_stores, stores_of, kind_stores, verdict_stores}
-use Rattle.hickory_resolver_model.specs.Calls.{CallContext, start_at, Source, Static, Client, SubLookup, IsSubLookupBy, IsSubLookupFor}
+use Rattle.hickory_resolver_model.specs.Verdict.{Hop, Verdict, Accepted, Alias, NoMatch, verdict}
+use Rattle.hickory_resolver_model.specs.Hops.{LookupContext, ChainEnd, Special, Hit, Asked, Store, IsReply, made_entry, asks_of, earliest, alias_deadline, alias_limit, end_limit, limit_of, result_of, result_until, reply_of, last_stores, earlier_store, earlier_stores, stores_of, stores_when_asked, stores_of_verdict}
+use Rattle.hickory_resolver_model.specs.Calls.{CallContext, start_at, Source, Static, Client, SubLookup, IsAnsweredFrom, IsAnsweredFor}
 use Rattle.hickory_resolver_model.specs.Run.{Settings, call_context_at, RequestValue, StepValue, answers_at, Run}
-use Rattle.hickory_resolver_theorems.specs.Statements.{HasNoLeast}
+use Rattle.hickory_resolver_theorems.specs.Statements.{LeastTtlIsZero}
 use Rattle.hickory_resolver_theorems.specs.Aliases.{counted_in, IsWithinAlias, OutlivesNoAlias, StoreOutlivesNoAlias, StoresOutliveNoAlias, NoAliasOutlives, IsLimitedBy, LimitedSubLookup, RunOutlivesNoAlias}
 use Rattle.hickory_resolver_theorems.proofs.Weaker.{stages-weaker}
 
-module _ (s : LookupContext) (zero : HasNoLeast s.cache.config (type_code type.CNAME)) where
+module _ (s : LookupContext) (zero : LeastTtlIsZero s.cache.config (type_code type.CNAME)) where
   abbrev config : ConfigValue
   config = s.cache.config
 
@@ -66,15 +66,15 @@ module _ (s : LookupContext) (zero : HasNoLeast s.cache.config (type_code type.C
   store-limited : (asks : List Exchange) (last : ChainEnd) (store : Store) → ((deadline : ℕ) → deadline ≤ store.limit → OutlivesNoAlias s asks last deadline) → StoreOutlivesNoAlias s asks last store
   store-limited asks last store below = cut (OutlivesNoAlias s asks last) store.limit (entry_of config store.query store.outcome store.now) below
 
-  kind-limited : (P : ℕ → Type 0) (hop : Hop) (kind : ResponseKind) → ((deadline : ℕ) → deadline ≤ alias_limit s hop.query kind → P deadline) → AllByRecursion (λ store. IfSome (made_entry config store) (λ e. P e.valid_until)) (kind_stores s hop kind)
+  kind-limited : (P : ℕ → Type 0) (hop : Hop) (kind : ResponseKind) → ((deadline : ℕ) → deadline ≤ alias_limit s hop.query kind → P deadline) → AllByRecursion (λ store. IfSome (made_entry config store) (λ e. P e.valid_until)) (stores_when_asked s hop kind)
   kind-limited P hop (Answer m) below = on (verdict s.preserve_intermediates hop m)
     where
       limit : ℕ
       limit = alias_limit s hop.query (Answer m)
 
-      on : (v : Verdict) → AllByRecursion (λ store. IfSome (made_entry config store) (λ e. P e.valid_until)) (verdict_stores hop.query s.now limit v)
-      on (Exists found) = (cut P limit (entry_of config hop.query (Ok found) s.now) below, tt)
-      on (CnameChain next) = tt
+      on : (v : Verdict) → AllByRecursion (λ store. IfSome (made_entry config store) (λ e. P e.valid_until)) (stores_of_verdict hop.query s.now limit v)
+      on (Accepted found) = (cut P limit (entry_of config hop.query (Ok found) s.now) below, tt)
+      on (Alias next) = tt
       on NoMatch = tt
   kind-limited P hop (Negative none) below = (cut P last_moment (entry_of config hop.query (Err (Dns (NoRecordsFound none))) s.now) below, tt)
   kind-limited P hop (Failed error) below = tt
@@ -142,10 +142,10 @@ no_alias_outlives s question asks result after (inr (out, inr cut)) = tt
 
 -- ---- a call, and a run
 
-pub part_limited : (t : CallContext) (looked : Bool) (before : CacheValue) (q : Query) (p : SubLookup) (after : CacheValue) → IsSubLookupFor t looked before q p after → LimitedSubLookup t looked before q p after
+pub part_limited : (t : CallContext) (looked : Bool) (before : CacheValue) (q : Query) (p : SubLookup) (after : CacheValue) → IsAnsweredFor t looked before q p after → LimitedSubLookup t looked before q p after
 part_limited t looked before q p after (for, is) = (for, by p.source is)
   where
-    by : (source : Source) → IsSubLookupBy source t looked before p after → IsLimitedBy source t looked before p after
+    by : (source : Source) → IsAnsweredFrom source t looked before p after → IsLimitedBy source t looked before p after
     by Static is = is
     by Client is = (is, no_alias_outlives (start_at t before) p.question p.asks p.result after is.reply)
 

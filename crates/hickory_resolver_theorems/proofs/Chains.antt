@@ -9,7 +9,7 @@ use Rattle.hickory_proto_core.specs.codes.record_type.RecordType.{RecordType}
 use Rattle.hickory_resolver_model.specs.Cache.{CacheValue}
 use Rattle.hickory_resolver_model.specs.Lookup.{LookupResult, question_of}
 use Rattle.hickory_resolver_model.specs.Calls.{SubLookup, SubLookupRelation, Plan, AreSubLookups, CallPlan, AreAttempts}
-use Rattle.hickory_resolver_model.specs.Run.{Settings, GivenName, IsGivenBy, Call, AtOnce, Attempt, name_call, address_call, IsCall, IsUnserved}
+use Rattle.hickory_resolver_model.specs.Run.{Settings, GivenName, IsGivenBy, Call, AtOnce, Attempt, name_call, address_call, IsCall, RanOutBeforeAsking}
 
 -- parts that answer some questions, from one cache to another
 abbrev pub Chain : SubLookupRelation → CacheValue → List SubLookup → CacheValue → Type 0
@@ -51,13 +51,13 @@ chain-call Answers s before (Attempt n plan) parts reply after attempts = chain-
 
 -- the sub-look-ups of a look-up by a name, and of one for addresses
 pub chain-name : (Answers : SubLookupRelation) (s : Settings) (before : CacheValue) (text : List ℕ) (t : RecordType) (parts : List SubLookup) (reply : LookupResult) (after : CacheValue)
-    → ((name : Result NameValue NameError) × IsReading text name × IsCall Answers s before (name_call t name) parts reply after) ⊎ IsUnserved before parts reply after
+    → ((name : Result NameValue NameError) × IsReading text name × IsCall Answers s before (name_call t name) parts reply after) ⊎ RanOutBeforeAsking before parts reply after
     → Chain Answers before parts after
 chain-name Answers s before text t parts reply after (inl (name, said, is)) = chain-call Answers s before (name_call t name) parts reply after is
 chain-name Answers s before text t parts reply after (inr (none, e, same)) = chain-none Answers before parts after none same
 
 pub chain-addresses : (Answers : SubLookupRelation) (s : Settings) (before : CacheValue) (text : List ℕ) (now : ℕ) (parts : List SubLookup) (reply : LookupResult) (after : CacheValue)
-    → ((given : GivenName) × IsGivenBy text given × IsCall Answers s before (address_call s given.address given.name now) parts reply after) ⊎ IsUnserved before parts reply after
+    → ((given : GivenName) × IsGivenBy text given × IsCall Answers s before (address_call s given.address given.name now) parts reply after) ⊎ RanOutBeforeAsking before parts reply after
     → Chain Answers before parts after
 chain-addresses Answers s before text now parts reply after (inl (given, said, is)) =
     chain-call Answers s before (address_call s given.address given.name now) parts reply after is

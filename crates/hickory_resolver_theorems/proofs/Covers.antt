@@ -10,7 +10,7 @@ use Rattle.hickory_proto_core.specs.declared.query.Query.{Query}
 use Rattle.hickory_resolver_model.specs.Bounds.{ConfigValue, bounds_for, positive_bounds, reduced_bound, clamped_message, clamped_record, clamped_records, least, living_records, positive_lifetime, greatest_ttl}
 use Rattle.hickory_resolver_model.specs.Cache.{saturating_sum}
 use Rattle.hickory_resolver_theorems.specs.Covered.{Dated, IsCoveredBy, IsCovered, IsLoopback}
-use Rattle.hickory_resolver_theorems.specs.Statements.{HasNoLeast, IsFreshRecord, AreFreshRecords}
+use Rattle.hickory_resolver_theorems.specs.Statements.{LeastTtlIsZero, IsFreshRecord, AreFreshRecords}
 use Rattle.hickory_resolver_theorems.proofs.Lists.{all-weaker, all-map, all-has, has-all, has-left, has-map, has-filter, fold-min, fold-min-has, ContainsByRecursion}
 
 -- ---- more exchanges
@@ -39,12 +39,12 @@ covered-lower config (x ∷ xs) moment now ttl r le (inr h) = inr (covered-lower
 -- ---- clamped TTLs
 
 -- where the least is zero, a clamped TTL is no longer than it was, and at most the greatest
-pub clamped_message-le : (config : ConfigValue) (r : RecordValue) → HasNoLeast config (record_type_code r) → (clamped_record config r).ttl ≤ r.ttl
+pub clamped_message-le : (config : ConfigValue) (r : RecordValue) → LeastTtlIsZero config (record_type_code r) → (clamped_record config r).ttl ≤ r.ttl
 clamped_message-le config r e =
     let zero_least : reduced_bound (positive_bounds (bounds_for config (record_type_code r))).0 ≡ 0 = ap reduced_bound e in
     omega (arith, zero_least)
 
-pub clamped_message-greatest : (config : ConfigValue) (r : RecordValue) → HasNoLeast config (record_type_code r) → (clamped_record config r).ttl ≤ greatest_ttl config (record_type_code r)
+pub clamped_message-greatest : (config : ConfigValue) (r : RecordValue) → LeastTtlIsZero config (record_type_code r) → (clamped_record config r).ttl ≤ greatest_ttl config (record_type_code r)
 clamped_message-greatest config r e =
     let zero_least : reduced_bound (positive_bounds (bounds_for config (record_type_code r))).0 ≡ 0 = ap reduced_bound e in
     omega (arith, zero_least)
@@ -80,7 +80,7 @@ lives-by q m r h e = by (type_code q.query_type == 2) refl
     by true k = has-filter (λ x. record_type_code x == 2) (m.answers ++ m.authorities) r (has-left m.answers m.authorities r h) (ap (λ n. n == 2) e ∙ k)
     by false k = has-filter (λ x. (record_type_code x == type_code q.query_type) || (record_type_code x == 5)) m.answers r h (or_left _ _ (eq-eqb _ _ e))
 
-pub lifetime-le : (config : ConfigValue) (q : Query) (m : MessageValue) (r : RecordValue) → HasNoLeast config (type_code q.query_type) → ContainsByRecursion m.answers r → record_type_code r ≡ type_code q.query_type → positive_lifetime config q m ≤ r.ttl
+pub lifetime-le : (config : ConfigValue) (q : Query) (m : MessageValue) (r : RecordValue) → LeastTtlIsZero config (type_code q.query_type) → ContainsByRecursion m.answers r → record_type_code r ≡ type_code q.query_type → positive_lifetime config q m ≤ r.ttl
 lifetime-le config q m r zero h e =
     let lo = (positive_bounds (bounds_for config (type_code q.query_type))).0 in
     let one = least-has (map (λ x. x.ttl) (living_records q m)) r.ttl lo (has-map (λ x. x.ttl) (living_records q m) r (lives-by q m r h e)) in
@@ -93,7 +93,7 @@ abbrev pub Arrives : ConfigValue → List Dated → ℕ → ℕ → RecordValue 
 Arrives config sources code now r = record_type_code r ≡ code → IsLoopback r ⊎ IsCovered config sources now (clamped_record config r)
 
 -- such records are fresh once they are clamped, for as long as they live
-pub arrived-fresh : (config : ConfigValue) (sources : List Dated) (q : Query) (now : ℕ) (m : MessageValue) → HasNoLeast config (type_code q.query_type)
+pub arrived-fresh : (config : ConfigValue) (sources : List Dated) (q : Query) (now : ℕ) (m : MessageValue) → LeastTtlIsZero config (type_code q.query_type)
     → AllByRecursion (Arrives config sources (type_code q.query_type) now) m.answers
     → AreFreshRecords config sources (type_code q.query_type) now (saturating_sum now (positive_lifetime config q (clamped_message config m))) (clamped_records config m.answers)
 arrived-fresh config sources q now m zero all =
@@ -110,7 +110,7 @@ arrived-fresh config sources q now m zero all =
         → IsLoopback (clamped_record config r) ⊎ (IsCovered config sources now (clamped_record config r) × ((clamped_record config r).ttl ≤ greatest_ttl config code) × (deadline ≤ now + (clamped_record config r).ttl))
     of r h e (inl loop) = inl loop
     of r h e (inr covered) =
-        let none : HasNoLeast config (record_type_code r) = subst (HasNoLeast config) (sym e) zero in
+        let none : LeastTtlIsZero config (record_type_code r) = subst (LeastTtlIsZero config) (sym e) zero in
         let life = lifetime-le config q (clamped_message config m) (clamped_record config r) zero (has-map (clamped_record config) m.answers r h) e in
         inr (covered, subst (λ n. (clamped_record config r).ttl ≤ greatest_ttl config n) e (clamped_message-greatest config r none), omega (arith, life, saturating-le now (positive_lifetime config q (clamped_message config m))))
 
@@ -123,10 +123,10 @@ fresh-sooner config sources code now later sooner rs le fresh = all-weaker (IsFr
     by r (inr (covered, short, live)) = inr (covered, short, omega (arith, le, live))
 
 -- fresh records arrive once more, when they are stored under another question
-pub fresh-arrives : (config : ConfigValue) (sources : List Dated) (code now deadline : ℕ) (rs : List RecordValue) → HasNoLeast config code → AreFreshRecords config sources code now deadline rs → AllByRecursion (Arrives config sources code now) rs
+pub fresh-arrives : (config : ConfigValue) (sources : List Dated) (code now deadline : ℕ) (rs : List RecordValue) → LeastTtlIsZero config code → AreFreshRecords config sources code now deadline rs → AllByRecursion (Arrives config sources code now) rs
 fresh-arrives config sources code now deadline rs zero all = all-weaker (IsFreshRecord config sources code now deadline) (Arrives config sources code now) (λ r fresh e. of r e (fresh e)) rs all
   where
     of : (r : RecordValue) → record_type_code r ≡ code → IsLoopback r ⊎ (IsCovered config sources now r × (r.ttl ≤ greatest_ttl config code) × (deadline ≤ now + r.ttl)) → IsLoopback r ⊎ IsCovered config sources now (clamped_record config r)
     of r e (inl loop) = inl loop
     of r e (inr (covered, short, live)) =
-        inr (covered-lower config sources now now (clamped_record config r).ttl r (omega (arith, clamped_message-le config r (subst (HasNoLeast config) (sym e) zero))) covered)
+        inr (covered-lower config sources now now (clamped_record config r).ttl r (omega (arith, clamped_message-le config r (subst (LeastTtlIsZero config) (sym e) zero))) covered)

@@ -17,8 +17,8 @@ use Rattle.hickory_proto_core.specs.declared.query.Query.{Query}
 use Rattle.hickory_proto_core.specs.codes.record_type.RecordType.TheVariants as type
 use Rattle.hickory_proto_core.specs.codes.dns_class.DNSClass.TheVariants as class
 use Rattle.hickory_proto_core.specs.codes.response_code.ResponseCode.TheVariants as code
-use Rattle.hickory_resolver_model.specs.AliasWalk.{Counted, Alias, Server, counted_data, counted}
-use Rattle.hickory_resolver_theorems.specs.WithoutTimes.{folded_name, folded_query, folded_data, record_without_times}
+use Rattle.hickory_resolver_model.specs.AliasWalk.{Counted, AliasTo, Server, counted_data, counted}
+use Rattle.hickory_resolver_theorems.specs.Cores.{folded_name, folded_query, folded_data, record_core}
 
 -- ---- codes
 
@@ -107,7 +107,7 @@ target-folded_name (unknown_data code bytes) = refl
 
 -- what a record counts as, in lower case
 abbrev pub folded_counted : Counted → Counted
-folded_counted (Alias target) = Alias (folded_name target)
+folded_counted (AliasTo target) = AliasTo (folded_name target)
 folded_counted (Server target) = Server (folded_name target)
 
 some-folded_counted : (b : Bool) (c : Counted) → (if b then Some (folded_counted c) else None) ≡ option_map folded_counted (if b then Some c else None)
@@ -117,7 +117,7 @@ some-folded_counted false c = refl
 data-folded_counted : (reached asked : Bool) (d : DataValue) → counted_data reached asked (folded_data d) ≡ option_map folded_counted (counted_data reached asked d)
 data-folded_counted reached asked (a_data octets) = refl
 data-folded_counted reached asked (aaaa_data segments) = refl
-data-folded_counted reached asked (cname_data target) = some-folded_counted reached (Alias target)
+data-folded_counted reached asked (cname_data target) = some-folded_counted reached (AliasTo target)
 data-folded_counted reached asked (ns_data target) = refl
 data-folded_counted reached asked (ptr_data target) = refl
 data-folded_counted reached asked (soa_data mname rname serial refresh retry expire minimum) = refl
@@ -126,12 +126,12 @@ data-folded_counted reached asked (mx_data preference exchange) = refl
 data-folded_counted reached asked (txt_data strings) = refl
 data-folded_counted reached asked (unknown_data code bytes) = refl
 
-pub counted-folded_name : (asked reached : NameValue) (r : RecordValue) → counted (folded_name asked) (folded_name reached) (record_without_times r) ≡ option_map folded_counted (counted asked reached r)
+pub counted-folded_name : (asked reached : NameValue) (r : RecordValue) → counted (folded_name asked) (folded_name reached) (record_core r) ≡ option_map folded_counted (counted asked reached r)
 counted-folded_name asked reached r =
     ap₂ (λ a b. counted_data a b (folded_data r.rdata)) (name_eq-folded_name reached r.name) (name_eq-folded_name asked r.name)
     ∙ data-folded_counted (name_eq reached r.name) (name_eq asked r.name) r.rdata
 
-pub record_type-folded_name : (r : RecordValue) → record_type_code (record_without_times r) ≡ record_type_code r
+pub record_type-folded_name : (r : RecordValue) → record_type_code (record_core r) ≡ record_type_code r
 record_type-folded_name r = ap type_code (type-folded_name r.rdata)
 
 pub query_type-folded_name : (q : Query) → type_code (folded_query q).query_type ≡ type_code q.query_type
@@ -140,7 +140,7 @@ query_type-folded_name q = type-code (type_code q.query_type)
 pub query_class-folded_name : (q : Query) → class_code (folded_query q).query_class ≡ class_code q.query_class
 query_class-folded_name q = class-code (class_code q.query_class)
 
-pub record_class-folded_name : (r : RecordValue) → class_code (record_without_times r).dns_class ≡ class_code r.dns_class
+pub record_class-folded_name : (r : RecordValue) → class_code (record_core r).dns_class ≡ class_code r.dns_class
 record_class-folded_name r = class-code (class_code r.dns_class)
 
 -- ---- lists

@@ -19,10 +19,10 @@ use Rattle.hickory_resolver_model.specs.Cache.{CacheValue, Entry, current, is_fo
 use Rattle.hickory_resolver_model.specs.Lookup.{LookupResult, hit_lookup, hit_seconds}
 use Rattle.hickory_resolver_model.specs.SpecialUse.{special_use_result, is_loopback_name, is_nonexistent_name, loopback_data, one_record, no_records}
 use Rattle.hickory_resolver_model.specs.AliasWalk.{Walk, walk_of}
-use Rattle.hickory_resolver_model.specs.Verdict.{Hop, Exists, CnameChain, NoMatch, is_accepted, found_message, next_hop, all_records, with_ttl_at_most}
-use Rattle.hickory_resolver_model.specs.Hops.{LookupContext, ChainEnd, Special, Hit, Asked, IsChainEnd, HopList, Store, IsReply, asks_of, hit_result, verdict_result, kind_result, result_of, alias_limit, limit_of, result_until, reply_of, verdict_stores, kind_stores, last_stores, earlier_store, stores_of, after_stores}
+use Rattle.hickory_resolver_model.specs.Verdict.{Hop, Accepted, Alias, NoMatch, is_accepted, found_message, next_hop, all_records, with_ttl_at_most}
+use Rattle.hickory_resolver_model.specs.Hops.{LookupContext, ChainEnd, Special, Hit, Asked, IsChainEnd, HopList, Store, IsReply, asks_of, hit_result, result_of_verdict, result_when_asked, result_of, alias_limit, limit_of, result_until, reply_of, stores_of_verdict, stores_when_asked, last_stores, earlier_store, stores_of, after_stores}
 use Rattle.hickory_resolver_theorems.specs.Covered.{Dated, dated_exchanges, IsCovered, IsLoopback}
-use Rattle.hickory_resolver_theorems.specs.Statements.{HasNoLeast, IsFreshRecord, AreFreshRecords, IsFreshReply, IsFreshOutcome, IsFreshEntry, AreFreshEntries, IsFresh}
+use Rattle.hickory_resolver_theorems.specs.Statements.{LeastTtlIsZero, IsFreshRecord, AreFreshRecords, IsFreshReply, IsFreshOutcome, IsFreshEntry, AreFreshEntries, IsFresh}
 use Rattle.hickory_resolver_theorems.proofs.Lists.{all-weaker, all-append, all-front, all-back, all-map, all-has, has-all, has-right, has-map, find-has, ContainsByRecursion, contains-from_recursion}
 use Rattle.hickory_resolver_theorems.proofs.Covers.{Arrives, arrived-fresh, fresh-arrives, fresh-sooner, covered-has, covered-lower, clamped_message-le, clamped_message-greatest, greatest-short, least-has, saturating-le}
 use Rattle.hickory_resolver_theorems.proofs.VerdictFacts.{KeepsType, leads-keep, found-answers}
@@ -77,13 +77,13 @@ aged_result-fresh config sources code now moment deadline rs live fresh until ea
     of r least (inr (covered, short, stays)) =
         inr (covered-lower config sources moment now (r.ttl - seconds) r (omega (arith, live, stays, short, greatest-short config code)) covered, omega (arith, short), least)
 
-hit-fresh : (config : ConfigValue) (sources : List Dated) (q : Query) (now : ℕ) (e : Entry) (o : OutcomeValue) → is_for q e ≡ true → now ≤ e.valid_until → HasNoLeast config (type_code q.query_type) → IsFreshOutcome config sources e o
+hit-fresh : (config : ConfigValue) (sources : List Dated) (q : Query) (now : ℕ) (e : Entry) (o : OutcomeValue) → is_for q e ≡ true → now ≤ e.valid_until → LeastTtlIsZero config (type_code q.query_type) → IsFreshOutcome config sources e o
     → IsFreshReply config sources (type_code q.query_type) now (hit_result q now (aged_outcome (age e.original_time now) o))
 hit-fresh config sources q now e (Ok m) own live zero fresh =
     let code = type_code q.query_type in
     let same = for-type q e own in
     let given : AreFreshRecords config sources code e.original_time e.valid_until m.answers =
-    subst (λ c. AreFreshRecords config sources c e.original_time e.valid_until m.answers) same (fresh (subst (HasNoLeast config) (sym same) zero)) in
+    subst (λ c. AreFreshRecords config sources c e.original_time e.valid_until m.answers) same (fresh (subst (LeastTtlIsZero config) (sym same) zero)) in
     let seconds = age e.original_time now in
     let left = aged_message seconds m in
     aged_result-fresh config sources code now e.original_time e.valid_until m.answers live given (hit_lookup q left now).valid_until
@@ -116,11 +116,11 @@ class-answer (Err (Bounds error)) response h = cc
 class-answer (Err OutOfMemory) response h = cc
 
 -- a record of a response that came, with its TTL or a lower one, is covered once it is clamped
-received-arrives : (config : ConfigValue) (sources : List Dated) (now code : ℕ) (x : Exchange) (response : MessageValue) → HasNoLeast config code → ContainsByRecursion sources (record { moment = now; exchange = x }) → x.outcome ≡ Ok response
+received-arrives : (config : ConfigValue) (sources : List Dated) (now code : ℕ) (x : Exchange) (response : MessageValue) → LeastTtlIsZero config code → ContainsByRecursion sources (record { moment = now; exchange = x }) → x.outcome ≡ Ok response
     → (r : RecordValue) → ContainsByRecursion (all_records response) r → (ttl : ℕ) → ttl ≤ r.ttl → Arrives config sources code now (record r { ttl = ttl })
 received-arrives config sources now code x response zero there came r brought ttl le same =
     let low : RecordValue = record r { ttl = ttl } in
-    let none : HasNoLeast config (record_type_code low) = subst (HasNoLeast config) (sym same) zero in
+    let none : LeastTtlIsZero config (record_type_code low) = subst (LeastTtlIsZero config) (sym same) zero in
     inr (covered-has config sources now (clamped_record config low) (record { moment = now; exchange = x }) there (record {
       response = response;
       came = came;
@@ -130,7 +130,7 @@ received-arrives config sources now code x response zero there came r brought tt
       reaches = omega (arith, le, clamped_message-le config low none, clamped_message-greatest config low none);
     }))
 
-found-arrives : (config : ConfigValue) (sources : List Dated) (now code : ℕ) (keep : Bool) (hop : Hop) (x : Exchange) (response : MessageValue) → KeepsType code hop → HasNoLeast config code → ContainsByRecursion sources (record { moment = now; exchange = x }) → x.outcome ≡ Ok response
+found-arrives : (config : ConfigValue) (sources : List Dated) (now code : ℕ) (keep : Bool) (hop : Hop) (x : Exchange) (response : MessageValue) → KeepsType code hop → LeastTtlIsZero config code → ContainsByRecursion sources (record { moment = now; exchange = x }) → x.outcome ≡ Ok response
     → AllByRecursion (Arrives config sources code now) (found_message keep hop (walk_of hop.query response.answers) response).answers
 found-arrives config sources now code keep hop x response keeps zero there came =
     found-answers Comes keep hop walk response (all-weaker (λ r. record_type_code r ≡ code → ⊥) Comes (λ r other same. absurd (other same)) hop.preserved keeps.others)
@@ -155,7 +155,7 @@ pub hits-fresh : (s : LookupContext) (sources : List Dated) (code : ℕ) → Are
 hits-fresh s sources code fresh q e same is =
     all-has (IsFreshEntry s.cache.config sources) s.cache.entries e fresh (find-has (λ x. is_for q x && is_current s.now x) s.cache.entries e is).0
 
-result-fresh : (s : LookupContext) (sources : List Dated) (hop : Hop) (count : ℕ) (last : ChainEnd) → KeepsType (type_code hop.query.query_type) hop → AreFreshHits s sources (type_code hop.query.query_type) → HasNoLeast s.cache.config (type_code hop.query.query_type)
+result-fresh : (s : LookupContext) (sources : List Dated) (hop : Hop) (count : ℕ) (last : ChainEnd) → KeepsType (type_code hop.query.query_type) hop → AreFreshHits s sources (type_code hop.query.query_type) → LeastTtlIsZero s.cache.config (type_code hop.query.query_type)
     → AllByRecursion (λ x. ContainsByRecursion sources (record { moment = s.now; exchange = x })) (asks_of hop last) → IsChainEnd s count hop last
     → IsFreshReply s.cache.config sources (type_code hop.query.query_type) s.now (result_of s hop last)
 result-fresh s sources hop count (Special reply) keeps fresh zero there ends = special_use_result-fresh s.cache.config sources hop.query s.now reply ends
@@ -175,14 +175,14 @@ result-fresh s sources hop count (Asked outcome) keeps fresh zero there ends = b
     x = record { query = hop.query; outcome = outcome }
 
     on : (response : MessageValue) → outcome ≡ Ok response → (accepted nowhere : Bool)
-        → IsFreshReply config sources code s.now (verdict_result config hop.query s.now response (if accepted then Exists (found_message s.preserve_intermediates hop (walk_of hop.query response.answers) response) else (if nowhere then NoMatch else CnameChain (next_hop s.preserve_intermediates hop (walk_of hop.query response.answers) response))))
+        → IsFreshReply config sources code s.now (result_of_verdict config hop.query s.now response (if accepted then Accepted (found_message s.preserve_intermediates hop (walk_of hop.query response.answers) response) else (if nowhere then NoMatch else Alias (next_hop s.preserve_intermediates hop (walk_of hop.query response.answers) response))))
     on response came true nowhere =
         arrived-fresh config sources hop.query s.now (found_message s.preserve_intermediates hop (walk_of hop.query response.answers) response) zero
         (found-arrives config sources s.now code s.preserve_intermediates hop x response keeps zero there.0 came)
     on response came false true = tt
     on response came false false = tt
 
-    by : (c : ResponseKind) → kind_of outcome ≡ c → IsFreshReply config sources code s.now (kind_result s hop c)
+    by : (c : ResponseKind) → kind_of outcome ≡ c → IsFreshReply config sources code s.now (result_when_asked s hop c)
     by (Answer response) e = on response (class-answer outcome response e) (is_accepted hop (walk_of hop.query response.answers) response) (is_empty (walk_of hop.query response.answers).places)
     by (Negative none) e = tt
     by (Failed error) e = tt
@@ -213,28 +213,28 @@ last-arrives s sources hop (Asked outcome) keeps there = by (kind_of outcome) re
     x = record { query = hop.query; outcome = outcome }
 
     on : (response : MessageValue) → outcome ≡ Ok response → (accepted nowhere : Bool)
-        → AllByRecursion (StoresArrived config sources) (verdict_stores hop.query s.now (alias_limit s hop.query (Answer response)) (if accepted then Exists (found_message s.preserve_intermediates hop (walk_of hop.query response.answers) response) else (if nowhere then NoMatch else CnameChain (next_hop s.preserve_intermediates hop (walk_of hop.query response.answers) response))))
+        → AllByRecursion (StoresArrived config sources) (stores_of_verdict hop.query s.now (alias_limit s hop.query (Answer response)) (if accepted then Accepted (found_message s.preserve_intermediates hop (walk_of hop.query response.answers) response) else (if nowhere then NoMatch else Alias (next_hop s.preserve_intermediates hop (walk_of hop.query response.answers) response))))
     on response came true nowhere = ((λ zero. found-arrives config sources s.now (type_code hop.query.query_type) s.preserve_intermediates hop x response keeps zero there.0 came), tt)
     on response came false true = tt
     on response came false false = tt
 
-    by : (c : ResponseKind) → kind_of outcome ≡ c → AllByRecursion (StoresArrived config sources) (kind_stores s hop c)
+    by : (c : ResponseKind) → kind_of outcome ≡ c → AllByRecursion (StoresArrived config sources) (stores_when_asked s hop c)
     by (Answer response) e = on response (class-answer outcome response e) (is_accepted hop (walk_of hop.query response.answers) response) (is_empty (walk_of hop.query response.answers).places)
     by (Negative none) e = (tt, tt)
     by (Failed error) e = tt
 
 -- a fresh result arrives once more under an earlier question of the same type
-again-arrives : (config : ConfigValue) (sources : List Dated) (now code : ℕ) (q : Query) (reply : LookupResult) (limit : ℕ) → type_code q.query_type ≡ code → (HasNoLeast config code → IsFreshReply config sources code now reply) → StoresArrived config sources (earlier_store reply now q limit)
+again-arrives : (config : ConfigValue) (sources : List Dated) (now code : ℕ) (q : Query) (reply : LookupResult) (limit : ℕ) → type_code q.query_type ≡ code → (LeastTtlIsZero config code → IsFreshReply config sources code now reply) → StoresArrived config sources (earlier_store reply now q limit)
 again-arrives config sources now code q (Ok l) limit same fresh = λ zero.
     subst (λ c. AllByRecursion (Arrives config sources c now) l.message.answers) (sym same)
-    (fresh-arrives config sources code now l.valid_until l.message.answers (subst (HasNoLeast config) same zero) (fresh (subst (HasNoLeast config) same zero)))
+    (fresh-arrives config sources code now l.valid_until l.message.answers (subst (LeastTtlIsZero config) same zero) (fresh (subst (LeastTtlIsZero config) same zero)))
 again-arrives config sources now code q (Err e) limit same fresh = tt
 
 -- ---- a look-up
 
 -- what is known of a list of hops, with its own exchanges among the sources
 pub record AreFreshHops (s : LookupContext) (question : Query) (asks : List Exchange) (sources : List Dated) (h : HopList s question asks) : Type 0 where
-  pub reply : HasNoLeast s.cache.config (type_code question.query_type) → IsFreshReply s.cache.config sources (type_code question.query_type) s.now (reply_of s h.passed h.last_hop h.last)
+  pub reply : LeastTtlIsZero s.cache.config (type_code question.query_type) → IsFreshReply s.cache.config sources (type_code question.query_type) s.now (reply_of s h.passed h.last_hop h.last)
   pub stores : AllByRecursion (StoresArrived s.cache.config sources) (stores_of s h.passed h.last_hop h.last)
 
 pub hops-fresh : (s : LookupContext) (question : Query) (asks : List Exchange) (sources : List Dated) (h : HopList s question asks) → AreFreshHits s sources (type_code question.query_type) → AllByRecursion (λ x. ContainsByRecursion sources (record { moment = s.now; exchange = x })) asks
@@ -264,9 +264,9 @@ hops-fresh s question asks sources h fresh there = record {
     last_there : AllByRecursion (λ x. ContainsByRecursion sources (record { moment = s.now; exchange = x })) (asks_of h.last_hop h.last)
     last_there = all-back (λ x. ContainsByRecursion sources (record { moment = s.now; exchange = x })) h.passed (asks_of h.last_hop h.last) each
 
-    reply : HasNoLeast s.cache.config code → IsFreshReply s.cache.config sources code s.now result
+    reply : LeastTtlIsZero s.cache.config code → IsFreshReply s.cache.config sources code s.now result
     reply zero = subst (λ c. IsFreshReply s.cache.config sources c s.now result) leads.0.type_is
-        (result-fresh s sources h.last_hop _ h.last own (subst (AreFreshHits s sources) (sym leads.0.type_is) fresh) (subst (HasNoLeast s.cache.config) (sym leads.0.type_is) zero) last_there h.ends)
+        (result-fresh s sources h.last_hop _ h.last own (subst (AreFreshHits s sources) (sym leads.0.type_is) fresh) (subst (LeastTtlIsZero s.cache.config) (sym leads.0.type_is) zero) last_there h.ends)
 
 -- the exchanges of a look-up are among its sources
 pub own-sources : (sources : List Dated) (now : ℕ) (asks : List Exchange) → AllByRecursion (λ x. ContainsByRecursion (sources ++ dated_exchanges now asks) (record { moment = now; exchange = x })) asks
@@ -289,7 +289,7 @@ fresh s question asks result after reply sources entries = by reply
     out : result ≡ Err OutOfMemory → IsFreshReply s.cache.config all (type_code question.query_type) s.now result
     out e = subst (IsFreshReply s.cache.config all (type_code question.query_type) s.now) (sym e) tt
 
-    by : IsReply s question asks result after → (HasNoLeast s.cache.config (type_code question.query_type) → IsFreshReply s.cache.config all (type_code question.query_type) s.now result) × AreFreshEntries after all
+    by : IsReply s question asks result after → (LeastTtlIsZero s.cache.config (type_code question.query_type) → IsFreshReply s.cache.config all (type_code question.query_type) s.now result) × AreFreshEntries after all
     by (inl whole) =
         let hops = hops-fresh s question asks all whole.hops (hits-fresh s all (type_code question.query_type) known) (own-sources sources s.now asks) in
         ((λ zero. subst (IsFreshReply s.cache.config all (type_code question.query_type) s.now) (sym whole.result_is) (hops.reply zero)), stored _ hops.stores whole.after_is)

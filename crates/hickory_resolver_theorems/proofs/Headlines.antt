@@ -11,11 +11,11 @@ use Rattle.hickory_proto_core.specs.declared.net_error.NetError.TheVariants.{Out
 use Rattle.hickory_resolver_model.specs.Cache.{CacheValue, is_for, without_query}
 use Rattle.hickory_resolver_model.specs.Lookup.{LookupResult, question_of}
 use Rattle.hickory_resolver_model.specs.Hosts.{IsStatic}
-use Rattle.hickory_resolver_model.specs.Calls.{CallContext, Source, Static, Client, SubLookup, SubLookupRelation, IsSubLookupBy, IsSubLookupFor, start_at, Plan, One, Both, Fallback, has_answers, is_out_of_memory, both_results, next_type, attempt_result, IsAttemptResult, AreSubLookups, results_of, IsAttempt, stops, CallPlan, Says, AreAttempts, asks_of_sub_lookups}
+use Rattle.hickory_resolver_model.specs.Calls.{CallContext, Source, Static, Client, SubLookup, SubLookupRelation, IsAnsweredFrom, IsAnsweredFor, start_at, Plan, One, Both, Fallback, has_answers, is_out_of_memory, both_results, next_type, attempt_result, IsAttemptResult, AreSubLookups, results_of, IsAttempt, stops, CallPlan, Says, AreAttempts, asks_of_sub_lookups}
 use Rattle.hickory_resolver_model.specs.Attempts.{attempts}
 use Rattle.hickory_resolver_model.specs.Run.{Settings, call_context_at, RequestValue, Lookup, LookupIp, ClearLookup, Clear, StepReply, LookedUp, LookedUpIp, Cleared, ends_run, drop_each, after_clear, Call, AtOnce, Attempt, name_call, address_call, IsCall, IsServed, StepValue, Stage, IsStage, AreStages, exchanges_of, Run}
 use Rattle.hickory_resolver_theorems.specs.Cacheless.{IsTable, ResolvesTo, IsConsistentWith, AreConsistentWith}
-use Rattle.hickory_resolver_theorems.specs.WithoutTimes.{without_times}
+use Rattle.hickory_resolver_theorems.specs.Cores.{reply_core}
 use Rattle.hickory_resolver_theorems.specs.Statements.{IsWhatItResolvesTo, AreWhatTheyResolveTo, ResolvesWithinEight, CachelessSubLookup, IsCacheless, IsAsWithoutCache, AreAsWithoutCache, Headline}
 use Rattle.hickory_resolver_theorems.proofs.Lists.{all-front, all-back, all-filter}
 use Rattle.hickory_resolver_theorems.proofs.Transparent.{transparent}
@@ -36,10 +36,10 @@ asks-append (p ∷ ps) qs = ap (λ xs. p.asks ++ xs) (asks-append ps qs) ∙ sym
 abbrev PartAlike : TableValue → CallContext → Bool → CacheValue → Query → SubLookup → CacheValue → Type 0
 PartAlike table t looked c q p after = ((is_out_of_memory p.result ≡ true) ⊎ CachelessSubLookup table t looked c q p c) × AreWhatTheyResolveTo table after
 
-part-alike : (table : TableValue) (t : CallContext) (looked : Bool) (c before : CacheValue) (q : Query) (p : SubLookup) (after : CacheValue) → Seen table t → AreWhatTheyResolveTo table before → ResolvesWithinEight table p → AreConsistentWith table p.asks → IsSubLookupFor t looked before q p after → PartAlike table t looked c q p after
+part-alike : (table : TableValue) (t : CallContext) (looked : Bool) (c before : CacheValue) (q : Query) (p : SubLookup) (after : CacheValue) → Seen table t → AreWhatTheyResolveTo table before → ResolvesWithinEight table p → AreConsistentWith table p.asks → IsAnsweredFor t looked before q p after → PartAlike table t looked c q p after
 part-alike table t looked c before q p after seen meant has tells (for, is) = by p.source refl is
   where
-    by : (source : Source) → p.source ≡ source → IsSubLookupBy source t looked before p after → PartAlike table t looked c q p after
+    by : (source : Source) → p.source ≡ source → IsAnsweredFrom source t looked before p after → PartAlike table t looked c q p after
     by Static e part = (
       inr (for, inl (record { asks_hosts = part.asks_hosts; found = part.found; has = part.has; result_is = part.result_is; nothing_asked = part.nothing_asked; unchanged = refl })),
       subst (AreWhatTheyResolveTo table) (sym part.unchanged) meant,
@@ -49,7 +49,7 @@ part-alike table t looked c before q p after seen meant has tells (for, is) = by
         let there = transparent (start_at t before) p.question p.asks p.result after part.reply table seen.off seen.apart tells meant meaning.0 meaning.1 meaning.2 meaning.3 in
         (on there.0, there.1)
       where
-        on : ((p.result ≡ Err OutOfMemory) ⊎ (without_times p.result ≡ (has e).0)) → (is_out_of_memory p.result ≡ true) ⊎ CachelessSubLookup table t looked c q p c
+        on : ((p.result ≡ Err OutOfMemory) ⊎ (reply_core p.result ≡ (has e).0)) → (is_out_of_memory p.result ≡ true) ⊎ CachelessSubLookup table t looked c q p c
         on (inl out) = inl (ap is_out_of_memory out)
         on (inr same) =
             inr (
@@ -104,7 +104,7 @@ goes-on (Fallback t v) (x ∷ y ∷ ys) r u h = let clash : None ≡ Some u = h 
 
 -- the sub-look-ups of an attempt: the last one ran out of memory, or they are the cacheless resolver's
 subs-alike : (table : TableValue) (t : CallContext) (looked : Bool) (n : NameValue) (plan : Plan) (c before : CacheValue) (results : List LookupResult) (ps : List SubLookup) (after : CacheValue) → Seen table t → AreWhatTheyResolveTo table before
-    → AllByRecursion (ResolvesWithinEight table) ps → AreConsistentWith table (asks_of_sub_lookups ps) → AreSubLookups (IsSubLookupFor t) looked n plan before results ps after
+    → AllByRecursion (ResolvesWithinEight table) ps → AreConsistentWith table (asks_of_sub_lookups ps) → AreSubLookups (IsAnsweredFor t) looked n plan before results ps after
     → ((last_is_out ps ≡ true) ⊎ AreSubLookups (CachelessSubLookup table t) looked n plan c results ps c) × AreWhatTheyResolveTo table after
 subs-alike table t looked n plan c before results [] after seen meant has tells same = (inr refl, subst (AreWhatTheyResolveTo table) (sym same) meant)
 subs-alike table t looked n plan c before results (p ∷ []) after seen meant (each, none) tells (u, mid, next, is, same) = (by here.0, subst (AreWhatTheyResolveTo table) (sym same) here.1)
@@ -150,7 +150,7 @@ out-result Answers looked n (Both t u) before (p ∷ q ∷ x ∷ xs) after (a, b
 out-result Answers looked n (Fallback t u) before (p ∷ q ∷ x ∷ xs) after (a, b, next, is, (v, m, on, second, (w, k, more, third, rest))) out = let clash : None ≡ Some w = more in cc
 
 attempt-alike : (table : TableValue) (t : CallContext) (looked : Bool) (c before : CacheValue) (n : NameValue) (plan : Plan) (parts : List SubLookup) (r : LookupResult) (after : CacheValue) → Seen table t → AreWhatTheyResolveTo table before → AllByRecursion (ResolvesWithinEight table) parts → AreConsistentWith table (asks_of_sub_lookups parts)
-    → IsAttempt (IsSubLookupFor t) looked before n plan parts r after → ((is_out_of_memory r ≡ true) ⊎ IsAttempt (CachelessSubLookup table t) looked c n plan parts r c) × AreWhatTheyResolveTo table after
+    → IsAttempt (IsAnsweredFor t) looked before n plan parts r after → ((is_out_of_memory r ≡ true) ⊎ IsAttempt (CachelessSubLookup table t) looked c n plan parts r c) × AreWhatTheyResolveTo table after
 attempt-alike table t looked c before n plan parts r after seen meant has tells attempt = (by there.0 attempt.result_is, there.1)
   where
     there : ((last_is_out parts ≡ true) ⊎ AreSubLookups (CachelessSubLookup table t) looked n plan c [] parts c) × AreWhatTheyResolveTo table after
@@ -160,13 +160,13 @@ attempt-alike table t looked c before n plan parts r after seen meant has tells 
         → IsAttemptResult plan (results_of parts) r
         → (is_out_of_memory r ≡ true) ⊎ IsAttempt (CachelessSubLookup table t) looked c n plan parts r c
     by is (inr (takes, out)) = inl (ap is_out_of_memory out)
-    by (inl out) (inl (over, e)) = inl (ap is_out_of_memory e ∙ out-result (IsSubLookupFor t) looked n plan before parts after attempt.are out)
+    by (inl out) (inl (over, e)) = inl (ap is_out_of_memory e ∙ out-result (IsAnsweredFor t) looked n plan before parts after attempt.are out)
     by (inr is) (inl (over, e)) = inr (record { are = is; result_is = inl (over, e) })
 
 -- ---- attempts
 
 attempts-alike : (table : TableValue) (t : CallContext) (plan : CallPlan) (looked : Bool) (c before : CacheValue) (names : List NameValue) (last : LookupResult → Type 0) (parts : List SubLookup) (r : LookupResult) (after : CacheValue) → Seen table t → AreWhatTheyResolveTo table before
-    → AllByRecursion (ResolvesWithinEight table) parts → AreConsistentWith table (asks_of_sub_lookups parts) → AreAttempts (IsSubLookupFor t) plan looked before names last parts r after
+    → AllByRecursion (ResolvesWithinEight table) parts → AreConsistentWith table (asks_of_sub_lookups parts) → AreAttempts (IsAnsweredFor t) plan looked before names last parts r after
     → ((is_out_of_memory r ≡ true) ⊎ AreAttempts (CachelessSubLookup table t) plan looked c names last parts r c) × AreWhatTheyResolveTo table after
 attempts-alike table t plan looked c before [] last parts r after seen meant has tells (none, fallback, same) = (inr (none, fallback, refl), subst (AreWhatTheyResolveTo table) (sym same) meant)
 attempts-alike table t plan looked c before (n ∷ ns) last parts r after seen meant has tells (front, back, result, mid, are, attempt, goes) =
@@ -187,8 +187,8 @@ attempts-alike table t plan looked c before (n ∷ ns) last parts r after seen m
     on_with is live (inr rest) = inr (front, back, result, c, are, is, inr (live, rest))
 
     by : (is_out_of_memory result ≡ true) ⊎ IsAttempt (CachelessSubLookup table t) looked c n plan.types front result c
-        → ((stops result ≡ true) × (back ≡ []) × (r ≡ result) × (after ≡ mid)) ⊎ ((stops result ≡ false) × AreAttempts (IsSubLookupFor t) plan plan.hosts_for_all mid ns (λ x. x ≡ result) back r after)
-        → (AreAttempts (IsSubLookupFor t) plan plan.hosts_for_all mid ns (λ x. x ≡ result) back r after → ((is_out_of_memory r ≡ true) ⊎ AreAttempts (CachelessSubLookup table t) plan plan.hosts_for_all c ns (λ x. x ≡ result) back r c) × AreWhatTheyResolveTo table after)
+        → ((stops result ≡ true) × (back ≡ []) × (r ≡ result) × (after ≡ mid)) ⊎ ((stops result ≡ false) × AreAttempts (IsAnsweredFor t) plan plan.hosts_for_all mid ns (λ x. x ≡ result) back r after)
+        → (AreAttempts (IsAnsweredFor t) plan plan.hosts_for_all mid ns (λ x. x ≡ result) back r after → ((is_out_of_memory r ≡ true) ⊎ AreAttempts (CachelessSubLookup table t) plan plan.hosts_for_all c ns (λ x. x ≡ result) back r c) × AreWhatTheyResolveTo table after)
         → ((is_out_of_memory r ≡ true) ⊎ AreAttempts (CachelessSubLookup table t) plan looked c (n ∷ ns) last parts r c) × AreWhatTheyResolveTo table after
     by (inl out) (inl (stopped, none, e, same)) rest = (inl (ap is_out_of_memory e ∙ out), subst (AreWhatTheyResolveTo table) (sym same) first.1)
     by (inr is) (inl (stopped, none, e, same)) rest = (inr (front, back, result, c, are, is, inl (stopped, none, e, refl)), subst (AreWhatTheyResolveTo table) (sym same) first.1)
@@ -202,14 +202,14 @@ abbrev ServedAlike : TableValue → Settings → CacheValue → RequestValue →
 ServedAlike table s c request reply after = ((ends_run reply ≡ true) ⊎ IsCacheless table s c request reply) × AreWhatTheyResolveTo table after
 
 pub call-alike : (table : TableValue) (s : Settings) (c before : CacheValue) (now : ℕ) (call : Call) (parts : List SubLookup) (reply : LookupResult) (after : CacheValue) → Seen table (call_context_at s now) → AreWhatTheyResolveTo table before → AllByRecursion (ResolvesWithinEight table) parts → AreConsistentWith table (asks_of_sub_lookups parts)
-    → IsCall (IsSubLookupFor (call_context_at s now)) s before call parts reply after
+    → IsCall (IsAnsweredFor (call_context_at s now)) s before call parts reply after
     → ((is_out_of_memory reply ≡ true) ⊎ IsCall (CachelessSubLookup table (call_context_at s now)) s c call parts reply c) × AreWhatTheyResolveTo table after
 call-alike table s c before now (AtOnce answer) parts reply after seen meant has tells (none, e, same) = (inr (none, e, refl), subst (AreWhatTheyResolveTo table) (sym same) meant)
 call-alike table s c before now (Attempt n plan) parts reply after seen meant has tells tries =
     attempts-alike table (call_context_at s now) plan true c before (attempts s.search n) (Says plan.no_names) parts reply after seen meant has tells tries
 
 name-alike : (table : TableValue) (s : Settings) (c before : CacheValue) (text : List ℕ) (u : RecordType) (now : ℕ) (parts : List SubLookup) (reply : LookupResult) (after : CacheValue) → Seen table (call_context_at s now) → AreWhatTheyResolveTo table before → AllByRecursion (ResolvesWithinEight table) parts → AreConsistentWith table (asks_of_sub_lookups parts)
-    → IsServed (λ at. IsSubLookupFor (call_context_at s at)) s before (Lookup text u now) parts (LookedUp reply) after → ServedAlike table s c (Lookup text u now) (LookedUp reply) after
+    → IsServed (λ at. IsAnsweredFor (call_context_at s at)) s before (Lookup text u now) parts (LookedUp reply) after → ServedAlike table s c (Lookup text u now) (LookedUp reply) after
 name-alike table s c before text u now parts reply after seen meant has tells (inl (name, said, is)) = (by there.0, there.1)
   where
     there : ((is_out_of_memory reply ≡ true) ⊎ IsCall (CachelessSubLookup table (call_context_at s now)) s c (name_call u name) parts reply c) × AreWhatTheyResolveTo table after
@@ -221,7 +221,7 @@ name-alike table s c before text u now parts reply after seen meant has tells (i
 name-alike table s c before text u now parts reply after seen meant has tells (inr (none, e, same)) = (inl (ap is_out_of_memory e), subst (AreWhatTheyResolveTo table) (sym same) meant)
 
 addresses-alike : (table : TableValue) (s : Settings) (c before : CacheValue) (text : List ℕ) (now : ℕ) (parts : List SubLookup) (reply : LookupResult) (after : CacheValue) → Seen table (call_context_at s now) → AreWhatTheyResolveTo table before → AllByRecursion (ResolvesWithinEight table) parts → AreConsistentWith table (asks_of_sub_lookups parts)
-    → IsServed (λ at. IsSubLookupFor (call_context_at s at)) s before (LookupIp text now) parts (LookedUpIp reply) after → ServedAlike table s c (LookupIp text now) (LookedUpIp reply) after
+    → IsServed (λ at. IsAnsweredFor (call_context_at s at)) s before (LookupIp text now) parts (LookedUpIp reply) after → ServedAlike table s c (LookupIp text now) (LookedUpIp reply) after
 addresses-alike table s c before text now parts reply after seen meant has tells (inl (given, said, is)) = (by there.0, there.1)
   where
     call : Call
@@ -244,7 +244,7 @@ clear-meant table s before u (Ok n) after meant e = subst (AreWhatTheyResolveTo 
 clear-meant table s before u (Err fault) after meant e = subst (AreWhatTheyResolveTo table) (sym e) meant
 
 served-alike : (table : TableValue) (s : Settings) (c before : CacheValue) (request : RequestValue) (parts : List SubLookup) (reply : StepReply) (after : CacheValue) → IsTable table → s.preserve_intermediates ≡ false → AreWhatTheyResolveTo table before → AllByRecursion (ResolvesWithinEight table) parts → AreConsistentWith table (asks_of_sub_lookups parts)
-    → IsServed (λ now. IsSubLookupFor (call_context_at s now)) s before request parts reply after → ServedAlike table s c request reply after
+    → IsServed (λ now. IsAnsweredFor (call_context_at s now)) s before request parts reply after → ServedAlike table s c request reply after
 served-alike table s c before (Lookup text u now) parts (LookedUp reply) after apart off meant has tells is = name-alike table s c before text u now parts reply after (record { apart = apart; off = off }) meant has tells is
 served-alike table s c before (LookupIp text now) parts (LookedUpIp reply) after apart off meant has tells is = addresses-alike table s c before text now parts reply after (record { apart = apart; off = off }) meant has tells is
 served-alike table s c before (ClearLookup text u now) parts (Cleared (Ok x)) after apart off meant has tells (none, (name, said, is)) = (inr tt, clear-meant table s before u name after meant is)

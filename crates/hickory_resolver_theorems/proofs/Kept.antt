@@ -11,8 +11,8 @@ use Rattle.hickory_proto_core.specs.declared.recorded.Exchange.{Exchange}
 use Rattle.hickory_proto_core.specs.declared.net_error.NetError.TheVariants.{OutOfMemory}
 use Rattle.hickory_resolver_model.specs.Cache.{CacheValue}
 use Rattle.hickory_resolver_model.specs.Lookup.{LookupResult}
-use Rattle.hickory_resolver_model.specs.Verdict.{Hop, first_hop, Verdict, Exists, CnameChain, NoMatch, verdict}
-use Rattle.hickory_resolver_model.specs.Hops.{LookupContext, GoesUpstream, FollowsAliases, ChainEnd, Special, Hit, Asked, IsChainEnd, kind_verdict, kind_result, kind_stores, verdict_result, verdict_stores, result_of, asks_of, as_outcome, alias_limit, limit_of, result_until, reply_of, last_stores, earlier_store, earlier_stores, stores_of, Store, after_store, after_stores, HopList, IsCutInAsks, IsReply}
+use Rattle.hickory_resolver_model.specs.Verdict.{Hop, first_hop, Verdict, Accepted, Alias, NoMatch, verdict}
+use Rattle.hickory_resolver_model.specs.Hops.{LookupContext, GoesUpstream, FollowsAliases, ChainEnd, Special, Hit, Asked, IsChainEnd, verdict_on, result_when_asked, stores_when_asked, result_of_verdict, stores_of_verdict, result_of, asks_of, as_outcome, alias_limit, limit_of, result_until, reply_of, last_stores, earlier_store, earlier_stores, stores_of, Store, after_store, after_stores, HopList, IsCutInAsks, IsReply}
 use Rattle.hickory_resolver_theorems.proofs.Lists.{all-append, has-all}
 use Rattle.hickory_resolver_theorems.proofs.Stores.{earlier-all}
 
@@ -25,12 +25,12 @@ none_stored : (front back : List Store) (cache : CacheValue) → AllOut (front +
 none_stored [] back cache a = refl
 none_stored (s ∷ ss) back cache a = ap (λ (o : OutcomeValue). after_stores ss (after_store (record s { outcome = o }) cache)) a.0 ∙ none_stored ss back cache a.1
 
-verdict_out : (s : LookupContext) (hop : Hop) (m : MessageValue) (limit : ℕ) (v : Verdict) → verdict_result s.cache.config hop.query s.now m v ≡ Err OutOfMemory → AllOut (verdict_stores hop.query s.now limit v)
-verdict_out s hop m limit (Exists n) e = cc
-verdict_out s hop m limit (CnameChain next) e = tt
+verdict_out : (s : LookupContext) (hop : Hop) (m : MessageValue) (limit : ℕ) (v : Verdict) → result_of_verdict s.cache.config hop.query s.now m v ≡ Err OutOfMemory → AllOut (stores_of_verdict hop.query s.now limit v)
+verdict_out s hop m limit (Accepted n) e = cc
+verdict_out s hop m limit (Alias next) e = tt
 verdict_out s hop m limit NoMatch e = tt
 
-kind_out : (s : LookupContext) (hop : Hop) (kind : ResponseKind) → kind_result s hop kind ≡ Err OutOfMemory → AllOut (kind_stores s hop kind)
+kind_out : (s : LookupContext) (hop : Hop) (kind : ResponseKind) → result_when_asked s hop kind ≡ Err OutOfMemory → AllOut (stores_when_asked s hop kind)
 kind_out s hop (Answer m) e = verdict_out s hop m (alias_limit s hop.query (Answer m)) (verdict s.preserve_intermediates hop m) e
 kind_out s hop (Negative none) e = cc
 kind_out s hop (Failed error) e = tt
@@ -67,8 +67,8 @@ record FrontKept (front tail kept : List Exchange) : Type 0 where
   parts : kept ≡ front ++ rest
   recorded : RecordedAs tail rest
 
-no_alias : (s : LookupContext) (hop next : Hop) (outcome : OutcomeValue) → outcome ≡ Err OutOfMemory → kind_verdict s hop (kind_of outcome) ≡ Some (CnameChain next) → ⊥
-no_alias s hop next outcome out alias = let clash : None ≡ Some (CnameChain next) = sym (ap (λ (o : OutcomeValue). kind_verdict s hop (kind_of o)) out) ∙ alias in cc
+no_alias : (s : LookupContext) (hop next : Hop) (outcome : OutcomeValue) → outcome ≡ Err OutOfMemory → verdict_on s hop (kind_of outcome) ≡ Some (Alias next) → ⊥
+no_alias s hop next outcome out alias = let clash : None ≡ Some (Alias next) = sym (ap (λ (o : OutcomeValue). verdict_on s hop (kind_of o)) out) ∙ alias in cc
 
 front_kept : (s : LookupContext) (hop last : Hop) (front tail kept : List Exchange) → FollowsAliases s hop front last → RecordedAs (front ++ tail) kept → FrontKept front tail kept
 front_kept s hop last [] tail kept leads r = record { rest = kept; parts = refl; recorded = r }
@@ -110,7 +110,7 @@ module _ (s : LookupContext) (question : Query) where
         let x : Exchange = record { query = hop.query; outcome = outcome } in
         elim (end_kept x rest recorded) [
           | inl e ↦ inl (parts ∙ ap (λ zs. passed ++ zs) e ∙ sym asks_are)
-          | inr d ↦ inr (ap (λ (o : OutcomeValue). kind_result s hop (kind_of o)) d.0, cut_by passed hop leads short ends.0 x refl rest kept parts d.1)
+          | inr d ↦ inr (ap (λ (o : OutcomeValue). result_when_asked s hop (kind_of o)) d.0, cut_by passed hop leads short ends.0 x refl rest kept parts d.1)
         ]
 
   -- the exchanges of the hops are those that were kept, or the last answered that memory had run out

@@ -8,7 +8,7 @@ use Rattle.hickory_proto_core.specs.declared.recorded.Exchange.{Exchange}
 use Rattle.hickory_resolver_model.specs.Attempts.{attempts}
 use Rattle.hickory_resolver_model.specs.Cache.{CacheValue}
 use Rattle.hickory_resolver_model.specs.Lookup.{LookupResult}
-use Rattle.hickory_resolver_model.specs.Calls.{CallContext, Source, Static, Client, SubLookup, IsSubLookupBy, IsSubLookupFor, Plan, IsAttemptResult, AreSubLookups, results_of, stops, CallPlan, Says, AreAttempts, asks_of_sub_lookups, start_at}
+use Rattle.hickory_resolver_model.specs.Calls.{CallContext, Source, Static, Client, SubLookup, IsAnsweredFrom, IsAnsweredFor, Plan, IsAttemptResult, AreSubLookups, results_of, stops, CallPlan, Says, AreAttempts, asks_of_sub_lookups, start_at}
 use Rattle.hickory_resolver_model.specs.Run.{Settings, call_context_at, RequestValue, Lookup, LookupIp, ClearLookup, Clear, StepReply, LookedUp, LookedUpIp, Cleared, Call, AtOnce, Attempt, name_call, address_call, IsCall, IsServed}
 use Rattle.hickory_resolver_theorems.specs.Keeping.{IsServedOver}
 use Rattle.hickory_resolver_theorems.proofs.Kept.{kept_reply}
@@ -41,11 +41,11 @@ no_asks ps kept none r = sym (subst (λ qs. RecordedAs (asks_of_sub_lookups qs) 
 module _ (t : CallContext) where
   -- ---- a sub-look-up
 
-  kept_part : (looked : Bool) (before : CacheValue) (q : Query) (p : SubLookup) (after : CacheValue) (kept : List Exchange) → RecordedAs p.asks kept → IsSubLookupFor t looked before q p after
-      → IsSubLookupFor t looked before q (record { question = p.question; source = p.source; asks = kept; result = p.result }) after
+  kept_part : (looked : Bool) (before : CacheValue) (q : Query) (p : SubLookup) (after : CacheValue) (kept : List Exchange) → RecordedAs p.asks kept → IsAnsweredFor t looked before q p after
+      → IsAnsweredFor t looked before q (record { question = p.question; source = p.source; asks = kept; result = p.result }) after
   kept_part looked before q p after kept r (for, is) = (for, by p.source is)
     where
-      by : (source : Source) → IsSubLookupBy source t looked before p after → IsSubLookupBy source t looked before (record { question = p.question; source = p.source; asks = kept; result = p.result }) after
+      by : (source : Source) → IsAnsweredFrom source t looked before p after → IsAnsweredFrom source t looked before (record { question = p.question; source = p.source; asks = kept; result = p.result }) after
       by Static is = record {
         asks_hosts = is.asks_hosts;
         found = is.found;
@@ -62,10 +62,10 @@ module _ (t : CallContext) where
     parts : List SubLookup
     asks_are : asks_of_sub_lookups parts ≡ kept
     results_are : results_of parts ≡ results_of ps
-    are : AreSubLookups (IsSubLookupFor t) looked n plan before results parts after
+    are : AreSubLookups (IsAnsweredFor t) looked n plan before results parts after
 
   kept_subs : (looked : Bool) (n : NameValue) (plan : Plan) (before : CacheValue) (results : List LookupResult) (ps : List SubLookup) (after : CacheValue) (kept : List Exchange) → RecordedAs (asks_of_sub_lookups ps) kept
-      → AreSubLookups (IsSubLookupFor t) looked n plan before results ps after → KeptSubs looked n plan before results ps after kept
+      → AreSubLookups (IsAnsweredFor t) looked n plan before results ps after → KeptSubs looked n plan before results ps after kept
   kept_subs looked n plan before results [] after kept r same = record { parts = []; asks_are = sym r; results_are = refl; are = same }
   kept_subs looked n plan before results (p ∷ ps) after kept r (u, mid, next, is, rest) =
       let s = recorded_split p.asks (asks_of_sub_lookups ps) kept r in
@@ -82,10 +82,10 @@ module _ (t : CallContext) where
   record KeptAttempts (plan : CallPlan) (looked : Bool) (before : CacheValue) (names : List NameValue) (last : LookupResult → Type 0) (result : LookupResult) (after : CacheValue) (kept : List Exchange) : Type 0 where
     parts : List SubLookup
     asks_are : asks_of_sub_lookups parts ≡ kept
-    are : AreAttempts (IsSubLookupFor t) plan looked before names last parts result after
+    are : AreAttempts (IsAnsweredFor t) plan looked before names last parts result after
 
   kept_attempts : (plan : CallPlan) (looked : Bool) (before : CacheValue) (names : List NameValue) (last : LookupResult → Type 0) (ps : List SubLookup) (result : LookupResult) (after : CacheValue) (kept : List Exchange) → RecordedAs (asks_of_sub_lookups ps) kept
-      → AreAttempts (IsSubLookupFor t) plan looked before names last ps result after → KeptAttempts plan looked before names last result after kept
+      → AreAttempts (IsAnsweredFor t) plan looked before names last ps result after → KeptAttempts plan looked before names last result after kept
   kept_attempts plan looked before [] last ps result after kept r (none, is, same) = record { parts = []; asks_are = no_asks ps kept none r; are = (refl, is, same) }
   kept_attempts plan looked before (n ∷ ns) last ps result after kept r (front, back, one, mid, are, attempt, goes) = on (λ xs rs rest. kept_attempts plan plan.hosts_for_all mid ns (λ x. x ≡ one) back result after xs rs rest) goes
     where
@@ -95,8 +95,8 @@ module _ (t : CallContext) where
       here : KeptSubs looked n plan.types before [] front mid split.front
       here = kept_subs looked n plan.types before [] front mid split.front split.first attempt.are
 
-      on : ((xs : List Exchange) → RecordedAs (asks_of_sub_lookups back) xs → AreAttempts (IsSubLookupFor t) plan plan.hosts_for_all mid ns (λ x. x ≡ one) back result after → KeptAttempts plan plan.hosts_for_all mid ns (λ x. x ≡ one) result after xs)
-          → ((stops one ≡ true) × (back ≡ []) × (result ≡ one) × (after ≡ mid)) ⊎ ((stops one ≡ false) × AreAttempts (IsSubLookupFor t) plan plan.hosts_for_all mid ns (λ x. x ≡ one) back result after)
+      on : ((xs : List Exchange) → RecordedAs (asks_of_sub_lookups back) xs → AreAttempts (IsAnsweredFor t) plan plan.hosts_for_all mid ns (λ x. x ≡ one) back result after → KeptAttempts plan plan.hosts_for_all mid ns (λ x. x ≡ one) result after xs)
+          → ((stops one ≡ true) × (back ≡ []) × (result ≡ one) × (after ≡ mid)) ⊎ ((stops one ≡ false) × AreAttempts (IsAnsweredFor t) plan plan.hosts_for_all mid ns (λ x. x ≡ one) back result after)
           → KeptAttempts plan looked before (n ∷ ns) last result after kept
       on again (inl (stopped, none, e, same)) = record {
         parts = here.parts;
@@ -117,10 +117,10 @@ module _ (s : Settings) (before : CacheValue) where
   record KeptCall (now : ℕ) (call : Call) (result : LookupResult) (after : CacheValue) (kept : List Exchange) : Type 0 where
     parts : List SubLookup
     asks_are : asks_of_sub_lookups parts ≡ kept
-    is : IsCall (IsSubLookupFor (call_context_at s now)) s before call parts result after
+    is : IsCall (IsAnsweredFor (call_context_at s now)) s before call parts result after
 
   kept_call : (now : ℕ) (call : Call) (ps : List SubLookup) (result : LookupResult) (after : CacheValue) (kept : List Exchange) → RecordedAs (asks_of_sub_lookups ps) kept
-      → IsCall (IsSubLookupFor (call_context_at s now)) s before call ps result after → KeptCall now call result after kept
+      → IsCall (IsAnsweredFor (call_context_at s now)) s before call ps result after → KeptCall now call result after kept
   kept_call now (AtOnce answer) ps result after kept r (none, e, same) = record { parts = []; asks_are = no_asks ps kept none r; is = (refl, e, same) }
   kept_call now (Attempt n plan) ps result after kept r are =
       let k = kept_attempts (call_context_at s now) plan true before (attempts s.search n) (Says plan.no_names) ps result after kept r are in
@@ -128,7 +128,7 @@ module _ (s : Settings) (before : CacheValue) where
 
   -- ---- a request
 
-  pub kept_request : (request : RequestValue) (ps : List SubLookup) (reply : StepReply) (after : CacheValue) (kept : List Exchange) → IsServed (λ now. IsSubLookupFor (call_context_at s now)) s before request ps reply after
+  pub kept_request : (request : RequestValue) (ps : List SubLookup) (reply : StepReply) (after : CacheValue) (kept : List Exchange) → IsServed (λ now. IsAnsweredFor (call_context_at s now)) s before request ps reply after
       → RecordedAs (asks_of_sub_lookups ps) kept → IsServedOver s before request kept reply after
   kept_request (Lookup text t now) ps (LookedUp reply) after kept (inl (name, said, is)) r =
       let k = kept_call now (name_call t name) ps reply after kept r is in

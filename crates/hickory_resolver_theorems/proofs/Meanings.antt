@@ -24,20 +24,20 @@ use Rattle.hickory_resolver_model.specs.Bounds.{ConfigValue, clamped_message, cl
 use Rattle.hickory_resolver_model.specs.Lookup.{LookupResult}
 use Rattle.hickory_resolver_model.specs.SpecialUse.{special_use_result, loopback_zones, is_loopback_name, is_nonexistent_name, loopback_data, one_record, no_records, full_name}
 use Rattle.hickory_resolver_model.specs.AliasWalk.{walk_of}
-use Rattle.hickory_resolver_model.specs.Verdict.{Hop, Verdict, Exists, CnameChain, NoMatch, next_hop, verdict, first_hop}
-use Rattle.hickory_resolver_model.specs.Hops.{LookupContext, kind_verdict, kind_result, verdict_result}
+use Rattle.hickory_resolver_model.specs.Verdict.{Hop, Verdict, Accepted, Alias, NoMatch, next_hop, verdict, first_hop}
+use Rattle.hickory_resolver_model.specs.Hops.{LookupContext, verdict_on, result_when_asked, result_of_verdict}
 use Rattle.hickory_resolver_theorems.specs.Cacheless.{cacheless_context, ResolvesTo, at_special, at_last, at_alias}
-use Rattle.hickory_resolver_theorems.specs.WithoutTimes.{folded_name, folded_query, folded_data, record_without_times, sections, WithoutTimes, without_times}
+use Rattle.hickory_resolver_theorems.specs.Cores.{folded_name, folded_query, folded_data, record_core, sections, ReplyCore, reply_core}
 use Rattle.hickory_resolver_theorems.proofs.Folding.{lowers-twice, query_type-folded_name, query_class-folded_name, map-map}
 use Rattle.hickory_resolver_theorems.proofs.VerdictFacts.{alias-leads}
 use Rattle.hickory_resolver_theorems.proofs.Responses.{Ends, GoesOn, next_verdict, next_class, next_outcome, next-same}
 
 -- ---- special names
 
-abbrev negative_for : Query → Code → WithoutTimes
+abbrev negative_for : Query → Code → ReplyCore
 negative_for q code = Err (Dns (NoRecordsFound (record { query = q; soa = None; ns = None; negative_ttl = None; response_code = code; authorities = None })))
 
-abbrev loopback_core : Query → Option DataValue → WithoutTimes
+abbrev loopback_core : Query → Option DataValue → ReplyCore
 loopback_core q o = option_map_or (λ rdata. Ok (record { answers = record { name = q.name; dns_class = class.IN; ttl = 0; rdata = folded_data rdata } ∷ []; authorities = []; additionals = [] })) o (negative_for q NoError)
 
 abbrev invalid : NameValue
@@ -47,11 +47,11 @@ abbrev onion : NameValue
 onion = full_name (codes "onion" ∷ [])
 
 -- what a special name comes to, from the question in lower case
-abbrev special_by : Query → Bool → Bool → Option DataValue → Bool → Option WithoutTimes
+abbrev special_by : Query → Bool → Bool → Option DataValue → Bool → Option ReplyCore
 special_by q internet loopback rdata nonexistent =
     if internet then (if loopback then Some (loopback_core q rdata) else (if nonexistent then Some (negative_for q NXDomain) else None)) else None
 
-abbrev special_core : Query → Option WithoutTimes
+abbrev special_core : Query → Option ReplyCore
 special_core q = special_by q (class_code q.query_class == 1) (is_loopback_name q.name) (loopback_data (type_code q.query_type)) (is_nonexistent_name q.name)
 
 in_zone-folded_name : (zone n : NameValue) → is_zone_of zone (folded_name n) ≡ is_zone_of zone n
@@ -61,7 +61,7 @@ any-same : {A : Type 0} (p q : A → Bool) → ((x : A) → p x ≡ q x) → (xs
 any-same p q same [] = refl
 any-same p q same (x ∷ xs) = ap₂ (λ a b. a || b) (same x) (any-same p q same xs)
 
-special_use_result-folded_name : (q : Query) (now : ℕ) → option_map without_times (special_use_result q now) ≡ special_core (folded_query q)
+special_use_result-folded_name : (q : Query) (now : ℕ) → option_map reply_core (special_use_result q now) ≡ special_core (folded_query q)
 special_use_result-folded_name q now = by (class_code q.query_class == 1) (is_loopback_name q.name) (loopback_data (type_code q.query_type)) (is_nonexistent_name q.name) ∙ sym same
   where
     same : special_core (folded_query q) ≡ special_by (folded_query q) (class_code q.query_class == 1) (is_loopback_name q.name) (loopback_data (type_code q.query_type)) (is_nonexistent_name q.name)
@@ -73,7 +73,7 @@ special_use_result-folded_name q now = by (class_code q.query_class == 1) (is_lo
         λ i. special_by (folded_query q) (cq i == 1) (zones i) (loopback_data (tq i)) (nonexistent i)
 
     by : (internet loopback : Bool) (rdata : Option DataValue) (nonexistent : Bool)
-        → option_map without_times (if internet then (if loopback then Some (option_map_or (λ r. Ok (one_record q r now)) rdata (Err (no_records q NoError))) else (if nonexistent then Some (Err (no_records q NXDomain)) else None)) else None)
+        → option_map reply_core (if internet then (if loopback then Some (option_map_or (λ r. Ok (one_record q r now)) rdata (Err (no_records q NoError))) else (if nonexistent then Some (Err (no_records q NXDomain)) else None)) else None)
         ≡ special_by (folded_query q) internet loopback rdata nonexistent
     by false loopback rdata nonexistent = refl
     by true true None nonexistent = refl
@@ -82,27 +82,27 @@ special_use_result-folded_name q now = by (class_code q.query_class == 1) (is_lo
     by true false rdata false = refl
 
 -- equal questions are special alike, at whatever moments
-pub special_use_result-same : (p q : Query) (now later : ℕ) → folded_query p ≡ folded_query q → option_map without_times (special_use_result p now) ≡ option_map without_times (special_use_result q later)
+pub special_use_result-same : (p q : Query) (now later : ℕ) → folded_query p ≡ folded_query q → option_map reply_core (special_use_result p now) ≡ option_map reply_core (special_use_result q later)
 special_use_result-same p q now later e = special_use_result-folded_name p now ∙ ap special_core e ∙ sym (special_use_result-folded_name q later)
 
-none-from : (o : Option LookupResult) → option_map without_times o ≡ None → o ≡ None
+none-from : (o : Option LookupResult) → option_map reply_core o ≡ None → o ≡ None
 none-from None h = refl
 none-from (Some r) h = cc
 
-pub record IsSomeCore (o : Option LookupResult) (c : WithoutTimes) : Type 0 where
+pub record IsSomeCore (o : Option LookupResult) (c : ReplyCore) : Type 0 where
   pub reply : LookupResult
   pub is : o ≡ Some reply
-  pub core_is : without_times reply ≡ c
+  pub core_is : reply_core reply ≡ c
 
-some-from : (o : Option LookupResult) (c : WithoutTimes) → option_map without_times o ≡ Some c → IsSomeCore o c
+some-from : (o : Option LookupResult) (c : ReplyCore) → option_map reply_core o ≡ Some c → IsSomeCore o c
 some-from None c h = cc
-some-from (Some r) c h = record { reply = r; is = refl; core_is = (let same : without_times r ≡ c = cc in same) }
+some-from (Some r) c h = record { reply = r; is = refl; core_is = (let same : reply_core r ≡ c = cc in same) }
 
 pub special_use_result-none : (p q : Query) (now later : ℕ) → folded_query p ≡ folded_query q → special_use_result p now ≡ None → special_use_result q later ≡ None
-special_use_result-none p q now later e h = none-from (special_use_result q later) (sym (special_use_result-same p q now later e) ∙ ap (option_map without_times) h)
+special_use_result-none p q now later e h = none-from (special_use_result q later) (sym (special_use_result-same p q now later e) ∙ ap (option_map reply_core) h)
 
-pub special_use_result-some : (p q : Query) (now later : ℕ) (r : LookupResult) → folded_query p ≡ folded_query q → special_use_result p now ≡ Some r → IsSomeCore (special_use_result q later) (without_times r)
-special_use_result-some p q now later r e h = some-from (special_use_result q later) (without_times r) (sym (special_use_result-same p q now later e) ∙ ap (option_map without_times) h)
+pub special_use_result-some : (p q : Query) (now later : ℕ) (r : LookupResult) → folded_query p ≡ folded_query q → special_use_result p now ≡ Some r → IsSomeCore (special_use_result q later) (reply_core r)
+special_use_result-some p q now later r e h = some-from (special_use_result q later) (reply_core r) (sym (special_use_result-same p q now later e) ∙ ap (option_map reply_core) h)
 
 -- ---- a table's outcomes
 
@@ -119,21 +119,21 @@ outcome-same p q table e = ap (λ f. lookup f table) (λ i x. query_eq-same p q 
 
 pub sections-clamped_message : (config : ConfigValue) (m : MessageValue) → sections (clamped_message config m) ≡ sections m
 sections-clamped_message config m =
-    let a = map-map record_without_times (clamped_record config) record_without_times (λ r. refl) m.answers in
-    let b = map-map record_without_times (clamped_record config) record_without_times (λ r. refl) m.authorities in
-    let c = map-map record_without_times (clamped_record config) record_without_times (λ r. refl) m.additionals in
+    let a = map-map record_core (clamped_record config) record_core (λ r. refl) m.answers in
+    let b = map-map record_core (clamped_record config) record_core (λ r. refl) m.authorities in
+    let c = map-map record_core (clamped_record config) record_core (λ r. refl) m.additionals in
     λ i. record { answers = a i; authorities = b i; additionals = c i }
 
 -- a hop passes to a next one, or its result ends the look-up
 pub record GoesOnTo (s : LookupContext) (hop : Hop) (c : ResponseKind) : Type 0 where
   pub next : Hop
-  pub alias : kind_verdict s hop c ≡ Some (CnameChain next)
+  pub alias : verdict_on s hop c ≡ Some (Alias next)
   pub on : next_class hop.query c ≡ GoesOn (folded_query next.query)
   pub plain : next.preserved ≡ []
 
 pub record EndsWith (s : LookupContext) (hop : Hop) (c : ResponseKind) : Type 0 where
-  pub no_alias : (next : Hop) → kind_verdict s hop c ≡ Some (CnameChain next) → ⊥
-  pub ends : next_class hop.query c ≡ Ends (without_times (kind_result s hop c))
+  pub no_alias : (next : Hop) → verdict_on s hop c ≡ Some (Alias next) → ⊥
+  pub ends : next_class hop.query c ≡ Ends (reply_core (result_when_asked s hop c))
 
 pub hop-next : (s : LookupContext) (hop : Hop) (c : ResponseKind) → s.preserve_intermediates ≡ false → hop.preserved ≡ [] → GoesOnTo s hop c ⊎ EndsWith s hop c
 hop-next s hop (Negative n) off none = inr (record { no_alias = λ next h. cc; ends = refl })
@@ -147,12 +147,12 @@ hop-next s hop (Answer m) off none = by (verdict s.preserve_intermediates hop m)
     plain = λ i. verdict (off i) (record { query = q; preserved = none i }) m
 
     by : (v : Verdict) → verdict s.preserve_intermediates hop m ≡ v → GoesOnTo s hop (Answer m) ⊎ EndsWith s hop (Answer m)
-    by (Exists f) e =
+    by (Accepted f) e =
         inr (record {
-          no_alias = λ next h. let clash : Some (Exists f) ≡ Some (CnameChain next) = ap Some (sym e) ∙ h in cc;
-          ends = ap (next_verdict q m) (sym plain ∙ e) ∙ ap (λ x. Ends (Ok x)) (sym (sections-clamped_message s.cache.config f)) ∙ ap (λ v. Ends (without_times (verdict_result s.cache.config q s.now m v))) (sym e);
+          no_alias = λ next h. let clash : Some (Accepted f) ≡ Some (Alias next) = ap Some (sym e) ∙ h in cc;
+          ends = ap (next_verdict q m) (sym plain ∙ e) ∙ ap (λ x. Ends (Ok x)) (sym (sections-clamped_message s.cache.config f)) ∙ ap (λ v. Ends (reply_core (result_of_verdict s.cache.config q s.now m v))) (sym e);
         })
-    by (CnameChain next) e =
+    by (Alias next) e =
         let there : next ≡ next_hop s.preserve_intermediates hop (walk_of q m.answers) m = (alias-leads s.preserve_intermediates hop m next e).next_is in
         inl (record {
           next = next;
@@ -162,36 +162,36 @@ hop-next s hop (Answer m) off none = by (verdict s.preserve_intermediates hop m)
         })
     by NoMatch e =
         inr (record {
-          no_alias = λ next h. let clash : Some NoMatch ≡ Some (CnameChain next) = ap Some (sym e) ∙ h in cc;
-          ends = ap (next_verdict q m) (sym plain ∙ e) ∙ ap (λ v. Ends (without_times (verdict_result s.cache.config q s.now m v))) (sym e);
+          no_alias = λ next h. let clash : Some NoMatch ≡ Some (Alias next) = ap Some (sym e) ∙ h in cc;
+          ends = ap (next_verdict q m) (sym plain ∙ e) ∙ ap (λ v. Ends (reply_core (result_of_verdict s.cache.config q s.now m v))) (sym e);
         })
 
 -- ---- meanings
 
 -- a meaning by what the table's outcome comes to
-pub means-ends : (table : TableValue) (q : Query) (o : OutcomeValue) (r : WithoutTimes) → special_use_result q 0 ≡ None → outcome_in q table ≡ Some o → next_outcome q o ≡ Ends r → ResolvesTo table q r 1
+pub means-ends : (table : TableValue) (q : Query) (o : OutcomeValue) (r : ReplyCore) → special_use_result q 0 ≡ None → outcome_in q table ≡ Some o → next_outcome q o ≡ Ends r → ResolvesTo table q r 1
 means-ends table q o r plain found ends = by (hop-next cacheless_context (first_hop q) (kind_of o) refl refl)
   where
     by : GoesOnTo cacheless_context (first_hop q) (kind_of o) ⊎ EndsWith cacheless_context (first_hop q) (kind_of o) → ResolvesTo table q r 1
     by (inl on) = let clash : Ends r ≡ GoesOn (folded_query on.next.query) = sym ends ∙ on.on in cc
     by (inr last) =
-        let same : Ends (without_times (kind_result cacheless_context (first_hop q) (kind_of o))) ≡ Ends r = sym last.ends ∙ ends in
-        let cores : without_times (kind_result cacheless_context (first_hop q) (kind_of o)) ≡ r = cc in
+        let same : Ends (reply_core (result_when_asked cacheless_context (first_hop q) (kind_of o))) ≡ Ends r = sym last.ends ∙ ends in
+        let cores : reply_core (result_when_asked cacheless_context (first_hop q) (kind_of o)) ≡ r = cc in
         subst (λ c. ResolvesTo table q c 1) cores (at_last plain found last.no_alias)
 
 -- the three ways in which a question has a meaning
-pub record BySpecial (q : Query) (r : WithoutTimes) : Type 0 where
+pub record BySpecial (q : Query) (r : ReplyCore) : Type 0 where
   pub reply : LookupResult
   pub is : special_use_result q 0 ≡ Some reply
-  pub core_is : without_times reply ≡ r
+  pub core_is : reply_core reply ≡ r
 
-pub record ByOutcome (table : TableValue) (q : Query) (r : WithoutTimes) : Type 0 where
+pub record ByOutcome (table : TableValue) (q : Query) (r : ReplyCore) : Type 0 where
   pub plain : special_use_result q 0 ≡ None
   pub outcome : OutcomeValue
   pub found : outcome_in q table ≡ Some outcome
   pub ends : next_outcome q outcome ≡ Ends r
 
-pub record ByAlias (table : TableValue) (q : Query) (r : WithoutTimes) (n : ℕ) : Type 0 where
+pub record ByAlias (table : TableValue) (q : Query) (r : ReplyCore) (n : ℕ) : Type 0 where
   pub plain : special_use_result q 0 ≡ None
   pub outcome : OutcomeValue
   pub found : outcome_in q table ≡ Some outcome
@@ -201,11 +201,11 @@ pub record ByAlias (table : TableValue) (q : Query) (r : WithoutTimes) (n : ℕ)
   pub means : ResolvesTo table next r rest
   pub length_is : n ≡ suc rest
 
-pub means-cases : (table : TableValue) (q : Query) (r : WithoutTimes) (n : ℕ) → ResolvesTo table q r n → BySpecial q r ⊎ (ByOutcome table q r ⊎ ByAlias table q r n)
+pub means-cases : (table : TableValue) (q : Query) (r : ReplyCore) (n : ℕ) → ResolvesTo table q r n → BySpecial q r ⊎ (ByOutcome table q r ⊎ ByAlias table q r n)
 means-cases table q r n (at_special {reply = reply} h) = inl (record { reply = reply; is = h; core_is = refl })
 means-cases table q r n (at_last {outcome = o} plain found no_alias) = inr (inl (record { plain = plain; outcome = o; found = found; ends = by (hop-next cacheless_context (first_hop q) (kind_of o) refl refl) }))
   where
-    by : GoesOnTo cacheless_context (first_hop q) (kind_of o) ⊎ EndsWith cacheless_context (first_hop q) (kind_of o) → next_outcome q o ≡ Ends (without_times (kind_result cacheless_context (first_hop q) (kind_of o)))
+    by : GoesOnTo cacheless_context (first_hop q) (kind_of o) ⊎ EndsWith cacheless_context (first_hop q) (kind_of o) → next_outcome q o ≡ Ends (reply_core (result_when_asked cacheless_context (first_hop q) (kind_of o)))
     by (inl on) = absurd (no_alias on.next on.alias)
     by (inr last) = last.ends
 means-cases table q r n (at_alias {next = next} {outcome = o} {n = m} plain found alias means) =
@@ -213,59 +213,59 @@ means-cases table q r n (at_alias {next = next} {outcome = o} {n = m} plain foun
   where
     by : GoesOnTo cacheless_context (first_hop q) (kind_of o) ⊎ EndsWith cacheless_context (first_hop q) (kind_of o) → next_outcome q o ≡ GoesOn (folded_query next.query)
     by (inl there) =
-        let twice : Some (CnameChain there.next) ≡ Some (CnameChain next) = sym there.alias ∙ alias in
+        let twice : Some (Alias there.next) ≡ Some (Alias next) = sym there.alias ∙ alias in
         let same : there.next ≡ next = cc in
         there.on ∙ ap (λ h. GoesOn (folded_query h.query)) same
     by (inr last) = absurd (last.no_alias next alias)
 
-pub means-some : (table : TableValue) (q : Query) (r : WithoutTimes) (n : ℕ) → ResolvesTo table q r n → 1 ≤ n
+pub means-some : (table : TableValue) (q : Query) (r : ReplyCore) (n : ℕ) → ResolvesTo table q r n → 1 ≤ n
 means-some table q r n (at_special h) = omega arith
 means-some table q r n (at_last plain found no_alias) = omega arith
 means-some table q r n (at_alias {n = m} plain found alias means) = omega arith
 
 -- equal questions mean the same
-pub means-same : (table : TableValue) (p q : Query) (r : WithoutTimes) (n : ℕ) → folded_query p ≡ folded_query q → ResolvesTo table p r n → ResolvesTo table q r n
+pub means-same : (table : TableValue) (p q : Query) (r : ReplyCore) (n : ℕ) → folded_query p ≡ folded_query q → ResolvesTo table p r n → ResolvesTo table q r n
 means-same table p q r n e (at_special {reply = reply} h) = let there = special_use_result-some p q 0 0 reply e h in subst (λ c. ResolvesTo table q c 1) there.core_is (at_special there.is)
 means-same table p q r n e (at_last {outcome = o} plain found no_alias) = by (hop-next cacheless_context (first_hop p) (kind_of o) refl refl)
   where
-    by : GoesOnTo cacheless_context (first_hop p) (kind_of o) ⊎ EndsWith cacheless_context (first_hop p) (kind_of o) → ResolvesTo table q (without_times (kind_result cacheless_context (first_hop p) (kind_of o))) 1
+    by : GoesOnTo cacheless_context (first_hop p) (kind_of o) ⊎ EndsWith cacheless_context (first_hop p) (kind_of o) → ResolvesTo table q (reply_core (result_when_asked cacheless_context (first_hop p) (kind_of o))) 1
     by (inl on) = absurd (no_alias on.next on.alias)
-    by (inr last) = means-ends table q o (without_times (kind_result cacheless_context (first_hop p) (kind_of o))) (special_use_result-none p q 0 0 e plain) (sym (outcome-same p q table e) ∙ found) (sym (next-same p q o o e refl) ∙ last.ends)
+    by (inr last) = means-ends table q o (reply_core (result_when_asked cacheless_context (first_hop p) (kind_of o))) (special_use_result-none p q 0 0 e plain) (sym (outcome-same p q table e) ∙ found) (sym (next-same p q o o e refl) ∙ last.ends)
 means-same table p q r n e (at_alias {next = next} {outcome = o} {n = m} plain found alias means) = by (hop-next cacheless_context (first_hop p) (kind_of o) refl refl) (hop-next cacheless_context (first_hop q) (kind_of o) refl refl) (λ there same. means-same table next.query there r m same means)
   where
     by : GoesOnTo cacheless_context (first_hop p) (kind_of o) ⊎ EndsWith cacheless_context (first_hop p) (kind_of o) → GoesOnTo cacheless_context (first_hop q) (kind_of o) ⊎ EndsWith cacheless_context (first_hop q) (kind_of o)
         → ((there : Query) → folded_query next.query ≡ folded_query there → ResolvesTo table there r m) → ResolvesTo table q r (suc m)
     by (inr last) other rest = absurd (last.no_alias next alias)
     by (inl here) (inl there) rest =
-        let twice : Some (CnameChain here.next) ≡ Some (CnameChain next) = sym here.alias ∙ alias in
+        let twice : Some (Alias here.next) ≡ Some (Alias next) = sym here.alias ∙ alias in
         let same : here.next ≡ next = cc in
         let both : GoesOn (folded_query here.next.query) ≡ GoesOn (folded_query there.next.query) = sym here.on ∙ next-same p q o o e refl ∙ there.on in
         let questions : folded_query here.next.query ≡ folded_query there.next.query = cc in
         at_alias (special_use_result-none p q 0 0 e plain) (sym (outcome-same p q table e) ∙ found) there.alias (rest there.next.query (ap (λ h. folded_query h.query) (sym same) ∙ questions))
-    by (inl here) (inr last) rest = let clash : GoesOn (folded_query here.next.query) ≡ Ends (without_times (kind_result cacheless_context (first_hop q) (kind_of o))) = sym here.on ∙ next-same p q o o e refl ∙ last.ends in cc
+    by (inl here) (inr last) rest = let clash : GoesOn (folded_query here.next.query) ≡ Ends (reply_core (result_when_asked cacheless_context (first_hop q) (kind_of o))) = sym here.on ∙ next-same p q o o e refl ∙ last.ends in cc
 
 -- and they mean one reply at most
-pub means-one : (table : TableValue) (q : Query) (r c : WithoutTimes) (n m : ℕ) → ResolvesTo table q r n → ResolvesTo table q c m → r ≡ c
+pub means-one : (table : TableValue) (q : Query) (r c : ReplyCore) (n m : ℕ) → ResolvesTo table q r n → ResolvesTo table q c m → r ≡ c
 means-one table q r c n m (at_special {reply = reply} h) other = by (means-cases table q c m other)
   where
-    by : BySpecial q c ⊎ (ByOutcome table q c ⊎ ByAlias table q c m) → without_times reply ≡ c
-    by (inl s) = let twice : Some reply ≡ Some s.reply = sym h ∙ s.is in let same : reply ≡ s.reply = cc in ap without_times same ∙ s.core_is
+    by : BySpecial q c ⊎ (ByOutcome table q c ⊎ ByAlias table q c m) → reply_core reply ≡ c
+    by (inl s) = let twice : Some reply ≡ Some s.reply = sym h ∙ s.is in let same : reply ≡ s.reply = cc in ap reply_core same ∙ s.core_is
     by (inr (inl o)) = let clash : Some reply ≡ None = sym h ∙ o.plain in cc
     by (inr (inr a)) = let clash : Some reply ≡ None = sym h ∙ a.plain in cc
 means-one table q r c n m (at_last {outcome = o} plain found no_alias) other = by (hop-next cacheless_context (first_hop q) (kind_of o) refl refl) (means-cases table q c m other)
   where
-    by : GoesOnTo cacheless_context (first_hop q) (kind_of o) ⊎ EndsWith cacheless_context (first_hop q) (kind_of o) → BySpecial q c ⊎ (ByOutcome table q c ⊎ ByAlias table q c m) → without_times (kind_result cacheless_context (first_hop q) (kind_of o)) ≡ c
+    by : GoesOnTo cacheless_context (first_hop q) (kind_of o) ⊎ EndsWith cacheless_context (first_hop q) (kind_of o) → BySpecial q c ⊎ (ByOutcome table q c ⊎ ByAlias table q c m) → reply_core (result_when_asked cacheless_context (first_hop q) (kind_of o)) ≡ c
     by (inl on) cases = absurd (no_alias on.next on.alias)
     by (inr last) (inl s) = let clash : None ≡ Some s.reply = sym plain ∙ s.is in cc
     by (inr last) (inr (inl u)) =
         let twice : Some o ≡ Some u.outcome = sym found ∙ u.found in
         let same : o ≡ u.outcome = cc in
-        let ends : Ends (without_times (kind_result cacheless_context (first_hop q) (kind_of o))) ≡ Ends c = sym last.ends ∙ ap (next_outcome q) same ∙ u.ends in
+        let ends : Ends (reply_core (result_when_asked cacheless_context (first_hop q) (kind_of o))) ≡ Ends c = sym last.ends ∙ ap (next_outcome q) same ∙ u.ends in
         cc
     by (inr last) (inr (inr a)) =
         let twice : Some o ≡ Some a.outcome = sym found ∙ a.found in
         let same : o ≡ a.outcome = cc in
-        let clash : Ends (without_times (kind_result cacheless_context (first_hop q) (kind_of o))) ≡ GoesOn (folded_query a.next) = sym last.ends ∙ ap (next_outcome q) same ∙ a.on in
+        let clash : Ends (reply_core (result_when_asked cacheless_context (first_hop q) (kind_of o))) ≡ GoesOn (folded_query a.next) = sym last.ends ∙ ap (next_outcome q) same ∙ a.on in
         cc
 means-one table q r c n m (at_alias {next = next} {outcome = o} {n = k} plain found alias means) other = by (hop-next cacheless_context (first_hop q) (kind_of o) refl refl) (means-cases table q c m other) (λ j there. means-one table next.query r c k j means there)
   where
@@ -280,7 +280,7 @@ means-one table q r c n m (at_alias {next = next} {outcome = o} {n = k} plain fo
     by (inl on) (inr (inr a)) rest =
         let twice : Some o ≡ Some a.outcome = sym found ∙ a.found in
         let same : o ≡ a.outcome = cc in
-        let hops : Some (CnameChain on.next) ≡ Some (CnameChain next) = sym on.alias ∙ alias in
+        let hops : Some (Alias on.next) ≡ Some (Alias next) = sym on.alias ∙ alias in
         let one : on.next ≡ next = cc in
         let both : GoesOn (folded_query a.next) ≡ GoesOn (folded_query on.next.query) = sym a.on ∙ ap (next_outcome q) (sym same) ∙ on.on in
         let questions : folded_query a.next ≡ folded_query on.next.query = cc in

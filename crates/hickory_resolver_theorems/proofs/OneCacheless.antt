@@ -24,11 +24,11 @@ use Rattle.hickory_proto_core.specs.declared.net_error.NetError.TheVariants.{Out
 use Rattle.hickory_resolver_model.specs.Cache.{CacheValue}
 use Rattle.hickory_resolver_model.specs.Lookup.{LookupValue, LookupResult, question_of}
 use Rattle.hickory_resolver_model.specs.Hosts.{Host, as_fqdn, family, is_host, has_address, pointers, pointer_lookup, StandsFor, static_answer, IsStatic}
-use Rattle.hickory_resolver_model.specs.Calls.{CallContext, SubLookup, Plan, One, Both, Fallback, has_answers, is_out_of_memory, both_results, next_type, attempt_result, IsAttemptResult, AreSubLookups, results_of, IsAttempt, IsStaticSubLookup, stops, CallPlan, IsLastReply, Says, AreAttempts}
+use Rattle.hickory_resolver_model.specs.Calls.{CallContext, SubLookup, Plan, One, Both, Fallback, has_answers, is_out_of_memory, both_results, next_type, attempt_result, IsAttemptResult, AreSubLookups, results_of, IsAttempt, IsAnsweredByHosts, stops, CallPlan, IsLastReply, Says, AreAttempts}
 use Rattle.hickory_resolver_model.specs.Attempts.{attempts}
 use Rattle.hickory_resolver_model.specs.Run.{Settings, call_context_at, RequestValue, Lookup, LookupIp, ClearLookup, Clear, LookedUp, LookedUpIp, Call, AtOnce, Attempt, name_call, address_call, IsCall}
 use Rattle.hickory_resolver_theorems.specs.AttemptLaws.{some_attempt}
-use Rattle.hickory_resolver_theorems.specs.WithoutTimes.{WithoutTimes, sections, without_times, record_without_times}
+use Rattle.hickory_resolver_theorems.specs.Cores.{ReplyCore, sections, reply_core, record_core}
 use Rattle.hickory_resolver_theorems.specs.Statements.{IsCachelessSubLookup, CachelessSubLookup, IsOneCachelessBy, IsOneCacheless}
 use Rattle.hickory_resolver_theorems.proofs.Meanings.{means-one}
 
@@ -98,41 +98,41 @@ same-static q now hosts a b (x, h, e) (y, k, f) = e ∙ by (asks_for type.PTR q)
 -- ---- what replies come to
 
 abbrev Same : LookupResult → LookupResult → Type 0
-Same a b = without_times a ≡ without_times b
+Same a b = reply_core a ≡ reply_core b
 
 empty-map : {A B : Type 0} (f : A → B) (xs : List A) → is_empty (map f xs) ≡ is_empty xs
 empty-map f [] = refl
 empty-map f (x ∷ xs) = refl
 
-abbrev core_answers : WithoutTimes → Bool
+abbrev core_answers : ReplyCore → Bool
 core_answers (Ok s) = not (is_empty s.answers)
 core_answers (Err e) = false
 
-core-answers : (r : LookupResult) → core_answers (without_times r) ≡ has_answers r
-core-answers (Ok l) = ap not (empty-map record_without_times l.message.answers)
+core-answers : (r : LookupResult) → core_answers (reply_core r) ≡ has_answers r
+core-answers (Ok l) = ap not (empty-map record_core l.message.answers)
 core-answers (Err e) = refl
 
 same-answers : (a b : LookupResult) → Same a b → has_answers a ≡ has_answers b
 same-answers a b same = sym (core-answers a) ∙ ap core_answers same ∙ core-answers b
 
-core-append : (l k : LookupValue) → without_times (both_results (Ok l) (Ok k)) ≡ Ok (record {
+core-append : (l k : LookupValue) → reply_core (both_results (Ok l) (Ok k)) ≡ Ok (record {
   answers = (sections l.message).answers ++ (sections k.message).answers;
   authorities = (sections l.message).authorities ++ (sections k.message).authorities;
   additionals = (sections l.message).additionals ++ (sections k.message).additionals;
 })
 core-append l k =
-    let one = map-append record_without_times l.message.answers k.message.answers in
-    let two = map-append record_without_times l.message.authorities k.message.authorities in
-    let three = map-append record_without_times l.message.additionals k.message.additionals in
+    let one = map-append record_core l.message.answers k.message.answers in
+    let two = map-append record_core l.message.authorities k.message.authorities in
+    let three = map-append record_core l.message.additionals k.message.additionals in
     λ i. Ok (record { answers = one i; authorities = two i; additionals = three i })
 
-abbrev core_both : WithoutTimes → WithoutTimes → WithoutTimes
+abbrev core_both : ReplyCore → ReplyCore → ReplyCore
 core_both (Ok l) (Ok k) = Ok (record { answers = l.answers ++ k.answers; authorities = l.authorities ++ k.authorities; additionals = l.additionals ++ k.additionals })
 core_both (Ok l) (Err e) = Ok l
 core_both (Err e) (Ok k) = Ok k
 core_both (Err e) (Err f) = Err e
 
-core-both : (a b : LookupResult) → without_times (both_results a b) ≡ core_both (without_times a) (without_times b)
+core-both : (a b : LookupResult) → reply_core (both_results a b) ≡ core_both (reply_core a) (reply_core b)
 core-both (Ok l) (Ok k) = core-append l k
 core-both (Ok l) (Err e) = refl
 core-both (Err e) (Ok k) = refl
@@ -156,7 +156,7 @@ meet a b live alive (inr (inr same)) = same
 found-meets : (a b : LookupResult) (l k : LookupValue) → l ≡ k → (a ≡ Ok l) ⊎ (a ≡ Err OutOfMemory) → (b ≡ Ok k) ⊎ (b ≡ Err OutOfMemory) → Meet a b
 found-meets a b l k e (inr out) is = inl (ap is_out_of_memory out)
 found-meets a b l k e (inl ok) (inr out) = inr (inl (ap is_out_of_memory out))
-found-meets a b l k e (inl ok) (inl too) = inr (inr (ap without_times (ok ∙ ap Ok e ∙ sym too)))
+found-meets a b l k e (inl ok) (inl too) = inr (inr (ap reply_core (ok ∙ ap Ok e ∙ sym too)))
 
 -- where the table is looked at and has something, nothing else is asked
 never : (t : CallContext) (looked : Bool) (q : Query) (found : LookupValue) → looked ≡ true → IsStatic q t.now t.hosts (Some found) → (looked ≡ false) ⊎ IsStatic q t.now t.hosts None → ⊥
@@ -169,7 +169,7 @@ part-once table t looked q c d e f p u (for, is) (for_too, is_too) = by is is_to
     has-at : (x : SubLookup) → x.question ≡ q → (found : LookupValue) → IsStatic x.question t.now t.hosts (Some found) → IsStatic q t.now t.hosts (Some found)
     has-at x same found has = subst (λ y. IsStatic y t.now t.hosts (Some found)) same has
 
-    by : IsStaticSubLookup t looked c p d ⊎ (IsCachelessSubLookup table t looked q p × (d ≡ c)) → IsStaticSubLookup t looked e u f ⊎ (IsCachelessSubLookup table t looked q u × (f ≡ e)) → Meet p.result u.result
+    by : IsAnsweredByHosts t looked c p d ⊎ (IsCachelessSubLookup table t looked q p × (d ≡ c)) → IsAnsweredByHosts t looked e u f ⊎ (IsCachelessSubLookup table t looked q u × (f ≡ e)) → Meet p.result u.result
     by (inl s) (inl v) = found-meets p.result u.result s.found v.found (let both : Some s.found ≡ Some v.found = same-static q t.now t.hosts (Some s.found) (Some v.found) (has-at p for s.found s.has) (has-at u for_too v.found v.has) in let one : s.found ≡ v.found = cc in one) s.result_is v.result_is
     by (inl s) (inr (v, same)) = absurd (never t looked q s.found s.asks_hosts (has-at p for s.found s.has) v.not_static)
     by (inr (s, same)) (inl v) = absurd (never t looked q v.found v.asks_hosts (has-at u for_too v.found v.has) s.not_static)
@@ -202,7 +202,7 @@ Made table t looked n (Fallback u v) r =
 made-once : (table : TableValue) (t : CallContext) (looked : Bool) (n : NameValue) (plan : Plan) (r k : LookupResult) → Made table t looked n plan r → Made table t looked n plan k → Same r k
 made-once table t looked n (One u) r k x y = answered-once table t looked (question_of n u) r k x y
 made-once table t looked n (Both u v) r k (a, b, x, y, e) (c, d, z, w, f) =
-    ap without_times e ∙ same-both a b c d (answered-once table t looked (question_of n u) a c x z) (answered-once table t looked (question_of n v) b d y w) ∙ sym (ap without_times f)
+    ap reply_core e ∙ same-both a b c d (answered-once table t looked (question_of n u) a c x z) (answered-once table t looked (question_of n v) b d y w) ∙ sym (ap reply_core f)
 made-once table t looked n (Fallback u v) r k (inl (x, h)) (inl (y, j)) = answered-once table t looked (question_of n u) r k x y
 made-once table t looked n (Fallback u v) r k (inl (x, h)) (inr (c, z, none, w)) =
     let clash : true ≡ false = sym h ∙ same-answers r c (answered-once table t looked (question_of n u) r c x z) ∙ none in cc
@@ -300,14 +300,14 @@ last-once : (literal : Option LookupValue) (first second : LookupResult → Type
 last-once None first second r k known live alive x y = known x y
 last-once (Some l) first second r k known live alive (inr out) y = let clash : false ≡ true = sym live ∙ ap is_out_of_memory out in cc
 last-once (Some l) first second r k known live alive (inl e) (inr out) = let clash : false ≡ true = sym alive ∙ ap is_out_of_memory out in cc
-last-once (Some l) first second r k known live alive (inl e) (inl f) = ap without_times (e ∙ sym f)
+last-once (Some l) first second r k known live alive (inl e) (inl f) = ap reply_core (e ∙ sym f)
 
 tries-once : (table : TableValue) (t : CallContext) (plan : CallPlan) (looked : Bool) (c d : CacheValue) (names : List NameValue) (first second : LookupResult → Type 0) (ps qs : List SubLookup) (r k : LookupResult) (e f : CacheValue)
     → (names ≡ [] → first r → second k → Same r k) → is_out_of_memory r ≡ false → is_out_of_memory k ≡ false
     → AreAttempts (CachelessSubLookup table t) plan looked c names first ps r e → AreAttempts (CachelessSubLookup table t) plan looked d names second qs k f → Same r k
 tries-once table t plan looked c d [] first second ps qs r k e f known live alive (none, last, same) (nothing, final, unchanged) = last-once plan.literal first second r k (known refl) live alive last final
 tries-once table t plan looked c d (n ∷ ns) first second ps qs r k e f known live alive (front, back, a, mid, are, attempt, goes) (before, behind, b, between, are_too, attempt_too, goes_too) =
-    by goes goes_too (λ rest more. tries-once table t plan plan.hosts_for_all mid between ns (λ x. x ≡ a) (λ x. x ≡ b) back behind r k e f (λ none x y. ap without_times x ∙ same ∙ sym (ap without_times y)) live alive rest more)
+    by goes goes_too (λ rest more. tries-once table t plan plan.hosts_for_all mid between ns (λ x. x ≡ a) (λ x. x ≡ b) back behind r k e f (λ none x y. ap reply_core x ∙ same ∙ sym (ap reply_core y)) live alive rest more)
   where
     a_live : is_out_of_memory a ≡ false
     a_live = goes-live table t plan mid ns a back r e live goes
@@ -320,7 +320,7 @@ tries-once table t plan looked c d (n ∷ ns) first second ps qs r k e f known l
 
     by : Goes table t plan mid ns a back r e → Goes table t plan between ns b behind k f
         → (AreAttempts (CachelessSubLookup table t) plan plan.hosts_for_all mid ns (λ x. x ≡ a) back r e → AreAttempts (CachelessSubLookup table t) plan plan.hosts_for_all between ns (λ x. x ≡ b) behind k f → Same r k) → Same r k
-    by (inl (x, none, is, u)) (inl (y, nothing, is_too, v)) more = ap without_times is ∙ same ∙ sym (ap without_times is_too)
+    by (inl (x, none, is, u)) (inl (y, nothing, is_too, v)) more = ap reply_core is ∙ same ∙ sym (ap reply_core is_too)
     by (inl (x, none, is, u)) (inr (on, rest)) more = let clash : true ≡ false = sym x ∙ same-stops a b a_live b_live same ∙ on in cc
     by (inr (on, rest)) (inl (y, nothing, is_too, v)) more = let clash : true ≡ false = sym y ∙ sym (same-stops a b a_live b_live same) ∙ on in cc
     by (inr (on, rest)) (inr (too, others)) more = more rest others
@@ -329,7 +329,7 @@ tries-once table t plan looked c d (n ∷ ns) first second ps qs r k e f known l
 
 call-once : (table : TableValue) (s : Settings) (now : ℕ) (call : Call) (c d e f : CacheValue) (ps qs : List SubLookup) (r k : LookupResult) → is_out_of_memory r ≡ false → is_out_of_memory k ≡ false
     → IsCall (CachelessSubLookup table (call_context_at s now)) s c call ps r e → IsCall (CachelessSubLookup table (call_context_at s now)) s d call qs k f → Same r k
-call-once table s now (AtOnce answer) c d e f ps qs r k live alive (none, is, same) (nothing, is_too, unchanged) = ap without_times (is ∙ sym is_too)
+call-once table s now (AtOnce answer) c d e f ps qs r k live alive (none, is, same) (nothing, is_too, unchanged) = ap reply_core (is ∙ sym is_too)
 call-once table s now (Attempt n plan) c d e f ps qs r k live alive x y =
     tries-once table (call_context_at s now) plan true c d (attempts s.search n) (Says plan.no_names) (Says plan.no_names) ps qs r k e f (λ none _ _. absurd (some_attempt s.search n none)) live alive x y
 

@@ -4,7 +4,7 @@ use Rattle.std.proofs.lemmas.Bool.{and_parts, eq-eqb}
 use Rattle.std.specs.List.{AllByRecursion, Contains}
 use Rattle.std.specs.declared.net.IpAddr.{IpAddr}
 use Rattle.hickory_proto_core.specs.Codes.{type_code}
-use Rattle.hickory_proto_core.specs.Handles.{Step}
+use Rattle.hickory_proto_core.specs.Handles.{HandleStep}
 use Rattle.hickory_proto_core.specs.Name.{NameValue}
 use Rattle.hickory_proto_core.specs.ResponseKind.{ResponseKind, Answer, Negative, Failed, kind_of}
 use Rattle.hickory_proto_core.specs.codes.record_type.RecordType.{RecordType}
@@ -15,16 +15,16 @@ use Rattle.hickory_proto_core.specs.declared.net_error.NetError.TheVariants.{Mes
 use Rattle.hickory_resolver_model.specs.Bounds.{ConfigValue}
 use Rattle.hickory_resolver_model.specs.Cache.{CacheValue, Entry, IsCache, OutlivesNoAnswer, is_for, is_current, without_query}
 use Rattle.hickory_resolver_model.specs.Lookup.{LookupResult}
-use Rattle.hickory_resolver_model.specs.Verdict.{Hop, Verdict, Exists, CnameChain, NoMatch, first_hop, verdict}
-use Rattle.hickory_resolver_model.specs.Hops.{LookupContext, ChainEnd, Special, Hit, Asked, HopList, Store, IsReply, alias_limit, made_entry, verdict_stores, kind_stores, last_stores, earlier_store, earlier_stores, stores_of, result_of, after_stores}
-use Rattle.hickory_resolver_model.specs.Calls.{CallContext, start_at, Source, Static, Client, SubLookup, IsSubLookupBy, IsSubLookupFor, is_out_of_memory, asks_of_sub_lookups}
+use Rattle.hickory_resolver_model.specs.Verdict.{Hop, Verdict, Accepted, Alias, NoMatch, first_hop, verdict}
+use Rattle.hickory_resolver_model.specs.Hops.{LookupContext, ChainEnd, Special, Hit, Asked, HopList, Store, IsReply, alias_limit, made_entry, stores_of_verdict, stores_when_asked, last_stores, earlier_store, earlier_stores, stores_of, result_of, after_stores}
+use Rattle.hickory_resolver_model.specs.Calls.{CallContext, start_at, Source, Static, Client, SubLookup, IsAnsweredFrom, IsAnsweredFor, is_out_of_memory, asks_of_sub_lookups}
 use Rattle.hickory_resolver_model.specs.Attempts.{attempts}
 use Rattle.hickory_resolver_model.specs.Run.{Settings, call_context_at, Call, IsCall, after_clear, name_call, address_call}
 use Rattle.hickory_resolver_model.specs.Resolver.{ResolverValue, settings, AnswersCall, AnswersName, AnswersHost}
 use Rattle.hickory_resolver_theorems.specs.Aliases.{LimitedSubLookup}
 use Rattle.hickory_resolver_theorems.specs.Covered.{Dated, dated_exchanges}
 use Rattle.hickory_resolver_theorems.specs.Provenance.{is_source, dated_entry, stores_made}
-use Rattle.hickory_resolver_theorems.specs.Statements.{HasNoLeast, IsFreshReply, IsFreshEntry, IsFreshSubLookup, IsWhatItResolvesTo, AreWhatTheyResolveTo, CachelessSubLookup}
+use Rattle.hickory_resolver_theorems.specs.Statements.{LeastTtlIsZero, IsFreshReply, IsFreshEntry, IsFreshSubLookup, IsWhatItResolvesTo, AreWhatTheyResolveTo, CachelessSubLookup}
 use Rattle.hickory_resolver_theorems.specs.CallFacts.{IsCallBy, IsOwnAnswer, AreFreshReplies, IsFreshForType, IsFreshlyStoredBy, FreshlyStoredSubLookup, call_sources, HasCallProvenance, IsFreshCall, IsTransparentCall, IsPromisedCall, PromisesName, PromisesHost, KeepsWhatIsKnown}
 use Rattle.hickory_resolver_theorems.proofs.Lists.{all-weaker, all-append, all-front, all-back, all-filter, all-has, has-all, has-left, has-map, has-filter, find-has, ContainsByRecursion, contains-from_recursion, contains-to_recursion}
 use Rattle.hickory_resolver_theorems.proofs.VerdictFacts.{KeepsType, leads-keep}
@@ -49,12 +49,12 @@ own-typed s code hop (Special reply) same = tt
 own-typed s code hop (Hit entry) same = tt
 own-typed s code hop (Asked outcome) same = by (kind_of outcome)
   where
-    by : (kind : ResponseKind) → AllByRecursion (IsOfType code) (kind_stores s hop kind)
+    by : (kind : ResponseKind) → AllByRecursion (IsOfType code) (stores_when_asked s hop kind)
     by (Answer m) = on (verdict s.preserve_intermediates hop m)
       where
-        on : (v : Verdict) → AllByRecursion (IsOfType code) (verdict_stores hop.query s.now (alias_limit s hop.query (Answer m)) v)
-        on (Exists found) = (same, tt)
-        on (CnameChain next) = tt
+        on : (v : Verdict) → AllByRecursion (IsOfType code) (stores_of_verdict hop.query s.now (alias_limit s hop.query (Answer m)) v)
+        on (Accepted found) = (same, tt)
+        on (Alias next) = tt
         on NoMatch = tt
     by (Negative none) = (same, tt)
     by (Failed error) = tt
@@ -98,7 +98,7 @@ module _ (now : ℕ) (first : CacheValue) (cache : IsCache first.config first.ca
   -- what a part keeps to
   record IsSourcedPart (config : ConfigValue) (s : LookupContext) (p : SubLookup) (after : CacheValue) (reply : IsReply s p.question p.asks p.result after) : Type 0 where
     stores : AllByRecursion (λ store. IfSome (made_entry config store) (IsFreshForType config sources)) (stores_made s p.question p.asks p.result after reply)
-    fresh : HasNoLeast config (type_code p.question.query_type) → IsFreshReply config (sources (type_code p.question.query_type)) (type_code p.question.query_type) s.now p.result
+    fresh : LeastTtlIsZero config (type_code p.question.query_type) → IsFreshReply config (sources (type_code p.question.query_type)) (type_code p.question.query_type) s.now p.result
     known : AllByRecursion (IsKnown config) after.entries
 
   part-sourced : (s : LookupContext) (p : SubLookup) (after : CacheValue) → s.now ≡ now → s.cache.config ≡ first.config → AllByRecursion (IsKnown s.cache.config) s.cache.entries
@@ -173,11 +173,11 @@ module _ (now : ℕ) (first : CacheValue) (cache : IsCache first.config first.ca
   abbrev SourcedSubLookup : CallContext → Bool → CacheValue → Query → SubLookup → CacheValue → Type 0
   SourcedSubLookup t looked before q p after = FreshlyStoredSubLookup sources t looked before q p after × IsFreshSubLookup first.config sources now p
 
-  sourced-step : (t : CallContext) → t.now ≡ now → (looked : Bool) (before : CacheValue) (q : Query) (p : SubLookup) (after : CacheValue) → Holds before → IsAsked p → IsSubLookupFor t looked before q p after
+  sourced-step : (t : CallContext) → t.now ≡ now → (looked : Bool) (before : CacheValue) (q : Query) (p : SubLookup) (after : CacheValue) → Holds before → IsAsked p → IsAnsweredFor t looked before q p after
       → SourcedSubLookup t looked before q p after × Holds after
   sourced-step t moment looked before q p after (bounds, known) asked (for, is) = let there = by p.source refl is in (((for, there.0.0), there.0.1), there.1)
     where
-      by : (source : Source) → p.source ≡ source → IsSubLookupBy source t looked before p after → (IsFreshlyStoredBy sources source t looked before p after × IsFreshSubLookup first.config sources now p) × Holds after
+      by : (source : Source) → p.source ≡ source → IsAnsweredFrom source t looked before p after → (IsFreshlyStoredBy sources source t looked before p after × IsFreshSubLookup first.config sources now p) × Holds after
       by Static e part = (
         (part, λ client. absurd (let clash : Static ≡ Client = sym e ∙ client in cc)),
         subst Holds (sym part.unchanged) (bounds, known),
@@ -189,7 +189,7 @@ module _ (now : ℕ) (first : CacheValue) (cache : IsCache first.config first.ca
             (
               (part, there.stores),
               λ client zero. subst (λ n. IsFreshReply first.config (sources code) code n p.result) moment
-                  (subst (λ c. IsFreshReply c (sources code) code t.now p.result) bounds (there.fresh (subst (λ c. HasNoLeast c code) (sym bounds) zero))),
+                  (subst (λ c. IsFreshReply c (sources code) code t.now p.result) bounds (there.fresh (subst (λ c. LeastTtlIsZero c code) (sym bounds) zero))),
             ),
             (
               reply-config (start_at t before) p.question p.asks p.result after part.reply ∙ bounds,
@@ -202,15 +202,15 @@ asks-all : (P : Exchange → Type 0) (ps : List SubLookup) → AllByRecursion P 
 asks-all P [] h = tt
 asks-all P (p ∷ ps) h = (all-front P p.asks (asks_of_sub_lookups ps) h, asks-all P ps (all-back P p.asks (asks_of_sub_lookups ps) h))
 
-told-by : (s : Settings) (now : ℕ) (before : CacheValue) (call : Call) (parts : List SubLookup) (reply : LookupResult) (after : CacheValue) → IsCallBy (IsSubLookupFor (call_context_at s now)) s before call parts reply after → IsTold (IsOwnAnswer call) parts reply
-told-by s now before call parts reply after (inl is) = told-call (IsSubLookupFor (call_context_at s now)) s before call parts reply after is
+told-by : (s : Settings) (now : ℕ) (before : CacheValue) (call : Call) (parts : List SubLookup) (reply : LookupResult) (after : CacheValue) → IsCallBy (IsAnsweredFor (call_context_at s now)) s before call parts reply after → IsTold (IsOwnAnswer call) parts reply
+told-by s now before call parts reply after (inl is) = told-call (IsAnsweredFor (call_context_at s now)) s before call parts reply after is
 told-by s now before call parts reply after (inr (none, e, same)) = told-unserved (IsOwnAnswer call) parts reply e
 
-chain-by : (s : Settings) (now : ℕ) (before : CacheValue) (call : Call) (parts : List SubLookup) (reply : LookupResult) (after : CacheValue) → IsCallBy (IsSubLookupFor (call_context_at s now)) s before call parts reply after → Chain (IsSubLookupFor (call_context_at s now)) before parts after
-chain-by s now before call parts reply after (inl is) = chain-call (IsSubLookupFor (call_context_at s now)) s before call parts reply after is
-chain-by s now before call parts reply after (inr (none, e, same)) = chain-none (IsSubLookupFor (call_context_at s now)) before parts after none same
+chain-by : (s : Settings) (now : ℕ) (before : CacheValue) (call : Call) (parts : List SubLookup) (reply : LookupResult) (after : CacheValue) → IsCallBy (IsAnsweredFor (call_context_at s now)) s before call parts reply after → Chain (IsAnsweredFor (call_context_at s now)) before parts after
+chain-by s now before call parts reply after (inl is) = chain-call (IsAnsweredFor (call_context_at s now)) s before call parts reply after is
+chain-by s now before call parts reply after (inr (none, e, same)) = chain-none (IsAnsweredFor (call_context_at s now)) before parts after none same
 
-provenance : (s : Settings) (now : ℕ) (before : CacheValue) (call : Call) (parts : List SubLookup) (reply : LookupResult) (after : CacheValue) → IsCache before.config before.capacity before.entries → IsCallBy (IsSubLookupFor (call_context_at s now)) s before call parts reply after
+provenance : (s : Settings) (now : ℕ) (before : CacheValue) (call : Call) (parts : List SubLookup) (reply : LookupResult) (after : CacheValue) → IsCache before.config before.capacity before.entries → IsCallBy (IsAnsweredFor (call_context_at s now)) s before call parts reply after
     → HasCallProvenance s now before call parts reply after
 provenance s now before call parts reply after cache is = by is
   where
@@ -237,10 +237,10 @@ provenance s now before call parts reply after cache is = by is
     replies : AllByRecursion (IsFreshSubLookup before.config sources now) parts → AreFreshReplies before.config sources now call parts reply
     replies all = record { parts_are = all; answers_are = has-fresh (IsOwnAnswer call) before.config sources now parts reply all (told-by s now before call parts reply after is) }
 
-    by : IsCallBy (IsSubLookupFor (call_context_at s now)) s before call parts reply after → HasCallProvenance s now before call parts reply after
+    by : IsCallBy (IsAnsweredFor (call_context_at s now)) s before call parts reply after → HasCallProvenance s now before call parts reply after
     by (inl is) =
         let Sourced = SourcedSubLookup now before cache sources own (call_context_at s now) in
-        let there = call-along (IsSubLookupFor (call_context_at s now)) Sourced (Holds now before cache sources own) (IsAsked now before cache sources own)
+        let there = call-along (IsAnsweredFor (call_context_at s now)) Sourced (Holds now before cache sources own) (IsAsked now before cache sources own)
         (sourced-step now before cache sources own (call_context_at s now) refl) s before call parts reply after (refl, old) asked is in
         record {
           replies = replies (chain-all Sourced (IsFreshSubLookup before.config sources now) (λ looked mid q p end h. h.1) before parts after (chain-call Sourced s before call parts reply after there.0));
@@ -255,7 +255,7 @@ provenance s now before call parts reply after cache is = by is
 
 -- ---- by whatever covers the entries before
 
-fresh_call : (s : Settings) (now : ℕ) (before : CacheValue) (call : Call) (parts : List SubLookup) (reply : LookupResult) (after : CacheValue) → IsCallBy (IsSubLookupFor (call_context_at s now)) s before call parts reply after → IsFreshCall now before call parts reply after
+fresh_call : (s : Settings) (now : ℕ) (before : CacheValue) (call : Call) (parts : List SubLookup) (reply : LookupResult) (after : CacheValue) → IsCallBy (IsAnsweredFor (call_context_at s now)) s before call parts reply after → IsFreshCall now before call parts reply after
 fresh_call s now before call parts reply after is earlier entries =
     let good = good-chain (call_context_at s now) before earlier parts after entries (chain-by s now before call parts reply after is) in
     let received = earlier ++ dated_exchanges now (asks_of_sub_lookups parts) in (
@@ -265,20 +265,20 @@ fresh_call s now before call parts reply after is earlier entries =
 
 -- ---- few questions
 
-part-few : (t : CallContext) (looked : Bool) (before : CacheValue) (q : Query) (p : SubLookup) (after : CacheValue) → IsSubLookupFor t looked before q p after → length p.asks ≤ 8
+part-few : (t : CallContext) (looked : Bool) (before : CacheValue) (q : Query) (p : SubLookup) (after : CacheValue) → IsAnsweredFor t looked before q p after → length p.asks ≤ 8
 part-few t looked before q p after (for, is) = by p.source is
   where
-    by : (source : Source) → IsSubLookupBy source t looked before p after → length p.asks ≤ 8
+    by : (source : Source) → IsAnsweredFrom source t looked before p after → length p.asks ≤ 8
     by Static part = omega (arith, ap length part.nothing_asked)
     by Client part = few (start_at t before) p.question p.asks p.result after part.reply
 
-pub few_call : (s : Settings) (now : ℕ) (before : CacheValue) (call : Call) (parts : List SubLookup) (reply : LookupResult) (after : CacheValue) → IsCallBy (IsSubLookupFor (call_context_at s now)) s before call parts reply after → AllByRecursion (λ p. length p.asks ≤ 8) parts
-few_call s now before call parts reply after is = chain-all (IsSubLookupFor (call_context_at s now)) (λ p. length p.asks ≤ 8) (part-few (call_context_at s now)) before parts after (chain-by s now before call parts reply after is)
+pub few_call : (s : Settings) (now : ℕ) (before : CacheValue) (call : Call) (parts : List SubLookup) (reply : LookupResult) (after : CacheValue) → IsCallBy (IsAnsweredFor (call_context_at s now)) s before call parts reply after → AllByRecursion (λ p. length p.asks ≤ 8) parts
+few_call s now before call parts reply after is = chain-all (IsAnsweredFor (call_context_at s now)) (λ p. length p.asks ≤ 8) (part-few (call_context_at s now)) before parts after (chain-by s now before call parts reply after is)
 
 -- ---- no alias outlives its CNAMEs
 
-limited_call : (s : Settings) (now : ℕ) (before : CacheValue) (call : Call) (parts : List SubLookup) (reply : LookupResult) (after : CacheValue) → IsCallBy (IsSubLookupFor (call_context_at s now)) s before call parts reply after → IsCallBy (LimitedSubLookup (call_context_at s now)) s before call parts reply after
-limited_call s now before call parts reply after (inl is) = inl (call-weaker (IsSubLookupFor (call_context_at s now)) (LimitedSubLookup (call_context_at s now)) (part_limited (call_context_at s now)) s before call parts reply after is)
+limited_call : (s : Settings) (now : ℕ) (before : CacheValue) (call : Call) (parts : List SubLookup) (reply : LookupResult) (after : CacheValue) → IsCallBy (IsAnsweredFor (call_context_at s now)) s before call parts reply after → IsCallBy (LimitedSubLookup (call_context_at s now)) s before call parts reply after
+limited_call s now before call parts reply after (inl is) = inl (call-weaker (IsAnsweredFor (call_context_at s now)) (LimitedSubLookup (call_context_at s now)) (part_limited (call_context_at s now)) s before call parts reply after is)
 limited_call s now before call parts reply after (inr unserved) = inr unserved
 
 -- ---- transparency
@@ -293,7 +293,7 @@ out-is (Err NoOutcome) e = cc
 out-is (Err (Bounds error)) e = cc
 out-is (Err OutOfMemory) e = refl
 
-transparent_call : (s : Settings) (now : ℕ) (before : CacheValue) (call : Call) (parts : List SubLookup) (reply : LookupResult) (after : CacheValue) → IsCallBy (IsSubLookupFor (call_context_at s now)) s before call parts reply after → IsTransparentCall s now before call parts reply after
+transparent_call : (s : Settings) (now : ℕ) (before : CacheValue) (call : Call) (parts : List SubLookup) (reply : LookupResult) (after : CacheValue) → IsCallBy (IsAnsweredFor (call_context_at s now)) s before call parts reply after → IsTransparentCall s now before call parts reply after
 transparent_call s now before call parts reply after (inr (none, e, same)) table off apart tells meant has = (inl e, subst (AreWhatTheyResolveTo table) (sym same) meant)
 transparent_call s now before call parts reply after (inl is) table off apart tells meant has = (by there.0, there.1)
   where
@@ -306,7 +306,7 @@ transparent_call s now before call parts reply after (inl is) table off apart te
 
 -- ---- a call
 
-pub promised_call : {H : Type 0} (step : Step H) (now : ℕ) (call : Call) (before : ResolverValue H) (result : LookupResult) (after : ResolverValue H) → IsCache before.client.cache.config before.client.cache.capacity before.client.cache.entries → AnswersCall step now call before result after
+pub promised_call : {H : Type 0} (step : HandleStep H) (now : ℕ) (call : Call) (before : ResolverValue H) (result : LookupResult) (after : ResolverValue H) → IsCache before.client.cache.config before.client.cache.capacity before.client.cache.entries → AnswersCall step now call before result after
     → IsPromisedCall step now call before result after
 promised_call step now call before result after cache is =
     let s = settings before in
@@ -321,11 +321,11 @@ promised_call step now call before result after cache is =
       no_alias_outlives = limited_call s now first call is.parts result last is.is;
     }
 
-pub promised_name : {H : Type 0} (step : Step H) (Gives : Result NameValue NameError → Type 0) (t : RecordType) (now : ℕ) (before : ResolverValue H) (result : LookupResult) (after : ResolverValue H) → IsCache before.client.cache.config before.client.cache.capacity before.client.cache.entries
+pub promised_name : {H : Type 0} (step : HandleStep H) (Gives : Result NameValue NameError → Type 0) (t : RecordType) (now : ℕ) (before : ResolverValue H) (result : LookupResult) (after : ResolverValue H) → IsCache before.client.cache.config before.client.cache.capacity before.client.cache.entries
     → AnswersName step Gives t now before result after → PromisesName step Gives t now before result after
 promised_name step Gives t now before result after cache (name, gives, is) = (name, gives, promised_call step now (name_call t name) before result after cache is)
 
-pub promised_host : {H : Type 0} (step : Step H) (Spells : Option IpAddr → Type 0) (Gives : Result NameValue NameError → Type 0) (now : ℕ) (before : ResolverValue H) (result : LookupResult) (after : ResolverValue H) → IsCache before.client.cache.config before.client.cache.capacity before.client.cache.entries
+pub promised_host : {H : Type 0} (step : HandleStep H) (Spells : Option IpAddr → Type 0) (Gives : Result NameValue NameError → Type 0) (now : ℕ) (before : ResolverValue H) (result : LookupResult) (after : ResolverValue H) → IsCache before.client.cache.config before.client.cache.capacity before.client.cache.entries
     → AnswersHost step Spells Gives now before result after → PromisesHost step Spells Gives now before result after
 promised_host step Spells Gives now before result after cache (address, spells, name, gives, inl (read, is)) = (address, spells, name, gives, inl (read, promised_call step now (address_call (settings before) address name now) before result after cache is))
 promised_host step Spells Gives now before result after cache (address, spells, name, gives, inr out) = (address, spells, name, gives, inr out)

@@ -1,6 +1,6 @@
 -- What is promised of look-ups and runs holds of those of the definition.
 use Rattle.std.proofs.Common.{ℕ, List}
-use Rattle.hickory_proto_core.specs.Handles.{Step}
+use Rattle.hickory_proto_core.specs.Handles.{HandleStep}
 use Rattle.hickory_proto_core.specs.declared.query.Query.{Query}
 use Rattle.hickory_proto_core.specs.declared.dns_request.DnsRequestOptions.{DnsRequestOptions}
 use Rattle.hickory_proto_core.specs.declared.recorded.Exchange.{Exchange}
@@ -16,7 +16,7 @@ use Rattle.hickory_resolver_theorems.proofs.Transparent.{transparent}
 use Rattle.hickory_resolver_theorems.proofs.Headlines.{headline}
 use Rattle.hickory_resolver_theorems.proofs.AliasLifetimes.{no_alias_outlives, run_limited}
 
-pub promised_lookup : {H : Type 0} (step : Step H) (options : DnsRequestOptions) (now : ℕ) (before : ClientValue H) (question : Query) (result : LookupResult) (after : ClientValue H) → IsCache before.cache.config before.cache.capacity before.cache.entries → IsLookup step options now before question result after
+pub promised_lookup : {H : Type 0} (step : HandleStep H) (options : DnsRequestOptions) (now : ℕ) (before : ClientValue H) (question : Query) (result : LookupResult) (after : ClientValue H) → IsCache before.cache.config before.cache.capacity before.cache.entries → IsLookup step options now before question result after
     → IsPromisedLookup step options now before question result after
 promised_lookup step options now before question result after cache is =
     let s = start_of before now in
@@ -29,7 +29,7 @@ promised_lookup step options now before question result after cache is =
       no_alias_outlives = no_alias_outlives s question is.asks result after.cache is.reply;
     }
 
-pub promised_run : {H : Type 0} (step : Step H) (s : Settings) (handle : H) (requests : List RequestValue) (steps : List StepValue) (exchanges : List Exchange) (handle_after : H) (cache_after : CacheValue) → IsRun step s handle requests steps exchanges handle_after cache_after
+pub promised_run : {H : Type 0} (step : HandleStep H) (s : Settings) (handle : H) (requests : List RequestValue) (steps : List StepValue) (exchanges : List Exchange) (handle_after : H) (cache_after : CacheValue) → IsRun step s handle requests steps exchanges handle_after cache_after
     → IsPromisedRun step s handle requests steps exchanges handle_after cache_after
 promised_run step s handle requests steps exchanges handle_after cache_after is = record {
   is = is;

@@ -17,33 +17,33 @@ use Rattle.hickory_proto_core.specs.codes.op_code.OpCode.TheVariants as op
 use Rattle.hickory_proto_core.specs.declared.net_error.NetError.{NetError}
 use Rattle.hickory_proto_core.specs.declared.net_error.NetError.TheVariants.{Message, Timeout, Proto, Dns, NoOutcome, Bounds, OutOfMemory}
 use Rattle.hickory_proto_core.specs.declared.net_error.DnsError.TheVariants.{ResponseCode, NoRecordsFound}
-use Rattle.hickory_resolver_model.specs.AliasWalk.{Walk, Counted, Alias, Server, counted, reached_by, ends_at, has_target, is_moved, standing, walk_step, walk_from, walk_of, follows_aliases}
-use Rattle.hickory_resolver_model.specs.Verdict.{Verdict, Exists, CnameChain, NoMatch, is_match, is_led_match, is_accepted, is_filtered, is_intermediate, found_message, filtered_answers, first_or, next_name, next_hop, all_records, with_ttl_at_most, verdict, first_hop}
+use Rattle.hickory_resolver_model.specs.AliasWalk.{Walk, Counted, AliasTo, Server, counted, reached_by, ends_at, has_target, is_moved, standing, walk_step, walk_from, walk_of, follows_aliases}
+use Rattle.hickory_resolver_model.specs.Verdict.{Verdict, Accepted, Alias, NoMatch, is_match, is_led_match, is_accepted, is_filtered, is_intermediate, found_message, filtered_answers, first_or, next_name, next_hop, all_records, with_ttl_at_most, verdict, first_hop}
 use Rattle.hickory_resolver_model.specs.Hops.{no_match}
-use Rattle.hickory_resolver_theorems.specs.WithoutTimes.{folded_name, folded_query, record_without_times, Sections, sections, forward_without_times, error_without_times, WithoutTimes, ResponseWithoutTimes, outcome_without_times}
+use Rattle.hickory_resolver_theorems.specs.Cores.{folded_name, folded_query, record_core, Sections, sections, forward_core, error_core, ReplyCore, ResponseCore, outcome_core}
 use Rattle.hickory_resolver_theorems.proofs.Folding.{name_eq-folded_name, zone_of-folded_name, minimum-folded_name, target-folded_name, folded_counted, counted-folded_name, record_type-folded_name, query_type-folded_name, query_class-folded_name, record_class-folded_name, any-map, filter-map, find-map, map-map}
 
 -- what a question comes to by one outcome: a reply, or another question
 pub data Next : Type 0 where
-  Ends : WithoutTimes → Next
+  Ends : ReplyCore → Next
   GoesOn : Query → Next
 
 abbrev pub next_verdict : Query → MessageValue → Verdict → Next
-next_verdict q m (Exists f) = Ends (Ok (sections f))
-next_verdict q m (CnameChain h) = GoesOn (folded_query h.query)
-next_verdict q m NoMatch = Ends (Err (error_without_times (no_match q m)))
+next_verdict q m (Accepted f) = Ends (Ok (sections f))
+next_verdict q m (Alias h) = GoesOn (folded_query h.query)
+next_verdict q m NoMatch = Ends (Err (error_core (no_match q m)))
 
 abbrev pub next_class : Query → ResponseKind → Next
 next_class q (Answer m) = next_verdict q m (verdict false (first_hop q) m)
-next_class q (Negative n) = Ends (Err (error_without_times (Dns (NoRecordsFound n))))
-next_class q (Failed e) = Ends (Err (error_without_times e))
+next_class q (Negative n) = Ends (Err (error_core (Dns (NoRecordsFound n))))
+next_class q (Failed e) = Ends (Err (error_core e))
 
 abbrev pub next_outcome : Query → OutcomeValue → Next
 next_outcome q o = next_class q (kind_of o)
 
 -- ---- the same from what the outcome comes to, and the question in lower case
 
-abbrev message_of : ResponseWithoutTimes → MessageValue
+abbrev message_of : ResponseCore → MessageValue
 message_of c = record {
   metadata = record (response_metadata 0 op.Query) { truncation = c.truncation; response_code = response_of c.code };
   queries = c.queries;
@@ -52,7 +52,7 @@ message_of c = record {
   additionals = c.body.additionals;
 }
 
-abbrev response_core : MessageValue → ResponseWithoutTimes
+abbrev response_core : MessageValue → ResponseCore
 response_core m = record { code = response_code m.metadata.response_code; truncation = m.metadata.truncation; queries = map folded_query m.queries; body = sections m }
 
 abbrev folded_message : MessageValue → MessageValue
@@ -88,7 +88,7 @@ walk_core q walk m =
 abbrev answer_core : Query → MessageValue → Next
 answer_core q m = walk_core q (walk_of q m.answers) m
 
-abbrev next_core : Query → Result ResponseWithoutTimes NetError → Next
+abbrev next_core : Query → Result ResponseCore NetError → Next
 next_core q (Ok c) =
     if (c.code == 0) || (c.code == 3) then (if c.truncation || contains_answer (message_of c) then answer_core q (message_of c) else Ends (Err (negative_core_of (message_of c))))
     else Ends (Err (Dns (ResponseCode (response_of c.code))))
@@ -121,7 +121,7 @@ next-folded_name walk = by walk.alias_ttls walk.targets
     by [] [] = refl
     by [] (target ∷ targets) = refl
 
-match-folded_name : (q : Query) (walk : Walk) (r : RecordValue) → is_match (folded_query q) (at_walk walk) (record_without_times r) ≡ is_match q walk r
+match-folded_name : (q : Query) (walk : Walk) (r : RecordValue) → is_match (folded_query q) (at_walk walk) (record_core r) ≡ is_match q walk r
 match-folded_name q walk r =
     let tq = query_type-folded_name q in
     let tr = record_type-folded_name r in
@@ -132,7 +132,7 @@ match-folded_name q walk r =
     let has = has-folded_name walk r.name in
     λ i. ((cq i == cr i) && ((tq i == 255) || (tq i == tr i))) && (own i || (ends i || has i))
 
-led_match-folded_name : (q : Query) (walk : Walk) (r : RecordValue) → is_led_match (folded_query q) (at_walk walk) (record_without_times r) ≡ is_led_match q walk r
+led_match-folded_name : (q : Query) (walk : Walk) (r : RecordValue) → is_led_match (folded_query q) (at_walk walk) (record_core r) ≡ is_led_match q walk r
 led_match-folded_name q walk r =
     let tq = query_type-folded_name q in
     let tr = record_type-folded_name r in
@@ -143,7 +143,7 @@ led_match-folded_name q walk r =
     let moved = moved-at walk in
     λ i. ((cq i == cr i) && ((tq i == 255) || (tq i == tr i))) && (has i || (moved i && ends i))
 
-asked-folded_name : (q : Query) (r : RecordValue) → is_asked (folded_query q) (record_without_times r) ≡ is_asked q r
+asked-folded_name : (q : Query) (r : RecordValue) → is_asked (folded_query q) (record_core r) ≡ is_asked q r
 asked-folded_name q r =
     let tq = query_type-folded_name q in
     let tr = record_type-folded_name r in
@@ -151,14 +151,14 @@ asked-folded_name q r =
     let zone = zone_of-folded_name r.name q.name in
     λ i. if tq i == 255 then own i else (if tq i == 6 then (tr i == 6) && zone i else (tq i == tr i) && own i)
 
-some-folded_name : (p q : RecordValue → Bool) (m : MessageValue) → ((r : RecordValue) → p (record_without_times r) ≡ q r) → some_record p (folded_message m) ≡ some_record q m
+some-folded_name : (p q : RecordValue → Bool) (m : MessageValue) → ((r : RecordValue) → p (record_core r) ≡ q r) → some_record p (folded_message m) ≡ some_record q m
 some-folded_name p q m same =
-    let a = any-map p q record_without_times same m.answers in
-    let b = any-map p q record_without_times same m.authorities in
-    let c = any-map p q record_without_times same m.additionals in
+    let a = any-map p q record_core same m.answers in
+    let b = any-map p q record_core same m.authorities in
+    let c = any-map p q record_core same m.additionals in
     λ i. (a i || b i) || c i
 
-empty-folded_name : (rs : List RecordValue) → is_empty (map record_without_times rs) ≡ is_empty rs
+empty-folded_name : (rs : List RecordValue) → is_empty (map record_core rs) ≡ is_empty rs
 empty-folded_name [] = refl
 empty-folded_name (r ∷ rs) = refl
 
@@ -174,43 +174,43 @@ contains-folded_name m = any-map (λ q. answers_question q (folded_message m)) (
 
 -- ---- the parts of negative answers
 
-soa-folded_name : (rs : List RecordValue) → first_soa (map record_without_times rs) ≡ option_map record_without_times (first_soa rs)
-soa-folded_name rs = find-map (λ r. is_some (soa_minimum r.rdata)) (λ r. is_some (soa_minimum r.rdata)) record_without_times (λ r. ap is_some (minimum-folded_name r.rdata)) rs
+soa-folded_name : (rs : List RecordValue) → first_soa (map record_core rs) ≡ option_map record_core (first_soa rs)
+soa-folded_name rs = find-map (λ r. is_some (soa_minimum r.rdata)) (λ r. is_some (soa_minimum r.rdata)) record_core (λ r. ap is_some (minimum-folded_name r.rdata)) rs
 
 first-folded_name : (qs : List Query) → first_query (map folded_query qs) ≡ folded_query (first_query qs)
 first-folded_name [] = refl
 first-folded_name (q ∷ qs) = refl
 
-section-folded_name : (rs : List RecordValue) → section_or_none (map record_without_times rs) ≡ option_map (map record_without_times) (section_or_none rs)
+section-folded_name : (rs : List RecordValue) → section_or_none (map record_core rs) ≡ option_map (map record_core) (section_or_none rs)
 section-folded_name [] = refl
 section-folded_name (r ∷ rs) = refl
 
-address-folded_name : (server : NameValue) (r : RecordValue) → is_address_of (folded_name server) (record_without_times r) ≡ is_address_of server r
+address-folded_name : (server : NameValue) (r : RecordValue) → is_address_of (folded_name server) (record_core r) ≡ is_address_of server r
 address-folded_name server r =
     let tr = record_type-folded_name r in
     let own = name_eq-folded_name server r.name in
     λ i. ((tr i == 1) || (tr i == 28)) && own i
 
-forward-folded_name : (additionals : List RecordValue) (r : RecordValue) → forward_of (map record_without_times additionals) (record_without_times r) ≡ option_map forward_without_times (forward_of additionals r)
-forward-folded_name additionals r = ap (option_map (λ server. record { ns = record_without_times r; glue = filter (is_address_of server) (map record_without_times additionals) })) (target-folded_name r.rdata) ∙ by (ns_target r.rdata)
+forward-folded_name : (additionals : List RecordValue) (r : RecordValue) → forward_of (map record_core additionals) (record_core r) ≡ option_map forward_core (forward_of additionals r)
+forward-folded_name additionals r = ap (option_map (λ server. record { ns = record_core r; glue = filter (is_address_of server) (map record_core additionals) })) (target-folded_name r.rdata) ∙ by (ns_target r.rdata)
   where
-    by : (o : Option NameValue) → option_map (λ server. record { ns = record_without_times r; glue = filter (is_address_of server) (map record_without_times additionals) }) (option_map folded_name o) ≡ option_map forward_without_times (option_map (λ server. record { ns = r; glue = filter (is_address_of server) additionals }) o)
+    by : (o : Option NameValue) → option_map (λ server. record { ns = record_core r; glue = filter (is_address_of server) (map record_core additionals) }) (option_map folded_name o) ≡ option_map forward_core (option_map (λ server. record { ns = r; glue = filter (is_address_of server) additionals }) o)
     by None = refl
-    by (Some server) = ap (λ glue. Some (record { ns = record_without_times r; glue = glue })) (filter-map (is_address_of (folded_name server)) (is_address_of server) record_without_times (address-folded_name server) additionals)
+    by (Some server) = ap (λ glue. Some (record { ns = record_core r; glue = glue })) (filter-map (is_address_of (folded_name server)) (is_address_of server) record_core (address-folded_name server) additionals)
 
-forwards-folded_name : (additionals rs : List RecordValue) → filter_map (forward_of (map record_without_times additionals)) (map record_without_times rs) ≡ map forward_without_times (filter_map (forward_of additionals) rs)
+forwards-folded_name : (additionals rs : List RecordValue) → filter_map (forward_of (map record_core additionals)) (map record_core rs) ≡ map forward_core (filter_map (forward_of additionals) rs)
 forwards-folded_name additionals [] = refl
 forwards-folded_name additionals (r ∷ rs) = ap₂ cons_option (forward-folded_name additionals r) (forwards-folded_name additionals rs) ∙ by (forward_of additionals r)
   where
-    by : (o : Option ForwardValue) → cons_option (option_map forward_without_times o) (map forward_without_times (filter_map (forward_of additionals) rs)) ≡ map forward_without_times (cons_option o (filter_map (forward_of additionals) rs))
+    by : (o : Option ForwardValue) → cons_option (option_map forward_core o) (map forward_core (filter_map (forward_of additionals) rs)) ≡ map forward_core (cons_option o (filter_map (forward_of additionals) rs))
     by None = refl
     by (Some f) = refl
 
-some-forwards : (fs : List ForwardValue) → forwards_or_none (map forward_without_times fs) ≡ option_map (map forward_without_times) (forwards_or_none fs)
+some-forwards : (fs : List ForwardValue) → forwards_or_none (map forward_core fs) ≡ option_map (map forward_core) (forwards_or_none fs)
 some-forwards [] = refl
 some-forwards (f ∷ fs) = refl
 
-negative-folded_name : (m : MessageValue) → error_without_times (Dns (NoRecordsFound (negative_of m))) ≡ negative_core_of (folded_message m)
+negative-folded_name : (m : MessageValue) → error_core (Dns (NoRecordsFound (negative_of m))) ≡ negative_core_of (folded_message m)
 negative-folded_name m =
     let first = first-folded_name m.queries in
     let soa = soa-folded_name m.authorities in
@@ -225,7 +225,7 @@ negative-folded_name m =
       authorities = section i;
     })))
 
-no_match-folded_name : (q : Query) (m : MessageValue) → error_without_times (no_match q m) ≡ no_match_core (folded_query q) (folded_message m)
+no_match-folded_name : (q : Query) (m : MessageValue) → error_core (no_match q m) ≡ no_match_core (folded_query q) (folded_message m)
 no_match-folded_name q m =
     let soa = soa-folded_name m.authorities in
     sym (λ i. Dns (NoRecordsFound (record {
@@ -243,45 +243,45 @@ no_match-folded_name q m =
 abbrev SameWalk : Walk → Walk → Type 0
 SameWalk w v = (w.places ≡ v.places) × (w.last ≡ folded_name v.last) × (w.targets ≡ map folded_name v.targets) × (w.alias_ttls ≡ map (λ t. 0) v.alias_ttls)
 
-walk_from-folded_name : (asked : NameValue) (rs : List RecordValue) (place : ℕ) (reached : NameValue) → SameWalk (walk_from place (folded_name asked) (folded_name reached) (map record_without_times rs)) (walk_from place asked reached rs)
+walk_from-folded_name : (asked : NameValue) (rs : List RecordValue) (place : ℕ) (reached : NameValue) → SameWalk (walk_from place (folded_name asked) (folded_name reached) (map record_core rs)) (walk_from place asked reached rs)
 walk_from-folded_name asked [] place reached = (refl, refl, refl, refl)
-walk_from-folded_name asked (r ∷ rs) place reached = by (counted asked reached r) (counted (folded_name asked) (folded_name reached) (record_without_times r)) (counted-folded_name asked reached r) (walk_from-folded_name asked rs (place + 1))
+walk_from-folded_name asked (r ∷ rs) place reached = by (counted asked reached r) (counted (folded_name asked) (folded_name reached) (record_core r)) (counted-folded_name asked reached r) (walk_from-folded_name asked rs (place + 1))
   where
     with_it : Option Counted → Walk
     with_it o = option_map_or (λ c. walk_step place r.ttl c (walk_from (place + 1) asked (reached_by reached c) rs)) o (walk_from (place + 1) asked reached rs)
 
     folded_with : Option Counted → Walk
-    folded_with o = option_map_or (λ c. walk_step place 0 c (walk_from (place + 1) (folded_name asked) (reached_by (folded_name reached) c) (map record_without_times rs))) o (walk_from (place + 1) (folded_name asked) (folded_name reached) (map record_without_times rs))
+    folded_with o = option_map_or (λ c. walk_step place 0 c (walk_from (place + 1) (folded_name asked) (reached_by (folded_name reached) c) (map record_core rs))) o (walk_from (place + 1) (folded_name asked) (folded_name reached) (map record_core rs))
 
-    same : (o : Option Counted) → ((n : NameValue) → SameWalk (walk_from (place + 1) (folded_name asked) (folded_name n) (map record_without_times rs)) (walk_from (place + 1) asked n rs)) → SameWalk (folded_with (option_map folded_counted o)) (with_it o)
+    same : (o : Option Counted) → ((n : NameValue) → SameWalk (walk_from (place + 1) (folded_name asked) (folded_name n) (map record_core rs)) (walk_from (place + 1) asked n rs)) → SameWalk (folded_with (option_map folded_counted o)) (with_it o)
     same None rest = rest reached
-    same (Some (Alias next)) rest = let there = rest next in (ap (λ ps. place ∷ ps) there.0, there.1, there.2, ap (λ ts. 0 ∷ ts) there.3)
+    same (Some (AliasTo next)) rest = let there = rest next in (ap (λ ps. place ∷ ps) there.0, there.1, there.2, ap (λ ts. 0 ∷ ts) there.3)
     same (Some (Server target)) rest = let there = rest reached in (ap (λ ps. place ∷ ps) there.0, there.1, ap (λ ns. folded_name target ∷ ns) there.2, there.3)
 
-    by : (o p : Option Counted) → p ≡ option_map folded_counted o → ((n : NameValue) → SameWalk (walk_from (place + 1) (folded_name asked) (folded_name n) (map record_without_times rs)) (walk_from (place + 1) asked n rs)) → SameWalk (folded_with p) (with_it o)
+    by : (o p : Option Counted) → p ≡ option_map folded_counted o → ((n : NameValue) → SameWalk (walk_from (place + 1) (folded_name asked) (folded_name n) (map record_core rs)) (walk_from (place + 1) asked n rs)) → SameWalk (folded_with p) (with_it o)
     by o p e rest = subst (λ x. SameWalk (folded_with x) (with_it o)) (sym e) (same o rest)
 
-walk_of-folded_name : (q : Query) (answers : List RecordValue) → SameWalk (walk_of (folded_query q) (map record_without_times answers)) (walk_of q answers)
-walk_of-folded_name q answers = subst (λ n. SameWalk (if (if n == 255 then false else (if n == 5 then false else true)) then walk_from 0 (folded_name q.name) (folded_name q.name) (map record_without_times answers) else standing (folded_name q.name)) (walk_of q answers)) (sym (query_type-folded_name q)) (by (follows_aliases q))
+walk_of-folded_name : (q : Query) (answers : List RecordValue) → SameWalk (walk_of (folded_query q) (map record_core answers)) (walk_of q answers)
+walk_of-folded_name q answers = subst (λ n. SameWalk (if (if n == 255 then false else (if n == 5 then false else true)) then walk_from 0 (folded_name q.name) (folded_name q.name) (map record_core answers) else standing (folded_name q.name)) (walk_of q answers)) (sym (query_type-folded_name q)) (by (follows_aliases q))
   where
-    by : (b : Bool) → SameWalk (if b then walk_from 0 (folded_name q.name) (folded_name q.name) (map record_without_times answers) else standing (folded_name q.name)) (if b then walk_from 0 q.name q.name answers else standing q.name)
+    by : (b : Bool) → SameWalk (if b then walk_from 0 (folded_name q.name) (folded_name q.name) (map record_core answers) else standing (folded_name q.name)) (if b then walk_from 0 q.name q.name answers else standing q.name)
     by true = walk_from-folded_name q.name answers 0 q.name
     by false = (refl, refl, refl, refl)
 
 -- ---- the verdict
 
-all-folded_name : (m : MessageValue) → all_records (folded_message m) ≡ map record_without_times (all_records m)
-all-folded_name m = sym (map-append record_without_times (m.answers ++ m.authorities) m.additionals ∙ ap (λ xs. xs ++ map record_without_times m.additionals) (map-append record_without_times m.answers m.authorities))
+all-folded_name : (m : MessageValue) → all_records (folded_message m) ≡ map record_core (all_records m)
+all-folded_name m = sym (map-append record_core (m.answers ++ m.authorities) m.additionals ∙ ap (λ xs. xs ++ map record_core m.additionals) (map-append record_core m.answers m.authorities))
 
 or_false : (b : Bool) → (b || false) ≡ b
 or_false true = refl
 or_false false = refl
 
 -- the answers that are filtered
-filtered-folded_name : (q : Query) (walk : Walk) (m : MessageValue) → map record_without_times (filtered_answers false (first_hop q) walk m) ≡ filter (is_match (folded_query q) (at_walk walk)) (all_records (folded_message m))
+filtered-folded_name : (q : Query) (walk : Walk) (m : MessageValue) → map record_core (filtered_answers false (first_hop q) walk m) ≡ filter (is_match (folded_query q) (at_walk walk)) (all_records (folded_message m))
 filtered-folded_name q walk m =
-    map-map record_without_times (with_ttl_at_most walk.ttl) record_without_times (λ r. refl) (filter test (all_records m))
-    ∙ sym (ap (filter (is_match (folded_query q) (at_walk walk))) (all-folded_name m) ∙ filter-map (is_match (folded_query q) (at_walk walk)) test record_without_times (λ r. match-folded_name q walk r ∙ sym (or_false (is_match q walk r))) (all_records m))
+    map-map record_core (with_ttl_at_most walk.ttl) record_core (λ r. refl) (filter test (all_records m))
+    ∙ sym (ap (filter (is_match (folded_query q) (at_walk walk))) (all-folded_name m) ∙ filter-map (is_match (folded_query q) (at_walk walk)) test record_core (λ r. match-folded_name q walk r ∙ sym (or_false (is_match q walk r))) (all_records m))
   where
     test : RecordValue → Bool
     test r = is_match q walk r || (false && is_intermediate q r)
@@ -296,16 +296,16 @@ found-folded_name q walk m = by (is_filtered false (first_hop q) walk m) (is_fil
 
     by : (a b : Bool) → b ≡ a → sections (if a then record m { answers = filtered_answers false (first_hop q) walk m } else m)
         ≡ record {
-          answers = if b then filter (is_match (folded_query q) (at_walk walk)) (all_records (folded_message m)) else map record_without_times m.answers;
-          authorities = map record_without_times m.authorities;
-          additionals = map record_without_times m.additionals;
+          answers = if b then filter (is_match (folded_query q) (at_walk walk)) (all_records (folded_message m)) else map record_core m.answers;
+          authorities = map record_core m.authorities;
+          additionals = map record_core m.additionals;
         }
     by true b e =
-        let answers = filtered-folded_name q walk m ∙ sym (ap (λ c. if c then filter (is_match (folded_query q) (at_walk walk)) (all_records (folded_message m)) else map record_without_times m.answers) e) in
-        λ i. record { answers = answers i; authorities = map record_without_times m.authorities; additionals = map record_without_times m.additionals }
+        let answers = filtered-folded_name q walk m ∙ sym (ap (λ c. if c then filter (is_match (folded_query q) (at_walk walk)) (all_records (folded_message m)) else map record_core m.answers) e) in
+        λ i. record { answers = answers i; authorities = map record_core m.authorities; additionals = map record_core m.additionals }
     by false b e =
-        let answers = sym (ap (λ c. if c then filter (is_match (folded_query q) (at_walk walk)) (all_records (folded_message m)) else map record_without_times m.answers) e) in
-        λ i. record { answers = answers i; authorities = map record_without_times m.authorities; additionals = map record_without_times m.additionals }
+        let answers = sym (ap (λ c. if c then filter (is_match (folded_query q) (at_walk walk)) (all_records (folded_message m)) else map record_core m.answers) e) in
+        λ i. record { answers = answers i; authorities = map record_core m.authorities; additionals = map record_core m.additionals }
 
 verdict-folded_name : (q : Query) (m : MessageValue) → next_verdict q m (verdict false (first_hop q) m) ≡ answer_core (folded_query q) (folded_message m)
 verdict-folded_name q m = by (is_accepted (first_hop q) walk m) (is_accepted (first_hop (folded_query q)) (at_walk walk) (folded_message m)) same (is_empty walk.places) ∙ sym walks
@@ -330,14 +330,14 @@ verdict-folded_name q m = by (is_accepted (first_hop q) walk m) (is_accepted (fi
         else (if nowhere then Ends (Err (no_match_core (folded_query q) (folded_message m))) else GoesOn (record { name = next_name (at_walk walk); query_type = (folded_query q).query_type; query_class = class.IN }))
 
     by : (a b : Bool) → b ≡ a → (nowhere : Bool)
-        → next_verdict q m (if a then Exists (found_message false (first_hop q) walk m) else (if nowhere then NoMatch else CnameChain (next_hop false (first_hop q) walk m))) ≡ core_by b nowhere
+        → next_verdict q m (if a then Accepted (found_message false (first_hop q) walk m) else (if nowhere then NoMatch else Alias (next_hop false (first_hop q) walk m))) ≡ core_by b nowhere
     by true b e nowhere = ap (λ f. Ends (Ok f)) (found-folded_name q walk m) ∙ sym (ap (λ c. core_by c nowhere) e)
     by false b e true = ap (λ x. Ends (Err x)) (no_match-folded_name q m) ∙ sym (ap (λ c. core_by c true) e)
     by false b e false = ap (λ n. GoesOn (record { name = n; query_type = (folded_query q).query_type; query_class = class.IN })) (sym (next-folded_name walk)) ∙ sym (ap (λ c. core_by c false) e)
 
 -- ---- an outcome
 
-outcome-folded_name : (q : Query) (o : OutcomeValue) → next_outcome q o ≡ next_core (folded_query q) (outcome_without_times o)
+outcome-folded_name : (q : Query) (o : OutcomeValue) → next_outcome q o ≡ next_core (folded_query q) (outcome_core o)
 outcome-folded_name q (Ok m) = by ((code == 0) || (code == 3)) (m.metadata.truncation || contains_answer m) (m.metadata.truncation || contains_answer (folded_message m)) (ap (λ b. m.metadata.truncation || b) (contains-folded_name m))
   where
     code : ℕ
@@ -360,5 +360,5 @@ outcome-folded_name q (Err (Bounds error)) = refl
 outcome-folded_name q (Err OutOfMemory) = refl
 
 -- questions that are equal come to the same by outcomes that agree
-pub next-same : (p q : Query) (o u : OutcomeValue) → folded_query p ≡ folded_query q → outcome_without_times o ≡ outcome_without_times u → next_outcome p o ≡ next_outcome q u
+pub next-same : (p q : Query) (o u : OutcomeValue) → folded_query p ≡ folded_query q → outcome_core o ≡ outcome_core u → next_outcome p o ≡ next_outcome q u
 next-same p q o u e f = outcome-folded_name p o ∙ ap₂ next_core e f ∙ sym (outcome-folded_name q u)

@@ -13,7 +13,7 @@ use Rattle.hickory_resolver_model.specs.Bounds.{ConfigValue, greatest_ttl}
 use Rattle.hickory_resolver_model.specs.Cache.{CacheValue, is_for, without_query}
 use Rattle.hickory_resolver_model.specs.Lookup.{LookupResult, question_of}
 use Rattle.hickory_resolver_model.specs.Hops.{LookupContext, IsReply, stores_of}
-use Rattle.hickory_resolver_model.specs.Calls.{CallContext, Source, Static, Client, SubLookup, IsSubLookupBy, IsSubLookupFor, start_at, asks_of_sub_lookups}
+use Rattle.hickory_resolver_model.specs.Calls.{CallContext, Source, Static, Client, SubLookup, IsAnsweredFrom, IsAnsweredFor, start_at, asks_of_sub_lookups}
 use Rattle.hickory_resolver_model.specs.Run.{Settings, call_context_at, RequestValue, Lookup, LookupIp, ClearLookup, Clear, moment_of, StepReply, LookedUp, LookedUpIp, Cleared, drop_each, after_clear, IsServed, StepValue, Stage, IsStage, AreStages, Run}
 use Rattle.hickory_resolver_model.specs.Attempts.{attempts}
 use Rattle.hickory_resolver_theorems.specs.Covered.{Dated, dated_exchanges, IsCovered, IsLoopback}
@@ -50,10 +50,10 @@ pub record IsGoodPart (now : ℕ) (before : CacheValue) (sources : List Dated) (
   pub entries : AreFreshEntries after (sources ++ dated_exchanges now p.asks)
   pub config : after.config ≡ before.config
 
-good-part : (t : CallContext) (looked : Bool) (q : Query) (before : CacheValue) (sources : List Dated) (p : SubLookup) (after : CacheValue) → AreFreshEntries before sources → IsSubLookupFor t looked before q p after → IsGoodPart t.now before sources p after
+good-part : (t : CallContext) (looked : Bool) (q : Query) (before : CacheValue) (sources : List Dated) (p : SubLookup) (after : CacheValue) → AreFreshEntries before sources → IsAnsweredFor t looked before q p after → IsGoodPart t.now before sources p after
 good-part t looked q before sources p after entries (for, is) = by p.source refl is
   where
-    by : (source : Source) → p.source ≡ source → IsSubLookupBy source t looked before p after → IsGoodPart t.now before sources p after
+    by : (source : Source) → p.source ≡ source → IsAnsweredFrom source t looked before p after → IsGoodPart t.now before sources p after
     by Static e part = record {
       few = omega (arith, ap length part.nothing_asked);
       fresh = λ client. absurd (let clash : Static ≡ Client = sym e ∙ client in cc);
@@ -80,7 +80,7 @@ pub record AreGoodParts (now : ℕ) (before : CacheValue) (sources : List Dated)
   pub entries : AreFreshEntries after (sources ++ dated_exchanges now (asks_of_sub_lookups ps))
   pub config : after.config ≡ before.config
 
-pub good-chain : (t : CallContext) (before : CacheValue) (sources : List Dated) (ps : List SubLookup) (after : CacheValue) → AreFreshEntries before sources → Chain (IsSubLookupFor t) before ps after → AreGoodParts t.now before sources ps after
+pub good-chain : (t : CallContext) (before : CacheValue) (sources : List Dated) (ps : List SubLookup) (after : CacheValue) → AreFreshEntries before sources → Chain (IsAnsweredFor t) before ps after → AreGoodParts t.now before sources ps after
 good-chain t before sources [] after entries e = record {
   few = tt;
   fresh = tt;
@@ -126,11 +126,11 @@ good-clear s before sources t (Err fault) now ps after entries none e =
     good-none now before sources ps after none (subst (λ c. AreFreshEntries c sources) (sym e) entries) (ap (λ c. c.config) e)
 
 good-served : (s : Settings) (before : CacheValue) (sources : List Dated) (request : RequestValue) (ps : List SubLookup) (reply : StepReply) (after : CacheValue) → AreFreshEntries before sources
-    → IsServed (λ now. IsSubLookupFor (call_context_at s now)) s before request ps reply after → AreGoodParts (moment_of request) before sources ps after
+    → IsServed (λ now. IsAnsweredFor (call_context_at s now)) s before request ps reply after → AreGoodParts (moment_of request) before sources ps after
 good-served s before sources (Lookup text t now) ps (LookedUp reply) after entries is =
-    good-chain (call_context_at s now) before sources ps after entries (chain-name (IsSubLookupFor (call_context_at s now)) s before text t ps reply after is)
+    good-chain (call_context_at s now) before sources ps after entries (chain-name (IsAnsweredFor (call_context_at s now)) s before text t ps reply after is)
 good-served s before sources (LookupIp text now) ps (LookedUpIp reply) after entries is =
-    good-chain (call_context_at s now) before sources ps after entries (chain-addresses (IsSubLookupFor (call_context_at s now)) s before text now ps reply after is)
+    good-chain (call_context_at s now) before sources ps after entries (chain-addresses (IsAnsweredFor (call_context_at s now)) s before text now ps reply after is)
 good-served s before sources (ClearLookup text t now) ps (Cleared (Ok u)) after entries (none, (name, said, is)) = good-clear s before sources t name now ps after entries none is
 good-served s before sources (ClearLookup text t now) ps (Cleared (Err e)) after entries (none, out, same) =
     good-none now before sources ps after none (subst (λ c. AreFreshEntries c sources) (sym same) entries) (ap (λ c. c.config) same)
@@ -165,7 +165,7 @@ good-stage s sources stage after entries is =
 -- and so are its answers
 answers : (s : Settings) (sources : List Dated) (stage : Stage) (after : CacheValue) → AllByRecursion (IsFreshSubLookup stage.before.config (λ code. sources ++ dated_exchanges stage.step.now stage.piece) stage.step.now) stage.parts → IsStage s stage after
     → AreFreshAnswers stage.before.config (sources ++ dated_exchanges stage.step.now stage.piece) stage stage.step.reply
-answers s sources stage after fresh is = fresh-answers (λ now. IsSubLookupFor (call_context_at s now)) s stage.before.config (sources ++ dated_exchanges stage.step.now stage.piece) stage stage.step.reply after fresh is.served
+answers s sources stage after fresh is = fresh-answers (λ now. IsAnsweredFor (call_context_at s now)) s stage.before.config (sources ++ dated_exchanges stage.step.now stage.piece) stage stage.step.reply after fresh is.served
 
 pub good-stages : (s : Settings) (before : CacheValue) (sources : List Dated) (requests : List RequestValue) (stages : List Stage) (after : CacheValue) → AreFreshEntries before sources → AreStages s before requests stages after
     → AllByRecursion AsksAtMostEight stages × NothingOutlives sources stages

@@ -9,13 +9,13 @@ use Rattle.hickory_proto_core.specs.declared.query.Query.{Query}
 use Rattle.hickory_proto_core.specs.declared.net_error.NetError.TheVariants.{Message, Timeout, Proto, Dns, NoOutcome, Bounds, OutOfMemory}
 use Rattle.hickory_proto_core.specs.declared.net_error.DnsError.TheVariants.{ResponseCode, NoRecordsFound}
 use Rattle.hickory_resolver_model.specs.Bounds.{ConfigValue, greatest_ttl}
-use Rattle.hickory_resolver_model.specs.Cache.{CacheValue, Entry, is_for, without, without_earliest, least_deadline, room_for, insert_entry, positive_entry, negative_entry, not_after}
+use Rattle.hickory_resolver_model.specs.Cache.{CacheValue, Entry, is_for, without, without_earliest, least_deadline, kept_beside, insert_entry, positive_entry, negative_entry, not_after}
 use Rattle.hickory_resolver_model.specs.Hops.{LookupContext, ChainEnd, Store, result_of, limit_of, earlier_store, earlier_stores, made_entry, after_store, after_stores}
 use Rattle.hickory_resolver_model.specs.Verdict.{Hop}
 use Rattle.hickory_proto_core.specs.declared.recorded.Exchange.{Exchange}
 use Rattle.hickory_proto_core.specs.Records.{RecordValue}
 use Rattle.hickory_resolver_theorems.specs.Covered.{Dated, IsCovered, IsLoopback}
-use Rattle.hickory_resolver_theorems.specs.Statements.{HasNoLeast, IsFreshRecord, IsFreshOutcome, IsFreshEntry, AreFreshEntries}
+use Rattle.hickory_resolver_theorems.specs.Statements.{LeastTtlIsZero, IsFreshRecord, IsFreshOutcome, IsFreshEntry, AreFreshEntries}
 use Rattle.hickory_resolver_theorems.proofs.Lists.{all-weaker, all-append, all-filter, all-remove}
 use Rattle.hickory_resolver_theorems.proofs.Covers.{Arrives, arrived-fresh, fresh-sooner, covered-left}
 
@@ -28,9 +28,9 @@ insert_entry-all P capacity es e all new = by (capacity == 0)
     room false true = all
     room false false = all-remove P es (position_or_len (λ x. x.valid_until == least_deadline es) es) all
 
-    by : (b : Bool) → AllByRecursion P (if b then es else room_for capacity e.query es ++ e ∷ [])
+    by : (b : Bool) → AllByRecursion P (if b then es else kept_beside capacity e.query es ++ e ∷ [])
     by true = all
-    by false = all-append P (room_for capacity e.query es) (e ∷ []) (room (list_any (is_for e.query) es) (nat_lt (length es) capacity)) (new, tt)
+    by false = all-append P (kept_beside capacity e.query es) (e ∷ []) (room (list_any (is_for e.query) es) (nat_lt (length es) capacity)) (new, tt)
 
 -- the entry that a store makes, where it makes one
 abbrev pub Makes : (Entry → Type 0) → ConfigValue → Store → Type 0
@@ -71,7 +71,7 @@ stores-config (s ∷ ss) cache = stores-config ss (after_store s cache)
 
 -- the answers of what is stored arrive, where the least TTL of the type is zero
 abbrev pub StoresOutcome : ConfigValue → List Dated → ℕ → Query → OutcomeValue → Type 0
-StoresOutcome config sources now q (Ok m) = HasNoLeast config (type_code q.query_type) → AllByRecursion (Arrives config sources (type_code q.query_type) now) m.answers
+StoresOutcome config sources now q (Ok m) = LeastTtlIsZero config (type_code q.query_type) → AllByRecursion (Arrives config sources (type_code q.query_type) now) m.answers
 StoresOutcome config sources now q (Err e) = Unit {0}
 
 abbrev pub StoresArrived : ConfigValue → List Dated → Store → Type 0

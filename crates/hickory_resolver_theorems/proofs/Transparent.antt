@@ -18,10 +18,10 @@ use Rattle.hickory_resolver_model.specs.Bounds.{ConfigValue}
 use Rattle.hickory_resolver_model.specs.Cache.{CacheValue, is_for, is_current, age, aged_record, aged_message, aged_forward, aged_negative, aged_error, aged_outcome, positive_entry, negative_entry, not_after}
 use Rattle.hickory_resolver_model.specs.Lookup.{LookupResult}
 use Rattle.hickory_resolver_model.specs.SpecialUse.{special_use_result}
-use Rattle.hickory_resolver_model.specs.Verdict.{Hop, Verdict, Exists, CnameChain, NoMatch, verdict}
-use Rattle.hickory_resolver_model.specs.Hops.{LookupContext, IsAliasHop, FollowsAliases, ChainEnd, Special, Hit, Asked, IsChainEnd, HopList, Store, IsReply, asks_of, kind_result, verdict_result, hit_result, result_of, alias_limit, limit_of, result_until, reply_of, verdict_stores, kind_stores, last_stores, earlier_store, stores_of, after_stores}
+use Rattle.hickory_resolver_model.specs.Verdict.{Hop, Verdict, Accepted, Alias, NoMatch, verdict}
+use Rattle.hickory_resolver_model.specs.Hops.{LookupContext, IsAliasHop, FollowsAliases, ChainEnd, Special, Hit, Asked, IsChainEnd, HopList, Store, IsReply, asks_of, result_when_asked, result_of_verdict, hit_result, result_of, alias_limit, limit_of, result_until, reply_of, stores_of_verdict, stores_when_asked, last_stores, earlier_store, stores_of, after_stores}
 use Rattle.hickory_resolver_theorems.specs.Cacheless.{ResolvesTo, IsConsistentWith, AreConsistentWith}
-use Rattle.hickory_resolver_theorems.specs.WithoutTimes.{folded_query, record_without_times, sections, forward_without_times, negative_without_times, error_without_times, WithoutTimes, without_times, stored_without_times}
+use Rattle.hickory_resolver_theorems.specs.Cores.{folded_query, record_core, sections, forward_core, negative_core, error_core, ReplyCore, reply_core, entry_core}
 use Rattle.hickory_resolver_theorems.specs.Statements.{IsWhatItResolvesTo, AreWhatTheyResolveTo, IsTransparent}
 use Rattle.hickory_resolver_theorems.proofs.Lists.{all-weaker, all-append, all-front, all-back, all-has, find-has}
 use Rattle.hickory_resolver_theorems.proofs.Stores.{Makes, after_stores-all, earlier-all}
@@ -35,34 +35,34 @@ use Rattle.hickory_resolver_theorems.proofs.Meanings.{IsSomeCore, special_use_re
 
 message-aged_result : (seconds : ℕ) (m : MessageValue) → sections (aged_message seconds m) ≡ sections m
 message-aged_result seconds m =
-    let a = map-map record_without_times (aged_record seconds) record_without_times (λ r. refl) m.answers in
-    let b = map-map record_without_times (aged_record seconds) record_without_times (λ r. refl) m.authorities in
-    let c = map-map record_without_times (aged_record seconds) record_without_times (λ r. refl) m.additionals in
+    let a = map-map record_core (aged_record seconds) record_core (λ r. refl) m.answers in
+    let b = map-map record_core (aged_record seconds) record_core (λ r. refl) m.authorities in
+    let c = map-map record_core (aged_record seconds) record_core (λ r. refl) m.additionals in
     λ i. record { answers = a i; authorities = b i; additionals = c i }
 
-forward-aged_result : (seconds : ℕ) (f : ForwardValue) → forward_without_times (aged_forward seconds f) ≡ forward_without_times f
-forward-aged_result seconds f = ap (λ glue. record { ns = record_without_times f.ns; glue = glue }) (map-map record_without_times (aged_record seconds) record_without_times (λ r. refl) f.glue)
+forward-aged_result : (seconds : ℕ) (f : ForwardValue) → forward_core (aged_forward seconds f) ≡ forward_core f
+forward-aged_result seconds f = ap (λ glue. record { ns = record_core f.ns; glue = glue }) (map-map record_core (aged_record seconds) record_core (λ r. refl) f.glue)
 
-record-aged_result : (seconds : ℕ) (o : Option RecordValue) → option_map record_without_times (option_map (aged_record seconds) o) ≡ option_map record_without_times o
+record-aged_result : (seconds : ℕ) (o : Option RecordValue) → option_map record_core (option_map (aged_record seconds) o) ≡ option_map record_core o
 record-aged_result seconds None = refl
 record-aged_result seconds (Some r) = refl
 
-records-aged_result : (seconds : ℕ) (o : Option (List RecordValue)) → option_map (map record_without_times) (option_map (map (aged_record seconds)) o) ≡ option_map (map record_without_times) o
+records-aged_result : (seconds : ℕ) (o : Option (List RecordValue)) → option_map (map record_core) (option_map (map (aged_record seconds)) o) ≡ option_map (map record_core) o
 records-aged_result seconds None = refl
-records-aged_result seconds (Some rs) = ap Some (map-map record_without_times (aged_record seconds) record_without_times (λ r. refl) rs)
+records-aged_result seconds (Some rs) = ap Some (map-map record_core (aged_record seconds) record_core (λ r. refl) rs)
 
-forwards-aged_result : (seconds : ℕ) (o : Option (List ForwardValue)) → option_map (map forward_without_times) (option_map (map (aged_forward seconds)) o) ≡ option_map (map forward_without_times) o
+forwards-aged_result : (seconds : ℕ) (o : Option (List ForwardValue)) → option_map (map forward_core) (option_map (map (aged_forward seconds)) o) ≡ option_map (map forward_core) o
 forwards-aged_result seconds None = refl
-forwards-aged_result seconds (Some fs) = ap Some (map-map forward_without_times (aged_forward seconds) forward_without_times (λ f. forward-aged_result seconds f) fs)
+forwards-aged_result seconds (Some fs) = ap Some (map-map forward_core (aged_forward seconds) forward_core (λ f. forward-aged_result seconds f) fs)
 
-negative-aged_result : (seconds : ℕ) (n : NoRecordsValue) → negative_without_times (aged_negative seconds n) ≡ negative_without_times n
+negative-aged_result : (seconds : ℕ) (n : NoRecordsValue) → negative_core (aged_negative seconds n) ≡ negative_core n
 negative-aged_result seconds n =
     let soa = record-aged_result seconds n.soa in
     let ns = forwards-aged_result seconds n.ns in
     let authorities = records-aged_result seconds n.authorities in
-    λ i. record (negative_without_times n) { soa = soa i; ns = ns i; authorities = authorities i }
+    λ i. record (negative_core n) { soa = soa i; ns = ns i; authorities = authorities i }
 
-error-aged_result : (seconds : ℕ) (e : NetError) → error_without_times (aged_error seconds e) ≡ error_without_times e
+error-aged_result : (seconds : ℕ) (e : NetError) → error_core (aged_error seconds e) ≡ error_core e
 error-aged_result seconds (Dns (NoRecordsFound n)) = ap (λ c. Dns (NoRecordsFound c)) (negative-aged_result seconds n)
 error-aged_result seconds (Dns (ResponseCode code)) = refl
 error-aged_result seconds (Message text) = refl
@@ -72,9 +72,9 @@ error-aged_result seconds NoOutcome = refl
 error-aged_result seconds (Bounds error) = refl
 error-aged_result seconds OutOfMemory = refl
 
-hit-without_times : (q : Query) (now seconds : ℕ) (o : OutcomeValue) → without_times (hit_result q now (aged_outcome seconds o)) ≡ stored_without_times o
-hit-without_times q now seconds (Ok m) = ap Ok (message-aged_result seconds m)
-hit-without_times q now seconds (Err e) = ap Err (error-aged_result seconds e)
+hit-core : (q : Query) (now seconds : ℕ) (o : OutcomeValue) → reply_core (hit_result q now (aged_outcome seconds o)) ≡ entry_core o
+hit-core q now seconds (Ok m) = ap Ok (message-aged_result seconds m)
+hit-core q now seconds (Err e) = ap Err (error-aged_result seconds e)
 
 -- ---- the hops before the last
 
@@ -90,7 +90,7 @@ told table q x e live tells =
     record { known = there.0; found = sym (ap (λ p. outcome_in p table) e) ∙ there.1; same = next-same q q there.0 x.outcome refl there.2 }
 
 -- where a question that is not special goes on, so does its meaning
-on-means : (table : TableValue) (q next : Query) (outcome : OutcomeValue) (r : WithoutTimes) (n : ℕ) → special_use_result q 0 ≡ None → Told table q outcome → next_outcome q outcome ≡ GoesOn (folded_query next) → ResolvesTo table q r n → (m : ℕ) × ResolvesTo table next r m × (n ≡ suc m)
+on-means : (table : TableValue) (q next : Query) (outcome : OutcomeValue) (r : ReplyCore) (n : ℕ) → special_use_result q 0 ≡ None → Told table q outcome → next_outcome q outcome ≡ GoesOn (folded_query next) → ResolvesTo table q r n → (m : ℕ) × ResolvesTo table next r m × (n ≡ suc m)
 on-means table q next outcome r n plain t on means = by (means-cases table q r n means)
   where
     by : BySpecial q r ⊎ (ByOutcome table q r ⊎ ByAlias table q r n) → (m : ℕ) × ResolvesTo table next r m × (n ≡ suc m)
@@ -108,7 +108,7 @@ on-means table q next outcome r n plain t on means = by (means-cases table q r n
         (a.rest, means-same table a.next next r a.rest questions a.means, a.length_is)
 
 -- where it ends, its meaning is that
-ends-means : (table : TableValue) (q : Query) (outcome : OutcomeValue) (r c : WithoutTimes) (n : ℕ) → special_use_result q 0 ≡ None → Told table q outcome → next_outcome q outcome ≡ Ends c → ResolvesTo table q r n → c ≡ r
+ends-means : (table : TableValue) (q : Query) (outcome : OutcomeValue) (r c : ReplyCore) (n : ℕ) → special_use_result q 0 ≡ None → Told table q outcome → next_outcome q outcome ≡ Ends c → ResolvesTo table q r n → c ≡ r
 ends-means table q outcome r c n plain t ends means = by (means-cases table q r n means)
   where
     by : BySpecial q r ⊎ (ByOutcome table q r ⊎ ByAlias table q r n) → c ≡ r
@@ -125,10 +125,10 @@ ends-means table q outcome r c n plain t ends means = by (means-cases table q r 
         cc
 
 -- a question has some meaning with this reply
-abbrev Meant : TableValue → WithoutTimes → Query → Type 0
+abbrev Meant : TableValue → ReplyCore → Query → Type 0
 Meant table r q = (k : ℕ) × ResolvesTo table q r k
 
-pub record LedMeaning (table : TableValue) (xs : List Exchange) (last : Hop) (r : WithoutTimes) (n : ℕ) : Type 0 where
+pub record LedMeaning (table : TableValue) (xs : List Exchange) (last : Hop) (r : ReplyCore) (n : ℕ) : Type 0 where
   pub rest : ℕ
   pub means : ResolvesTo table last.query r rest
   pub length_is : n ≡ length xs + rest
@@ -152,12 +152,12 @@ passed-on s hop x next off none p = by (hop-next s hop (kind_of x.outcome) off n
 
     by : GoesOnTo s hop (kind_of x.outcome) ⊎ EndsWith s hop (kind_of x.outcome) → PassedOn s hop x next
     by (inl there) =
-        let twice : Some (CnameChain there.next) ≡ Some (CnameChain next) = sym there.alias ∙ p.alias in
+        let twice : Some (Alias there.next) ≡ Some (Alias next) = sym there.alias ∙ p.alias in
         let same : there.next ≡ next = cc in
         record { live = live; on = there.on ∙ ap (λ h. GoesOn (folded_query h.query)) same; plain = sym (ap (λ h. h.preserved) same) ∙ there.plain }
     by (inr last) = absurd (last.no_alias next p.alias)
 
-led-meaning : (s : LookupContext) (table : TableValue) (hop : Hop) (xs : List Exchange) (last : Hop) (r : WithoutTimes) (n : ℕ) → s.preserve_intermediates ≡ false → hop.preserved ≡ [] → AreConsistentWith table xs → FollowsAliases s hop xs last → ResolvesTo table hop.query r n → LedMeaning table xs last r n
+led-meaning : (s : LookupContext) (table : TableValue) (hop : Hop) (xs : List Exchange) (last : Hop) (r : ReplyCore) (n : ℕ) → s.preserve_intermediates ≡ false → hop.preserved ≡ [] → AreConsistentWith table xs → FollowsAliases s hop xs last → ResolvesTo table hop.query r n → LedMeaning table xs last r n
 led-meaning s table hop [] last r n off none tells e means = record {
   rest = n;
   means = subst (λ h. ResolvesTo table h.query r n) (sym e) means;
@@ -181,11 +181,11 @@ led-meaning s table hop (x ∷ xs) last r n off none (tells, all) (next, p, rest
 
 -- ---- the last hop
 
-abbrev IsOutOr : LookupResult → WithoutTimes → Type 0
-IsOutOr reply r = (reply ≡ Err OutOfMemory) ⊎ (without_times reply ≡ r)
+abbrev IsOutOr : LookupResult → ReplyCore → Type 0
+IsOutOr reply r = (reply ≡ Err OutOfMemory) ⊎ (reply_core reply ≡ r)
 
-asked-meaning : (s : LookupContext) (table : TableValue) (hop : Hop) (count : ℕ) (outcome : OutcomeValue) (r : WithoutTimes) (n : ℕ) → s.preserve_intermediates ≡ false → hop.preserved ≡ [] → (outcome ≡ Err OutOfMemory → ⊥) → IsConsistentWith table (record { query = hop.query; outcome = outcome })
-    → IsChainEnd s count hop (Asked outcome) → ResolvesTo table hop.query r n → count + n ≤ 8 → without_times (result_of s hop (Asked outcome)) ≡ r
+asked-meaning : (s : LookupContext) (table : TableValue) (hop : Hop) (count : ℕ) (outcome : OutcomeValue) (r : ReplyCore) (n : ℕ) → s.preserve_intermediates ≡ false → hop.preserved ≡ [] → (outcome ≡ Err OutOfMemory → ⊥) → IsConsistentWith table (record { query = hop.query; outcome = outcome })
+    → IsChainEnd s count hop (Asked outcome) → ResolvesTo table hop.query r n → count + n ≤ 8 → reply_core (result_of s hop (Asked outcome)) ≡ r
 asked-meaning s table hop count outcome r n off none live tells ends means few = by (hop-next s hop (kind_of outcome) off none)
   where
     t : Told table hop.query outcome
@@ -194,32 +194,32 @@ asked-meaning s table hop count outcome r n off none live tells ends means few =
     plain : special_use_result hop.query 0 ≡ None
     plain = special_use_result-none hop.query hop.query s.now 0 refl ends.0.0
 
-    by : GoesOnTo s hop (kind_of outcome) ⊎ EndsWith s hop (kind_of outcome) → without_times (kind_result s hop (kind_of outcome)) ≡ r
+    by : GoesOnTo s hop (kind_of outcome) ⊎ EndsWith s hop (kind_of outcome) → reply_core (result_when_asked s hop (kind_of outcome)) ≡ r
     by (inl there) =
         let on = on-means table hop.query there.next.query outcome r n plain t there.on means in
         absurd (omega (arith, ends.1 there.next there.alias, on.2, means-some table there.next.query r on.0 on.1, few))
-    by (inr last) = ends-means table hop.query outcome r (without_times (kind_result s hop (kind_of outcome))) n plain t last.ends means
+    by (inr last) = ends-means table hop.query outcome r (reply_core (result_when_asked s hop (kind_of outcome))) n plain t last.ends means
 
-last-meaning : (s : LookupContext) (table : TableValue) (hop : Hop) (count : ℕ) (last : ChainEnd) (r : WithoutTimes) (n : ℕ) → s.preserve_intermediates ≡ false → hop.preserved ≡ [] → AreWhatTheyResolveTo table s.cache → AreConsistentWith table (asks_of hop last) → IsChainEnd s count hop last → ResolvesTo table hop.query r n → count + n ≤ 8
+last-meaning : (s : LookupContext) (table : TableValue) (hop : Hop) (count : ℕ) (last : ChainEnd) (r : ReplyCore) (n : ℕ) → s.preserve_intermediates ≡ false → hop.preserved ≡ [] → AreWhatTheyResolveTo table s.cache → AreConsistentWith table (asks_of hop last) → IsChainEnd s count hop last → ResolvesTo table hop.query r n → count + n ≤ 8
     → IsOutOr (result_of s hop last) r
 last-meaning s table hop count (Special reply) r n off none meant tells ends means few = inr (by (means-cases table hop.query r n means))
   where
-    there : IsSomeCore (special_use_result hop.query 0) (without_times reply)
+    there : IsSomeCore (special_use_result hop.query 0) (reply_core reply)
     there = special_use_result-some hop.query hop.query s.now 0 reply refl ends
 
-    by : BySpecial hop.query r ⊎ (ByOutcome table hop.query r ⊎ ByAlias table hop.query r n) → without_times reply ≡ r
+    by : BySpecial hop.query r ⊎ (ByOutcome table hop.query r ⊎ ByAlias table hop.query r n) → reply_core reply ≡ r
     by (inl x) =
         let twice : Some there.reply ≡ Some x.reply = sym there.is ∙ x.is in
         let same : there.reply ≡ x.reply = cc in
-        sym there.core_is ∙ ap without_times same ∙ x.core_is
+        sym there.core_is ∙ ap reply_core same ∙ x.core_is
     by (inr (inl o)) = let clash : Some there.reply ≡ None = sym there.is ∙ o.plain in cc
     by (inr (inr a)) = let clash : Some there.reply ≡ None = sym there.is ∙ a.plain in cc
 last-meaning s table hop count (Hit entry) r n off none meant tells ends means few =
     let found = find-has (λ e. is_for hop.query e && is_current s.now e) s.cache.entries entry ends.1 in
     let own = (and_parts (is_for hop.query entry) (is_current s.now entry) found.1).0 in
     let kept = all-has (IsWhatItResolvesTo table) s.cache.entries entry meant found.0 in
-    let here = means-same table entry.query hop.query (stored_without_times entry.result) kept.0 (sym (query-same hop.query entry.query own)) kept.1 in
-    inr (hit-without_times hop.query s.now (age entry.original_time s.now) entry.result ∙ means-one table hop.query (stored_without_times entry.result) r kept.0 n here means)
+    let here = means-same table entry.query hop.query (entry_core entry.result) kept.0 (sym (query-same hop.query entry.query own)) kept.1 in
+    inr (hit-core hop.query s.now (age entry.original_time s.now) entry.result ∙ means-one table hop.query (entry_core entry.result) r kept.0 n here means)
 last-meaning s table hop count (Asked (Err OutOfMemory)) r n off none meant tells ends means few = inl refl
 last-meaning s table hop count (Asked (Ok m)) r n off none meant tells ends means few = inr (asked-meaning s table hop count (Ok m) r n off none (λ e. cc) tells.0 ends means few)
 last-meaning s table hop count (Asked (Err (Message text))) r n off none meant tells ends means few = inr (asked-meaning s table hop count (Err (Message text)) r n off none (λ e. cc) tells.0 ends means few)
@@ -233,7 +233,7 @@ last-meaning s table hop count (Asked (Err (Bounds error))) r n off none meant t
 
 -- what is stored is what its question means, or out of memory, which is not stored
 abbrev pub StoresMeant : TableValue → Store → Type 0
-StoresMeant table s = (s.outcome ≡ Err OutOfMemory) ⊎ ((k : ℕ) × ResolvesTo table s.query (stored_without_times s.outcome) k)
+StoresMeant table s = (s.outcome ≡ Err OutOfMemory) ⊎ ((k : ℕ) × ResolvesTo table s.query (entry_core s.outcome) k)
 
 makes-meant : (table : TableValue) (config : ConfigValue) (s : Store) → StoresMeant table s → Makes (IsWhatItResolvesTo table) config s
 makes-meant table config s is = (positive is, negative is)
@@ -242,49 +242,49 @@ makes-meant table config s is = (positive is, negative is)
     positive (inl out) m e = let clash : Ok m ≡ Err OutOfMemory = sym e ∙ out in cc
     positive (inr (k, means)) m e = (
       k,
-      subst (λ c. ResolvesTo table s.query (Ok c) k) (sym (sections-clamped_message config m)) (subst (λ o. ResolvesTo table s.query (stored_without_times o) k) e means),
+      subst (λ c. ResolvesTo table s.query (Ok c) k) (sym (sections-clamped_message config m)) (subst (λ o. ResolvesTo table s.query (entry_core o) k) e means),
     )
 
     negative : StoresMeant table s → (n : NoRecordsValue) → s.outcome ≡ Err (Dns (NoRecordsFound n)) → IsWhatItResolvesTo table (not_after s.limit (negative_entry config s.query n s.now))
     negative (inl out) n e = let clash : Err (Dns (NoRecordsFound n)) ≡ Err OutOfMemory = sym e ∙ out in cc
-    negative (inr (k, means)) n e = (k, subst (λ o. ResolvesTo table s.query (stored_without_times o) k) e means)
+    negative (inr (k, means)) n e = (k, subst (λ o. ResolvesTo table s.query (entry_core o) k) e means)
 
 stores-meant : (table : TableValue) (stores : List Store) (cache : CacheValue) → AreWhatTheyResolveTo table cache → AllByRecursion (StoresMeant table) stores → AreWhatTheyResolveTo table (after_stores stores cache)
 stores-meant table stores cache meant all =
     after_stores-all (IsWhatItResolvesTo table) stores cache meant (all-weaker (StoresMeant table) (Makes (IsWhatItResolvesTo table) cache.config) (makes-meant table cache.config) stores all)
 
 -- the last hop's own store
-last-stored : (s : LookupContext) (table : TableValue) (hop : Hop) (last : ChainEnd) (r : WithoutTimes) (n : ℕ) → ResolvesTo table hop.query r n → IsOutOr (result_of s hop last) r → AllByRecursion (StoresMeant table) (last_stores s hop last)
+last-stored : (s : LookupContext) (table : TableValue) (hop : Hop) (last : ChainEnd) (r : ReplyCore) (n : ℕ) → ResolvesTo table hop.query r n → IsOutOr (result_of s hop last) r → AllByRecursion (StoresMeant table) (last_stores s hop last)
 last-stored s table hop (Special reply) r n means is = tt
 last-stored s table hop (Hit entry) r n means is = tt
 last-stored s table hop (Asked outcome) r n means is = by (kind_of outcome) is
   where
-    on : (m : MessageValue) (limit : ℕ) (v : Verdict) → IsOutOr (verdict_result s.cache.config hop.query s.now m v) r → AllByRecursion (StoresMeant table) (verdict_stores hop.query s.now limit v)
-    on m limit (Exists f) (inl e) = cc
-    on m limit (Exists f) (inr e) = (inr (n, subst (λ c. ResolvesTo table hop.query c n) (sym e ∙ ap Ok (sections-clamped_message s.cache.config f)) means), tt)
-    on m limit (CnameChain next) k = tt
+    on : (m : MessageValue) (limit : ℕ) (v : Verdict) → IsOutOr (result_of_verdict s.cache.config hop.query s.now m v) r → AllByRecursion (StoresMeant table) (stores_of_verdict hop.query s.now limit v)
+    on m limit (Accepted f) (inl e) = cc
+    on m limit (Accepted f) (inr e) = (inr (n, subst (λ c. ResolvesTo table hop.query c n) (sym e ∙ ap Ok (sections-clamped_message s.cache.config f)) means), tt)
+    on m limit (Alias next) k = tt
     on m limit NoMatch k = tt
 
-    by : (c : ResponseKind) → IsOutOr (kind_result s hop c) r → AllByRecursion (StoresMeant table) (kind_stores s hop c)
+    by : (c : ResponseKind) → IsOutOr (result_when_asked s hop c) r → AllByRecursion (StoresMeant table) (stores_when_asked s hop c)
     by (Answer m) k = on m (alias_limit s hop.query (Answer m)) (verdict s.preserve_intermediates hop m) k
     by (Negative none) (inl e) = cc
     by (Negative none) (inr e) = (inr (n, subst (λ c. ResolvesTo table hop.query c n) (sym e) means), tt)
     by (Failed error) k = tt
 
 -- the result under an earlier question
-again-stored : (table : TableValue) (now : ℕ) (q : Query) (reply : LookupResult) (limit : ℕ) (r : WithoutTimes) → (k : ℕ) × ResolvesTo table q r k → IsOutOr reply r → StoresMeant table (earlier_store reply now q limit)
+again-stored : (table : TableValue) (now : ℕ) (q : Query) (reply : LookupResult) (limit : ℕ) (r : ReplyCore) → (k : ℕ) × ResolvesTo table q r k → IsOutOr reply r → StoresMeant table (earlier_store reply now q limit)
 again-stored table now q (Ok l) limit r (k, means) (inl e) = let clash : Ok l ≡ Err OutOfMemory = e in cc
 again-stored table now q (Ok l) limit r (k, means) (inr e) = inr (k, subst (λ c. ResolvesTo table q c k) (sym e) means)
 again-stored table now q (Err error) limit r (k, means) (inl e) = let same : error ≡ OutOfMemory = cc in inl (ap Err same)
 again-stored table now q (Err error) limit r (k, means) (inr e) = inr (k, subst (λ c. ResolvesTo table q c k) (sym e) means)
 
 -- a limit does not change what a result comes to
-until-meant : (limit : ℕ) (result : LookupResult) (r : WithoutTimes) → IsOutOr result r → IsOutOr (result_until limit result) r
+until-meant : (limit : ℕ) (result : LookupResult) (r : ReplyCore) → IsOutOr result r → IsOutOr (result_until limit result) r
 until-meant limit (Ok l) r (inl e) = let clash : Ok l ≡ Err OutOfMemory = e in cc
 until-meant limit (Ok l) r (inr e) = inr e
 until-meant limit (Err error) r is = is
 
-reply-meant : (s : LookupContext) (passed : List Exchange) (hop : Hop) (last : ChainEnd) (r : WithoutTimes) → IsOutOr (result_of s hop last) r → IsOutOr (reply_of s passed hop last) r
+reply-meant : (s : LookupContext) (passed : List Exchange) (hop : Hop) (last : ChainEnd) (r : ReplyCore) → IsOutOr (result_of s hop last) r → IsOutOr (reply_of s passed hop last) r
 reply-meant s [] hop (Special reply) r is = is
 reply-meant s [] hop (Hit entry) r is = is
 reply-meant s [] hop (Asked outcome) r is = until-meant (limit_of s [] hop (Asked outcome)) (result_of s hop (Asked outcome)) r is
@@ -292,11 +292,11 @@ reply-meant s (x ∷ xs) hop last r is = until-meant (limit_of s (x ∷ xs) hop 
 
 -- ---- a look-up
 
-pub record AreMeantHops (s : LookupContext) (table : TableValue) (question : Query) (asks : List Exchange) (r : WithoutTimes) (h : HopList s question asks) : Type 0 where
+pub record AreMeantHops (s : LookupContext) (table : TableValue) (question : Query) (asks : List Exchange) (r : ReplyCore) (h : HopList s question asks) : Type 0 where
   pub reply : IsOutOr (reply_of s h.passed h.last_hop h.last) r
   pub stores : AllByRecursion (StoresMeant table) (stores_of s h.passed h.last_hop h.last)
 
-hops-meant : (s : LookupContext) (table : TableValue) (question : Query) (asks : List Exchange) (r : WithoutTimes) (n : ℕ) (h : HopList s question asks) → s.preserve_intermediates ≡ false → AreConsistentWith table asks → AreWhatTheyResolveTo table s.cache → ResolvesTo table question r n → n ≤ 8 → AreMeantHops s table question asks r h
+hops-meant : (s : LookupContext) (table : TableValue) (question : Query) (asks : List Exchange) (r : ReplyCore) (n : ℕ) (h : HopList s question asks) → s.preserve_intermediates ≡ false → AreConsistentWith table asks → AreWhatTheyResolveTo table s.cache → ResolvesTo table question r n → n ≤ 8 → AreMeantHops s table question asks r h
 hops-meant s table question asks r n h off tells meant means few = record {
   reply = reply-meant s h.passed h.last_hop h.last r reply;
   stores = all-append (StoresMeant table) (last_stores s h.last_hop h.last) _ (last-stored s table h.last_hop h.last r led.rest led.means reply)
@@ -320,7 +320,7 @@ transparent s question asks result after is table off apart tells meant r n mean
     stored : (stores : List Store) → AllByRecursion (StoresMeant table) stores → after ≡ after_stores stores s.cache → AreWhatTheyResolveTo table after
     stored stores all e = subst (AreWhatTheyResolveTo table) (sym e) (stores-meant table stores s.cache meant all)
 
-    by : IsReply s question asks result after → ((result ≡ Err OutOfMemory) ⊎ (without_times result ≡ r)) × AreWhatTheyResolveTo table after
+    by : IsReply s question asks result after → ((result ≡ Err OutOfMemory) ⊎ (reply_core result ≡ r)) × AreWhatTheyResolveTo table after
     by (inl whole) =
         let hops = hops-meant s table question asks r n whole.hops off tells meant means few in
         (subst (λ x. IsOutOr x r) (sym whole.result_is) hops.reply, stored _ hops.stores whole.after_is)

@@ -15,9 +15,9 @@ use Rattle.hickory_resolver_model.specs.Lookup.{LookupValue, LookupResult}
 use Rattle.hickory_resolver_model.specs.AliasWalk.{walk_of}
 use Rattle.hickory_resolver_model.specs.Verdict.{Hop}
 use Rattle.hickory_resolver_model.specs.Hops.{LookupContext, ChainEnd, Special, Hit, Asked, Store, IsReply, made_entry, after_stores, asks_of}
-use Rattle.hickory_resolver_model.specs.Calls.{CallContext, start_at, Source, Static, Client, SubLookup, SubLookupRelation, IsStaticSubLookup, IsClientSubLookup}
+use Rattle.hickory_resolver_model.specs.Calls.{CallContext, start_at, Source, Static, Client, SubLookup, SubLookupRelation, IsAnsweredByHosts, IsAnsweredByClient}
 use Rattle.hickory_resolver_model.specs.Run.{Settings, call_context_at, RequestValue, StepValue, AreStagesBy, Run}
-use Rattle.hickory_resolver_theorems.specs.Statements.{HasNoLeast}
+use Rattle.hickory_resolver_theorems.specs.Statements.{LeastTtlIsZero}
 
 -- the TTLs, as they were received, of the CNAMEs that the walk of what came back to a question counted. Only an
 -- answer is walked
@@ -80,11 +80,11 @@ pub record AfterStoresInTime
 abbrev pub NoAliasOutlives : (s : LookupContext) (question : Query) (asks : List Exchange) (result : LookupResult)
     (after : CacheValue) → IsReply s question asks result after → Type 0
 NoAliasOutlives s question asks result after (inl whole) =
-    HasNoLeast s.cache.config (type_code type.CNAME)
+    LeastTtlIsZero s.cache.config (type_code type.CNAME)
     → ((made : List Store) × AfterStoresInTime s whole.hops.passed whole.hops.last_hop whole.hops.last made [] after)
     × ResultOutlivesNoAlias s asks whole.hops.last result
 NoAliasOutlives s question asks result after (inr (out, inl cut)) =
-    HasNoLeast s.cache.config (type_code type.CNAME)
+    LeastTtlIsZero s.cache.config (type_code type.CNAME)
     → (made : List Store) × (left : List Store)
     × AfterStoresInTime s cut.hops.passed cut.hops.last_hop cut.hops.last made left after
 NoAliasOutlives s question asks result after (inr (out, inr cut)) = Unit {0}
@@ -93,9 +93,9 @@ NoAliasOutlives s question asks result after (inr (out, inr cut)) = Unit {0}
 
 -- a question of a call is answered by the table of hosts, or by the client with a look-up of which this holds
 abbrev pub IsLimitedBy : Source → CallContext → Bool → CacheValue → SubLookup → CacheValue → Type 0
-IsLimitedBy Static s looked before p after = IsStaticSubLookup s looked before p after
+IsLimitedBy Static s looked before p after = IsAnsweredByHosts s looked before p after
 IsLimitedBy Client s looked before p after =
-    (is : IsClientSubLookup s looked before p after)
+    (is : IsAnsweredByClient s looked before p after)
     × NoAliasOutlives (start_at s before) p.question p.asks p.result after is.reply
 
 abbrev pub LimitedSubLookup : CallContext → SubLookupRelation

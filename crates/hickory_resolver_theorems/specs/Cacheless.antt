@@ -11,10 +11,10 @@ use Rattle.hickory_proto_core.specs.declared.query.Query.{Query}
 use Rattle.hickory_proto_core.specs.declared.recorded.Exchange.{Exchange}
 use Rattle.hickory_proto_core.specs.declared.net_error.NetError.TheVariants.{OutOfMemory}
 use Rattle.hickory_resolver_model.specs.SpecialUse.{special_use_result}
-use Rattle.hickory_resolver_model.specs.Verdict.{Hop, CnameChain, first_hop}
-use Rattle.hickory_resolver_model.specs.Hops.{LookupContext, kind_result, kind_verdict}
+use Rattle.hickory_resolver_model.specs.Verdict.{Hop, Alias, first_hop}
+use Rattle.hickory_resolver_model.specs.Hops.{LookupContext, result_when_asked, verdict_on}
 use Rattle.hickory_resolver_model.specs.Client.{empty_cache}
-use Rattle.hickory_resolver_theorems.specs.WithoutTimes.{WithoutTimes, without_times, AgreeWithoutTimes}
+use Rattle.hickory_resolver_theorems.specs.Cores.{ReplyCore, reply_core, AgreeInCore}
 use Rattle.hickory_resolver_model.specs.Lookup.{LookupResult}
 
 -- a table of outcomes, no two for equal questions
@@ -28,17 +28,17 @@ cacheless_context = record { cache = empty_cache 0; now = 0; preserve_intermedia
 
 -- The meaning of a question under a table, with the number of questions on its way: a special name's reply;
 -- the reply for an outcome that leads to no other name; or the meaning of the name that it leads to.
-pub data ResolvesTo (table : TableValue) : Query → WithoutTimes → ℕ → Type 0 where
+pub data ResolvesTo (table : TableValue) : Query → ReplyCore → ℕ → Type 0 where
   at_special : {q : Query} {reply : LookupResult} → special_use_result q 0 ≡ Some reply
-      → ResolvesTo table q (without_times reply) 1
+      → ResolvesTo table q (reply_core reply) 1
   at_last : {q : Query} {outcome : OutcomeValue} → special_use_result q 0 ≡ None
       → outcome_in q table ≡ Some outcome
-      → ((next : Hop) → kind_verdict cacheless_context (first_hop q) (kind_of outcome)
-      ≡ Some (CnameChain next) → ⊥)
-      → ResolvesTo table q (without_times (kind_result cacheless_context (first_hop q) (kind_of outcome))) 1
-  at_alias : {q : Query} {next : Hop} {outcome : OutcomeValue} {reply : WithoutTimes} {n : ℕ}
+      → ((next : Hop) → verdict_on cacheless_context (first_hop q) (kind_of outcome)
+      ≡ Some (Alias next) → ⊥)
+      → ResolvesTo table q (reply_core (result_when_asked cacheless_context (first_hop q) (kind_of outcome))) 1
+  at_alias : {q : Query} {next : Hop} {outcome : OutcomeValue} {reply : ReplyCore} {n : ℕ}
       → special_use_result q 0 ≡ None → outcome_in q table ≡ Some outcome
-      → kind_verdict cacheless_context (first_hop q) (kind_of outcome) ≡ Some (CnameChain next)
+      → verdict_on cacheless_context (first_hop q) (kind_of outcome) ≡ Some (Alias next)
       → ResolvesTo table next.query reply n → ResolvesTo table q reply (suc n)
 
 -- the table has each question that was asked, with an outcome that agrees, out of memory aside
@@ -46,7 +46,7 @@ abbrev pub IsConsistentWith : TableValue → Exchange → Type 0
 IsConsistentWith table x =
     (x.outcome ≡ Err OutOfMemory → ⊥)
     → (outcome : OutcomeValue) × (outcome_in x.query table ≡ Some outcome)
-    × AgreeWithoutTimes outcome x.outcome
+    × AgreeInCore outcome x.outcome
 
 abbrev pub AreConsistentWith : TableValue → List Exchange → Type 0
 AreConsistentWith table xs = AllByRecursion (IsConsistentWith table) xs

@@ -4,7 +4,7 @@ use Rattle.std.specs.Prelude.{◌≡◌, ◌≢◌, ◌⊎◌, ◌≤◌, ℕ, B
 use Rattle.std.specs.List.{AllByRecursion, Contains}
 use Rattle.std.specs.declared.net.IpAddr.{IpAddr}
 use Rattle.hickory_proto_core.specs.Codes.{type_code}
-use Rattle.hickory_proto_core.specs.Handles.{Step}
+use Rattle.hickory_proto_core.specs.Handles.{HandleStep}
 use Rattle.hickory_proto_core.specs.Name.{NameValue}
 use Rattle.hickory_proto_core.specs.Table.{TableValue}
 use Rattle.hickory_proto_core.specs.codes.record_type.RecordType.{RecordType}
@@ -15,8 +15,8 @@ use Rattle.hickory_resolver_model.specs.Bounds.{ConfigValue}
 use Rattle.hickory_resolver_model.specs.Cache.{CacheValue, Entry}
 use Rattle.hickory_resolver_model.specs.Lookup.{LookupValue, LookupResult}
 use Rattle.hickory_resolver_model.specs.Hops.{made_entry}
-use Rattle.hickory_resolver_model.specs.Calls.{CallContext, start_at, Source, Static, Client, SubLookup, SubLookupRelation, IsStaticSubLookup, IsClientSubLookup, asks_of_sub_lookups}
-use Rattle.hickory_resolver_model.specs.Run.{Settings, call_context_at, Call, AtOnce, Attempt, IsCall, IsUnserved, name_call, address_call}
+use Rattle.hickory_resolver_model.specs.Calls.{CallContext, start_at, Source, Static, Client, SubLookup, SubLookupRelation, IsAnsweredByHosts, IsAnsweredByClient, asks_of_sub_lookups}
+use Rattle.hickory_resolver_model.specs.Run.{Settings, call_context_at, Call, AtOnce, Attempt, IsCall, RanOutBeforeAsking, name_call, address_call}
 use Rattle.hickory_resolver_model.specs.Resolver.{ResolverValue, settings, AnswersCall}
 use Rattle.hickory_resolver_theorems.specs.Aliases.{LimitedSubLookup}
 use Rattle.hickory_resolver_theorems.specs.Cacheless.{IsTable, AreConsistentWith}
@@ -28,7 +28,7 @@ use Rattle.hickory_resolver_theorems.specs.Statements.{IsFreshEntry, AreFreshEnt
 abbrev pub IsCallBy : SubLookupRelation → Settings → CacheValue → Call → List SubLookup → LookupResult
     → CacheValue → Type 0
 IsCallBy Answers s before call parts reply after =
-    IsCall Answers s before call parts reply after ⊎ IsUnserved before parts reply after
+    IsCall Answers s before call parts reply after ⊎ RanOutBeforeAsking before parts reply after
 
 -- ---- freshness: no answer of the asked type outlives what was received (RFC 2181, section 8)
 
@@ -54,9 +54,9 @@ IsFreshForType config sources e = IsFreshEntry config (sources (type_code e.quer
 -- makes an entry that does not outlive what was received for its type
 abbrev pub IsFreshlyStoredBy : (ℕ → List Dated) → Source → CallContext → Bool → CacheValue → SubLookup → CacheValue
     → Type 0
-IsFreshlyStoredBy sources Static s looked before p after = IsStaticSubLookup s looked before p after
+IsFreshlyStoredBy sources Static s looked before p after = IsAnsweredByHosts s looked before p after
 IsFreshlyStoredBy sources Client s looked before p after =
-    (is : IsClientSubLookup s looked before p after)
+    (is : IsAnsweredByClient s looked before p after)
     × AllByRecursion
     (λ store. IfSome (made_entry before.config store) (IsFreshForType before.config sources))
     (stores_made (start_at s before) p.question p.asks p.result after is.reply)
@@ -114,7 +114,7 @@ IsTransparentCall s now before call parts reply after =
 -- A call of a resolver: each question of it sends eight at most; every record has a source; nothing outlives
 -- what was received; a cache changes no answer; no alias outlives its CNAMEs.
 pub record IsPromisedCall
-    {H : Type 0} (step : Step H) (now : ℕ) (call : Call) (before : ResolverValue H) (result : LookupResult)
+    {H : Type 0} (step : HandleStep H) (now : ℕ) (call : Call) (before : ResolverValue H) (result : LookupResult)
     (after : ResolverValue H)
     : Type 0 where
   pub is : AnswersCall step now call before result after
@@ -128,7 +128,7 @@ pub record IsPromisedCall
       before.client.cache call is.parts result after.client.cache
 
 -- what is given for a name is looked up, with these promises: it gives a name, or its fault
-abbrev pub PromisesName : {H : Type 0} → Step H → (Result NameValue NameError → Type 0) → RecordType → ℕ
+abbrev pub PromisesName : {H : Type 0} → HandleStep H → (Result NameValue NameError → Type 0) → RecordType → ℕ
     → ResolverValue H → LookupResult → ResolverValue H → Type 0
 PromisesName step Gives t now before result after =
     (name : Result NameValue NameError) × Gives name
@@ -136,7 +136,7 @@ PromisesName step Gives t now before result after =
 
 -- What is given for a host is looked up, with these promises: it spells an address or none, and gives a name,
 -- or its fault. Where memory runs out while the name is read, that is the answer, and nothing is asked.
-abbrev pub PromisesHost : {H : Type 0} → Step H → (Option IpAddr → Type 0)
+abbrev pub PromisesHost : {H : Type 0} → HandleStep H → (Option IpAddr → Type 0)
     → (Result NameValue NameError → Type 0) → ℕ → ResolverValue H → LookupResult → ResolverValue H → Type 0
 PromisesHost step Spells Gives now before result after =
     (address : Option IpAddr) × Spells address × (name : Result NameValue NameError) × Gives name

@@ -10,7 +10,7 @@ use Rattle.hickory_proto_core.specs.declared.recorded.Exchange.{Exchange}
 use Rattle.hickory_resolver_model.specs.Bounds.{ConfigValue, greatest_ttl}
 use Rattle.hickory_resolver_model.specs.SpecialUse.{is_loopback_name, loopback_data}
 use Rattle.hickory_resolver_model.specs.Verdict.{all_records}
-use Rattle.hickory_resolver_theorems.specs.WithoutTimes.{record_without_times}
+use Rattle.hickory_resolver_theorems.specs.Cores.{record_core}
 
 -- an exchange, and the moment of its request
 pub record Dated : Type 0 where
@@ -28,7 +28,7 @@ pub record IsCoveredBy (config : ConfigValue) (now : ℕ) (r : RecordValue) (sou
   pub came : source.exchange.outcome ≡ Ok response
   pub received : RecordValue
   pub brought : Contains (all_records response) received
-  pub equal : record_without_times received ≡ record_without_times r
+  pub equal : record_core received ≡ record_core r
   pub reaches : now + r.ttl ≤ source.moment + min received.ttl (greatest_ttl config (record_type_code r))
 
 abbrev pub IsCovered : ConfigValue → List Dated → ℕ → RecordValue → Type 0

@@ -2,7 +2,7 @@ pub mod Aliases
 pub mod AttemptLaws
 pub mod CallFacts
 pub mod Cacheless
-pub mod WithoutTimes
+pub mod Cores
 pub mod Covered
 pub mod Keeping
 pub mod Statements

@@ -1,7 +1,7 @@
 -- What is promised of a look-up of the client, and of a run: each is one statement, that there is a look-up (a run)
 -- of the definition which is what was done, and of it these hold.
 use Rattle.std.specs.Prelude.{◌≤◌, ℕ, List, length}
-use Rattle.hickory_proto_core.specs.Handles.{Step}
+use Rattle.hickory_proto_core.specs.Handles.{HandleStep}
 use Rattle.hickory_proto_core.specs.declared.query.Query.{Query}
 use Rattle.hickory_proto_core.specs.declared.dns_request.DnsRequestOptions.{DnsRequestOptions}
 use Rattle.hickory_proto_core.specs.declared.recorded.Exchange.{Exchange}
@@ -16,7 +16,7 @@ use Rattle.hickory_resolver_theorems.specs.Aliases.{NoAliasOutlives, RunOutlives
 -- A look-up of a client: eight questions are sent at most; every record has a source; nothing outlives what was
 -- received; a cache changes no answer; no alias outlives its CNAMEs.
 pub record IsPromisedLookup
-    {H : Type 0} (step : Step H) (options : DnsRequestOptions) (now : ℕ) (before : ClientValue H)
+    {H : Type 0} (step : HandleStep H) (options : DnsRequestOptions) (now : ℕ) (before : ClientValue H)
     (question : Query) (result : LookupResult) (after : ClientValue H)
     : Type 0 where
   pub is : IsLookup step options now before question result after
@@ -28,7 +28,7 @@ pub record IsPromisedLookup
 
 -- A run over a handle, from a new resolver: the headline, and that no alias outlives its CNAMEs.
 pub record IsPromisedRun
-    {H : Type 0} (step : Step H) (s : Settings) (handle : H) (requests : List RequestValue)
+    {H : Type 0} (step : HandleStep H) (s : Settings) (handle : H) (requests : List RequestValue)
     (steps : List StepValue) (exchanges : List Exchange) (handle_after : H) (cache_after : CacheValue)
     : Type 0 where
   pub is : IsRun step s handle requests steps exchanges handle_after cache_after

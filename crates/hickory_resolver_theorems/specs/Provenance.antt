@@ -11,7 +11,7 @@ use Rattle.hickory_resolver_model.specs.Cache.{CacheValue, Entry, is_current}
 use Rattle.hickory_resolver_model.specs.Lookup.{LookupResult}
 use Rattle.hickory_resolver_model.specs.Hops.{LookupContext, Store, IsReply, made_entry, stores_of}
 use Rattle.hickory_resolver_theorems.specs.Covered.{Dated, dated_exchanges}
-use Rattle.hickory_resolver_theorems.specs.Statements.{HasNoLeast, IsFreshReply, IsFreshEntry}
+use Rattle.hickory_resolver_theorems.specs.Statements.{LeastTtlIsZero, IsFreshReply, IsFreshEntry}
 
 abbrev pub is_positive : OutcomeValue → Bool
 is_positive (Ok m) = true
@@ -64,5 +64,5 @@ pub record IsFromSources
 abbrev pub HasProvenance : (s : LookupContext) (question : Query) (asks : List Exchange) (result : LookupResult)
     (after : CacheValue) → IsReply s question asks result after → Type 0
 HasProvenance s question asks result after reply =
-    HasNoLeast s.cache.config (type_code question.query_type)
+    LeastTtlIsZero s.cache.config (type_code question.query_type)
     → IsFromSources s question asks result (stores_made s question asks result after reply) after

@@ -17,17 +17,17 @@ use Rattle.hickory_proto_core.specs.Handles.{OutcomeValue}
 use Rattle.hickory_resolver_model.specs.Lookup.{LookupValue, LookupResult}
 use Rattle.hickory_resolver_model.specs.Hops.{LookupContext}
 use Rattle.hickory_resolver_model.specs.Hosts.{IsStatic}
-use Rattle.hickory_resolver_model.specs.Calls.{SubLookup, SubLookupRelation, CallContext, Client, IsStaticSubLookup, is_out_of_memory, literal_at_once, literal_at_last}
+use Rattle.hickory_resolver_model.specs.Calls.{SubLookup, SubLookupRelation, CallContext, Client, IsAnsweredByHosts, is_out_of_memory, literal_at_once, literal_at_last}
 use Rattle.hickory_resolver_model.specs.Run.{Settings, call_context_at, RequestValue, LookupIp, StepValue, StepReply, LookedUp, LookedUpIp, Cleared, ends_run, IsServed, Stage, exchanges_of, Run}
 use Rattle.hickory_resolver_theorems.specs.Cacheless.{IsTable, ResolvesTo, AreConsistentWith}
-use Rattle.hickory_resolver_theorems.specs.WithoutTimes.{WithoutTimes, without_times, stored_without_times}
+use Rattle.hickory_resolver_theorems.specs.Cores.{ReplyCore, reply_core, entry_core}
 use Rattle.hickory_resolver_theorems.specs.Covered.{Dated, dated_exchanges, IsCovered, IsLoopback}
 
 -- ---- freshness: no answer of the asked type outlives what was received (RFC 2181, section 8)
 
 -- the least TTL of a type is zero
-abbrev pub HasNoLeast : ConfigValue → ℕ → Type 0
-HasNoLeast config code = (positive_bounds (bounds_for config code)).0 ≡ 0
+abbrev pub LeastTtlIsZero : ConfigValue → ℕ → Type 0
+LeastTtlIsZero config code = (positive_bounds (bounds_for config code)).0 ≡ 0
 
 -- a record of the asked type among the answers, given at a moment by what may be used up to a deadline: it is
 -- a loopback record; or it is covered, its TTL is at most the greatest, and the deadline is not past the
@@ -50,7 +50,7 @@ IsFreshReply config sources code now (Err e) = Unit {0}
 -- an entry of a positive answer, at its own moment
 abbrev pub IsFreshOutcome : ConfigValue → List Dated → Entry → OutcomeValue → Type 0
 IsFreshOutcome config sources e (Ok m) =
-    HasNoLeast config (type_code e.query.query_type)
+    LeastTtlIsZero config (type_code e.query.query_type)
     → AreFreshRecords config sources
     (type_code e.query.query_type) e.original_time e.valid_until m.answers
 IsFreshOutcome config sources e (Err error) = Unit {0}
@@ -66,7 +66,7 @@ AreFreshEntries cache sources = AllByRecursion (IsFreshEntry cache.config source
 abbrev pub IsFresh : LookupContext → Query → List Exchange → LookupResult → CacheValue → Type 0
 IsFresh s question asks result after =
     (sources : List Dated) → AreFreshEntries s.cache sources
-    → (HasNoLeast s.cache.config (type_code question.query_type)
+    → (LeastTtlIsZero s.cache.config (type_code question.query_type)
     → IsFreshReply s.cache.config (sources ++ dated_exchanges s.now asks)
     (type_code question.query_type) s.now result)
     × AreFreshEntries after (sources ++ dated_exchanges s.now asks)
@@ -75,7 +75,7 @@ IsFresh s question asks result after =
 
 -- an entry is what its question means under a table, however long the way there
 abbrev pub IsWhatItResolvesTo : TableValue → Entry → Type 0
-IsWhatItResolvesTo table e = (n : ℕ) × ResolvesTo table e.query (stored_without_times e.result) n
+IsWhatItResolvesTo table e = (n : ℕ) × ResolvesTo table e.query (entry_core e.result) n
 
 abbrev pub AreWhatTheyResolveTo : TableValue → CacheValue → Type 0
 AreWhatTheyResolveTo table cache = AllByRecursion (IsWhatItResolvesTo table) cache.entries
@@ -87,8 +87,8 @@ abbrev pub IsTransparent : LookupContext → Query → List Exchange → LookupR
 IsTransparent s question asks result after =
     (table : TableValue) → s.preserve_intermediates ≡ false → IsTable table → AreConsistentWith table asks
     → AreWhatTheyResolveTo table s.cache
-    → (reply : WithoutTimes) (n : ℕ) → ResolvesTo table question reply n → n ≤ 8
-    → ((result ≡ Err OutOfMemory) ⊎ (without_times result ≡ reply)) × AreWhatTheyResolveTo table after
+    → (reply : ReplyCore) (n : ℕ) → ResolvesTo table question reply n → n ≤ 8
+    → ((result ≡ Err OutOfMemory) ⊎ (reply_core result ≡ reply)) × AreWhatTheyResolveTo table after
 
 -- ---- the headline, of a run
 
@@ -102,7 +102,7 @@ AsksAtMostEight stage = AllByRecursion (λ p. length p.asks ≤ 8) stage.parts
 abbrev pub IsFreshSubLookup : ConfigValue → (ℕ → List Dated) → ℕ → SubLookup → Type 0
 IsFreshSubLookup config sources now p =
     let code = type_code p.question.query_type in
-    p.source ≡ Client → HasNoLeast config code → IsFreshReply config (sources code) code now p.result
+    p.source ≡ Client → LeastTtlIsZero config code → IsFreshReply config (sources code) code now p.result
 
 -- a sub-look-up has the record among its answers
 abbrev pub Gives : SubLookup → RecordValue → Type 0
@@ -114,7 +114,7 @@ Gives p r = (found : LookupValue) × (p.result ≡ Ok found) × Contains found.m
 abbrev pub IsFreshWhereGiven : ConfigValue → (ℕ → List Dated) → ℕ → ℕ → RecordValue → SubLookup → Type 0
 IsFreshWhereGiven config sources now deadline r p =
     let code = type_code p.question.query_type in
-    p.source ≡ Client → Gives p r → HasNoLeast config code
+    p.source ≡ Client → Gives p r → LeastTtlIsZero config code
     → IsFreshRecord config (sources code) code now deadline r
 
 -- An answer of a reply that may be used up to a deadline: a sub-look-up gave it, to be used as long or longer.
@@ -165,22 +165,22 @@ NothingOutlives earlier (stage ∷ stages) =
 -- a question of the client has a meaning of eight questions at most
 abbrev pub ResolvesWithinEight : TableValue → SubLookup → Type 0
 ResolvesWithinEight table p =
-    p.source ≡ Client → (reply : WithoutTimes) × (n : ℕ) × ResolvesTo table p.question reply n × (n ≤ 8)
+    p.source ≡ Client → (reply : ReplyCore) × (n : ℕ) × ResolvesTo table p.question reply n × (n ≤ 8)
 
 -- how the resolver without a cache answers a question: by the table of hosts, as any, or by the meaning of
 -- the question
 pub record IsCachelessSubLookup
     (table : TableValue) (s : CallContext) (looked : Bool) (q : Query) (p : SubLookup)
     : Type 0 where
-  pub reply : WithoutTimes
+  pub reply : ReplyCore
   pub length_is : ℕ
   pub not_static : (looked ≡ false) ⊎ IsStatic q s.now s.hosts None
   pub means : ResolvesTo table q reply length_is
-  pub result_is : without_times p.result ≡ reply
+  pub result_is : reply_core p.result ≡ reply
 
 abbrev pub CachelessSubLookup : TableValue → CallContext → SubLookupRelation
 CachelessSubLookup table s looked before q p after =
-    (p.question ≡ q) × (IsStaticSubLookup s looked before p after
+    (p.question ≡ q) × (IsAnsweredByHosts s looked before p after
     ⊎ (IsCachelessSubLookup table s looked q p × (after ≡ before)))
 
 -- the resolver without a cache serves a request, by these sub-look-ups
@@ -195,7 +195,7 @@ abbrev pub ComesToCacheless : (LookupResult → StepReply) → TableValue → Se
 ComesToCacheless form table s cache request reply =
     (parts : List SubLookup) × (cacheless : LookupResult)
     × IsServedCacheless table s cache request parts (form cacheless)
-    × (without_times reply ≡ without_times cacheless)
+    × (reply_core reply ≡ reply_core cacheless)
 
 -- a reply comes to what the resolver without a cache answers to the request
 abbrev pub IsCacheless : TableValue → Settings → CacheValue → RequestValue → StepReply → Type 0
@@ -210,7 +210,7 @@ IsOneCachelessBy form table s cache request =
     (parts others : List SubLookup) (a b : LookupResult)
     → IsServedCacheless table s cache request parts (form a)
     → IsServedCacheless table s cache request others (form b)
-    → is_out_of_memory a ≡ false → is_out_of_memory b ≡ false → without_times a ≡ without_times b
+    → is_out_of_memory a ≡ false → is_out_of_memory b ≡ false → reply_core a ≡ reply_core b
 
 -- Two cacheless replies to a request come to the same, out of memory aside.
 abbrev pub IsOneCacheless : TableValue → Settings → CacheValue → RequestValue → Type 0

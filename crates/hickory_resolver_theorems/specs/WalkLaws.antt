@@ -10,7 +10,7 @@ use Rattle.hickory_proto_core.specs.Name.{NameValue}
 use Rattle.hickory_proto_core.specs.Records.{RecordValue}
 use Rattle.hickory_proto_core.specs.declared.query.Query.{Query}
 use Rattle.hickory_resolver_model.specs.Bounds.{day}
-use Rattle.hickory_resolver_model.specs.AliasWalk.{Walk, Counted, Alias, Server, counted, reached_by, CountNowhere, IsWalk, standing, walk_step, walk_from, walk_of, follows_aliases}
+use Rattle.hickory_resolver_model.specs.AliasWalk.{Walk, Counted, AliasTo, Server, counted, reached_by, CountNowhere, IsWalk, standing, walk_step, walk_from, walk_of, follows_aliases}
 
 at_front : (front rs : List RecordValue) (r : RecordValue)
     → slice_get (front ++ r ∷ rs) (length front) ≡ Some r
@@ -71,10 +71,10 @@ walk_from_is answers asked front (r ∷ rs) place reached e n =
         (walk_from (place + 1) asked next rs))
         → IsWalk answers asked place reached (with_it o).places (with_it o)
     on None none walk = after_one answers asked place reached r _ _ here none (walk reached)
-    on (Some (Alias target)) counts walk = (
+    on (Some (AliasTo target)) counts walk = (
       omega arith,
       (λ k x h l at. absurd (omega arith)),
-      (r, Alias target, walk_from (place + 1) asked target rs, here, counts, walk target, refl),
+      (r, AliasTo target, walk_from (place + 1) asked target rs, here, counts, walk target, refl),
     )
     on (Some (Server target)) counts walk = (
       omega arith,
@@ -143,7 +143,7 @@ ttl_of_walk answers asked low reached (p ∷ ps) walk (above, nowhere, (r, c, w,
     ∙ sym (ap (λ o. fold min day (cons_option (option_map (λ x. x.ttl) o) (ttls_at answers ps))) at)
   where
     step : (d : Counted) → (walk_step p r.ttl d w).ttl ≡ min r.ttl w.ttl
-    step (Alias target) = refl
+    step (AliasTo target) = refl
     step (Server target) = refl
 
 -- ---- the walk of a question

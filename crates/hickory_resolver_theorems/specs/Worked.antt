@@ -14,7 +14,7 @@ use Rattle.hickory_resolver_model.specs.Bounds.{BoundsValue, ConfigValue, no_bou
 use Rattle.hickory_resolver_model.specs.Cache.{CacheValue, Entry, insert_entry, store, aged_result, current}
 use Rattle.hickory_resolver_model.specs.SpecialUse.{full_name, one_record, no_records, special_use_result}
 use Rattle.hickory_resolver_model.specs.AliasWalk.{walk_of}
-use Rattle.hickory_resolver_model.specs.Verdict.{Hop, first_hop, Exists, CnameChain, verdict}
+use Rattle.hickory_resolver_model.specs.Verdict.{Hop, first_hop, Accepted, Alias, verdict}
 use Rattle.hickory_resolver_model.specs.Hops.{LookupContext}
 use Rattle.hickory_resolver_model.specs.Attempts.{Search, attempts}
 use Rattle.hickory_resolver_model.specs.Client.{empty_cache}
@@ -240,12 +240,12 @@ pub record AliasCases : Type 0 where
   -- alias; with them the response as it was sent
   pub address_behind_an_alias : verdict false (first_hop (asks_a (name (codes "a"))))
       (response (asks_a (name (codes "a"))) alias_and_address)
-      ≡ Exists (response (asks_a (name (codes "a"))) (rr (name (codes "b")) 5 address ∷ []))
+      ≡ Accepted (response (asks_a (name (codes "a"))) (rr (name (codes "b")) 5 address ∷ []))
   pub alias_kept_with_its_address : verdict true (first_hop (asks_a (name (codes "a"))))
       (response (asks_a (name (codes "a"))) alias_and_address)
-      ≡ Exists (response (asks_a (name (codes "a"))) alias_and_address)
+      ≡ Accepted (response (asks_a (name (codes "a"))) alias_and_address)
   pub alias_leads_on : verdict true (first_hop (asks_a (name (codes "a"))))
-      (response (asks_a (name (codes "a"))) alias_alone) ≡ CnameChain (record {
+      (response (asks_a (name (codes "a"))) alias_alone) ≡ Alias (record {
         query = asks_a (name (codes "b"));
         preserved = alias_alone;
       })
@@ -255,7 +255,7 @@ pub record AliasCases : Type 0 where
     query_type = type.A;
     query_class = class.CH;
   })) (response (asks_a (name (codes "a"))) alias_alone)
-      ≡ CnameChain (record { query = asks_a (name (codes "b")); preserved = [] })
+      ≡ Alias (record { query = asks_a (name (codes "b")); preserved = [] })
 
 pub alias_cases : AliasCases
 alias_cases = record {

@@ -6,7 +6,7 @@ use Rattle.hickory_proto_core.specs.codes.response_code.ResponseCode.TheVariants
 use Rattle.hickory_resolver_model.specs.SpecialUse.{no_records}
 use Rattle.hickory_resolver_model.specs.Hops.{Asked, IsAliasHop, HopList, IsWhole}
 use Rattle.hickory_resolver_theorems.specs.Cacheless.{ResolvesTo, at_last, at_alias}
-use Rattle.hickory_resolver_theorems.specs.WithoutTimes.{WithoutTimes}
+use Rattle.hickory_resolver_theorems.specs.Cores.{ReplyCore}
 use Rattle.hickory_resolver_theorems.specs.Worked.{name, asks_a, rr, address, response, alias_alone, to_a, to_b, loop_start, loop_asks, after_loop, at_a, at_b}
 
 -- seven aliases are followed, and the eighth question's alias is one too many
@@ -51,7 +51,7 @@ chain =
           (response (asks_a (name (codes "b"))) (rr (name (codes "b")) 10 address ∷ [])),
     ) ∷ []
 
-abbrev pub chain_reply : WithoutTimes
+abbrev pub chain_reply : ReplyCore
 chain_reply =
     Ok (record { answers = rr (name (codes "b")) 0 address ∷ []; authorities = []; additionals = [] })
 

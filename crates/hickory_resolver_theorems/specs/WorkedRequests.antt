@@ -26,7 +26,7 @@ use Rattle.hickory_resolver_model.specs.SpecialUse.{full_name}
 use Rattle.hickory_resolver_model.specs.Verdict.{first_hop}
 use Rattle.hickory_resolver_model.specs.Hops.{Asked, IsReply}
 use Rattle.hickory_resolver_model.specs.Hosts.{insert_pairs, StandsFor, IsStatic, static_answer}
-use Rattle.hickory_resolver_model.specs.Calls.{Static, Client, SubLookup, IsSubLookupFor}
+use Rattle.hickory_resolver_model.specs.Calls.{Static, Client, SubLookup, IsAnsweredFor}
 use Rattle.hickory_resolver_model.specs.Run.{Settings, call_context_at, Lookup, LookupIp, ClearLookup, Clear, LookedUp, LookedUpIp, Cleared, IsServed, StepValue, Stage, Run}
 use Rattle.hickory_resolver_model.specs.Client.{empty_cache}
 use Rattle.hickory_resolver_theorems.specs.Worked.{below, relative, name, asks_a, rr, address, response, exchange}
@@ -207,22 +207,22 @@ by_hosts = record { question = asks_ptr; source = Static; asks = []; result = Ok
 
 pub record RequestCases : Type 0 where
   -- a clear of one question, and of the whole cache
-  pub clears_a_name : IsServed (λ now. IsSubLookupFor (call_context_at settings now)) settings after_run
+  pub clears_a_name : IsServed (λ now. IsAnsweredFor (call_context_at settings now)) settings after_run
       (ClearLookup (codes "a.") type.A 5) [] (Cleared (Ok tt)) (record after_run { entries = [] })
-  pub clears_another_type : IsServed (λ now. IsSubLookupFor (call_context_at settings now)) settings after_run
+  pub clears_another_type : IsServed (λ now. IsAnsweredFor (call_context_at settings now)) settings after_run
       (ClearLookup (codes "a.") type.AAAA 5) [] (Cleared (Ok tt)) after_run
-  pub clears_all : IsServed (λ now. IsSubLookupFor (call_context_at settings now)) settings after_run (Clear 5) []
+  pub clears_all : IsServed (λ now. IsAnsweredFor (call_context_at settings now)) settings after_run (Clear 5) []
       (Cleared (Ok tt)) (record after_run { entries = [] })
   -- the second look-up is not made where the first one found no memory
   pub ends_without_memory : Run settings (empty_cache 8) requests (cut_step ∷ []) [] (empty_cache 8)
   -- the name below the search domain is asked for first; it timed out, and the name itself is asked for
-  pub tries_below_a_domain : IsServed (λ now. IsSubLookupFor (call_context_at below_b now)) below_b (empty_cache 8)
+  pub tries_below_a_domain : IsServed (λ now. IsAnsweredFor (call_context_at below_b now)) below_b (empty_cache 8)
       (Lookup (codes "a") type.A 0) (timed_out ∷ asked ∷ []) (LookedUp (Ok (found 10 10))) after_run
   -- the addresses of both families, in the order of the strategy
-  pub asks_both_families : IsServed (λ now. IsSubLookupFor (call_context_at both_families now)) both_families
+  pub asks_both_families : IsServed (λ now. IsAnsweredFor (call_context_at both_families now)) both_families
       (empty_cache 8) (LookupIp (codes "a.") 0) (asked ∷ second_family ∷ []) (LookedUpIp (Ok both_found)) after_both
   -- the name of an address is found in the table of hosts, and nothing is asked
-  pub finds_a_pointer : IsServed (λ now. IsSubLookupFor (call_context_at with_hosts now)) with_hosts (empty_cache 8)
+  pub finds_a_pointer : IsServed (λ now. IsAnsweredFor (call_context_at with_hosts now)) with_hosts (empty_cache 8)
       (Lookup (codes "1.2.0.192.in-addr.arpa.") type.PTR 3) (by_hosts ∷ []) (LookedUp (Ok pointer)) (empty_cache 8)
 
 pub request_cases : RequestCases

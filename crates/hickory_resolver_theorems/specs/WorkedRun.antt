@@ -10,7 +10,7 @@ use Rattle.hickory_resolver_model.specs.Lookup.{LookupValue}
 use Rattle.hickory_resolver_model.specs.Verdict.{first_hop}
 use Rattle.hickory_resolver_model.specs.Hops.{LookupContext, Hit, Asked, IsReply}
 use Rattle.hickory_resolver_model.specs.Hosts.{IsStatic}
-use Rattle.hickory_resolver_model.specs.Calls.{Client, SubLookup, IsSubLookupFor}
+use Rattle.hickory_resolver_model.specs.Calls.{Client, SubLookup, IsAnsweredFor}
 use Rattle.hickory_resolver_config.specs.declared.strategies.LookupIpStrategy.TheVariants.{Ipv4Only}
 use Rattle.hickory_resolver_model.specs.Bounds.{no_bounds}
 use Rattle.hickory_resolver_model.specs.Run.{Settings, call_context_at, RequestValue, Lookup, LookedUp, IsServed, StepValue, Stage, Run}
@@ -36,7 +36,7 @@ settings = record {
   preserve_intermediates = false;
   capacity = 8;
   bounds = no_bounds;
-  requests =
+  request_options =
       record { recursion_desired = true; use_edns = true; edns_payload_len = 1232; case_randomization = false };
   hosts = [];
 }
@@ -117,7 +117,7 @@ pub not_static : (now : ℕ) → IsStatic (asks_a a) now [] None
 not_static now = (None, λ asked. (let clash : false ≡ true = asked in cc), refl)
 
 -- each look-up is one attempt of one sub-look-up
-first_served : IsServed (λ now. IsSubLookupFor (call_context_at settings now)) settings (empty_cache 8)
+first_served : IsServed (λ now. IsAnsweredFor (call_context_at settings now)) settings (empty_cache 8)
     (Lookup (codes "a.") type.A 0) (asked ∷ []) (LookedUp (Ok (found 10 10))) after_run
 first_served =
     inl (
@@ -149,7 +149,7 @@ first_served =
       ),
     )
 
-second_served : IsServed (λ now. IsSubLookupFor (call_context_at settings now)) settings after_run
+second_served : IsServed (λ now. IsAnsweredFor (call_context_at settings now)) settings after_run
     (Lookup (codes "a.") type.A 4) (hit ∷ []) (LookedUp (Ok (found 6 10))) after_run
 second_served =
     inl (

@@ -8,7 +8,7 @@ use Rattle.hickory_proto_core.specs.codes.record_type.RecordType.TheVariants as 
 use Rattle.hickory_resolver_model.specs.Lookup.{question_of}
 use Rattle.hickory_resolver_model.specs.SpecialUse.{full_name}
 use Rattle.hickory_resolver_model.specs.AliasWalk.{standing, walk_of}
-use Rattle.hickory_resolver_model.specs.Verdict.{first_hop, Exists, CnameChain, NoMatch, verdict}
+use Rattle.hickory_resolver_model.specs.Verdict.{first_hop, Accepted, Alias, NoMatch, verdict}
 use Rattle.hickory_resolver_theorems.specs.Worked.{name, rr, address, response, asks_a}
 
 abbrev pub a_name : NameValue
@@ -78,13 +78,13 @@ pub record ServiceCases : Type 0 where
   -- was sent
   pub server_behind_an_alias : verdict false (first_hop (asks_service service_of_a))
       (response (asks_service service_of_a) alias_and_server)
-      ≡ Exists (response (asks_service service_of_a) (server service_of_b 30 first_host ∷ []))
+      ≡ Accepted (response (asks_service service_of_a) (server service_of_b 30 first_host ∷ []))
   pub alias_kept_with_its_server : verdict true (first_hop (asks_service service_of_a))
       (response (asks_service service_of_a) alias_and_server)
-      ≡ Exists (response (asks_service service_of_a) alias_and_server)
+      ≡ Accepted (response (asks_service service_of_a) alias_and_server)
   -- an alias that was preserved, and then the server, each as long as it was sent
   pub alias_leads_to_the_service : verdict true (first_hop (asks_service service_of_a))
-      (response (asks_service service_of_a) (alias service_of_a 300 service_of_b ∷ [])) ≡ CnameChain (record {
+      (response (asks_service service_of_a) (alias service_of_a 300 service_of_b ∷ [])) ≡ Alias (record {
         query = asks_service service_of_b;
         preserved = alias service_of_a 300 service_of_b ∷ [];
       })
@@ -92,7 +92,7 @@ pub record ServiceCases : Type 0 where
     query = asks_service service_of_b;
     preserved = alias service_of_a 300 service_of_b ∷ [];
   }) (response (asks_service service_of_b) (server service_of_b 60 first_host ∷ []))
-      ≡ Exists (response (asks_service service_of_b)
+      ≡ Accepted (response (asks_service service_of_b)
       (alias service_of_a 300 service_of_b ∷ server service_of_b 60 first_host ∷ []))
   -- a server of another name leads nowhere
   pub other_servers_do_not_count : verdict false (first_hop (asks_a a_name))
@@ -100,20 +100,20 @@ pub record ServiceCases : Type 0 where
   -- the addresses of both servers are the answer, none longer than the servers
   pub addresses_of_two_servers : verdict false (first_hop (asks_a a_name))
       (servers_with_addresses (asks_a a_name))
-      ≡ Exists (record (servers_with_addresses (asks_a a_name)) {
+      ≡ Accepted (record (servers_with_addresses (asks_a a_name)) {
         answers = rr first_host 20 address ∷ rr second_host 50 address ∷ [];
       })
   -- without the addresses the next question is about the first server
   pub two_servers_lead_on : verdict false (first_hop (asks_a a_name)) (response (asks_a a_name) two_servers)
-      ≡ CnameChain (record { query = asks_a first_host; preserved = [] })
+      ≡ Alias (record { query = asks_a first_host; preserved = [] })
   -- and behind an alias about the name behind it
   pub an_alias_goes_first : verdict false (first_hop (asks_a a_name))
       (response (asks_a a_name) (server a_name 50 first_host ∷ alias a_name 50 (name (codes "b")) ∷ []))
-      ≡ CnameChain (record { query = asks_a (name (codes "b")); preserved = [] })
+      ≡ Alias (record { query = asks_a (name (codes "b")); preserved = [] })
   -- where the servers were asked for, the response is the answer as it was sent
   pub servers_that_were_asked_for : verdict false (first_hop (asks_service a_name))
       (servers_with_addresses (asks_service a_name))
-      ≡ Exists (servers_with_addresses (asks_service a_name))
+      ≡ Accepted (servers_with_addresses (asks_service a_name))
 
 pub service_cases : ServiceCases
 service_cases = record {

@@ -13,7 +13,7 @@ ghost use Rattle.hickory_resolver_theorems.specs.AttemptLaws.{AreAttemptsApart};
 ghost use Rattle.hickory_resolver_model.specs.Cache.{CacheValue, IsCache, without_query};
 ghost use Rattle.hickory_resolver_model.specs.Hops.{LookupContext, IsReply};
 ghost use Rattle.hickory_resolver_model.specs.Lookup.{LookupResult};
-ghost use Rattle.hickory_resolver_model.specs.Calls.{SubLookup, IsSubLookupFor, asks_of_sub_lookups};
+ghost use Rattle.hickory_resolver_model.specs.Calls.{SubLookup, IsAnsweredFor, asks_of_sub_lookups};
 ghost use Rattle.hickory_resolver_model.specs.Resolver.{ResolverValue, AnswersCall};
 ghost use Rattle.hickory_resolver_model.specs.Run.{Settings, Call, after_clear, call_context_at, RequestValue, StepReply, StepValue, IsServed, Run};
 ghost use Rattle.hickory_resolver_theorems.specs.Keeping.{IsServedOver};
@@ -98,7 +98,7 @@ pub fn a_record_keeps_the_reply()
 pub fn a_record_keeps_the_request()
     ensures { (s : Settings) (before : CacheValue) (request : RequestValue) (parts : List SubLookup)
         (reply : StepReply) (after : CacheValue) (kept : List Exchange)
-        → IsServed (λ now. IsSubLookupFor (call_context_at s now)) s before request parts reply after
+        → IsServed (λ now. IsAnsweredFor (call_context_at s now)) s before request parts reply after
         → RecordedAs (asks_of_sub_lookups parts) kept → IsServedOver s before request kept reply after }
 {}
 

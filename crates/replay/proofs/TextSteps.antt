@@ -2,7 +2,7 @@
 use Rattle.std.proofs.Common.{◌≡◌, ◌∙◌, ℕ, Bool, true, false, not, MatchBool, List, [], ◌∷◌, ◌++◌, take, drop, map, Result, Ok, Err, IfOk, String, string_bytes, refl, sym, ap, subst, inl, inr, append_assoc}
 use Rattle.std.proofs.lemmas.Bool.{and_from}
 use Rattle.std.proofs.lemmas.List.{append-nil}
-use Rattle.hickory_proto_core.specs.Handles.{OutcomeValue, Step, RecordedValue, ScriptStep}
+use Rattle.hickory_proto_core.specs.Handles.{OutcomeValue, HandleStep, RecordedValue, ScriptStep}
 use Rattle.hickory_proto_core.specs.declared.query.Query.{Query}
 use Rattle.hickory_resolver_config.specs.ResolverConfig.{ResolverConfigValue, OptionsValue}
 use Rattle.hickory_proto_core.specs.declared.recorded.Exchange.{Exchange}
@@ -56,7 +56,7 @@ no_table now hosts start fault table error empty read error_is =
     subst (IsNoTable now hosts) (sym error_is) (fault_of now hosts fault table (subst P empty read))
 
 -- the text of a run that was told
-pub told_run : {H L : Type 0} (step : Step H) (s : Settings) (upstream : H) (requests : List RequestValue) (text : L → List ℕ) (hears : Hears L) → ((before : L) (told : Told) (after : L) → hears before told after → AddsBlock (text before) told (text after))
+pub told_run : {H L : Type 0} (step : HandleStep H) (s : Settings) (upstream : H) (requests : List RequestValue) (text : L → List ℕ) (hears : Hears L) → ((before : L) (told : Told) (after : L) → hears before told after → AddsBlock (text before) told (text after))
     → (before : L) (resolver : ResolverValue (RecordedValue H)) (after : L) → text before ≡ [] → IsToldRun step hears s upstream requests before resolver after → IsTold step s upstream requests (text after)
 told_run step s upstream requests text hears adds before resolver after none run =
     let exchanges = resolver.client.handle.exchanges in

@@ -1,7 +1,7 @@
 -- A run of a script over a table of hosts, and its text.
 use Rattle.std.specs.Prelude.{◌≡◌, ◌⊎◌, ℕ, Bool, true, not, List, [], ◌∷◌, map, Ok, Err, MatchBool}
 use Rattle.std.specs.List.{list_all}
-use Rattle.hickory_proto_core.specs.Handles.{OutcomeValue, Step, ScriptStep}
+use Rattle.hickory_proto_core.specs.Handles.{OutcomeValue, HandleStep, ScriptStep}
 use Rattle.hickory_proto_core.specs.Table.{TableValue, TableStep, outcome_in, last_given}
 use Rattle.hickory_proto_core.specs.declared.query.Query.{Query}
 use Rattle.hickory_proto_core.specs.declared.recorded.Exchange.{Exchange}
@@ -32,7 +32,7 @@ IsToldBy requests steps exchanges text =
 
 -- the requests are run over this upstream, and memory does not run out: the text of that run
 pub record IsTold
-    {H : Type 0} (step : Step H) (s : Settings) (upstream : H) (requests : List RequestValue) (text : List ℕ)
+    {H : Type 0} (step : HandleStep H) (s : Settings) (upstream : H) (requests : List RequestValue) (text : List ℕ)
     : Type 0 where
   pub steps : List StepValue
   pub exchanges : List Exchange

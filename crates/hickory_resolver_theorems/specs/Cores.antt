@@ -40,8 +40,8 @@ folded_data (txt_data strings) = txt_data strings
 folded_data (unknown_data code bytes) = unknown_data code bytes
 
 -- a record without its TTL
-abbrev pub record_without_times : RecordValue → RecordValue
-record_without_times r =
+abbrev pub record_core : RecordValue → RecordValue
+record_core r =
     record {
       name = folded_name r.name;
       dns_class = class_of (class_code r.dns_class);
@@ -58,65 +58,65 @@ pub record Sections : Type 0 where
 abbrev pub sections : MessageValue → Sections
 sections m =
     record {
-      answers = map record_without_times m.answers;
-      authorities = map record_without_times m.authorities;
-      additionals = map record_without_times m.additionals;
+      answers = map record_core m.answers;
+      authorities = map record_core m.authorities;
+      additionals = map record_core m.additionals;
     }
 
-abbrev pub forward_without_times : ForwardValue → ForwardValue
-forward_without_times f = record { ns = record_without_times f.ns; glue = map record_without_times f.glue }
+abbrev pub forward_core : ForwardValue → ForwardValue
+forward_core f = record { ns = record_core f.ns; glue = map record_core f.glue }
 
 -- a negative answer without its negative TTL and the TTLs of its records
-abbrev pub negative_without_times : NoRecordsValue → NoRecordsValue
-negative_without_times n = record {
+abbrev pub negative_core : NoRecordsValue → NoRecordsValue
+negative_core n = record {
   query = folded_query n.query;
-  soa = option_map record_without_times n.soa;
-  ns = option_map (map forward_without_times) n.ns;
+  soa = option_map record_core n.soa;
+  ns = option_map (map forward_core) n.ns;
   negative_ttl = None;
   response_code = response_of (response_code n.response_code);
-  authorities = option_map (map record_without_times) n.authorities;
+  authorities = option_map (map record_core) n.authorities;
 }
 
-abbrev pub error_without_times : NetError → NetError
-error_without_times (Message text) = Message text
-error_without_times Timeout = Timeout
-error_without_times (Proto e) = Proto e
-error_without_times (Dns (ResponseCode code)) = Dns (ResponseCode (response_of (response_code code)))
-error_without_times (Dns (NoRecordsFound n)) = Dns (NoRecordsFound (negative_without_times n))
-error_without_times NoOutcome = NoOutcome
-error_without_times (Bounds e) = Bounds e
-error_without_times OutOfMemory = OutOfMemory
+abbrev pub error_core : NetError → NetError
+error_core (Message text) = Message text
+error_core Timeout = Timeout
+error_core (Proto e) = Proto e
+error_core (Dns (ResponseCode code)) = Dns (ResponseCode (response_of (response_code code)))
+error_core (Dns (NoRecordsFound n)) = Dns (NoRecordsFound (negative_core n))
+error_core NoOutcome = NoOutcome
+error_core (Bounds e) = Bounds e
+error_core OutOfMemory = OutOfMemory
 
 -- what a reply comes to: its sections, or its error. The question section, the header and the deadline are
 -- set aside
-abbrev pub WithoutTimes : Type 0
-WithoutTimes = Result Sections NetError
+abbrev pub ReplyCore : Type 0
+ReplyCore = Result Sections NetError
 
-abbrev pub without_times : LookupResult → WithoutTimes
-without_times (Ok l) = Ok (sections l.message)
-without_times (Err e) = Err (error_without_times e)
+abbrev pub reply_core : LookupResult → ReplyCore
+reply_core (Ok l) = Ok (sections l.message)
+reply_core (Err e) = Err (error_core e)
 
 -- what an outcome comes to: the code, whether it was cut short, the questions and the sections, or its error
-pub record ResponseWithoutTimes : Type 0 where
+pub record ResponseCore : Type 0 where
   pub code : ℕ
   pub truncation : Bool
   pub queries : List Query
   pub body : Sections
 
-abbrev pub outcome_without_times : OutcomeValue → Result ResponseWithoutTimes NetError
-outcome_without_times (Ok m) = Ok (record {
+abbrev pub outcome_core : OutcomeValue → Result ResponseCore NetError
+outcome_core (Ok m) = Ok (record {
   code = response_code m.metadata.response_code;
   truncation = m.metadata.truncation;
   queries = map folded_query m.queries;
   body = sections m;
 })
-outcome_without_times (Err e) = Err (error_without_times e)
+outcome_core (Err e) = Err (error_core e)
 
 -- two outcomes agree where they come to the same
-abbrev pub AgreeWithoutTimes : OutcomeValue → OutcomeValue → Type 0
-AgreeWithoutTimes a b = outcome_without_times a ≡ outcome_without_times b
+abbrev pub AgreeInCore : OutcomeValue → OutcomeValue → Type 0
+AgreeInCore a b = outcome_core a ≡ outcome_core b
 
 -- an entry comes to what its outcome comes to
-abbrev pub stored_without_times : OutcomeValue → WithoutTimes
-stored_without_times (Ok m) = Ok (sections m)
-stored_without_times (Err e) = Err (error_without_times e)
+abbrev pub entry_core : OutcomeValue → ReplyCore
+entry_core (Ok m) = Ok (sections m)
+entry_core (Err e) = Err (error_core e)
