@@ -1,8 +1,9 @@
 -- A table made of pairs in turn has the outcome that was given last.
-use Rattle.std.proofs.Common.{◌≡◌, ◌∙◌, Bool, true, false, cond, List, [], ◌∷◌, ◌++◌, reverse, Option, None, Some, refl, sym, ap}
+use Rattle.std.proofs.Common.{◌≡◌, ◌∙◌, Bool, true, false, cond, List, [], ◌∷◌, ◌++◌, map, reverse, Option, None, Some, refl, sym, ap}
 use Rattle.std.specs.Option.{option_or}
 use Rattle.std.specs.Map.{lookup, update, update_all}
-use Rattle.std.proofs.lemmas.List.{reverse-append}
+use Rattle.std.proofs.lemmas.List.{map-id, reverse-append}
+use Rattle.std.specs.HashMap.{HashMap, InsertsAll}
 
 lookup-append : {K X : Type 0} (p : K → Bool) (xs ys : List (K × X)) → lookup p (xs ++ ys) ≡ option_or (lookup p xs) (lookup p ys)
 lookup-append p [] ys = refl
@@ -34,3 +35,10 @@ update_all-empty {K} {X} eq symm xs q = update_all-lookup eq symm (λ _. None) x
     alone : (o : Option X) → option_or o None ≡ o
     alone None = refl
     alone (Some v) = refl
+
+-- an empty table that is extended
+pub extended-empty : {K X S : Type 0} (eq : K → K → Bool) (symm : (x y : K) → eq x y ≡ eq y x) (m n : HashMap K X S) (xs ys : List (K × X)) → m.entries ≡ [] → map (λ x. x) xs ≡ ys → InsertsAll eq m xs n
+    → (q : K) → lookup (eq q) n.entries ≡ lookup (eq q) (reverse ys)
+extended-empty eq symm m n xs ys none same made q =
+    made.0 q ∙ (λ i. update_all eq (λ p. lookup (eq p) (none i)) xs q) ∙ update_all-empty eq symm xs q
+    ∙ ap (λ l. lookup (eq q) (reverse l)) (sym (map-id xs) ∙ same)

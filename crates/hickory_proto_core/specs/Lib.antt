@@ -1,4 +1,5 @@
 pub mod Errors
+pub mod Glue
 pub mod Handles
 pub mod Messages
 pub mod NetErrors

@@ -1,5 +1,5 @@
 -- Resource records as plain data (RFC 1035, section 3.2.1), and when two are equal.
-use Rattle.std.specs.Prelude.{ℕ, Bool, ◌&&◌, ◌==◌, List, [], ◌∷◌, nat_eq, Option, Some, None}
+use Rattle.std.specs.Prelude.{ℕ, Bool, ◌-◌, ◌&&◌, ◌==◌, List, [], ◌∷◌, nat_eq, Option, Some, None}
 use Rattle.std.specs.Cmp.{IsEquivalence, and_equiv, on_equiv, nat_eq_equiv}
 use Rattle.std.specs.Cmp.Lexicographic.{pointwise, lists_equiv}
 use Rattle.std.specs.Net.Addr.{ipv4_octets, ipv6_segments}
@@ -102,6 +102,10 @@ pub record RecordValue : Type 0 where
   pub dns_class : DNSClass
   pub ttl : ℕ
   pub rdata : DataValue
+
+-- the record, its TTL so many seconds lower, and 0 at the least
+abbrev pub lower_ttl : ℕ → RecordValue → RecordValue
+lower_ttl seconds r = record r { ttl = r.ttl - seconds }
 
 -- data are of one kind where they are of one variant; then they are equal where their names (without case),
 -- their numbers and their bytes are

@@ -2,8 +2,8 @@
 ghost use Rattle.std.specs.Prelude.{◌≡◌, IfOk, IsOkUnless, string_bytes};
 ghost use Rattle.hickory_proto_names.specs.Addresses.{IsPrintedAddress, address_text};
 
-use hickory_proto_names::ip;
 use crate::net_error::NetError;
+use hickory_proto_names::ip;
 use std::alloc::Global;
 use std::net::IpAddr;
 

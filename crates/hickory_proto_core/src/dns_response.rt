@@ -1,11 +1,14 @@
 //! What an upstream answers, and its class.
-ghost use Rattle.std.specs.Prelude.{◌≡◌, ◌++◌, OnOk, filter, option_copied, IfOk, IsOkUnless};
+ghost use Rattle.std.specs.Prelude.{◌≡◌, ◌++◌, ◌∷◌, ◌||◌, [], OnOk, filter, option_copied, IfOk, IsOkUnless};
 ghost use Rattle.std.specs.List.{list_any, filter_map};
-ghost use Rattle.std.specs.Option.{option_to_list};
+ghost use Rattle.std.specs.Option.{option_to_list, unwrap_or};
+ghost use Rattle.hickory_proto_names.specs.Name.{NameValue};
+ghost use Rattle.hickory_proto_core.specs.Glue.{forward_from, glue_in};
 ghost use Rattle.hickory_proto_core.specs.Errors.{items_or_none};
 ghost use Rattle.hickory_proto_core.specs.Messages.{MessageValue};
-ghost use Rattle.hickory_proto_core.specs.ResponseKind.{contains_answer, answers_question, is_asked, first_soa, negative_ttl_of, forward_of, forwards_or_none, is_address_of, section_or_none, negative_of, kind_of_response, IsClassified};
+ghost use Rattle.hickory_proto_core.specs.ResponseKind.{contains_answer, answers_question, is_asked, first_soa, negative_ttl_of, forward_of, forwards_or_none, is_address_of, is_of_type, section_or_none, negative_of, kind_of_response, IsClassified};
 
+use crate::glue::Glue;
 use crate::message::Message;
 use crate::net_error::{DnsError, ForwardNSData, NetError, NoRecords};
 use crate::query::Query;
@@ -13,6 +16,7 @@ use crate::resource::Record;
 use hickory_proto_codes::{RecordType, ResponseCode};
 use hickory_proto_names::Name;
 use std::alloc::{AllocError, Global};
+use std::collections::BTreeMap;
 use std::marker::Model;
 
 /// A message that came back from an upstream.
@@ -168,7 +172,7 @@ fn no_records(response: DnsResponse) -> Result<NoRecords, NetError>
         authorities,
         additionals,
     } = response.into_message();
-    let ns = forwards(&authorities, &additionals)?;
+    let ns = name_servers(&authorities, &additionals)?;
     let alloc = *queries.allocator();
     let query = match queries.into_iter().next() {
         Some(query) => query,
@@ -196,7 +200,7 @@ fn section_or_none(records: Vec<Record>) -> Option<Vec<Record>>
 }
 
 // The name servers that the authorities name, each with its addresses among the additionals.
-fn forwards(
+fn name_servers(
     authorities: &Vec<Record>,
     additionals: &[Record],
 ) -> Result<Option<Vec<ForwardNSData>>, NetError>
@@ -206,12 +210,81 @@ fn forwards(
     ensures err { IsOkUnless result NetError.OutOfMemory }
 {
     let alloc = *authorities.allocator();
+    let by_owner = addresses_by_owner(alloc, additionals)?;
+    let found = forwards(authorities, &by_owner)?;
+    Ok(if found.is_empty() { None } else { Some(found) })
+}
+
+// The addresses among the records, by their owners. The map is an ordered one, so that no choice of names makes it slow.
+fn addresses_by_owner(
+    alloc: Global,
+    additionals: &[Record],
+) -> Result<BTreeMap<Name, Glue>, NetError>
+    ensures ok { IfOk result (λ by_owner. (q : NameValue) →
+        glue_in q by_owner ≡ filter (is_address_of q) additionals.now) }
+    ensures err { IsOkUnless result NetError.OutOfMemory }
+{
+    let mut by_owner = BTreeMap::new(alloc);
+    for additional in additionals {
+        add_if_address(alloc, &mut by_owner, additional)?;
+    }
+    Ok(by_owner)
+}
+
+// Puts a copy of the record to those of its owner, if it is an address.
+fn add_if_address(
+    alloc: Global,
+    by_owner: &mut BTreeMap<Name, Glue>,
+    found: &Record,
+) -> Result<(), NetError>
+    ensures ok { OnOk result ((q : NameValue) →
+        glue_in q by_owner.new ≡ glue_in q by_owner.old ++ filter (is_address_of q) (found.now ∷ [])) }
+    ensures err { IsOkUnless result NetError.OutOfMemory }
+{
+    if !is_address(found) {
+        return Ok(());
+    }
+    let owner = Clone::clone(&found.name)?;
+    let glue = joined(alloc, by_owner.remove(&owner), found.clone()?)?;
+    let _none = by_owner.insert(owner, glue)?;
+    Ok(())
+}
+
+fn is_address(found: &Record) -> bool
+    ensures { result ≡ is_of_type RecordType.A found.now || is_of_type RecordType.AAAA found.now }
+{
+    let record_type = found.record_type();
+    record_type == RecordType::A || record_type == RecordType::AAAA
+}
+
+// The records and one more.
+fn joined(alloc: Global, glue: Option<Glue>, added: Record) -> Result<Glue, NetError>
+    ensures ok { IfOk result (λ all. all ≡ unwrap_or glue [] ++ added ∷ []) }
+    ensures err { IsOkUnless result NetError.OutOfMemory }
+{
+    match glue {
+        Some(glue) => glue.with(added),
+        None => Glue::new(Vec::new(alloc))?.with(added),
+    }
+}
+
+// The name servers that the records name, each with the addresses that the map has for it.
+fn forwards(
+    authorities: &Vec<Record>,
+    by_owner: &BTreeMap<Name, Glue>,
+) -> Result<Vec<ForwardNSData>, NetError>
+    ensures ok { IfOk result
+        (λ found. found.items ≡ filter_map (forward_from by_owner.now) authorities.now.items) }
+    ensures err { IsOkUnless result NetError.OutOfMemory }
+{
+    let alloc = *authorities.allocator();
+    let none = Glue::new(Vec::new(alloc))?;
     let mut found = Vec::new(alloc);
     for authority in authorities {
-        let named = forward(alloc, authority, additionals)?;
+        let named = forward(authority, by_owner, &none)?;
         push_some(&mut found, named)?;
     }
-    Ok(if found.is_empty() { None } else { Some(found) })
+    Ok(found)
 }
 
 fn push_some(found: &mut Vec<ForwardNSData>, named: Option<ForwardNSData>) -> Result<(), NetError>
@@ -226,42 +299,29 @@ fn push_some(found: &mut Vec<ForwardNSData>, named: Option<ForwardNSData>) -> Re
 
 // The server that the record names, with its addresses.
 fn forward(
-    alloc: Global,
     authority: &Record,
-    additionals: &[Record],
+    by_owner: &BTreeMap<Name, Glue>,
+    none: &Glue,
 ) -> Result<Option<ForwardNSData>, NetError>
-    ensures ok { IfOk result (λ named. named ≡ forward_of additionals.now authority.now) }
+    requires none { none.now ≡ [] }
+    ensures ok { IfOk result (λ named. named ≡ forward_from by_owner.now authority.now) }
     ensures err { IsOkUnless result NetError.OutOfMemory }
 {
     let Some(server) = authority.rdata.ns_target() else {
         return Ok(None);
     };
-    let glue = addresses_of(alloc, server, additionals)?;
+    let glue = glue_of(server, by_owner, none).clone()?;
     let ns = authority.clone()?;
     Ok(Some(ForwardNSData { ns, glue }))
 }
 
 // The addresses of a name server.
-fn addresses_of(
-    alloc: Global,
-    server: &Name,
-    additionals: &[Record],
-) -> Result<Vec<Record>, NetError>
-    ensures ok { IfOk result (λ glue. glue.items ≡ filter (is_address_of server.now) additionals.now) }
-    ensures err { IsOkUnless result NetError.OutOfMemory }
+fn glue_of<'a>(server: &Name, by_owner: &'a BTreeMap<Name, Glue>, none: &'a Glue) -> &'a Glue
+    requires none { none.now ≡ [] }
+    ensures { result.now ≡ glue_in server.now by_owner.now }
 {
-    let mut glue = Vec::new(alloc);
-    for additional in additionals {
-        if is_address_of(server, additional) {
-            glue.push(additional.clone()?)?;
-        }
+    match by_owner.get(server) {
+        Some(glue) => glue,
+        None => none,
     }
-    Ok(glue)
-}
-
-fn is_address_of(server: &Name, additional: &Record) -> bool
-    ensures { result ≡ is_address_of server.now additional.now }
-{
-    let record_type = additional.record_type();
-    (record_type == RecordType::A || record_type == RecordType::AAAA) && *server == additional.name
 }

@@ -7,6 +7,7 @@ pub mod bounds_error;
 pub mod dns_handle;
 pub mod dns_request;
 pub mod dns_response;
+pub mod glue;
 pub mod message;
 pub mod net_error;
 pub mod query;
@@ -22,6 +23,7 @@ pub use bounds_error::BoundsError;
 pub use dns_handle::{DnsHandle, Outcome};
 pub use dns_request::{DnsRequest, DnsRequestOptions};
 pub use dns_response::DnsResponse;
+pub use glue::Glue;
 pub use hickory_proto_codes::{
     DNSClass, OpCode, Protocol, RecordType, ResponseCode, UnknownWord, read_decimal,
 };

@@ -4,6 +4,7 @@ ghost use Rattle.hickory_proto_core.specs.Errors.{items_or_none};
 ghost use Rattle.hickory_proto_core.specs.NetErrors.{dns_error_holds_memory, error_holds_memory, is_no_records_found, is_nx_domain, no_records_or, soa_of_error};
 
 use crate::bounds_error::BoundsError;
+use crate::glue::Glue;
 use crate::query::Query;
 use crate::resource::Record;
 use hickory_proto_codes::ResponseCode;
@@ -73,7 +74,7 @@ pub struct ForwardNSData {
     /// The NS record.
     pub ns: Record,
     /// The addresses of the server that it names.
-    pub glue: Vec<Record>,
+    pub glue: Glue,
 }
 
 impl Model for NoRecords {
@@ -96,7 +97,7 @@ impl Model for ForwardNSData {
 
     ghost Value = { ForwardValue };
 
-    ghost view = { λ f. record { ns = f.ns; glue = f.glue.items } };
+    ghost view = { λ f. record { ns = f.ns; glue = f.glue } };
 }
 
 impl NoRecords {
@@ -274,7 +275,7 @@ impl Clone for ForwardNSData {
 
     fn clone(&self) -> Result<ForwardNSData, AllocError> {
         Ok(ForwardNSData {
-            glue: self.glue.clone()?,
+            glue: Clone::clone(&self.glue)?,
             ns: Clone::clone(&self.ns)?,
         })
     }

@@ -1,28 +1,26 @@
 //! A handle that looks its outcomes up in a table.
 ghost use Rattle.std.specs.Prelude.{◌≡◌, IfOk, IsOkUnless};
-ghost use Rattle.std.specs.HashMap.{IsFromIterResult};
-ghost use Rattle.hickory_proto_core.specs.Query.{query_eq};
 ghost use Rattle.hickory_proto_core.specs.Table.{outcome_in, last_given};
 ghost use Rattle.hickory_proto_core.specs.declared.query.Query.{Query};
 
 use crate::dns_handle::{DnsHandle, Outcome};
 use crate::dns_request::DnsRequest;
-use crate::recorded::clone_outcome;
 use crate::dns_response::DnsResponse;
 use crate::net_error::NetError;
 use crate::query::Query;
-use std::alloc::AllocError;
+use crate::recorded::clone_outcome;
 use std::collections::HashMap;
+use std::hash::{BuildHasher, BuildHasherDefault, FoldHasher};
 use std::marker::Model;
 
 /// A handle that answers each question with its outcome in a table, and a question that has none there with
 /// an error.
 #[derive(Drop)]
-pub struct TableHandle {
-    outcomes: HashMap<Query, Outcome>,
+pub struct TableHandle<S: BuildHasher = BuildHasherDefault<FoldHasher>> {
+    outcomes: HashMap<Query, Outcome, S>,
 }
 
-impl Model for TableHandle {
+impl<S: BuildHasher> Model for TableHandle<S> {
     ghost use Rattle.hickory_proto_core.specs.Table.{TableValue};
 
     ghost Value = { TableValue };
@@ -31,25 +29,32 @@ impl Model for TableHandle {
 }
 
 impl TableHandle {
-    /// The handle of these questions and outcomes. Of equal questions the last one's outcome counts.
+    /// The handle of these questions and outcomes, with the default hasher. Of equal questions the last one's
+    /// outcome counts.
     pub fn new(outcomes: Vec<(Query, Outcome)>) -> Result<TableHandle, NetError>
         ensures ok { IfOk result (λ table. (q : Query) → outcome_in q table ≡ last_given q outcomes.items) }
         ensures err { IsOkUnless result NetError.OutOfMemory }
     {
-        let outcomes = map_of(outcomes)?;
-        Ok(TableHandle { outcomes })
+        TableHandle::with_hasher(outcomes, BuildHasherDefault::new())
     }
 }
 
-// The pairs put in one after another.
-fn map_of(outcomes: Vec<(Query, Outcome)>) -> Result<HashMap<Query, Outcome>, AllocError>
-    ensures { IfOk result (IsFromIterResult query_eq outcomes.items) }
-{
-    let alloc = *outcomes.allocator();
-    outcomes.into_iter().collect(alloc)
+impl<S: BuildHasher + Drop> TableHandle<S> {
+    /// As `new`, with this hasher: one of random state where the questions come from strangers.
+    pub fn with_hasher(
+        outcomes: Vec<(Query, Outcome)>,
+        hasher: S,
+    ) -> Result<TableHandle<S>, NetError>
+        ensures ok { IfOk result (λ table. (q : Query) → outcome_in q table ≡ last_given q outcomes.items) }
+        ensures err { IsOkUnless result NetError.OutOfMemory }
+    {
+        let mut table = HashMap::with_hasher(*outcomes.allocator(), hasher);
+        table.extend(outcomes)?;
+        Ok(TableHandle { outcomes: table })
+    }
 }
 
-impl DnsHandle for TableHandle {
+impl<S: BuildHasher> DnsHandle for TableHandle<S> {
     ghost use Rattle.hickory_proto_core.specs.Table.{TableStep};
 
     ghost step = { TableStep };
