@@ -215,7 +215,8 @@ fn name_servers(
     Ok(if found.is_empty() { None } else { Some(found) })
 }
 
-// The addresses among the records, by their owners. The map is an ordered one, so that no choice of names makes it slow.
+// The addresses among the records, by their owners. The map is an ordered one, so that no choice of names makes it
+// slow.
 fn addresses_by_owner(
     alloc: Global,
     additionals: &[Record],

@@ -103,7 +103,7 @@ fn age_forward(forward: &mut ForwardNSData, seconds: u32)
     ensures { forward.new ≡ aged_forward seconds forward.old }
 {
     forward.ns.decrement_ttl(seconds);
-    age_records(&mut forward.glue, seconds);
+    forward.glue.decrement_ttl(seconds);
 }
 
 fn age_records(records: &mut Vec<Record>, seconds: u32)

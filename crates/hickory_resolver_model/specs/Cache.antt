@@ -5,7 +5,7 @@ use Rattle.std.specs.Option.{option_map, option_map_or}
 use Rattle.std.specs.List.{list_any, position_or_len, AllByRecursion, IsDistinct}
 use Rattle.hickory_proto_core.specs.Codes.{type_code}
 use Rattle.hickory_proto_core.specs.ResponseKind.{record_type_code}
-use Rattle.hickory_proto_core.specs.Records.{RecordValue}
+use Rattle.hickory_proto_core.specs.Records.{RecordValue, lower_ttl}
 use Rattle.hickory_proto_core.specs.Messages.{MessageValue}
 use Rattle.hickory_proto_core.specs.Errors.{NoRecordsValue, ForwardValue}
 use Rattle.hickory_proto_core.specs.Handles.{OutcomeValue}
@@ -55,7 +55,7 @@ age moment now = min (now - moment) 4294967295
 -- records, and with them a message or a negative answer, whose TTLs are so many seconds lower, and 0 at the
 -- least
 abbrev pub aged_record : ℕ → RecordValue → RecordValue
-aged_record seconds r = record r { ttl = r.ttl - seconds }
+aged_record seconds r = lower_ttl seconds r
 
 abbrev pub aged_records : ℕ → List RecordValue → List RecordValue
 aged_records seconds rs = map (aged_record seconds) rs
