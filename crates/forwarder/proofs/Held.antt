@@ -1,6 +1,6 @@
 -- Why the zone stays, and why a question that the cache has is not asked.
-use Rattle.std.proofs.Common.{◌≡◌, ◌⊎◌, ◌∙◌, ℕ, List, [], ◌∷◌, ◌++◌, length, Some, refl, sym, subst, inl, inr}
-use Rattle.hickory_proto_core.specs.Handles.{Leads, Leads-keeps, OutcomeValue}
+use Rattle.std.proofs.Common.{◌≡◌, ◌⊎◌, ◌∙◌, ℕ, true, List, [], ◌∷◌, ◌++◌, length, Some, refl, sym, subst, inl, inr}
+use Rattle.hickory_proto_core.specs.Handles.{Leads, Leads-keeps, OutcomeValue, holds_memory}
 use Rattle.hickory_proto_core.specs.declared.query.Query.{Query}
 use Rattle.hickory_proto_core.specs.declared.dns_request.DnsRequest.{DnsRequest}
 use Rattle.hickory_proto_core.specs.declared.dns_request.DnsRequestOptions.{DnsRequestOptions}
@@ -36,9 +36,9 @@ unasked s q entry (x ∷ xs) last end has (next, alias, rest) ends = absurd (hel
 -- nor is it where memory runs out on the way
 cut_unasked : (s : LookupContext) (q : Query) (entry : Entry) (passed : List Exchange) (last : Hop) (asks : List Exchange) → current q s.now s.cache.entries ≡ Some entry
     → FollowsAliases s (first_hop q) passed last
-    → (asks ≡ passed) ⊎ ((x : Exchange) × GoesUpstream s last.query × (x.query ≡ last.query) × (asks ≡ passed ++ x ∷ [])) → asks ≡ []
+    → (asks ≡ passed) ⊎ ((x : Exchange) × GoesUpstream s last.query × (x.query ≡ last.query) × (holds_memory x.outcome ≡ true) × (asks ≡ passed ++ x ∷ [])) → asks ≡ []
 cut_unasked s q entry [] last asks has leads (inl none) = none
-cut_unasked s q entry [] last asks has leads (inr (x, upstream, same, are)) = absurd (held s q entry has (subst (λ hop. GoesUpstream s hop.query) leads upstream))
+cut_unasked s q entry [] last asks has leads (inr (x, upstream, same, holds, are)) = absurd (held s q entry has (subst (λ hop. GoesUpstream s hop.query) leads upstream))
 cut_unasked s q entry (x ∷ xs) last asks has (next, alias, rest) cause = absurd (held s q entry has alias.upstream)
 
 none_asked : (s : LookupContext) (q : Query) (entry : Entry) (asks : List Exchange) (result : LookupResult) (after : CacheValue) → current q s.now s.cache.entries ≡ Some entry
