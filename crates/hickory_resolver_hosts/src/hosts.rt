@@ -1,6 +1,7 @@
 //! The table of hosts.
-ghost use Rattle.std.specs.Prelude.{◌≡◌, ◌⊎◌, ◌==◌, [], find, length, option_and_then, IfOk, OnOk, OnErr, IsOkUnless};
+ghost use Rattle.std.specs.Prelude.{◌≡◌, ◌≢◌, ◌⊎◌, ◌==◌, [], find, length, option_and_then, None, Ok, IfOk, OnOk, OnErr, IsOkUnless};
 ghost use Rattle.hickory_proto_core.specs.Codes.{type_code};
+ghost use Rattle.hickory_proto_core.specs.codes.record_type.RecordType.TheVariants as type;
 ghost use Rattle.hickory_resolver_model.specs.Hosts.{family, insert_host, is_host, as_fqdn, pointer_lookup, IsStatic};
 ghost use Rattle.hickory_resolver_hosts.specs.HostsTable.{HasPointers};
 
