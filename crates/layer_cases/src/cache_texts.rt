@@ -4,29 +4,29 @@ use hickory_proto_core::{
     DnsError, ForwardNSData, Message, NetError, NoRecords, Record, RecordType,
 };
 use hickory_resolver_lookup::{TtlBounds, TtlConfig};
-use std::alloc::{AllocError, Global};
+use std::alloc::Global;
 
 /// Adds what a cache has: the TTLs of an answer or of a negative one.
 pub fn push_hit(
     text: &mut String,
     hit: &Option<Result<Message, NetError>>,
-) -> Result<(), AllocError> {
+) -> Result<(), NetError> {
     match hit {
-        None => text.push_str(": nothing"),
+        None => Ok(text.push_str(": nothing")?),
         Some(Ok(message)) => push_message(text, message),
         Some(Err(NetError::Dns(DnsError::NoRecordsFound(none)))) => push_negative(text, none),
-        Some(Err(_)) => text.push_str(": another error"),
+        Some(Err(_)) => Ok(text.push_str(": another error")?),
     }
 }
 
-fn push_message(text: &mut String, message: &Message) -> Result<(), AllocError> {
+fn push_message(text: &mut String, message: &Message) -> Result<(), NetError> {
     text.push_str(":")?;
     push_ttls(text, "answer", &message.answers)?;
     push_ttls(text, "authority", &message.authorities)?;
     push_ttls(text, "additional", &message.additionals)
 }
 
-fn push_ttls(text: &mut String, section: &str, records: &[Record]) -> Result<(), AllocError> {
+fn push_ttls(text: &mut String, section: &str, records: &[Record]) -> Result<(), NetError> {
     for found in records {
         let ttl = found.ttl;
         write!(text, " {section} {ttl}")?;
@@ -34,7 +34,7 @@ fn push_ttls(text: &mut String, section: &str, records: &[Record]) -> Result<(),
     Ok(())
 }
 
-fn push_negative(text: &mut String, none: &NoRecords) -> Result<(), AllocError> {
+fn push_negative(text: &mut String, none: &NoRecords) -> Result<(), NetError> {
     let code = none.response_code;
     write!(text, ": {code}")?;
     if let Some(ttl) = none.negative_ttl {
@@ -43,7 +43,7 @@ fn push_negative(text: &mut String, none: &NoRecords) -> Result<(), AllocError> 
     push_parts(text, none)
 }
 
-fn push_parts(text: &mut String, none: &NoRecords) -> Result<(), AllocError> {
+fn push_parts(text: &mut String, none: &NoRecords) -> Result<(), NetError> {
     if let Some(soa) = &none.soa {
         let ttl = soa.ttl;
         write!(text, " soa {ttl}")?;
@@ -57,11 +57,11 @@ fn push_parts(text: &mut String, none: &NoRecords) -> Result<(), AllocError> {
     }
 }
 
-fn push_servers(text: &mut String, servers: &[ForwardNSData]) -> Result<(), AllocError> {
+fn push_servers(text: &mut String, servers: &[ForwardNSData]) -> Result<(), NetError> {
     for server in servers {
         let ttl = server.ns.ttl;
         write!(text, " ns {ttl}")?;
-        push_ttls(text, "glue", &server.glue)?;
+        push_ttls(text, "glue", &server.glue.to_vec()?)?;
     }
     Ok(())
 }

@@ -18,6 +18,7 @@ mod copies;
 mod data;
 mod errors;
 mod given;
+mod glue;
 mod handles;
 mod hostile;
 mod hosts_calls;
@@ -59,5 +60,6 @@ fn show_texts(rt: &impl Print, alloc: Global) -> anyhow::Result<()> {
     given::show_all(rt, alloc)?;
     responses::show_all(rt, alloc)?;
     handles::show_all(rt, alloc)?;
-    hostile::show_all(rt, alloc)
+    hostile::show_all(rt, alloc)?;
+    glue::show_all(rt, alloc)
 }

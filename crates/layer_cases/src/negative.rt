@@ -2,7 +2,8 @@
 use crate::copies;
 use crate::sample::{question, server, two_addresses};
 use hickory_proto_core::{
-    BoundsError, DnsError, ForwardNSData, NameError, NetError, NoRecords, RecordType, ResponseCode,
+    BoundsError, DnsError, ForwardNSData, Glue, NameError, NetError, NoRecords, RecordType,
+    ResponseCode,
 };
 use std::alloc::Global;
 
@@ -14,7 +15,7 @@ pub fn show_all(rt: &impl Print, alloc: Global) -> anyhow::Result<()> {
 }
 
 fn forward(alloc: Global) -> Result<ForwardNSData, NetError> {
-    let glue = two_addresses(alloc)?;
+    let glue = Glue::new(two_addresses(alloc)?)?;
     let ns = server(alloc)?;
     Ok(ForwardNSData { ns, glue })
 }

@@ -1,7 +1,7 @@
 //! Outcomes, out of the words of a line.
 use crate::cache_words::{NO_LINE, type_of};
 use hickory_proto_core::{
-    DnsError, ForwardNSData, Message, Name, NetError, NoRecords, OpCode, Query, RData, Record,
+    DnsError, ForwardNSData, Glue, Message, Name, NetError, NoRecords, OpCode, Query, RData, Record,
     RecordType, ResponseCode,
 };
 use std::alloc::Global;
@@ -103,7 +103,7 @@ fn one(alloc: Global, kind: RecordType, ttl: u32) -> Result<Vec<Record>, NetErro
 
 // One server, with glue of one address.
 fn servers(alloc: Global, ttl: u32) -> Result<Vec<ForwardNSData>, NetError> {
-    let glue = one(alloc, RecordType::A, ttl)?;
+    let glue = Glue::new(one(alloc, RecordType::A, ttl)?)?;
     let ns = record(alloc, RecordType::NS, ttl)?;
     let mut servers = Vec::new(alloc);
     servers.push(ForwardNSData { ns, glue })?;
