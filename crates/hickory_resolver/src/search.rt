@@ -1,13 +1,14 @@
 //! The names that are attempted for a name: itself, and itself below the domain and the search domains.
-ghost use Rattle.std.specs.Prelude.{◌≡◌, ◌++◌, ◌∷◌, [], ◌||◌, nat_eq, nat_lt, codes, reverse, true, IfOk, OnOk};
-ghost use Rattle.std.specs.List.{filter_map, list_any};
+ghost use Rattle.std.specs.Prelude.{◌≡◌, ◌++◌, ◌∷◌, [], ◌||◌, nat_eq, nat_lt, codes, map, reverse, true, IfOk, OnOk};
+ghost use Rattle.std.specs.List.{filter_map};
 ghost use Rattle.std.specs.Option.{option_copied, option_to_list};
 ghost use Rattle.std.specs.Cmp.Lexicographic.{pointwise};
-ghost use Rattle.hickory_proto_core.specs.Name.{is_zone_of, localhost, lower_label, name_eq, num_labels_of};
+ghost use Rattle.hickory_proto_core.specs.Name.{is_zone_of, localhost, lower_label, num_labels_of};
 ghost use Rattle.hickory_resolver_model.specs.Attempts.{attempts, is_onion_address, joined_name, keep_last};
 
 use hickory_proto_core::{Name, NameError};
 use std::alloc::{AllocError, Global};
+use std::collections::BTreeSet;
 
 /// The names in the order in which they are attempted for this one (RFC 1535, section 6). A fully qualified
 /// name, and the address of an onion service (RFC 7686, section 2), is attempted alone, as it is. Any other is
@@ -77,7 +78,7 @@ fn with_raw_first(alloc: Global, name: Name, joined: &[Name]) -> Result<Vec<Name
     name.set_fqdn(true);
     let mut names = Vec::with_capacity(alloc, joined.len() + 1)?;
     names.push(name)?;
-    push_last(&mut names, joined)?;
+    push_last(alloc, &mut names, joined)?;
     Ok(names)
 }
 
@@ -90,26 +91,36 @@ fn with_raw_last(alloc: Global, name: Name, joined: Vec<Name>) -> Result<Vec<Nam
     name.set_fqdn(true);
     found.push(name)?;
     let mut names = Vec::with_capacity(alloc, found.len())?;
-    push_last(&mut names, &found)?;
+    push_last(alloc, &mut names, &found)?;
     Ok(names)
 }
 
 // Adds names, of equal ones the last.
-fn push_last(names: &mut Vec<Name>, found: &[Name]) -> Result<(), AllocError>
+fn push_last(alloc: Global, names: &mut Vec<Name>, found: &[Name]) -> Result<(), AllocError>
     ensures { OnOk result (names.new.items ≡ names.old.items ++ keep_last found.now) }
 {
-    for i in 0..found.len() {
-        if !is_among(&found[i], &found[i + 1..]) {
-            names.push(Clone::clone(&found[i])?)?;
-        }
+    let kept = last_places(alloc, found)?;
+    for name in &kept {
+        names.push(Clone::clone(*name)?)?;
     }
     Ok(())
 }
 
-fn is_among(name: &Name, others: &[Name]) -> bool
-    ensures { result ≡ list_any (name_eq name.now) others.now }
+// Of equal names the last, in the order of their places.
+fn last_places(alloc: Global, found: &[Name]) -> Result<Vec<&Name>, AllocError>
+    ensures { IfOk result (λ kept. map (λ n. n.now) kept.items ≡ keep_last found.now) }
 {
-    others.iter().any(|other| name == other)
+    let mut kept = Vec::new(alloc);
+    let mut seen = BTreeSet::new(alloc);
+    for i in (0..found.len()).rev() {
+        let name = &found[i];
+        let is_last = seen.insert(name)?;
+        if is_last {
+            kept.push(name)?;
+        }
+    }
+    kept.reverse();
+    Ok(kept)
 }
 
 // The name below the domain and below each search domain.

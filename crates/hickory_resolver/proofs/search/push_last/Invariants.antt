@@ -1,6 +1,5 @@
-use Rattle.std.proofs.Common.{◌≡◌, ◌++◌, drop}
-use Rattle.hickory_resolver_model.specs.Attempts.{keep_last}
+use Rattle.std.proofs.Common.{◌≡◌, ◌++◌, drop, map}
 use Rattle.hickory_resolver.proofs.search.push_last.Given as goal
 
-abbrev pub invariant-loop-i : goal.invariant-loop-i
-invariant-loop-i l = l.names.items ++ keep_last (drop l.i l.found) ≡ l.initial.names.items ++ keep_last l.found
+abbrev pub invariant-loop-name : goal.invariant-loop-name
+invariant-loop-name l = l.names.items ++ map (λ n. n.now) (drop l.name-index l.name-items) ≡ l.initial.names.items ++ map (λ n. n.now) l.name-items
