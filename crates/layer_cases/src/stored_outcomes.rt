@@ -1,8 +1,8 @@
 //! Outcomes, out of the words of a line.
 use crate::cache_words::{NO_LINE, type_of};
 use hickory_proto_core::{
-    DnsError, ForwardNSData, Glue, Message, Name, NetError, NoRecords, OpCode, Query, RData, Record,
-    RecordType, ResponseCode,
+    DnsError, ForwardNSData, Glue, Message, Name, NetError, NoRecords, OpCode, Query, RData,
+    Record, RecordType, ResponseCode,
 };
 use std::alloc::Global;
 use std::net::{Ipv4Addr, Ipv6Addr};
