@@ -6,6 +6,7 @@ mod bare;
 mod cache;
 mod client;
 mod host_times;
+mod hostile_times;
 mod measure;
 mod name_times;
 mod rows;
@@ -34,6 +35,7 @@ fn print_times<R: Clock + Print>(rt: &R, alloc: Global) -> anyhow::Result<()> {
     name_times::print_times(alloc, &mut watch)?;
     client::print_times(alloc, &mut watch)?;
     host_times::print_times(alloc, &mut watch)?;
+    hostile_times::print_times(alloc, &mut watch)?;
     script_times::print_times(alloc, &mut watch)?;
     let seen = watch.seen();
     println!(rt; "check sum {seen}")?;
