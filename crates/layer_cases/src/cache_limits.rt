@@ -4,7 +4,7 @@ use crate::cache_words::NO_LINE;
 use crate::stored_outcomes::outcome_of;
 use hickory_proto_core::{Message, NetError, Query};
 use hickory_resolver_cache::ResponseCache;
-use std::alloc::{AllocError, Global};
+use std::alloc::Global;
 
 /// Stores an outcome, current at most up to the limit that stands before its words.
 pub fn insert_until(
@@ -43,7 +43,7 @@ fn push_until(
     text: &mut String,
     hit: &Option<Result<Message, NetError>>,
     deadline: Option<u64>,
-) -> Result<(), AllocError> {
+) -> Result<(), NetError> {
     push_hit(text, hit)?;
     if let Some(deadline) = deadline {
         write!(text, " until {deadline}")?;
