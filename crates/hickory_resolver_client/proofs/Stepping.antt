@@ -49,9 +49,6 @@ never_fails (Err OutOfMemory) k h = cc
 pub worked_answer : (m : MessageValue) → IsWorkedOn (Answer m)
 worked_answer m error e = let clash : Answer m ≡ Failed error = e in cc
 
-pub worked_negative : (n : NoRecordsValue) → IsWorkedOn (Negative n)
-worked_negative n error e = let clash : Negative n ≡ Failed error = e in cc
-
 pub worked_holds : (outcome : OutcomeValue) → IsWorkedOn (kind_of outcome) → holds_memory outcome ≡ true
 worked_holds (Ok m) worked = refl
 worked_holds (Err (Message text)) worked = absurd (worked (Message text) refl)
@@ -62,11 +59,6 @@ worked_holds (Err (Dns (NoRecordsFound n))) worked = refl
 worked_holds (Err NoOutcome) worked = absurd (worked NoOutcome refl)
 worked_holds (Err (Bounds e)) worked = absurd (worked (Bounds e) refl)
 worked_holds (Err OutOfMemory) worked = absurd (worked OutOfMemory refl)
-
--- a negative answer is kept under its question
-pub settle_negative : (s : LookupContext) (hop : Hop) (depth : ℕ) (n : NoRecordsValue) (result : LookupResult) (after : CacheValue) → SettledAs s (Err (Dns (NoRecordsFound n))) (store_of hop.query (Err (Dns (NoRecordsFound n))) s.now last_moment ∷ []) result after → IsSettled s hop depth (Negative n) (Ok (Done result last_moment true)) after
-settle_negative s hop depth n result after (inl done) = inl ((λ next h. let clash : None ≡ Some (Alias next) = h in cc), done.0, refl, refl, done.1)
-settle_negative s hop depth n result after (inr out) = inr (out.0, worked_negative n, out.1)
 
 -- ---- an answer, by its verdict
 
