@@ -1,13 +1,12 @@
--- Requests that are served over a recording handle, and a run of them.
-use Rattle.std.proofs.Common.{◌≡◌, ◌⊎◌, ◌≢◌, ℕ, Bool, true, false, List, [], ◌∷◌, ◌++◌, length, map, Result, Ok, Err, OnOk, OnErr, IsOkUnless, refl, sym, ap, ◌∙◌, subst, inl, inr, arith, append_assoc, length-append}
-use Rattle.std.proofs.lemmas.List.{append-nil, map-append}
+-- Requests that are served over a handle that keeps what it sends, each as a stage of a run.
+use Rattle.std.proofs.Common.{◌≡◌, ◌⊎◌, ◌≢◌, ◌≤◌, ◌-◌, ℕ, Bool, true, false, List, [], ◌∷◌, ◌++◌, length, map, take, drop, Option, None, Result, Ok, Err, OnOk, OnErr, IsOkUnless, refl, sym, ap, ◌∙◌, subst, inl, inr, arith, append_assoc, length-append}
+use Rattle.std.proofs.lemmas.List.{append-nil, length-drop, take_all}
 use Rattle.std.proofs.lemmas.Grind.{flat_map-append}
 use Rattle.hickory_proto_core.specs.Name.{NameValue}
 use Rattle.hickory_proto_core.specs.NameDecided.{IsReading}
 use Rattle.hickory_proto_core.specs.NameGiven.{IsReadAddress, IsReadName}
 use Rattle.hickory_proto_core.specs.Handles.{HandleStep, Leads, Leads-append, RecordedValue}
-use Rattle.hickory_proto_core.specs.Recorded.{RecordedAs, RecordedStep}
-use Rattle.hickory_proto_core.proofs.Recordings.{IsRecorded, recorded_leads}
+use Rattle.hickory_proto_core.specs.Recorded.{RecordedStep, IsRecorded, recorded_leads}
 use Rattle.hickory_proto_core.specs.codes.record_type.RecordType.{RecordType}
 use Rattle.hickory_proto_core.specs.names.name_error.NameError.{NameError}
 use Rattle.hickory_proto_core.specs.names.name_error.NameError.TheVariants as name_error
@@ -15,22 +14,24 @@ use Rattle.hickory_proto_core.specs.declared.net_error.NetError.{NetError}
 use Rattle.hickory_proto_core.specs.declared.net_error.NetError.TheVariants.{OutOfMemory}
 use Rattle.hickory_proto_core.specs.declared.recorded.Exchange.{Exchange}
 use Rattle.hickory_resolver_config.specs.ResolverConfig.{ResolverConfigValue, OptionsValue}
+use Rattle.hickory_resolver_model.specs.Bounds.{bounds_fault}
 use Rattle.hickory_resolver_model.specs.Cache.{CacheValue}
 use Rattle.hickory_resolver_model.specs.Hosts.{Host}
 use Rattle.hickory_resolver_model.specs.Lookup.{LookupResult}
+use Rattle.hickory_resolver_model.specs.Options.{bounds_of}
 use Rattle.hickory_resolver_model.specs.Calls.{SubLookup, IsAnsweredFor, asks_of_sub_lookups}
 use Rattle.hickory_resolver_model.specs.Resolver.{ResolverValue, after_clear_lookup, new_resolver, settings}
-use Rattle.hickory_resolver_model.specs.Run.{Settings, call_context_at, RequestValue, Lookup, LookupIp, ClearLookup, Clear, StepReply, LookedUp, LookedUpIp, Cleared, StepValue, ends_run, after_clear, name_call, address_call, IsCall, RanOutBeforeAsking, IsServed, Stage, IsStage, AreStages, exchanges_of, moment_of, settings_of, IsRun}
+use Rattle.hickory_resolver_model.specs.Run.{Settings, call_context_at, RequestValue, Lookup, LookupIp, ClearLookup, Clear, StepReply, LookedUp, LookedUpIp, Cleared, StepValue, ends_run, after_clear, name_call, address_call, IsCall, RanOutBeforeAsking, IsServed, Stage, IsStage, AreStages, exchanges_of, moment_of, settings_of}
 use Rattle.hickory_resolver_theorems.specs.CallFacts.{PromisesName, PromisesHost}
+use Rattle.hickory_resolver_theorems.specs.Promises.{IsPromisedRun}
 use Rattle.hickory_resolver_theorems.specs.Keeping.{IsServedOver}
-use Rattle.hickory_resolver.specs.Serving.{Answered, MakesStep, AnswersAll, AnsweredSoFar, Serves, KeptSoFar, ServesAll}
+use Rattle.hickory_resolver_theorems.proofs.KeptCalls.{kept_request}
+use Rattle.hickory_resolver_theorems.proofs.PromisesHold.{promised_run}
+use Rattle.hickory_resolver.specs.Listening.{Hears, HearsAll}
+use Rattle.hickory_resolver.specs.Serving.{Answered, MakesStage, MakesRun, FailsToHear}
+use Rattle.hickory_resolver.specs.Transcripts.{IsRunFrom}
 
--- ---- a request
-
--- the law that what is served over what was answered is served over what was kept
-abbrev pub KeepsRequest : Type 0
-KeepsRequest = (s : Settings) (before : CacheValue) (request : RequestValue) (parts : List SubLookup) (reply : StepReply) (after : CacheValue) (kept : List Exchange)
-    → IsServed (λ now. IsAnsweredFor (call_context_at s now)) s before request parts reply after → RecordedAs (asks_of_sub_lookups parts) kept → IsServedOver s before request kept reply after
+-- ---- a request is answered
 
 module _ {R : Type 0} (step : HandleStep R) (before : ResolverValue R) where
   -- a look-up of a name that is read
@@ -93,210 +94,237 @@ module _ {R : Type 0} (step : HandleStep R) (before : ResolverValue R) where
       by (inr is) = inr is
   answered_host text now reply after (address, spells, name, given, inr (out, e, same)) = answered_unasked (LookupIp text now) (LookedUpIp reply) before.client.cache after same (inr (refl, e, refl))
 
--- ---- a loop
+-- ---- a request makes a stage
 
-module _ {R : Type 0} (step : HandleStep R) (kept : R → List Exchange) (first : ResolverValue R) (requests : List RequestValue) where
-  -- no step was made
-  pub answered_none : (steps : List StepValue) → steps ≡ [] → AnsweredSoFar step kept first requests requests steps first
-  answered_none steps none = record { on = λ more after h. subst (λ ss. AnswersAll step kept first requests (ss ++ more) after) (sym none) h }
+drop_front : {A : Type 0} (xs ys : List A) → drop (length xs) (xs ++ ys) ≡ ys
+drop_front [] ys = refl
+drop_front (x ∷ xs) ys = drop_front xs ys
 
-  module _ (left : List RequestValue) (steps : List StepValue) (resolver : ResolverValue R) (so : AnsweredSoFar step kept first requests left steps resolver) where
-    -- no request is left
-    pub answered_all : left ≡ [] → AnswersAll step kept first requests steps resolver
-    answered_all none = subst (λ ss. AnswersAll step kept first requests ss resolver) (append-nil steps) (so.on [] resolver (subst (λ rs. AnswersAll step kept resolver rs [] resolver) (sym none) (refl, refl)))
+take_front : {A : Type 0} (xs ys : List A) → take (length xs) (xs ++ ys) ≡ xs
+take_front [] ys = refl
+take_front (x ∷ xs) ys = ap (λ zs. x ∷ zs) (take_front xs ys)
 
-    module _ (request : RequestValue) (rest : List RequestValue) (splits : left ≡ request ∷ rest) (made : StepValue) (after : ResolverValue R) (m : MakesStep step kept request resolver made after) (all : List StepValue) (pushed : all ≡ steps ++ made ∷ []) where
-      -- memory ran out: this step is the last
-      pub answered_last : ends_run made.reply ≡ true → AnswersAll step kept first requests all after
-      answered_last ends = subst (λ ss. AnswersAll step kept first requests ss after) (sym pushed)
-          (so.on (made ∷ []) after (subst (λ rs. AnswersAll step kept resolver rs (made ∷ []) after) (sym splits) (made, [], after, refl, m, inl (ends, refl, refl))))
+module _ {H : Type 0} (step : HandleStep H) (request : RequestValue) (before : ResolverValue (RecordedValue H)) (reply : StepReply) (after : ResolverValue (RecordedValue H)) (a : Answered (RecordedStep step) request before reply after) where
+  kept : IsRecorded step (settings before).request_options before.client.handle (asks_of_sub_lookups a.parts) after.client.handle
+  kept = recorded_leads step (settings before).request_options before.client.handle after.client.handle (asks_of_sub_lookups a.parts) a.led
 
-      pub answered_more : ends_run made.reply ≡ false → AnsweredSoFar step kept first requests rest all after
-      answered_more goes_on = record {
-        on = λ more end h.
-            subst (λ ss. AnswersAll step kept first requests ss end) (sym (ap (λ ss. ss ++ more) pushed ∙ append_assoc steps (made ∷ []) more))
-            (so.on (made ∷ more) end (subst (λ rs. AnswersAll step kept resolver rs (made ∷ more) end) (sym splits) (made, more, after, refl, m, inr (goes_on, h))));
+  -- what was answered is turned into what was kept
+  over : IsServedOver (settings before) before.client.cache request kept.kept reply after.client.cache
+  over = kept_request (settings before) before.client.cache request a.parts reply after.client.cache kept.kept a.served kept.recorded
+
+  -- what was kept before stays
+  pub kept_before : length before.client.handle.exchanges ≤ length after.client.handle.exchanges
+  kept_before = omega (arith, ap length kept.exchanges_are, length-append before.client.handle.exchanges kept.kept)
+
+  pub stage_made : (sent : List Exchange) (made : StepValue) → sent ≡ drop (length before.client.handle.exchanges) after.client.handle.exchanges → made.now ≡ moment_of request → made.exchanges ≡ length sent → made.reply ≡ reply → MakesStage step request before sent made after
+  stage_made sent made sent_is now_is count_is reply_is =
+      let sent_kept : kept.kept ≡ sent = sym (sent_is ∙ ap (drop (length before.client.handle.exchanges)) kept.exchanges_are ∙ drop_front before.client.handle.exchanges kept.kept) in
+      record {
+        parts = over.parts;
+        is = record {
+          served = subst (λ r. IsServed (λ now. IsAnsweredFor (call_context_at (settings before) now)) (settings before) before.client.cache request over.parts r after.client.cache) (sym reply_is) over.served;
+          piece_is = sym (over.asks_are ∙ sent_kept);
+          now_is = now_is;
+          count_is = count_is;
+        };
+        led = subst (λ xs. Leads step (settings before).request_options before.client.handle.handle xs after.client.handle.handle) sent_kept kept.led;
+        exchanges_are = kept.exchanges_are ∙ ap (λ xs. before.client.handle.exchanges ++ xs) sent_kept;
+        option_stays = a.option_stays;
+        others_stay = a.others_stay;
       }
 
--- ---- what was kept
+-- a part from a place on is what stands behind it
+pub part_from : {A : Type 0} (count : ℕ) (xs : List A) → take (length xs - count) (drop count xs) ≡ drop count xs
+part_from count xs = take_all (length xs - count) (drop count xs) (omega (arith, length-drop count xs))
 
-module _ {H : Type 0} (step : HandleStep H) (before : ResolverValue (RecordedValue H)) where
-  -- what was answered is turned into what was kept
-  serves_kept : (law : KeepsRequest) (request : RequestValue) (parts : List SubLookup) (reply : StepReply) (after : ResolverValue (RecordedValue H))
-      → Leads (RecordedStep step) (settings before).request_options before.client.handle (asks_of_sub_lookups parts) after.client.handle
-      → IsServed (λ now. IsAnsweredFor (call_context_at (settings before) now)) (settings before) before.client.cache request parts reply after.client.cache
-      → after.client.preserve_intermediates ≡ before.client.preserve_intermediates → after ≡ record before { client = after.client } → Serves step request before reply after
-  serves_kept law request parts reply after led served option_stays others_stay = record {
-    parts = over.parts;
-    led = subst (λ xs. Leads step (settings before).request_options before.client.handle.handle xs after.client.handle.handle) (sym over.asks_are) kept.led;
-    exchanges_are = kept.exchanges_are ∙ ap (λ xs. before.client.handle.exchanges ++ xs) (sym over.asks_are);
-    served = over.served;
-    option_stays = option_stays;
-    others_stay = others_stay;
-  }
-    where
-      kept : IsRecorded step (settings before).request_options before.client.handle (asks_of_sub_lookups parts) after.client.handle
-      kept = recorded_leads step (settings before).request_options before.client.handle after.client.handle (asks_of_sub_lookups parts) led
+-- ---- what is heard of stages
 
-      over : IsServedOver (settings before) before.client.cache request kept.kept reply after.client.cache
-      over = law (settings before) before.client.cache request parts reply after.client.cache kept.kept served kept.recorded
+abbrev pub HearsStages : {L : Type 0} → Hears L → L → List Stage → L → Type 0
+HearsStages hears before [] after = after ≡ before
+HearsStages {L} hears before (stage ∷ stages) after = (mid : L) × hears before stage.request stage.piece stage.step mid × HearsStages hears mid stages after
+
+hears_push : {L : Type 0} (hears : Hears L) (before mid after : L) (stages : List Stage) (stage : Stage) → HearsStages hears before stages mid → hears mid stage.request stage.piece stage.step after → HearsStages hears before (stages ++ stage ∷ []) after
+hears_push hears before mid after [] stage same heard = (after, subst (λ l. hears l stage.request stage.piece stage.step after) same heard, refl)
+hears_push hears before mid after (first ∷ stages) stage (next, h, rest) heard = (next, h, hears_push hears next mid after stages stage rest heard)
+
+heard_none : {L : Type 0} (hears : Hears L) (before : L) (requests : List RequestValue) (exchanges : List Exchange) (after : L) → after ≡ before → HearsAll hears before requests [] exchanges after
+heard_none hears before [] exchanges after same = same
+heard_none hears before (request ∷ requests) exchanges after same = same
+
+-- what was heard of a stage and what is heard of the steps behind it
+heard_first : {L : Type 0} (hears : Hears L) (request : RequestValue) (requests : List RequestValue) (stage : Stage) (stages : List Stage) (before next after : L) → stage.request ≡ request → stage.step.exchanges ≡ length stage.piece
+    → hears before stage.request stage.piece stage.step next → HearsAll hears next requests (map (λ x. x.step) stages) (exchanges_of stages) after → HearsAll hears before (request ∷ requests) (map (λ x. x.step) (stage ∷ stages)) (exchanges_of (stage ∷ stages)) after
+heard_first hears request requests stage stages before next after request_is count_is heard rest =
+    let all = stage.piece ++ exchanges_of stages in
+    let front : stage.piece ≡ take stage.step.exchanges all = sym (ap (λ n. take n all) count_is ∙ take_front stage.piece (exchanges_of stages)) in
+    let behind : exchanges_of stages ≡ drop stage.step.exchanges all = sym (ap (λ n. drop n all) count_is ∙ drop_front stage.piece (exchanges_of stages)) in (
+      next,
+      subst (λ xs. hears before request xs stage.step next) front (subst (λ r. hears before r stage.piece stage.step next) request_is heard),
+      subst (λ xs. HearsAll hears next requests (map (λ x. x.step) stages) xs after) behind rest,
+    )
+
+-- the steps are heard of, each with the exchanges that it made
+heard_all : {L : Type 0} (hears : Hears L) (s : Settings) (cache : CacheValue) (requests : List RequestValue) (stages : List Stage) (end : CacheValue) (before after : L) → AreStages s cache requests stages end → HearsStages hears before stages after
+    → HearsAll hears before requests (map (λ x. x.step) stages) (exchanges_of stages) after
+heard_all hears s cache [] [] end before after are heard = heard
+heard_all hears s cache [] (stage ∷ stages) end before after are heard = absurd are
+heard_all hears s cache (request ∷ requests) [] end before after are heard = absurd are
+heard_all hears s cache (request ∷ requests) (stage ∷ stages) end before after (mid, request_is, before_is, is, inl (ends, none, same)) (next, heard, rest) =
+    let P : List Stage → Type 0 = λ ss. HearsStages hears next ss after in
+    let Q : List Stage → Type 0 = λ ss. HearsAll hears next requests (map (λ x. x.step) ss) (exchanges_of ss) after in
+    heard_first hears request requests stage stages before next after request_is is.count_is heard (subst Q (sym none) (heard_none hears next requests [] after (subst P none rest)))
+heard_all hears s cache (request ∷ requests) (stage ∷ stages) end before after (mid, request_is, before_is, is, inr (goes_on, are)) (next, heard, rest) =
+    heard_first hears request requests stage stages before next after request_is is.count_is heard (heard_all hears s mid requests stages end next after are rest)
+
+-- ---- a loop
 
 settings-stay : {H : Type 0} (before after : ResolverValue H) → after.client.preserve_intermediates ≡ before.client.preserve_intermediates → after ≡ record before { client = after.client } → settings after ≡ settings before
 settings-stay before after option others =
     let with_option : Bool → Settings = λ b. record (settings before) { preserve_intermediates = b } in
     ap (λ r. settings r) others ∙ ap with_option option
 
-record Kept {H : Type 0} (step : HandleStep H) (request : RequestValue) (before : ResolverValue (RecordedValue H)) (made : StepValue) (after : ResolverValue (RecordedValue H)) : Type 0 where
-  serves : Serves step request before made.reply after
-  now_is : made.now ≡ moment_of request
-  count_is : made.exchanges ≡ length (asks_of_sub_lookups serves.parts)
-
-kept_step : {H : Type 0} (law : KeepsRequest) (step : HandleStep H) (request : RequestValue) (before : ResolverValue (RecordedValue H)) (made : StepValue) (after : ResolverValue (RecordedValue H)) → MakesStep (RecordedStep step) (λ h. h.exchanges) request before made after → Kept step request before made after
-kept_step law step request before made after m =
-    let s = serves_kept step before law request m.answered.parts made.reply after m.answered.led m.answered.served m.answered.option_stays m.answered.others_stay in
-    record {
-      serves = s;
-      now_is = m.now_is;
-      count_is = omega (arith, m.count_is, ap length s.exchanges_are, length-append before.client.handle.exchanges (asks_of_sub_lookups s.parts));
-    }
-
--- ---- a run
-
 exchanges-push : (stages : List Stage) (stage : Stage) → exchanges_of (stages ++ stage ∷ []) ≡ exchanges_of stages ++ stage.piece
 exchanges-push stages stage = flat_map-append (λ s. s.piece) stages (stage ∷ []) ∙ ap (λ xs. exchanges_of stages ++ xs) (append-nil stage.piece)
 
-module _ {H : Type 0} (step : HandleStep H) (first : ResolverValue (RecordedValue H)) (requests : List RequestValue) where
-  -- no step was made
-  so_far_none : (steps : List StepValue) → steps ≡ [] → KeptSoFar step first requests requests steps first
-  so_far_none steps none = record {
+-- these stages were made and heard of, and these requests are left: what is made and heard of those goes on from here
+pub record SoFar
+    {H L : Type 0} (step : HandleStep H) (hears fails : Hears L) (first : ResolverValue (RecordedValue H)) (listener : L) (requests left : List RequestValue) (resolver : ResolverValue (RecordedValue H)) (heard : L) : Type 0 where
+  pub stages : List Stage
+  pub led : Leads step (settings first).request_options first.client.handle.handle (exchanges_of stages) resolver.client.handle.handle
+  pub exchanges_are : resolver.client.handle.exchanges ≡ first.client.handle.exchanges ++ exchanges_of stages
+  pub on : (more : List Stage) (after : CacheValue) → AreStages (settings first) resolver.client.cache left more after → AreStages (settings first) first.client.cache requests (stages ++ more) after
+  pub told : HearsStages hears listener stages heard
+  pub fails_on : (after : L) → FailsToHear hears fails heard left after → FailsToHear hears fails listener requests after
+  pub option_stays : resolver.client.preserve_intermediates ≡ first.client.preserve_intermediates
+  pub others_stay : resolver ≡ record first { client = resolver.client }
+
+-- requests were served and heard of
+abbrev pub IsHeardRun : {H L : Type 0} → HandleStep H → Hears L → ResolverValue (RecordedValue H) → L → List RequestValue → ResolverValue (RecordedValue H) → L → Type 0
+IsHeardRun step hears before listener requests after heard =
+    (steps : List StepValue) × (exchanges : List Exchange) × MakesRun step before requests steps exchanges after × HearsAll hears listener requests steps exchanges heard
+
+module _ {H L : Type 0} (step : HandleStep H) (hears fails : Hears L) (first : ResolverValue (RecordedValue H)) (listener : L) (requests : List RequestValue) where
+  -- no request was served
+  pub none_served : SoFar step hears fails first listener requests requests first listener
+  none_served = record {
     stages = [];
     led = refl;
     exchanges_are = sym (append-nil first.client.handle.exchanges);
-    steps_are = sym none;
-    on = λ more after h. h;
+    on = λ more after are. are;
+    told = refl;
+    fails_on = λ after failed. failed;
     option_stays = refl;
     others_stay = refl;
   }
 
-  module _ (left : List RequestValue) (steps : List StepValue) (resolver : ResolverValue (RecordedValue H)) (so : KeptSoFar step first requests left steps resolver) where
+  module _ (left : List RequestValue) (resolver : ResolverValue (RecordedValue H)) (heard : L) (so : SoFar step hears fails first listener requests left resolver heard) where
     -- no request is left
-    serves_all : left ≡ [] → ServesAll step first requests steps resolver
-    serves_all none = record {
-      stages = so.stages;
-      led = so.led;
-      exchanges_are = so.exchanges_are;
-      steps_are = so.steps_are;
-      are = subst (λ ss. AreStages (settings first) first.client.cache requests ss resolver.client.cache) (append-nil so.stages)
-          (so.on [] resolver.client.cache (subst (λ rs. AreStages (settings first) resolver.client.cache rs [] resolver.client.cache) (sym none) refl));
-      option_stays = so.option_stays;
-      others_stay = so.others_stay;
-    }
+    pub all_served : left ≡ [] → IsHeardRun step hears first listener requests resolver heard
+    all_served none =
+        let P : List RequestValue → Type 0 = λ rs. AreStages (settings first) resolver.client.cache rs [] resolver.client.cache in
+        let are = subst (λ ss. AreStages (settings first) first.client.cache requests ss resolver.client.cache) (append-nil so.stages) (so.on [] resolver.client.cache (subst P (sym none) refl)) in (
+          map (λ stage. stage.step) so.stages,
+          exchanges_of so.stages,
+          record {
+            run = record { stages = so.stages; joined = refl; steps_are = refl; are = are };
+            led = so.led;
+            exchanges_are = so.exchanges_are;
+            option_stays = so.option_stays;
+            others_stay = so.others_stay;
+          },
+          heard_all hears (settings first) first.client.cache requests so.stages resolver.client.cache listener heard are so.told,
+        )
 
-    module _ (request : RequestValue) (rest : List RequestValue) (splits : left ≡ request ∷ rest) (made : StepValue) (after : ResolverValue (RecordedValue H)) (m : Kept step request resolver made after) (all : List StepValue) (pushed : all ≡ steps ++ made ∷ []) where
-      same_settings : settings resolver ≡ settings first
-      same_settings = settings-stay first resolver so.option_stays so.others_stay
+    module _ (request : RequestValue) (rest : List RequestValue) (splits : left ≡ request ∷ rest) (sent : List Exchange) (made : StepValue) where
+      -- the next step was not heard of
+      pub next_unheard : (failed : L) → fails heard request sent made failed → FailsToHear hears fails listener requests failed
+      next_unheard failed fail =
+          so.fails_on failed (subst (λ rs. FailsToHear hears fails heard rs failed) (sym splits) (sent, made, inl fail))
 
-      abbrev piece : List Exchange
-      piece = asks_of_sub_lookups m.serves.parts
+      module _ (after : ResolverValue (RecordedValue H)) (m : MakesStage step request resolver sent made after) (listened : L) (h : hears heard request sent made listened) where
+        same_settings : settings resolver ≡ settings first
+        same_settings = settings-stay first resolver so.option_stays so.others_stay
 
-      abbrev stage : Stage
-      stage = record { request = request; before = resolver.client.cache; piece = asks_of_sub_lookups m.serves.parts; parts = m.serves.parts; step = made }
+        abbrev stage : Stage
+        stage = record { request = request; before = resolver.client.cache; piece = sent; parts = m.parts; step = made }
 
-      is_stage : IsStage (settings first) stage after.client.cache
-      is_stage = record {
-        served = subst (λ s. IsServed (λ now. IsAnsweredFor (call_context_at s now)) s resolver.client.cache request m.serves.parts made.reply after.client.cache) same_settings m.serves.served;
-        piece_is = refl;
-        now_is = m.now_is;
-        count_is = m.count_is;
+        is_stage : IsStage (settings first) stage after.client.cache
+        is_stage = subst (λ s. IsStage s stage after.client.cache) same_settings m.is
+
+        led_on : Leads step (settings first).request_options first.client.handle.handle (exchanges_of (so.stages ++ stage ∷ [])) after.client.handle.handle
+        led_on = subst (λ xs. Leads step (settings first).request_options first.client.handle.handle xs after.client.handle.handle) (sym (exchanges-push so.stages stage))
+            (Leads-append step (settings first).request_options first.client.handle.handle resolver.client.handle.handle after.client.handle.handle (exchanges_of so.stages) sent so.led
+            (subst (λ s. Leads step s.request_options resolver.client.handle.handle sent after.client.handle.handle) same_settings m.led))
+
+        exchanges_on : after.client.handle.exchanges ≡ first.client.handle.exchanges ++ exchanges_of (so.stages ++ stage ∷ [])
+        exchanges_on =
+            m.exchanges_are ∙ ap (λ xs. xs ++ sent) so.exchanges_are ∙ append_assoc first.client.handle.exchanges (exchanges_of so.stages) sent
+            ∙ ap (λ xs. first.client.handle.exchanges ++ xs) (sym (exchanges-push so.stages stage))
+
+        told_on : HearsStages hears listener (so.stages ++ stage ∷ []) listened
+        told_on = hears_push hears listener heard listened so.stages stage so.told h
+
+        option_on : after.client.preserve_intermediates ≡ first.client.preserve_intermediates
+        option_on = m.option_stays ∙ so.option_stays
+
+        abbrev as_after : ResolverValue (RecordedValue H) → ResolverValue (RecordedValue H)
+        as_after r = record r { client = after.client }
+
+        others_on : after ≡ record first { client = after.client }
+        others_on = m.others_stay ∙ ap as_after so.others_stay
+
+        -- memory ran out: this step is the last
+        pub last_served : ends_run made.reply ≡ true → IsHeardRun step hears first listener requests after listened
+        last_served ends =
+            let are = so.on (stage ∷ []) after.client.cache (subst (λ rs. AreStages (settings first) resolver.client.cache rs (stage ∷ []) after.client.cache) (sym splits) (after.client.cache, refl, refl, is_stage, inl (ends, refl, refl))) in (
+              map (λ x. x.step) (so.stages ++ stage ∷ []),
+              exchanges_of (so.stages ++ stage ∷ []),
+              record {
+                run = record { stages = so.stages ++ stage ∷ []; joined = refl; steps_are = refl; are = are };
+                led = led_on;
+                exchanges_are = exchanges_on;
+                option_stays = option_on;
+                others_stay = others_on;
+              },
+              heard_all hears (settings first) first.client.cache requests (so.stages ++ stage ∷ []) after.client.cache listener listened are told_on,
+            )
+
+        pub more_served : ends_run made.reply ≡ false → SoFar step hears fails first listener requests rest after listened
+        more_served goes_on = record {
+          stages = so.stages ++ stage ∷ [];
+          led = led_on;
+          exchanges_are = exchanges_on;
+          on = λ more end are.
+              subst (λ ss. AreStages (settings first) first.client.cache requests ss end) (sym (append_assoc so.stages (stage ∷ []) more))
+              (so.on (stage ∷ more) end (subst (λ rs. AreStages (settings first) resolver.client.cache rs (stage ∷ more) end) (sym splits) (after.client.cache, refl, refl, is_stage, inr (goes_on, are))));
+          told = told_on;
+          fails_on = λ failed fail. so.fails_on failed (subst (λ rs. FailsToHear hears fails heard rs failed) (sym splits) (sent, made, inr (listened, h, fail)));
+          option_stays = option_on;
+          others_stay = others_on;
+        }
+
+-- ---- a run
+
+module _ {H : Type 0} (step : HandleStep H) (config : ResolverConfigValue) (options : OptionsValue) (hosts : List Host) (handle : H) (first : ResolverValue (RecordedValue H))
+    (first_is : first ≡ record (new_resolver config options (record { handle = handle; exchanges = [] })) { hosts = hosts }) (in_order : bounds_fault (bounds_of options) ≡ None)
+    (requests : List RequestValue) (steps : List StepValue) (exchanges : List Exchange) (after : ResolverValue (RecordedValue H)) (made : MakesRun step first requests steps exchanges after) where
+  abbrev new : ResolverValue (RecordedValue H)
+  new = record (new_resolver config options (record { handle = handle; exchanges = [] })) { hosts = hosts }
+
+  made_new : MakesRun step new requests steps exchanges after
+  made_new = subst (λ r. MakesRun step r requests steps exchanges after) first_is made
+
+  pub all_exchanges : exchanges ≡ after.client.handle.exchanges
+  all_exchanges = sym made_new.exchanges_are
+
+  pub is_run_from : IsRunFrom step config options hosts handle requests steps after
+  is_run_from =
+      let m = made_new in
+      let s = settings_of config options hosts in
+      let as_built : Bool → ResolverValue (RecordedValue H) = λ b. record new { client = record after.client { preserve_intermediates = b } } in
+      record {
+        in_order = in_order;
+        promised = subst (λ xs. IsPromisedRun step s handle requests steps xs after.client.handle.handle after.client.cache) all_exchanges
+            (promised_run step s handle requests steps exchanges after.client.handle.handle after.client.cache (record { led = m.led; run = m.run }));
+        resolver_is = m.others_stay ∙ ap as_built m.option_stays;
       }
-
-      led_on : Leads step (settings first).request_options first.client.handle.handle (exchanges_of (so.stages ++ stage ∷ [])) after.client.handle.handle
-      led_on = subst (λ xs. Leads step (settings first).request_options first.client.handle.handle xs after.client.handle.handle) (sym (exchanges-push so.stages stage))
-          (Leads-append step (settings first).request_options first.client.handle.handle resolver.client.handle.handle after.client.handle.handle (exchanges_of so.stages) piece so.led
-          (subst (λ s. Leads step s.request_options resolver.client.handle.handle piece after.client.handle.handle) same_settings m.serves.led))
-
-      exchanges_on : after.client.handle.exchanges ≡ first.client.handle.exchanges ++ exchanges_of (so.stages ++ stage ∷ [])
-      exchanges_on =
-          m.serves.exchanges_are ∙ ap (λ xs. xs ++ piece) so.exchanges_are ∙ append_assoc first.client.handle.exchanges (exchanges_of so.stages) piece
-          ∙ ap (λ xs. first.client.handle.exchanges ++ xs) (sym (exchanges-push so.stages stage))
-
-      steps_on : map (λ s. s.step) (so.stages ++ stage ∷ []) ≡ all
-      steps_on = map-append (λ s. s.step) so.stages (stage ∷ []) ∙ ap (λ xs. xs ++ made ∷ []) so.steps_are ∙ sym pushed
-
-      option_on : after.client.preserve_intermediates ≡ first.client.preserve_intermediates
-      option_on = m.serves.option_stays ∙ so.option_stays
-
-      abbrev as_after : ResolverValue (RecordedValue H) → ResolverValue (RecordedValue H)
-      as_after r = record r { client = after.client }
-
-      others_on : after ≡ record first { client = after.client }
-      others_on = m.serves.others_stay ∙ ap as_after so.others_stay
-
-      -- memory ran out: this step is the last
-      serves_last : ends_run made.reply ≡ true → ServesAll step first requests all after
-      serves_last ends = record {
-        stages = so.stages ++ stage ∷ [];
-        led = led_on;
-        exchanges_are = exchanges_on;
-        steps_are = steps_on;
-        are = so.on (stage ∷ []) after.client.cache (subst (λ rs. AreStages (settings first) resolver.client.cache rs (stage ∷ []) after.client.cache) (sym splits) (after.client.cache, refl, refl, is_stage, inl (ends, refl, refl)));
-        option_stays = option_on;
-        others_stay = others_on;
-      }
-
-      so_far_more : ends_run made.reply ≡ false → KeptSoFar step first requests rest all after
-      so_far_more goes_on = record {
-        stages = so.stages ++ stage ∷ [];
-        led = led_on;
-        exchanges_are = exchanges_on;
-        steps_are = steps_on;
-        on = λ more end are.
-            subst (λ ss. AreStages (settings first) first.client.cache requests ss end) (sym (append_assoc so.stages (stage ∷ []) more))
-            (so.on (stage ∷ more) end (subst (λ rs. AreStages (settings first) resolver.client.cache rs (stage ∷ more) end) (sym splits) (after.client.cache, refl, refl, is_stage, inr (goes_on, are))));
-        option_stays = option_on;
-        others_stay = others_on;
-      }
-
--- what was answered for all requests, as it was kept
-kept_all : {H : Type 0} (law : KeepsRequest) (step : HandleStep H) (first : ResolverValue (RecordedValue H)) (requests left : List RequestValue) (done more : List StepValue) (resolver after : ResolverValue (RecordedValue H)) → KeptSoFar step first requests left done resolver
-    → AnswersAll (RecordedStep step) (λ h. h.exchanges) resolver left more after → ServesAll step first requests (done ++ more) after
-kept_all law step first requests [] done more resolver after so (none, same) =
-    subst (λ r. ServesAll step first requests (done ++ more) r) (sym same)
-    (subst (λ ss. ServesAll step first requests ss resolver) (sym (ap (λ ss. done ++ ss) none ∙ append-nil done)) (serves_all step first requests [] done resolver so refl))
-kept_all law step first requests (request ∷ rest) done more resolver after so (made, others, mid, split, m, inl (ends, none, same)) =
-    let k = kept_step law step request resolver made mid m in
-    subst (λ r. ServesAll step first requests (done ++ more) r) (sym same)
-    (serves_last step first requests (request ∷ rest) done resolver so request rest refl made mid k (done ++ more) (ap (λ ss. done ++ ss) (split ∙ ap (λ ss. made ∷ ss) none)) ends)
-kept_all law step first requests (request ∷ rest) done more resolver after so (made, others, mid, split, m, inr (live, goes)) =
-    let k = kept_step law step request resolver made mid m in
-    let next = so_far_more step first requests (request ∷ rest) done resolver so request rest refl made mid k (done ++ made ∷ []) refl live in
-    subst (λ ss. ServesAll step first requests ss after) (append_assoc done (made ∷ []) others ∙ ap (λ ss. done ++ ss) (sym split))
-    (kept_all law step first requests rest (done ++ made ∷ []) others mid after next goes)
-
--- ---- the contract of a run
-
-module _ {H : Type 0} (law : KeepsRequest) (step : HandleStep H) (config : ResolverConfigValue) (options : OptionsValue) (hosts : List Host) (handle : H) (start : RecordedValue H) (starts : start ≡ record { handle = handle; exchanges = [] }) (requests : List RequestValue) (steps : List StepValue) (resolver : ResolverValue (RecordedValue H))
-    (all : AnswersAll (RecordedStep step) (λ h. h.exchanges) (record (new_resolver config options start) { hosts = hosts }) requests steps resolver) where
-  abbrev first : ResolverValue (RecordedValue H)
-  first = record (new_resolver config options (record { handle = handle; exchanges = [] })) { hosts = hosts }
-
-  served : ServesAll step first requests steps resolver
-  served =
-      let P : RecordedValue H → Type 0 = λ h. AnswersAll (RecordedStep step) (λ x. x.exchanges) (record (new_resolver config options h) { hosts = hosts }) requests steps resolver in
-      kept_all law step first requests requests [] steps first resolver (so_far_none step first requests [] refl) (subst P starts all)
-
-  pub is_run : IsRun step (settings_of config options hosts) handle requests steps resolver.client.handle.exchanges resolver.client.handle.handle resolver.client.cache
-  is_run = record {
-    led = subst (λ xs. Leads step (settings first).request_options handle xs resolver.client.handle.handle) (sym served.exchanges_are) served.led;
-    run = record { stages = served.stages; joined = sym served.exchanges_are; steps_are = served.steps_are; are = served.are };
-  }
-
-  pub resolver_is : resolver ≡ record {
-    client = record { cache = resolver.client.cache; handle = resolver.client.handle; preserve_intermediates = options.preserve_intermediates };
-    hosts = hosts;
-    config = config;
-    options = options;
-  }
-  resolver_is =
-      let as_built : Bool → ResolverValue (RecordedValue H) = λ b. record first { client = record resolver.client { preserve_intermediates = b } } in
-      served.others_stay ∙ ap as_built served.option_stays

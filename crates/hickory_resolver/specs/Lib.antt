@@ -1,7 +1,7 @@
 pub mod Attempting
+pub mod Listening
 pub mod Replies
 pub mod Serving
-pub mod Telling
 pub mod Transcripts
 pub use Rattle.hickory_resolver_lookup.specs.Requests
 pub use Rattle.hickory_resolver_model.specs.AliasWalk

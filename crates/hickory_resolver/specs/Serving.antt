@@ -1,13 +1,11 @@
--- Requests that a resolver serves one by one, over a handle that keeps what it sends.
-use Rattle.std.specs.Prelude.{◌≡◌, ◌⊎◌, ◌-◌, true, false, List, [], ◌∷◌, ◌++◌, length, map}
+-- What the parts of a run say of each other: a request, and requests in order.
+use Rattle.std.specs.Prelude.{◌≡◌, ◌⊎◌, List, [], ◌∷◌, ◌++◌}
 use Rattle.hickory_proto_core.specs.declared.recorded.Exchange.{Exchange}
 use Rattle.hickory_proto_core.specs.Handles.{HandleStep, Leads, RecordedValue}
-use Rattle.hickory_resolver_model.specs.Cache.{CacheValue}
 use Rattle.hickory_resolver_model.specs.Calls.{SubLookup, IsAnsweredFor, asks_of_sub_lookups}
 use Rattle.hickory_resolver_model.specs.Resolver.{ResolverValue, settings}
-use Rattle.hickory_resolver_model.specs.Run.{call_context_at, RequestValue, StepReply, StepValue, ends_run, IsServed, Stage, AreStages, exchanges_of, moment_of}
-
--- ---- over any handle
+use Rattle.hickory_resolver_model.specs.Run.{call_context_at, RequestValue, StepReply, StepValue, IsServed, IsStage, Run}
+use Rattle.hickory_resolver.specs.Listening.{Hears}
 
 -- A resolver answers a request: the exchanges of the request's sub-look-ups led its handle. Nothing but the
 -- client changes.
@@ -23,78 +21,41 @@ pub record Answered
   pub option_stays : after.client.preserve_intermediates ≡ before.client.preserve_intermediates
   pub others_stay : after ≡ record before { client = after.client }
 
--- a request makes a step: its moment, how many exchanges the handle kept for it, and its reply
-pub record MakesStep
-    {R : Type 0} (step : HandleStep R) (kept : R → List Exchange) (request : RequestValue)
-    (before : ResolverValue R) (made : StepValue) (after : ResolverValue R)
-    : Type 0 where
-  pub answered : Answered step request before made.reply after
-  pub now_is : made.now ≡ moment_of request
-  pub count_is : made.exchanges ≡ length (kept after.client.handle) - length (kept before.client.handle)
-
--- requests are answered one after the other, up to one that finds no memory
-abbrev pub AnswersAll : {R : Type 0} → HandleStep R → (R → List Exchange) → ResolverValue R → List RequestValue
-    → List StepValue → ResolverValue R → Type 0
-AnswersAll step kept before [] steps after = (steps ≡ []) × (after ≡ before)
-AnswersAll {R} step kept before (request ∷ requests) steps after =
-    (made : StepValue) × (rest : List StepValue) × (mid : ResolverValue R) × (steps ≡ made ∷ rest)
-    × MakesStep step kept request before made mid
-    × (((ends_run made.reply ≡ true) × (rest ≡ []) × (after ≡ mid))
-    ⊎ ((ends_run made.reply ≡ false) × AnswersAll step kept mid requests rest after))
-
--- these steps were made, and these requests are left: what answers those answers all
-pub record AnsweredSoFar
-    {R : Type 0} (step : HandleStep R) (kept : R → List Exchange) (first : ResolverValue R)
-    (requests left : List RequestValue) (steps : List StepValue) (resolver : ResolverValue R)
-    : Type 0 where
-  pub on : (more : List StepValue) (after : ResolverValue R)
-      → AnswersAll step kept resolver left more after → AnswersAll step kept first requests (steps ++ more) after
-
--- ---- over a handle that keeps what it sends
-
--- A request is served: what the handle kept for it are the exchanges of its sub-look-ups, and they led the
--- handle below. Nothing but the client changes.
-pub record Serves
+-- A request makes a stage of a run: these exchanges, which led the handle below and were kept, and this step.
+pub record MakesStage
     {H : Type 0} (step : HandleStep H) (request : RequestValue) (before : ResolverValue (RecordedValue H))
-    (reply : StepReply) (after : ResolverValue (RecordedValue H))
+    (sent : List Exchange) (made : StepValue) (after : ResolverValue (RecordedValue H))
     : Type 0 where
   pub parts : List SubLookup
-  pub led : Leads step (settings before).request_options before.client.handle.handle (asks_of_sub_lookups parts)
-      after.client.handle.handle
-  pub exchanges_are : after.client.handle.exchanges
-      ≡ before.client.handle.exchanges ++ asks_of_sub_lookups parts
-  pub served : IsServed (λ now. IsAnsweredFor (call_context_at (settings before) now)) (settings before)
-      before.client.cache request parts reply after.client.cache
+  pub is : IsStage (settings before) (record {
+    request = request;
+    before = before.client.cache;
+    piece = sent;
+    parts = parts;
+    step = made;
+  }) after.client.cache
+  pub led : Leads step (settings before).request_options before.client.handle.handle sent after.client.handle.handle
+  pub exchanges_are : after.client.handle.exchanges ≡ before.client.handle.exchanges ++ sent
   pub option_stays : after.client.preserve_intermediates ≡ before.client.preserve_intermediates
   pub others_stay : after ≡ record before { client = after.client }
 
--- these steps were made, and these requests are left: a run over what is left goes on from here to a run over
--- all
-pub record KeptSoFar
-    {H : Type 0} (step : HandleStep H) (first : ResolverValue (RecordedValue H)) (requests left : List RequestValue)
-    (steps : List StepValue) (resolver : ResolverValue (RecordedValue H))
+-- Requests make a run of the definition from this resolver on: these steps and these exchanges, which led the
+-- handle below and were kept.
+pub record MakesRun
+    {H : Type 0} (step : HandleStep H) (before : ResolverValue (RecordedValue H)) (requests : List RequestValue)
+    (steps : List StepValue) (exchanges : List Exchange) (after : ResolverValue (RecordedValue H))
     : Type 0 where
-  pub stages : List Stage
-  pub led : Leads step (settings first).request_options first.client.handle.handle (exchanges_of stages)
-      resolver.client.handle.handle
-  pub exchanges_are : resolver.client.handle.exchanges ≡ first.client.handle.exchanges ++ exchanges_of stages
-  pub steps_are : map (λ stage. stage.step) stages ≡ steps
-  pub on : (more : List Stage) (after : CacheValue)
-      → AreStages (settings first) resolver.client.cache left more after
-      → AreStages (settings first) first.client.cache requests (stages ++ more) after
-  pub option_stays : resolver.client.preserve_intermediates ≡ first.client.preserve_intermediates
-  pub others_stay : resolver ≡ record first { client = resolver.client }
+  pub run : Run (settings before) before.client.cache requests steps exchanges after.client.cache
+  pub led : Leads step (settings before).request_options before.client.handle.handle exchanges
+      after.client.handle.handle
+  pub exchanges_are : after.client.handle.exchanges ≡ before.client.handle.exchanges ++ exchanges
+  pub option_stays : after.client.preserve_intermediates ≡ before.client.preserve_intermediates
+  pub others_stay : after ≡ record before { client = after.client }
 
--- the requests were served: their stages, up to one that ran out of memory
-pub record ServesAll
-    {H : Type 0} (step : HandleStep H) (first : ResolverValue (RecordedValue H)) (requests : List RequestValue)
-    (steps : List StepValue) (resolver : ResolverValue (RecordedValue H))
-    : Type 0 where
-  pub stages : List Stage
-  pub led : Leads step (settings first).request_options first.client.handle.handle (exchanges_of stages)
-      resolver.client.handle.handle
-  pub exchanges_are : resolver.client.handle.exchanges ≡ first.client.handle.exchanges ++ exchanges_of stages
-  pub steps_are : map (λ stage. stage.step) stages ≡ steps
-  pub are : AreStages (settings first) first.client.cache requests stages resolver.client.cache
-  pub option_stays : resolver.client.preserve_intermediates ≡ first.client.preserve_intermediates
-  pub others_stay : resolver ≡ record first { client = resolver.client }
+-- a listener hears of the steps of some requests in order, and fails at the next
+abbrev pub FailsToHear : {L : Type 0} → Hears L → Hears L → L → List RequestValue → L → Type 0
+FailsToHear hears fails before [] after = ⊥
+FailsToHear {L} hears fails before (request ∷ requests) after =
+    (sent : List Exchange) × (made : StepValue)
+    × (fails before request sent made after
+    ⊎ ((mid : L) × hears before request sent made mid × FailsToHear hears fails mid requests after))

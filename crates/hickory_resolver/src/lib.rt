@@ -1,6 +1,7 @@
 //! A stub resolver's core: names and types are turned into records, by way of an upstream that is handed in.
 #![tactic(auto)]
 
+mod keeping;
 pub mod listener;
 mod literals;
 pub mod lookup_future;
@@ -11,7 +12,6 @@ pub mod resolver_builder;
 pub mod runs;
 pub mod search;
 mod serve;
-mod telling;
 pub mod transcript;
 
 /// The cache, and the bounds that it keeps to.

@@ -21,6 +21,7 @@ use crate::search::attempts;
 use hickory_proto_core::{
     DnsHandle, DnsRequestOptions, IntoName, Name, NameError, NetError, Query, RData, RecordType,
 };
+use hickory_resolver_cache::ResponseCache;
 use hickory_resolver_client::CachingClient;
 use hickory_resolver_config::{LookupIpStrategy, ResolverConfig, ResolverOpts};
 use hickory_resolver_hosts::Hosts;
@@ -63,14 +64,22 @@ impl<H: DnsHandle> Resolver<H> {
 }
 
 impl<H: DnsHandle, S: BuildHasher> Resolver<H, S> {
+    // A resolver over this handle and these hosts, whose cache is this one.
     pub(crate) fn new(
         config: ResolverConfig,
         options: ResolverOpts,
-        client: CachingClient<H, S>,
+        cache: ResponseCache<S>,
+        handle: H,
         hosts: Hosts<S>,
     ) -> Resolver<H, S>
-        ensures { result ≡ record { client = client; hosts = hosts; config = config; options = options } }
+        ensures { result ≡ record {
+          client = record { cache = cache; handle = handle; preserve_intermediates = options.preserve_intermediates };
+          hosts = hosts;
+          config = config;
+          options = options;
+        } }
     {
+        let client = CachingClient::with_cache(cache, handle, options.preserve_intermediates);
         Resolver {
             config,
             options,

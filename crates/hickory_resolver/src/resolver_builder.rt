@@ -1,15 +1,19 @@
 //! What a resolver is built from.
-ghost use Rattle.std.specs.Prelude.{◌≡◌};
+ghost use Rattle.std.specs.Prelude.{◌≡◌, [], Err, Ok};
+ghost use Rattle.std.specs.Option.{option_map_or};
+ghost use Rattle.hickory_proto_core.specs.declared.net_error.NetError.TheVariants.{Bounds};
 ghost use Rattle.hickory_resolver_config.specs.ResolverConfig.{default_options};
+ghost use Rattle.hickory_resolver_model.specs.Bounds.{bounds_fault};
+ghost use Rattle.hickory_resolver_model.specs.Options.{bounds_of};
 ghost use Rattle.hickory_resolver_model.specs.Resolver.{built};
 
 use crate::resolver::Resolver;
 use hickory_proto_core::{DnsHandle, NetError};
 use hickory_resolver_cache::ResponseCache;
-use hickory_resolver_client::CachingClient;
 use hickory_resolver_config::{OpportunisticEncryption, ResolverConfig, ResolverOpts};
 use hickory_resolver_hosts::Hosts;
 use hickory_resolver_lookup::TtlConfig;
+use std::alloc::Global;
 use std::hash::{BuildHasher, BuildHasherDefault, FoldHasher};
 use std::marker::Model;
 
@@ -121,13 +125,27 @@ impl<H: DnsHandle + Drop, S: BuildHasher + Drop> ResolverBuilder<H, S> {
             hosts_hasher,
         } = self;
         let alloc = *config.search.allocator();
-        let bounds = match TtlConfig::from_opts(alloc, &options) {
-            Ok(bounds) => bounds,
-            Err(error) => return Err(NetError::Bounds(error)),
-        };
-        let cache = ResponseCache::with_hasher(alloc, options.cache_size, bounds, cache_hasher);
-        let client = CachingClient::with_cache(cache, handle, options.preserve_intermediates);
+        let cache = first_cache(alloc, &options, cache_hasher)?;
         let hosts = Hosts::with_hasher(alloc, hosts_hasher);
-        Ok(Resolver::new(config, options, client, hosts))
+        Ok(Resolver::new(config, options, cache, handle, hosts))
+    }
+}
+
+// The empty cache of a new resolver. Options whose bounds are reversed are refused; no handle is there to be asked.
+pub(crate) fn first_cache<S: BuildHasher + Drop>(
+    alloc: Global,
+    options: &ResolverOpts,
+    hasher: S,
+) -> Result<ResponseCache<S>, NetError>
+    ensures { result ≡ option_map_or (λ fault. Err (Bounds fault)) (bounds_fault (bounds_of options.now))
+        (Ok (record {
+          capacity = options.now.cache_size;
+          config = record { default = bounds_of options.now; by_type = [] };
+          entries = [];
+        })) }
+{
+    match TtlConfig::from_opts(alloc, options) {
+        Ok(bounds) => Ok(ResponseCache::with_hasher(alloc, options.cache_size, bounds, hasher)),
+        Err(fault) => Err(NetError::Bounds(fault)),
     }
 }

@@ -3,7 +3,7 @@ ghost use Rattle.std.specs.Prelude.{◌≡◌};
 ghost use Rattle.hickory_resolver_model.specs.Run.{ends_run};
 ghost use Rattle.hickory_resolver.specs.Replies.{reply_of};
 
-use crate::recording::kept_by;
+use crate::recording::upstream_of;
 use crate::resolver::Resolver;
 use hickory_proto_core::{DnsHandle, Exchange, NetError, Recorded};
 use hickory_resolver_lookup::{Lookup, LookupIp};
@@ -88,7 +88,7 @@ impl<H: DnsHandle, S: BuildHasher> Transcript<H, S> {
     pub fn exchanges(&self) -> &[Exchange]
         ensures { result.now ≡ self.now.resolver.client.handle.exchanges }
     {
-        kept_by(&self.resolver)
+        upstream_of(&self.resolver).exchanges()
     }
 
     /// The resolver after the last step.

@@ -3,6 +3,7 @@ use Rattle.std.proofs.Common.{◌≡◌, ◌∙◌, ℕ, Bool, true, false, not,
 use Rattle.std.proofs.lemmas.Bool.{and_from}
 use Rattle.std.proofs.lemmas.List.{append-nil}
 use Rattle.hickory_proto_core.specs.Handles.{OutcomeValue, HandleStep, RecordedValue, ScriptStep}
+use Rattle.hickory_proto_core.specs.Table.{TableValue, TableStep, last_given, outcome_in}
 use Rattle.hickory_proto_core.specs.declared.query.Query.{Query}
 use Rattle.hickory_resolver_config.specs.ResolverConfig.{ResolverConfigValue, OptionsValue}
 use Rattle.hickory_proto_core.specs.declared.recorded.Exchange.{Exchange}
@@ -12,7 +13,8 @@ use Rattle.hickory_resolver.specs.hosts.hosts_error.HostsError.TheVariants as ho
 use Rattle.hickory_resolver_model.specs.Hosts.{Host}
 use Rattle.hickory_resolver_model.specs.Resolver.{ResolverValue}
 use Rattle.hickory_resolver_model.specs.Run.{RequestValue, Settings, StepValue, settings_of}
-use Rattle.hickory_resolver.specs.Telling.{Told, Hears, HearsAll, IsToldRun, told_of}
+use Rattle.hickory_resolver.specs.Listening.{Hears, HearsAll}
+use Rattle.hickory_resolver.specs.Transcripts.{IsRunFrom}
 use Rattle.replay.specs.Hearing.{AddsBlock}
 use Rattle.replay.specs.Output.{run_text, step_text}
 use Rattle.replay.specs.ScriptRun.{IsNoTable, IsReplayed, IsScriptTold, IsTable, IsTableTold, IsTold, config_of, first_moment, hosts_fault, is_remembered}
@@ -20,30 +22,28 @@ use Rattle.replay_script.specs.Script.{IsWhole, ScriptValue, script_of}
 use Rattle.replay_script.specs.declared.line.Line.{Line}
 use Rattle.replay.specs.declared.error.ReplayError.{ReplayError}
 
--- where no step is left the text is whole
-no_step : (requests : List RequestValue) (exchanges : List Exchange) → run_text requests [] exchanges ≡ []
-no_step [] exchanges = refl
-no_step (request ∷ requests) exchanges = refl
-
--- what a listener hears that adds the block of each step to its text
-module _ {L : Type 0} (text : L → List ℕ) (hears : Hears L) (adds : (before : L) (told : Told) (after : L) → hears before told after → AddsBlock (text before) told (text after)) where
+-- what a listener hears of that adds the block of each step to its text
+module _ {L : Type 0} (text : L → List ℕ) (hears : Hears L) (adds : (before : L) (request : RequestValue) (sent : List Exchange) (step : StepValue) (after : L) → hears before request sent step after → AddsBlock (text before) request sent step (text after)) where
   -- the text of the run is added
-  pub heard_text : (requests : List RequestValue) (steps : List StepValue) (exchanges : List Exchange) (before after : L) → HearsAll hears before (told_of requests steps exchanges) after
+  pub heard_text : (requests : List RequestValue) (steps : List StepValue) (exchanges : List Exchange) (before after : L) → HearsAll hears before requests steps exchanges after
       → text after ≡ text before ++ run_text requests steps exchanges
-  heard_text [] steps exchanges before after same = ap text same ∙ sym (append-nil (text before))
+  heard_text [] [] exchanges before after same = ap text same ∙ sym (append-nil (text before))
+  heard_text [] (step ∷ steps) exchanges before after heard = absurd heard
   heard_text (request ∷ requests) [] exchanges before after same = ap text same ∙ sym (append-nil (text before))
   heard_text (request ∷ requests) (step ∷ steps) exchanges before after (mid, heard, rest) =
       let block = step_text request (map (λ x. x.query) (take step.exchanges exchanges)) step.reply in
       let behind = run_text requests steps (drop step.exchanges exchanges) in
       heard_text requests steps (drop step.exchanges exchanges) mid after rest
-      ∙ ap (λ t. t ++ behind) (adds before _ mid heard).1
+      ∙ ap (λ t. t ++ behind) (adds before request _ step mid heard).1
       ∙ append_assoc (text before) block behind
 
   -- there was memory for each step
-  pub heard_remembered : (told : List Told) (before after : L) → HearsAll hears before told after → is_remembered (map (λ one. one.step) told) ≡ true
-  heard_remembered [] before after same = refl
-  heard_remembered (one ∷ told) before after (mid, heard, rest) =
-      and_from _ _ (ap not (adds before one mid heard).0) (heard_remembered told mid after rest)
+  pub heard_remembered : (requests : List RequestValue) (steps : List StepValue) (exchanges : List Exchange) (before after : L) → HearsAll hears before requests steps exchanges after → is_remembered steps ≡ true
+  heard_remembered [] [] exchanges before after same = refl
+  heard_remembered (request ∷ requests) [] exchanges before after same = refl
+  heard_remembered [] (step ∷ steps) exchanges before after heard = absurd heard
+  heard_remembered (request ∷ requests) (step ∷ steps) exchanges before after (mid, heard, rest) =
+      and_from _ _ (ap not (adds before request _ step mid heard).0) (heard_remembered requests steps (drop step.exchanges exchanges) mid after rest)
 
 fault_of : (now : ℕ) (hosts : List ℕ) (fault : HostsError) (table : List Host) → IsBytesRead now hosts [] (Err fault) table → IsNoTable now hosts (hosts_fault fault)
 fault_of now hosts hosts_error.Read table read = absurd read
@@ -55,37 +55,55 @@ no_table now hosts start fault table error empty read error_is =
     let P : List Host → Type 0 = λ before. IsBytesRead now hosts before (Err fault) table in
     subst (IsNoTable now hosts) (sym error_is) (fault_of now hosts fault table (subst P empty read))
 
--- the text of a run that was told
-pub told_run : {H L : Type 0} (step : HandleStep H) (s : Settings) (upstream : H) (requests : List RequestValue) (text : L → List ℕ) (hears : Hears L) → ((before : L) (told : Told) (after : L) → hears before told after → AddsBlock (text before) told (text after))
-    → (before : L) (resolver : ResolverValue (RecordedValue H)) (after : L) → text before ≡ [] → IsToldRun step hears s upstream requests before resolver after → IsTold step s upstream requests (text after)
-told_run step s upstream requests text hears adds before resolver after none run =
+-- the text of a run whose steps were heard of
+pub told_run : {H L : Type 0} (step : HandleStep H) (config : ResolverConfigValue) (options : OptionsValue) (hosts : List Host) (upstream : H) (requests : List RequestValue) (text : L → List ℕ) (hears : Hears L)
+    → ((before : L) (request : RequestValue) (sent : List Exchange) (made : StepValue) (after : L) → hears before request sent made after → AddsBlock (text before) request sent made (text after))
+    → (before : L) (steps : List StepValue) (resolver : ResolverValue (RecordedValue H)) (after : L) → text before ≡ [] → IsRunFrom step config options hosts upstream requests steps resolver
+    → HearsAll hears before requests steps resolver.client.handle.exchanges after → IsTold step (settings_of config options hosts) upstream requests (text after)
+told_run step config options hosts upstream requests text hears adds before steps resolver after none run heard =
     let exchanges = resolver.client.handle.exchanges in
-    let all = told_of requests run.steps exchanges in
     record {
-      steps = run.steps;
+      steps = steps;
       exchanges = exchanges;
       upstream_after = resolver.client.handle.handle;
       cache_after = resolver.client.cache;
-      run = run.run.is;
+      run = run.promised.is;
       told = (
-        ap is_remembered (sym run.all_told) ∙ heard_remembered text hears adds all before after run.heard,
-        heard_text text hears adds requests run.steps exchanges before after run.heard ∙ ap (λ t. t ++ run_text requests run.steps exchanges) none,
+        heard_remembered text hears adds requests steps exchanges before after heard,
+        heard_text text hears adds requests steps exchanges before after heard ∙ ap (λ t. t ++ run_text requests steps exchanges) none,
       );
     }
 
--- the text of a script whose outcomes are answered in order
-pub told_in_order : {Z E : Type 0} (script : ScriptValue) (hosts : List Host) (config : ResolverConfigValue) (options : OptionsValue) (outcomes : List (Query × OutcomeValue)) (requests : List RequestValue) (result : Result (String Z) E)
-    → script.table ≡ false → config ≡ config_of script → options ≡ script.options → outcomes ≡ script.outcomes → requests ≡ script.requests
-    → IfOk result (λ text. IsTold ScriptStep (settings_of config options hosts) (map (λ o. o.1) outcomes) requests (string_bytes text)) → IfOk result (λ text. IsScriptTold script hosts (string_bytes text))
-told_in_order script hosts config options outcomes requests (Ok text) in_order config_is options_are outcomes_are requests_are told =
-    let C : ResolverConfigValue → Type 0 = λ c. IsTold ScriptStep (settings_of c options hosts) (map (λ o. o.1) outcomes) requests (string_bytes text) in
-    let O : OptionsValue → Type 0 = λ o. IsTold ScriptStep (settings_of (config_of script) o hosts) (map (λ o. o.1) outcomes) requests (string_bytes text) in
-    let A : List (Query × OutcomeValue) → Type 0 = λ os. IsTold ScriptStep (settings_of (config_of script) script.options hosts) (map (λ o. o.1) os) requests (string_bytes text) in
-    let R : List RequestValue → Type 0 = λ rs. IsTold ScriptStep (settings_of (config_of script) script.options hosts) (map (λ o. o.1) script.outcomes) rs (string_bytes text) in
-    let s = settings_of (config_of script) script.options hosts in
-    let T : Bool → Type 0 = λ b. MatchBool b (IsTableTold s script.outcomes script.requests (string_bytes text)) (IsTold ScriptStep s (map (λ o. o.1) script.outcomes) script.requests (string_bytes text)) in
-    subst T (sym in_order) (subst R requests_are (subst A outcomes_are (subst O options_are (subst C config_is told))))
-told_in_order script hosts config options outcomes requests (Err error) in_order config_is options_are outcomes_are requests_are told = tt
+-- the text of a run of what a script says is that of the script
+module _ {Z E : Type 0} (script : ScriptValue) (hosts : List Host) (config : ResolverConfigValue) (options : OptionsValue) (outcomes : List (Query × OutcomeValue)) (requests : List RequestValue)
+    (config_is : config ≡ config_of script) (options_are : options ≡ script.options) (outcomes_are : outcomes ≡ script.outcomes) (requests_are : requests ≡ script.requests) where
+  settings_are : settings_of config options hosts ≡ settings_of (config_of script) script.options hosts
+  settings_are = λ i. settings_of (config_is i) (options_are i) hosts
+
+  -- over a table
+  pub told_by_table : (result : Result (String Z) E) (table : TableValue) → script.table ≡ true → ((q : Query) → outcome_in q table ≡ last_given q outcomes)
+      → IfOk result (λ text. IsTold TableStep (settings_of config options hosts) table requests (string_bytes text)) → IfOk result (λ text. IsScriptTold script hosts (string_bytes text))
+  told_by_table (Ok text) table in_table given told =
+      let s = settings_of (config_of script) script.options hosts in
+      let S : Settings → Type 0 = λ x. IsTableTold x outcomes requests (string_bytes text) in
+      let A : List (Query × OutcomeValue) → Type 0 = λ os. IsTableTold s os requests (string_bytes text) in
+      let R : List RequestValue → Type 0 = λ rs. IsTableTold s script.outcomes rs (string_bytes text) in
+      let T : Bool → Type 0 = λ b. MatchBool b (IsTableTold s script.outcomes script.requests (string_bytes text)) (IsTold ScriptStep s (map (λ o. o.1) script.outcomes) script.requests (string_bytes text)) in
+      subst T (sym in_table) (subst R requests_are (subst A outcomes_are (subst S settings_are (table, given, told))))
+  told_by_table (Err error) table in_table given told = tt
+
+  -- over outcomes that are answered in order
+  pub told_in_order : (result : Result (String Z) E) (answered : List OutcomeValue) → script.table ≡ false → answered ≡ map (λ o. o.1) outcomes
+      → IfOk result (λ text. IsTold ScriptStep (settings_of config options hosts) answered requests (string_bytes text)) → IfOk result (λ text. IsScriptTold script hosts (string_bytes text))
+  told_in_order (Ok text) answered in_order answered_are told =
+      let s = settings_of (config_of script) script.options hosts in
+      let U : List OutcomeValue → Type 0 = λ os. IsTold ScriptStep (settings_of config options hosts) os requests (string_bytes text) in
+      let S : Settings → Type 0 = λ x. IsTold ScriptStep x (map (λ o. o.1) outcomes) requests (string_bytes text) in
+      let A : List (Query × OutcomeValue) → Type 0 = λ os. IsTold ScriptStep s (map (λ o. o.1) os) requests (string_bytes text) in
+      let R : List RequestValue → Type 0 = λ rs. IsTold ScriptStep s (map (λ o. o.1) script.outcomes) rs (string_bytes text) in
+      let T : Bool → Type 0 = λ b. MatchBool b (IsTableTold s script.outcomes script.requests (string_bytes text)) (IsTold ScriptStep s (map (λ o. o.1) script.outcomes) script.requests (string_bytes text)) in
+      subst T (sym in_order) (subst R requests_are (subst A outcomes_are (subst S settings_are (subst U answered_are told))))
+  told_in_order (Err error) answered in_order answered_are told = tt
 
 -- the text of a script that was read whole
 pub replayed : {Z E : Type 0} (script hosts : List ℕ) (said : List Line) (read : ScriptValue) (now : ℕ) (table : List Host) (result : Result (String Z) E)

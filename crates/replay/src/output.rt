@@ -22,15 +22,11 @@ pub struct TextListener {
 impl Listener for TextListener {
     ghost use Rattle.replay.specs.Hearing.{AddsBlock};
 
-    ghost hears = { λ before told after. AddsBlock (string_bytes before.text) told (string_bytes after.text) };
+    ghost hears = { λ before request sent step after. AddsBlock (string_bytes before.text) request sent step
+        (string_bytes after.text) };
 
     // There is no text of a run in which memory ran out.
-    fn hear(
-        &mut self,
-        request: &Request,
-        sent: &[Exchange],
-        step: &Step,
-    ) -> Result<(), AllocError> {
+    fn hear(&mut self, request: &Request, sent: &[Exchange], step: Step) -> Result<(), AllocError> {
         if step.reply.ends_run() {
             return Err(AllocError);
         }

@@ -1,11 +1,12 @@
 //! Runs a script.
 ghost use Rattle.std.specs.Prelude.{◌≡◌, IfErr, IfOk, IsOkUnless, MatchResult, None, map, string_bytes};
-ghost use Rattle.hickory_proto_core.specs.Handles.{ScriptStep};
+ghost use Rattle.hickory_proto_core.specs.Table.{last_given, outcome_in};
+ghost use Rattle.hickory_proto_core.specs.declared.query.Query.{Query};
 ghost use Rattle.hickory_resolver.specs.Requests.{request_of};
 ghost use Rattle.hickory_resolver_model.specs.Bounds.{bounds_fault};
 ghost use Rattle.hickory_resolver_model.specs.Options.{bounds_of};
 ghost use Rattle.hickory_resolver_model.specs.Run.{settings_of};
-ghost use Rattle.replay.specs.ScriptRun.{IsNoTable, IsRefused, IsReplayed, IsScriptTold, IsTable, IsTableTold, IsTold, first_moment};
+ghost use Rattle.replay.specs.ScriptRun.{IsNoTable, IsRefused, IsReplayed, IsScriptTold, IsTable, IsTold, first_moment};
 
 use crate::error::ReplayError;
 use crate::output::TextListener;
@@ -47,7 +48,7 @@ pub fn replay_text_with_hasher<S: BuildHasher + Drop>(
 {
     let script = read_script(alloc, script)?;
     let table = read_table(alloc, hosts, first_moment(&script.requests), hosts_hasher)?;
-    tell_script(alloc, script, table, cache_hasher)
+    run_script(alloc, script, table, cache_hasher)
 }
 
 // The moment of the first request, or 0.
@@ -76,17 +77,8 @@ fn read_table<S: BuildHasher + Drop>(
     }
 }
 
-// What a run starts from, but for its upstream and its requests.
-#[derive(Drop)]
-struct Start<S: BuildHasher> {
-    config: ResolverConfig,
-    options: ResolverOpts,
-    hosts: Hosts<S>,
-    cache_hasher: S,
-}
-
-// Runs a script over a table of hosts. Its bounds are in order.
-fn tell_script<S: BuildHasher + Drop>(
+// The text of a run of a script over a table of hosts. Its bounds are in order.
+fn run_script<S: BuildHasher + Drop>(
     alloc: Global,
     script: Script,
     hosts: Hosts<S>,
@@ -104,51 +96,25 @@ fn tell_script<S: BuildHasher + Drop>(
         domain,
         search,
     } = script;
-    let start = Start {
-        config: ResolverConfig::from_parts(domain, search, Vec::new(alloc)),
-        options,
-        hosts,
-        cache_hasher,
-    };
+    let config = ResolverConfig::from_parts(domain, search, Vec::new(alloc));
     if table {
-        tell_table(alloc, start, outcomes, &requests)
+        let upstream = table_of(outcomes)?;
+        text_of_run(config, options, hosts, upstream, &requests, cache_hasher)
     } else {
-        tell_in_order(alloc, start, outcomes, &requests)
+        let upstream = ScriptHandle::new(without_questions(alloc, outcomes)?);
+        text_of_run(config, options, hosts, upstream, &requests, cache_hasher)
     }
 }
 
-// Over an upstream that looks each question up among the outcomes.
-fn tell_table<S: BuildHasher + Drop>(
-    alloc: Global,
-    start: Start<S>,
-    outcomes: Vec<(Query, Outcome)>,
-    requests: &[Request],
-) -> Result<String, ReplayError>
-    requires { bounds_fault (bounds_of start.options) ≡ None }
-    ensures ok { IfOk result (λ text. IsTableTold (settings_of start.config start.options start.hosts)
-        outcomes.items (map request_of requests.now) (string_bytes text)) }
+// An upstream that looks each question up among the outcomes.
+fn table_of(outcomes: Vec<(Query, Outcome)>) -> Result<TableHandle, ReplayError>
+    ensures ok { IfOk result (λ table. (q : Query) → outcome_in q table ≡ last_given q outcomes.items) }
     ensures err { IsOkUnless result ReplayError.Memory }
 {
     match TableHandle::new(outcomes) {
-        Ok(table) => tell(alloc, start, table, requests),
+        Ok(table) => Ok(table),
         Err(_) => Err(ReplayError::Memory),
     }
-}
-
-// Over an upstream that answers the outcomes in order.
-fn tell_in_order<S: BuildHasher + Drop>(
-    alloc: Global,
-    start: Start<S>,
-    outcomes: Vec<(Query, Outcome)>,
-    requests: &[Request],
-) -> Result<String, ReplayError>
-    requires { bounds_fault (bounds_of start.options) ≡ None }
-    ensures ok { IfOk result (λ text. IsTold ScriptStep (settings_of start.config start.options start.hosts)
-        (map (λ o. o.1) outcomes.items) (map request_of requests.now) (string_bytes text)) }
-    ensures err { IsOkUnless result ReplayError.Memory }
-{
-    let outcomes = without_questions(alloc, outcomes)?;
-    tell(alloc, start, ScriptHandle::new(outcomes), requests)
 }
 
 // The outcomes without the questions of their lines.
@@ -164,27 +130,22 @@ fn without_questions(
         .collect(alloc)
 }
 
-// Runs requests over an upstream, and tells what happened.
-fn tell<H: DnsHandle + Drop, S: BuildHasher + Drop>(
-    alloc: Global,
-    start: Start<S>,
+// The text of a run of requests over an upstream.
+fn text_of_run<H: DnsHandle + Drop, S: BuildHasher + Drop>(
+    config: ResolverConfig,
+    options: ResolverOpts,
+    hosts: Hosts<S>,
     upstream: H,
     requests: &[Request],
+    hasher: S,
 ) -> Result<String, ReplayError>
-    requires { bounds_fault (bounds_of start.options) ≡ None }
-    ensures ok { IfOk result (λ text. IsTold H.step (settings_of start.config start.options start.hosts)
-        upstream (map request_of requests.now) (string_bytes text)) }
+    requires { bounds_fault (bounds_of options) ≡ None }
+    ensures ok { IfOk result (λ text. IsTold H.step (settings_of config options hosts) upstream
+        (map request_of requests.now) (string_bytes text)) }
     ensures err { IsOkUnless result ReplayError.Memory }
 {
-    let Start {
-        config,
-        options,
-        hosts,
-        cache_hasher: hasher,
-    } = start;
-    let listener = TextListener {
-        text: String::new(alloc),
-    };
+    let text = String::new(*config.search.allocator());
+    let listener = TextListener { text };
     match run_told(config, options, hosts, upstream, requests, hasher, listener) {
         Ok(heard) => Ok(text_of(heard)),
         Err(_) => Err(ReplayError::Memory),

@@ -1,16 +1,19 @@
-use Rattle.std.proofs.Common.{map}
+use Rattle.std.proofs.Common.{map, subst}
 use Rattle.hickory_resolver_lookup.specs.Requests.{request_of}
-use Rattle.hickory_resolver.proofs.ToldRuns.{is_told_run, told_resolver_is, on_ok}
+use Rattle.hickory_resolver.specs.Listening.{HearsAll}
+use Rattle.hickory_resolver.proofs.ServedRuns.{all_exchanges, is_run_from}
 use Rattle.hickory_resolver.proofs.runs.run_told.Goals as goal
 
 pub returns-clause-run : goal.returns-clause-run
 returns-clause-run g c =
-    on_ok c.run_by.result _ _
-    (λ t told. is_told_run c.a_record_keeps_the_request.ensures g.H.DnsHandle.step g.L.Listener.hears c.args.config c.args.options c.args.hosts c.args.handle c.new-handle.result c.new-handle.ensures (map request_of c.args.requests.now) c.args.listener t.resolver t.listener told.1.0 told.1.1)
-    c.run_by.ensures
-
-pub returns-clause-resolver : goal.returns-clause-resolver
-returns-clause-resolver g c =
-    on_ok c.run_by.result _ _
-    (λ t told. told_resolver_is c.a_record_keeps_the_request.ensures g.H.DnsHandle.step g.L.Listener.hears c.args.config c.args.options c.args.hosts c.args.handle c.new-handle.result c.new-handle.ensures (map request_of c.args.requests.now) c.args.listener t.resolver t.listener told.1.0 told.1.1)
-    c.run_by.ensures
+    let a = c.args in
+    let step = g.H.DnsHandle.step in
+    let requests = map request_of a.requests.now in
+    let first = c.in_ok-resolver in
+    let after = c.serve_each.new.resolver in
+    let s = c.in_ok-serve_each.ensures.ok in (
+      s.0,
+      is_run_from step a.config a.options a.hosts a.handle first.resolver first.ensures.1 first.ensures.0 requests s.0 s.1 after s.2,
+      subst (λ exchanges. HearsAll g.L.Listener.hears a.listener requests s.0 exchanges c.serve_each.new.listener)
+          (all_exchanges step a.config a.options a.hosts a.handle first.resolver first.ensures.1 first.ensures.0 requests s.0 s.1 after s.2) s.3,
+    )

@@ -1,20 +1,23 @@
-use Rattle.std.proofs.Common.{◌≡◌, ◌∙◌, ◌+◌, false, true, List, [], ◌∷◌, map, drop, sym, ap, arith}
+use Rattle.std.proofs.Common.{◌≡◌, ◌∙◌, ◌+◌, List, [], ◌∷◌, map, drop, sym, ap, arith}
 use Rattle.std.proofs.lemmas.Grind.{common_steps}
-use Rattle.hickory_resolver_model.specs.Run.{RequestValue, ends_run}
+use Rattle.hickory_resolver_model.specs.Run.{RequestValue}
 use Rattle.hickory_resolver_lookup.specs.declared.request.Request.{Request}
 use Rattle.hickory_resolver_lookup.specs.Requests.{request_of}
-use Rattle.hickory_resolver.proofs.ServedRuns.{answered_all, answered_last, answered_more}
+use Rattle.hickory_resolver.proofs.ServedRuns.{none_served, all_served, last_served, more_served, next_unheard}
 use Rattle.hickory_resolver.proofs.serve.serve_each.Goals as goal
 
-pub returns-then-is_last : goal.returns-then-is_last
-returns-then-is_last g c =
+pub loop-request-init : goal.loop-request-init
+loop-request-init g c = none_served g.H.DnsHandle.step g.L.Listener.hears g.L.Listener.fails c.args.resolver.now c.args.listener.now (map request_of c.args.requests.now)
+
+pub returns-then-is_last-clause-ok : goal.returns-then-is_last-clause-ok
+returns-then-is_last-clause-ok g c =
     let i = c.loop-request.request-index in
     let all = c.args.requests.now in
     let next : drop i all ≡ c.request-item.result ∷ drop (i + 1) all = grind (arith, common_steps) in
     let on : List Request → List RequestValue = λ rs. map request_of rs in
-    let reply_is : ends_run c.serve-step.result.reply ≡ true = ap ends_run (sym (ap (λ s. s.reply) c.step.view_is)) ∙ sym c.ends_run-is_last.ensures ∙ c.if-is_last.true in
-    answered_last g.R.DnsHandle.step g.R.Recording.kept c.args.resolver.now (map request_of all) _ _ c.loop-request.resolver c.loop-request.invariant.0 _ _ (ap on next)
-    c.serve-step.result c.serve-step.new.resolver c.serve-step.ensures _ c.push_reserved.ensures.items reply_is
+    let s = c.in_ok-is_last.ensures.ok in
+    last_served g.H.DnsHandle.step g.L.Listener.hears g.L.Listener.fails c.args.resolver.now c.args.listener.now (map request_of all) _ c.loop-request.resolver c.loop-request.listener c.loop-request.invariant _ _ (ap on next)
+    s.0 s.1 c.serve.new.resolver s.2 c.serve.new.listener s.3 (sym s.4 ∙ c.if-is_last.true)
 
 pub loop-request-preserved : goal.loop-request-preserved
 loop-request-preserved g c =
@@ -22,17 +25,14 @@ loop-request-preserved g c =
     let all = c.args.requests.now in
     let next : drop i all ≡ c.request-item.result ∷ drop (i + 1) all = grind (arith, common_steps) in
     let on : List Request → List RequestValue = λ rs. map request_of rs in
-    let reply_is : ends_run c.serve-step.result.reply ≡ false = ap ends_run (sym (ap (λ s. s.reply) c.step.view_is)) ∙ sym c.ends_run-is_last.ensures ∙ c.if-is_last.false in (
-      answered_more g.R.DnsHandle.step g.R.Recording.kept c.args.resolver.now (map request_of all) _ _ c.loop-request.resolver c.loop-request.invariant.0 _ _ (ap on next)
-          c.serve-step.result c.serve-step.new.resolver c.serve-step.ensures _ c.push_reserved.ensures.items reply_is,
-      c.push_reserved.ensures.len ∙ ap (λ n. n + 1) c.loop-request.invariant.1,
-      omega (arith, c.push_reserved.ensures.capacity, c.loop-request.invariant.2),
-    )
+    let s = c.in_ok-is_last.ensures.ok in
+    more_served g.H.DnsHandle.step g.L.Listener.hears g.L.Listener.fails c.args.resolver.now c.args.listener.now (map request_of all) _ c.loop-request.resolver c.loop-request.listener c.loop-request.invariant _ _ (ap on next)
+    s.0 s.1 c.serve.new.resolver s.2 c.serve.new.listener s.3 (sym s.4 ∙ c.if-is_last.false)
 
-pub returns : goal.returns
-returns g c =
+pub returns-clause-ok : goal.returns-clause-ok
+returns-clause-ok g c =
     let i = c.loop-request.request-index in
     let all = c.args.requests.now in
     let none : drop i all ≡ [] = grind (arith, common_steps) in
     let on : List Request → List RequestValue = λ rs. map request_of rs in
-    answered_all g.R.DnsHandle.step g.R.Recording.kept c.args.resolver.now (map request_of all) _ _ c.loop-request.resolver c.loop-request.invariant.0 (ap on none)
+    all_served g.H.DnsHandle.step g.L.Listener.hears g.L.Listener.fails c.args.resolver.now c.args.listener.now (map request_of all) _ c.loop-request.resolver c.loop-request.listener c.loop-request.invariant (ap on none)
