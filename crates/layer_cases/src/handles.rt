@@ -1,6 +1,7 @@
 //! What handles answer, and what a recording handle keeps.
 use crate::copies;
 use crate::sample::{answered, question};
+use case_hashers::{Counting, no_calls};
 use hickory_proto_core::{
     DnsHandle, DnsRequest, DnsRequestOptions, DnsResponse, NetError, Outcome, RecordType, Recorded,
     ScriptHandle, TableHandle, clone_outcome,
@@ -9,7 +10,8 @@ use std::alloc::Global;
 
 pub fn show_all(rt: &impl Print, alloc: Global) -> anyhow::Result<()> {
     show_recorded(rt, alloc)?;
-    show_script(rt, alloc, script(alloc)?)
+    show_script(rt, alloc, script(alloc)?)?;
+    show_hasher(rt, alloc)
 }
 
 fn ask<H: DnsHandle>(alloc: Global, handle: &mut H, text: &str) -> Result<Outcome, NetError> {
@@ -64,4 +66,22 @@ fn script(alloc: Global) -> Result<ScriptHandle, NetError> {
 fn show_script(rt: &impl Print, alloc: Global, mut handle: ScriptHandle) -> anyhow::Result<()> {
     copies::show(rt, "c.", ask(alloc, &mut handle, "c.")?)?;
     copies::show(rt, "c.", ask(alloc, &mut handle, "c.")?)
+}
+
+// Whether a table asks the hasher that it is given: as it is made, and for an answer.
+fn show_hasher(rt: &impl Print, alloc: Global) -> anyhow::Result<()> {
+    let (calls, mut outcomes) = (no_calls(alloc)?, Vec::new(alloc));
+    let query = question(alloc, "a.", RecordType::A)?;
+    outcomes.push((query, Err(NetError::Timeout)))?;
+    let mut table = TableHandle::with_hasher(outcomes, Counting::over(&calls)?)?;
+    let made = calls.get();
+    copies::show(rt, "a.", ask(alloc, &mut table, "a.")?)?;
+    drop(table);
+    let asked = calls.get();
+    println!(rt;
+        "the table's hasher is asked: {} {}",
+        made > 0,
+        asked > made
+    )?;
+    Ok(())
 }

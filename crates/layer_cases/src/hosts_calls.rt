@@ -1,6 +1,7 @@
 //! Calls of a table that no file makes: look-ups that a caller puts in, and readers that give a file in pieces.
 use crate::hosts_texts::{push_found, push_read};
 use crate::pieces::Pieces;
+use crate::watched_calls;
 use hickory_proto_core::{DNSClass, Name, NetError, Query, RData, RecordType};
 use hickory_resolver_hosts::{Hosts, HostsError, Watched};
 use hickory_resolver_lookup::Lookup;
@@ -31,7 +32,8 @@ pub fn push_calls(alloc: Global, text: &mut String) -> anyhow::Result<()> {
     push_conf(alloc, text)?;
     push_beginnings(alloc, text)?;
     push_many_pieces(alloc, text)?;
-    Ok(push_faults(text)?)
+    push_faults(text)?;
+    Ok(watched_calls::push_all(text)?)
 }
 
 // What a table answers into which a caller put an IPv4 and an IPv6 address, both as A.

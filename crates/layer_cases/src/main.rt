@@ -34,6 +34,7 @@ mod sample;
 mod scanned;
 mod sections;
 mod stored_outcomes;
+mod watched_calls;
 mod zeros;
 
 use std::alloc::Global;

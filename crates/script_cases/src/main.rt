@@ -11,7 +11,9 @@ use crate::rooms::print_beginnings;
 use crate::short_of_room::ShortOfRoom;
 use bstr::ByteSlice;
 use case_hashers::{Counting, OneHash, no_calls};
-use replay::{ReplayError, Watched, replay, replay_text, replay_text_with_hasher};
+use replay::{
+    ReplayError, Watched, replay, replay_text, replay_text_with_hasher, replay_with_hasher,
+};
 use std::alloc::Global;
 use std::io::ErrorKind;
 use std::process::ExitCode;
@@ -53,9 +55,15 @@ fn run_all<R: AllocGlobal + Env + Files + Print>(rt: &R) -> io::Result<()> {
 fn print_hashers<R: AllocGlobal + Print>(rt: &R) -> io::Result<()> {
     let (cache, hosts) = (no_calls(rt.alloc())?, no_calls(rt.alloc())?);
     let (of_cache, of_hosts) = (Counting::over(&cache)?, Counting::over(&hosts)?);
-    let text = replay_text_with_hasher(rt.alloc(), b"", b"192.0.2.9 h", of_cache, of_hosts);
-    let is_told = text.is_ok();
-    drop(text);
+    let mut writer = Watched::new(ShortOfRoom {
+        taken: Vec::new(rt.alloc()),
+        room: 0,
+        error: None,
+    });
+    let hosts_file: Option<&[u8]> = Some(b"192.0.2.9 h");
+    let written = replay_with_hasher(rt.alloc(), b"", hosts_file, &mut writer, of_cache, of_hosts);
+    drop(writer);
+    let is_told = written.is_ok();
     let (asks_cache, asks_hosts) = (cache.get() > 0, hosts.get() > 0);
     println!(rt;
         "no request: {is_told}, the cache's hasher is asked: {asks_cache}, that of hosts: {asks_hosts}"
