@@ -46,9 +46,33 @@ pub fn replay_text_with_hasher<S: BuildHasher + Drop>(
     ensures ok { IfOk result (λ text. IsReplayed script.now hosts.now (string_bytes text)) }
     ensures err { IfErr result (IsRefused script.now hosts.now) }
 {
+    let table_hasher: BuildHasherDefault<FoldHasher> = BuildHasherDefault::new();
+    replay_text_with_hashers(
+        alloc,
+        script,
+        hosts,
+        cache_hasher,
+        hosts_hasher,
+        table_hasher,
+    )
+}
+
+/// As `replay_text_with_hasher`; where the script's outcomes are a table, its questions are hashed by the third
+/// hasher.
+pub fn replay_text_with_hashers<S: BuildHasher + Drop, T: BuildHasher + Drop>(
+    alloc: Global,
+    script: &[u8],
+    hosts: &[u8],
+    cache_hasher: S,
+    hosts_hasher: S,
+    table_hasher: T,
+) -> Result<String, ReplayError>
+    ensures ok { IfOk result (λ text. IsReplayed script.now hosts.now (string_bytes text)) }
+    ensures err { IfErr result (IsRefused script.now hosts.now) }
+{
     let script = read_script(alloc, script)?;
     let table = read_table(alloc, hosts, first_moment(&script.requests), hosts_hasher)?;
-    run_script(alloc, script, table, cache_hasher)
+    run_script(alloc, script, table, cache_hasher, table_hasher)
 }
 
 // The moment of the first request, or 0.
@@ -78,11 +102,12 @@ fn read_table<S: BuildHasher + Drop>(
 }
 
 // The text of a run of a script over a table of hosts. Its bounds are in order.
-fn run_script<S: BuildHasher + Drop>(
+fn run_script<S: BuildHasher + Drop, T: BuildHasher + Drop>(
     alloc: Global,
     script: Script,
     hosts: Hosts<S>,
     cache_hasher: S,
+    table_hasher: T,
 ) -> Result<String, ReplayError>
     requires { bounds_fault (bounds_of script.options) ≡ None }
     ensures ok { IfOk result (λ text. IsScriptTold script hosts (string_bytes text)) }
@@ -98,7 +123,7 @@ fn run_script<S: BuildHasher + Drop>(
     } = script;
     let config = ResolverConfig::from_parts(domain, search, Vec::new(alloc));
     if table {
-        let upstream = table_of(outcomes)?;
+        let upstream = table_of(outcomes, table_hasher)?;
         text_of_run(config, options, hosts, upstream, &requests, cache_hasher)
     } else {
         let upstream = ScriptHandle::new(without_questions(alloc, outcomes)?);
@@ -107,11 +132,14 @@ fn run_script<S: BuildHasher + Drop>(
 }
 
 // An upstream that looks each question up among the outcomes.
-fn table_of(outcomes: Vec<(Query, Outcome)>) -> Result<TableHandle, ReplayError>
+fn table_of<T: BuildHasher + Drop>(
+    outcomes: Vec<(Query, Outcome)>,
+    hasher: T,
+) -> Result<TableHandle<T>, ReplayError>
     ensures ok { IfOk result (λ table. (q : Query) → outcome_in q table ≡ last_given q outcomes.items) }
     ensures err { IsOkUnless result ReplayError.Memory }
 {
-    match TableHandle::new(outcomes) {
+    match TableHandle::with_hasher(outcomes, hasher) {
         Ok(table) => Ok(table),
         Err(_) => Err(ReplayError::Memory),
     }

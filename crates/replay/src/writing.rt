@@ -3,7 +3,7 @@ ghost use Rattle.std.specs.Prelude.{◌≡◌, false};
 ghost use Rattle.replay.specs.Writing.{IsReplay, IsWritten, given_hosts};
 
 use crate::error::ReplayError;
-use crate::run::replay_text_with_hasher;
+use crate::run::replay_text_with_hashers;
 use hickory_resolver::Watched;
 use std::alloc::Global;
 use std::hash::{BuildHasher, BuildHasherDefault, FoldHasher};
@@ -47,8 +47,41 @@ pub fn replay_with_hasher<W: Write, S: BuildHasher + Drop>(
     ensures { IsReplay script.now (given_hosts hosts.entry) (W.contents writer.old.inner)
         (W.contents writer.new.inner) result writer.new.failed }
 {
+    let table_hasher: BuildHasherDefault<FoldHasher> = BuildHasherDefault::new();
+    replay_with_hashers(
+        alloc,
+        script,
+        hosts,
+        writer,
+        cache_hasher,
+        hosts_hasher,
+        table_hasher,
+    )
+}
+
+/// As `replay_with_hasher`; where the script's outcomes are a table, its questions are hashed by the third hasher.
+pub fn replay_with_hashers<W: Write, S: BuildHasher + Drop, T: BuildHasher + Drop>(
+    alloc: Global,
+    script: &[u8],
+    hosts: Option<&[u8]>,
+    writer: &mut Watched<W>,
+    cache_hasher: S,
+    hosts_hasher: S,
+    table_hasher: T,
+) -> Result<(), ReplayError>
+    requires { writer.old.failed ≡ false }
+    ensures { IsReplay script.now (given_hosts hosts.entry) (W.contents writer.old.inner)
+        (W.contents writer.new.inner) result writer.new.failed }
+{
     let hosts = hosts_bytes(hosts);
-    let text = replay_text_with_hasher(alloc, script, hosts, cache_hasher, hosts_hasher)?;
+    let text = replay_text_with_hashers(
+        alloc,
+        script,
+        hosts,
+        cache_hasher,
+        hosts_hasher,
+        table_hasher,
+    )?;
     write_whole(writer, text.as_bytes())
 }
 

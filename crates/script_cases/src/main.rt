@@ -12,7 +12,7 @@ use crate::short_of_room::ShortOfRoom;
 use bstr::ByteSlice;
 use case_hashers::{Counting, OneHash, no_calls};
 use replay::{
-    ReplayError, Watched, replay, replay_text, replay_text_with_hasher, replay_with_hasher,
+    ReplayError, Watched, replay, replay_text, replay_text_with_hashers, replay_with_hashers,
 };
 use std::alloc::Global;
 use std::io::ErrorKind;
@@ -51,23 +51,44 @@ fn run_all<R: AllocGlobal + Env + Files + Print>(rt: &R) -> io::Result<()> {
     print_error(rt, ReplayError::Memory)
 }
 
-// Which of two hashers a script without a request asks over a table of one name.
+// Which of three hashers a table without a request asks, over hosts of one name.
 fn print_hashers<R: AllocGlobal + Print>(rt: &R) -> io::Result<()> {
     let (cache, hosts) = (no_calls(rt.alloc())?, no_calls(rt.alloc())?);
+    let table = no_calls(rt.alloc())?;
     let (of_cache, of_hosts) = (Counting::over(&cache)?, Counting::over(&hosts)?);
+    let of_table = Counting::over(&table)?;
+    let is_told = is_table_told(rt.alloc(), of_cache, of_hosts, of_table);
+    let (asks_cache, asks_hosts) = (cache.get() > 0, hosts.get() > 0);
+    let asks_table = table.get() > 0;
+    println!(rt;
+        "no request: {is_told}, the cache's hasher is asked: {asks_cache}, that of hosts: {asks_hosts}, that of the table: {asks_table}"
+    )
+}
+
+fn is_table_told(
+    alloc: Global,
+    of_cache: Counting,
+    of_hosts: Counting,
+    of_table: Counting,
+) -> bool {
     let mut writer = Watched::new(ShortOfRoom {
-        taken: Vec::new(rt.alloc()),
+        taken: Vec::new(alloc),
         room: 0,
         error: None,
     });
-    let hosts_file: Option<&[u8]> = Some(b"192.0.2.9 h");
-    let written = replay_with_hasher(rt.alloc(), b"", hosts_file, &mut writer, of_cache, of_hosts);
+    let script: &[u8] = b"upstream table\nfail timeout a. A";
+    let hosts: Option<&[u8]> = Some(b"192.0.2.9 h");
+    let told = replay_with_hashers(
+        alloc,
+        script,
+        hosts,
+        &mut writer,
+        of_cache,
+        of_hosts,
+        of_table,
+    );
     drop(writer);
-    let is_told = written.is_ok();
-    let (asks_cache, asks_hosts) = (cache.get() > 0, hosts.get() > 0);
-    println!(rt;
-        "no request: {is_told}, the cache's hasher is asked: {asks_cache}, that of hosts: {asks_hosts}"
-    )
+    told.is_ok()
 }
 
 // Each of the scripts between which an empty line stands, without hosts.
@@ -97,7 +118,7 @@ fn is_told_with_one_hash(
     hosts: &[u8],
     text: &Result<String, ReplayError>,
 ) -> bool {
-    let other = replay_text_with_hasher(alloc, script, hosts, OneHash, OneHash);
+    let other = replay_text_with_hashers(alloc, script, hosts, OneHash, OneHash, OneHash);
     match (&other, text) {
         (Ok(other), Ok(text)) => other.as_str() == text.as_str(),
         (Err(other), Err(error)) => other == error,

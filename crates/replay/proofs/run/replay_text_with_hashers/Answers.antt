@@ -2,7 +2,7 @@ use Rattle.std.proofs.Common.{◌∙◌, ap, map}
 use Rattle.hickory_resolver.specs.Requests.{request_of}
 use Rattle.replay.specs.ScriptRun.{first_moment}
 use Rattle.replay.proofs.TextSteps.{replayed}
-use Rattle.replay.proofs.run.replay_text_with_hasher.Goals as goal
+use Rattle.replay.proofs.run.replay_text_with_hashers.Goals as goal
 
 pub returns-clause-ok : goal.returns-clause-ok
 returns-clause-ok g c =

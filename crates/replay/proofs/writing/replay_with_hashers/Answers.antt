@@ -2,7 +2,7 @@ use Rattle.std.proofs.Common.{◌∙◌, Err, ap, inl, inr, refl, string_bytes, 
 use Rattle.std.proofs.lemmas.Result.{err_from_is_err_and}
 use Rattle.replay.specs.ScriptRun.{IsRefused, IsReplayed}
 use Rattle.replay.specs.Writing.{IsWritten}
-use Rattle.replay.proofs.writing.replay_with_hasher.Goals as goal
+use Rattle.replay.proofs.writing.replay_with_hashers.Goals as goal
 
 pub returns-in_err-text : goal.returns-in_err-text
 returns-in_err-text g c =
