@@ -6,7 +6,8 @@ use Rattle.hickory_proto_core.specs.Name.{NameValue}
 use Rattle.hickory_proto_core.specs.NameDecided.{IsReading}
 use Rattle.hickory_proto_core.specs.NameGiven.{IsReadAddress, IsReadName}
 use Rattle.hickory_proto_core.specs.Handles.{HandleStep, Leads, Leads-append, RecordedValue}
-use Rattle.hickory_proto_core.specs.Recorded.{RecordedStep, IsRecorded, recorded_leads}
+use Rattle.hickory_proto_core.specs.Recorded.{RecordedStep}
+use Rattle.hickory_proto_core.proofs.Recordings.{IsRecorded, recorded_leads}
 use Rattle.hickory_proto_core.specs.codes.record_type.RecordType.{RecordType}
 use Rattle.hickory_proto_core.specs.names.name_error.NameError.{NameError}
 use Rattle.hickory_proto_core.specs.names.name_error.NameError.TheVariants as name_error
