@@ -1,6 +1,8 @@
-use Rattle.std.proofs.Common.{map, subst}
+use Rattle.std.proofs.Common.{◌∙◌, Err, ap, map, subst}
+use Rattle.std.proofs.lemmas.Result.{err_from_is_err_and}
 use Rattle.hickory_resolver_lookup.specs.Requests.{request_of}
 use Rattle.hickory_resolver.specs.Listening.{HearsAll}
+use Rattle.hickory_resolver.proofs.FirstCaches.{no_room}
 use Rattle.hickory_resolver.proofs.ServedRuns.{all_exchanges, is_run_from}
 use Rattle.hickory_resolver.proofs.runs.run_told.Goals as goal
 
@@ -17,3 +19,8 @@ returns-clause-run g c =
       subst (λ exchanges. HearsAll g.L.Listener.hears a.listener requests s.0 exchanges c.serve_each.new.listener)
           (all_exchanges step a.config a.options a.hosts a.handle first.resolver first.ensures.1 first.ensures.0 requests s.0 s.1 after s.2) s.3,
     )
+
+pub returns-in_err-serve_each-clause-refused : goal.returns-in_err-serve_each-clause-refused
+returns-in_err-serve_each-clause-refused g c =
+    let p = err_from_is_err_and c.from_residual-in_err-serve_each.result c.from_residual-in_err-serve_each.ensures.1 in
+    no_room _ _ c.in_ok-resolver.ensures.0 (p.1 ∙ ap Err p.2)

@@ -1,6 +1,6 @@
-use Rattle.std.proofs.Common.{arith}
-use Rattle.std.proofs.lemmas.Grind.{common_steps}
+use Rattle.hickory_resolver.proofs.FirstCaches.{built_of}
 use Rattle.hickory_resolver.proofs.resolver_builder.ResolverBuilder.build.Goals as goal
 
 pub returns : goal.returns
-returns g c = grind (arith, common_steps)
+returns g c =
+    built_of c.args.self _ _ _ c.self.view_is c.in_ok-cache.cache c.in_ok-cache.ensures _ c.with_hasher-hosts.ensures _ c.new.ensures
