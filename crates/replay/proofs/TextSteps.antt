@@ -75,13 +75,13 @@ told_run step config options hosts upstream requests text hears adds before step
     }
 
 -- the text of a run of what a script says is that of the script
-module _ {Z E : Type 0} (script : ScriptValue) (hosts : List Host) (config : ResolverConfigValue) (options : OptionsValue) (outcomes : List (Query × OutcomeValue)) (requests : List RequestValue)
+module _ (script : ScriptValue) (hosts : List Host) (config : ResolverConfigValue) (options : OptionsValue) (outcomes : List (Query × OutcomeValue)) (requests : List RequestValue)
     (config_is : config ≡ config_of script) (options_are : options ≡ script.options) (outcomes_are : outcomes ≡ script.outcomes) (requests_are : requests ≡ script.requests) where
   settings_are : settings_of config options hosts ≡ settings_of (config_of script) script.options hosts
   settings_are = λ i. settings_of (config_is i) (options_are i) hosts
 
   -- over a table
-  pub told_by_table : (result : Result (String Z) E) (table : TableValue) → script.table ≡ true → ((q : Query) → outcome_in q table ≡ last_given q outcomes)
+  pub told_by_table : {Z E : Type 0} (result : Result (String Z) E) (table : TableValue) → script.table ≡ true → ((q : Query) → outcome_in q table ≡ last_given q outcomes)
       → IfOk result (λ text. IsTold TableStep (settings_of config options hosts) table requests (string_bytes text)) → IfOk result (λ text. IsScriptTold script hosts (string_bytes text))
   told_by_table (Ok text) table in_table given told =
       let s = settings_of (config_of script) script.options hosts in
@@ -93,7 +93,7 @@ module _ {Z E : Type 0} (script : ScriptValue) (hosts : List Host) (config : Res
   told_by_table (Err error) table in_table given told = tt
 
   -- over outcomes that are answered in order
-  pub told_in_order : (result : Result (String Z) E) (answered : List OutcomeValue) → script.table ≡ false → answered ≡ map (λ o. o.1) outcomes
+  pub told_in_order : {Z E : Type 0} (result : Result (String Z) E) (answered : List OutcomeValue) → script.table ≡ false → answered ≡ map (λ o. o.1) outcomes
       → IfOk result (λ text. IsTold ScriptStep (settings_of config options hosts) answered requests (string_bytes text)) → IfOk result (λ text. IsScriptTold script hosts (string_bytes text))
   told_in_order (Ok text) answered in_order answered_are told =
       let s = settings_of (config_of script) script.options hosts in
