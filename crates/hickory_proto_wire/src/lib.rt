@@ -1,0 +1,15 @@
+//! Messages as bytes (RFC 1035, section 4.1).
+#![tactic(auto)]
+
+pub mod edns;
+mod header;
+mod reader;
+pub mod wire_error;
+pub mod wire_message;
+mod wire_name;
+mod wire_record;
+mod wire_record_data;
+
+pub use edns::Edns;
+pub use wire_error::{WireError, WireFault};
+pub use wire_message::WireMessage;
