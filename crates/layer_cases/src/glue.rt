@@ -34,12 +34,18 @@ fn server(alloc: Global, zone: &str, server: &str) -> Result<Record, NetError> {
 }
 
 fn show_servers(rt: &impl Print, error: NetError) -> anyhow::Result<()> {
-    if let Some(servers) = error.into_no_records()?.ns {
-        for server in servers {
-            let ForwardNSData { ns, glue } = server;
-            println!(rt; "{ns}")?;
-            show_glue(rt, glue)?;
-        }
+    let none = error.into_no_records()?;
+    match &none.ns {
+        Some(servers) => show_each(rt, servers),
+        None => Ok(()),
+    }
+}
+
+fn show_each(rt: &impl Print, servers: &[ForwardNSData]) -> anyhow::Result<()> {
+    for server in servers {
+        let ns = &server.ns;
+        println!(rt; "{ns}")?;
+        show_glue(rt, server.glue.clone()?)?;
     }
     Ok(())
 }
