@@ -9,6 +9,7 @@ pub mod Hosts
 pub mod Lookup
 pub mod Options
 pub mod Resolver
+pub mod Resuming
 pub mod Run
 pub mod SpecialUse
 pub mod Verdict
