@@ -7,6 +7,7 @@ pub mod Covered
 pub mod Keeping
 pub mod Statements
 pub mod Provenance
+pub mod Resumed
 pub mod WalkLaws
 pub mod Worked
 pub mod WorkedServices
