@@ -9,6 +9,7 @@ pub mod Fresh
 pub mod Kept
 pub mod KeptCalls
 pub mod Headlines
+pub mod InFlight
 pub mod Lists
 pub mod Meanings
 pub mod OneCache
@@ -21,3 +22,4 @@ pub mod Transparent
 pub mod VerdictFacts
 pub mod Weaker
 pub mod PromisesHold
+pub mod Interleavings
