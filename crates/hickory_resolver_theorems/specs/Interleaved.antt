@@ -1,6 +1,6 @@
 -- Many look-ups over one cache, in any order. Each is started, waits for what comes back to its question, and goes on
--- with it; between two steps of one, others start, go on and end, entries are stored, evicted and cleared, and a look-up
--- that blocks may be done at once. What is promised of a look-up alone holds of each of them.
+-- with it; between two steps of one, others start, go on and end, entries are stored, evicted and cleared, and one that
+-- blocks may be done at once. What is promised of a look-up alone holds of each of them.
 use Rattle.std.specs.Prelude.{◌≡◌, ◌⊎◌, ◌≤◌, ℕ, Bool, false, List, [], ◌∷◌, ◌++◌, length, map, Err}
 use Rattle.std.specs.List.{AllByRecursion}
 use Rattle.hickory_proto_core.specs.Codes.{type_code}

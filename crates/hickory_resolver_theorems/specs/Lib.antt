@@ -15,4 +15,5 @@ pub mod WorkedServices
 pub mod WorkedLoop
 pub mod WorkedRequests
 pub mod WorkedRun
+pub mod WorkedInterleaved
 pub mod Promises

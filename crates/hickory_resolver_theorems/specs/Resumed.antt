@@ -1,5 +1,5 @@
 -- What is promised of a look-up whose hops each read the cache that stood when the hop was taken. It is what is promised
--- of one over one cache: the entries before it are those of the cache that stands at its end, and what was received are
+-- of one over one cache: the entries before it are those of the cache that stands at its end, and what was received is
 -- its own exchanges, dated with the moment of its start.
 use Rattle.std.specs.Prelude.{◌≡◌, ◌⊎◌, ◌≤◌, true, List, [], ◌∷◌, ◌++◌, length, map, if◌then◌else◌}
 use mathlib.Core.Logic.{inl, inr}
