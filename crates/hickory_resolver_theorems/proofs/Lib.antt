@@ -3,6 +3,7 @@ pub mod Answered
 pub mod PromisedCalls
 pub mod Chains
 pub mod Covers
+pub mod Driven
 pub mod Few
 pub mod Folding
 pub mod Fresh

@@ -22,7 +22,7 @@ ghost use Rattle.hickory_resolver_theorems.specs.Statements.{IsFresh, IsTranspar
 ghost use Rattle.hickory_resolver_theorems.specs.Provenance.{HasProvenance};
 ghost use Rattle.hickory_resolver_theorems.specs.Aliases.{NoAliasOutlives};
 ghost use Rattle.hickory_resolver_theorems.specs.Interleaved.{IsPromisedInterleaving};
-ghost use Rattle.hickory_resolver_theorems.specs.Resumed.{IsOverOneCache, IsPromisedOver};
+ghost use Rattle.hickory_resolver_theorems.specs.Resumed.{IsOverOneCache, IsStartedAndDriven, IsPromisedOver};
 ghost use Rattle.hickory_resolver_theorems.specs.CallFacts.{IsPromisedCall, KeepsWhatIsKnown};
 ghost use Rattle.hickory_resolver_theorems.specs.WalkLaws.{IsOneWalk};
 
@@ -92,6 +92,14 @@ pub fn a_cache_changes_no_answer()
 pub fn one_cache_is_a_case()
     ensures { (s : LookupContext) (question : Query) (asks : List Exchange) (result : LookupResult)
         (after : CacheValue) → IsOverOneCache s question asks result after }
+{}
+
+/// A look-up that is started and fed at once with what comes back to each of its questions comes to what one that
+/// blocks does.
+pub fn a_driven_look_up_blocks()
+    ensures { (s : LookupContext) (question : Query) (asks : List Exchange) (result : LookupResult)
+        (after : CacheValue) → IsStartedAndDriven s question asks result after
+        → IsReply s question asks result after }
 {}
 
 /// A look-up whose hops each read the cache that stood when the hop was taken, whatever changed it in between, keeps
