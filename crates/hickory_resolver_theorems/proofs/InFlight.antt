@@ -22,19 +22,28 @@ use Rattle.hickory_resolver_theorems.proofs.OneCache.{verdict-elsewhere}
 
 -- ---- what is kept of the questions that were asked
 
-abbrev passed_of : LookupContext → List Exchange → List PassedValue
+abbrev pub passed_of : LookupContext → List Exchange → List PassedValue
 passed_of s xs = map (λ x. record { query = x.query; limit = alias_limit s x.query (kind_of x.outcome) }) xs
+
+pub passed_of-length : (s : LookupContext) (xs : List Exchange) → length (passed_of s xs) ≡ length xs
+passed_of-length s xs = length-map xs (λ x. record { query = x.query; limit = alias_limit s x.query (kind_of x.outcome) })
+
+-- one question more
+pub passed_of-more : (s : LookupContext) (xs : List Exchange) (x : Exchange) (q : Query) → x.query ≡ q → passed_of s (xs ++ x ∷ []) ≡ passed_of s xs ++ record { query = q; limit = alias_limit s q (kind_of x.outcome) } ∷ []
+passed_of-more s xs x q asked =
+    map-append (λ y. record { query = y.query; limit = alias_limit s y.query (kind_of y.outcome) }) xs (x ∷ [])
+    ∙ ap (λ own. passed_of s xs ++ record { query = own; limit = alias_limit s own (kind_of x.outcome) } ∷ []) asked
 
 limit-same : (s : LookupContext) (xs : List Exchange) (hop : Hop) (last : ChainEnd) → limit_back (passed_of s xs) (end_limit s hop last) ≡ limit_of s xs hop last
 limit-same s [] hop last = refl
 limit-same s (x ∷ xs) hop last = ap (λ limit. min (alias_limit s x.query (kind_of x.outcome)) limit) (limit-same s xs hop last)
 
-stores-same : (s : LookupContext) (xs : List Exchange) (hop : Hop) (last : ChainEnd) → stores_back (result_of s hop last) s.now (end_limit s hop last) (passed_of s xs) ≡ earlier_stores s xs hop last
+pub stores-same : (s : LookupContext) (xs : List Exchange) (hop : Hop) (last : ChainEnd) → stores_back (result_of s hop last) s.now (end_limit s hop last) (passed_of s xs) ≡ earlier_stores s xs hop last
 stores-same s [] hop last = refl
 stores-same s (x ∷ xs) hop last =
     ap₂ (λ stores limit. stores ++ earlier_store (result_of s hop last) s.now x.query limit ∷ []) (stores-same s xs hop last) (limit-same s (x ∷ xs) hop last)
 
-reply-same : (s : LookupContext) (xs : List Exchange) (hop : Hop) (last : ChainEnd) → reply_at s (passed_of s xs) hop last ≡ reply_of s xs hop last
+pub reply-same : (s : LookupContext) (xs : List Exchange) (hop : Hop) (last : ChainEnd) → reply_at s (passed_of s xs) hop last ≡ reply_of s xs hop last
 reply-same s [] hop (Special reply) = refl
 reply-same s [] hop (Hit entry) = refl
 reply-same s [] hop (Asked outcome) = refl
@@ -208,7 +217,7 @@ come s question xs caches passed hop (Waits w) after has (up, w_is, same) = (
 )
 come s question xs caches passed hop (IsDone result) after has (last, unasked, ends, how) =
     unasked-answered s question xs caches hop has.leads has.short result after last unasked
-    (subst (λ n. IsChainEnd s n hop last) (ap length has.passed_are ∙ length-map xs (λ x. record { query = x.query; limit = alias_limit s x.query (kind_of x.outcome) })) ends)
+    (subst (λ n. IsChainEnd s n hop last) (ap length has.passed_are ∙ passed_of-length s xs) ends)
     (subst (λ ps. EndsAs s ps hop last result after) has.passed_are how)
 
 pub started : (s : LookupContext) (question : Query) (progress : ProgressValue) (after : CacheValue) → ComesTo s [] (first_hop question) progress after → IsOnItsWay s question [] [] progress after
@@ -232,14 +241,14 @@ resumed s p outcome progress after is = by
     x = record { query = hop.query; outcome = outcome }
 
     count : length p.waiting.passed ≡ length p.asks
-    count = ap length is.passed.passed_are ∙ length-map p.asks (λ y. record { query = y.query; limit = alias_limit s y.query (kind_of y.outcome) })
+    count = ap length is.passed.passed_are ∙ passed_of-length s p.asks
 
     has : (next : Hop) → verdict_on s hop (kind_of outcome) ≡ Some (Alias next) → length p.waiting.passed < 7
         → HasPassed s p.question (p.asks ++ x ∷ []) (p.caches ++ p.cache ∷ []) (p.waiting.passed ++ passed_by s hop outcome ∷ []) next
     has next alias early = record {
       leads = follows-more s p.caches (first_hop p.question) p.asks hop p.cache x next is.passed.leads (record { upstream = is.upstream; asked = refl; alias = verdict-elsewhere s p.cache hop (kind_of outcome) ∙ alias });
       short = omega (arith, early, count, length-append p.asks (x ∷ []));
-      passed_are = ap (λ ps. ps ++ passed_by s hop outcome ∷ []) is.passed.passed_are ∙ sym (map-append (λ y. record { query = y.query; limit = alias_limit s y.query (kind_of y.outcome) }) p.asks (x ∷ []));
+      passed_are = ap (λ ps. ps ++ passed_by s hop outcome ∷ []) is.passed.passed_are ∙ sym (passed_of-more s p.asks x hop.query refl);
     }
 
     on : (next : Hop) → HasPassed s p.question (p.asks ++ x ∷ []) (p.caches ++ p.cache ∷ []) (p.waiting.passed ++ passed_by s hop outcome ∷ []) next

@@ -11,7 +11,7 @@ use Rattle.hickory_proto_core.specs.declared.recorded.Exchange.{Exchange}
 use Rattle.hickory_resolver_model.specs.Cache.{CacheValue, IsCache}
 use Rattle.hickory_resolver_model.specs.Lookup.{LookupResult}
 use Rattle.hickory_resolver_model.specs.Verdict.{Hop}
-use Rattle.hickory_resolver_model.specs.Hops.{LookupContext, GoesUpstream, Store, IsReply, stores_of}
+use Rattle.hickory_resolver_model.specs.Hops.{LookupContext, GoesUpstream, Store, IsWhole, IsReply, stores_of}
 use Rattle.hickory_resolver_model.specs.Resuming.{ProgressValue, Waits, IsDone, Starts, Resumes, is_asked, HopListOver, IsReplyOver}
 use Rattle.hickory_resolver_theorems.specs.Aliases.{AfterStoresInTime, ResultOutlivesNoAlias}
 use Rattle.hickory_resolver_theorems.specs.Provenance.{IsFromSources}
@@ -72,6 +72,14 @@ pub record IsStartedAndDriven
   pub cache : CacheValue
   pub starts : Starts s question progress cache
   pub driven : IsDriven s progress cache asks result after
+
+-- A look-up that is driven is one that blocks. One that blocks can be driven, where it ends with all its stores; where
+-- memory runs out, a look-up that blocks may end in more ways, as after an error came back.
+pub record IsDrivenAlike
+    (s : LookupContext) (question : Query) (asks : List Exchange) (result : LookupResult) (after : CacheValue)
+    : Type 0 where
+  pub forth : IsStartedAndDriven s question asks result after → IsReply s question asks result after
+  pub back : IsWhole s question asks result after → IsStartedAndDriven s question asks result after
 
 -- ---- the promises
 

@@ -22,7 +22,7 @@ ghost use Rattle.hickory_resolver_theorems.specs.Statements.{IsFresh, IsTranspar
 ghost use Rattle.hickory_resolver_theorems.specs.Provenance.{HasProvenance};
 ghost use Rattle.hickory_resolver_theorems.specs.Aliases.{NoAliasOutlives};
 ghost use Rattle.hickory_resolver_theorems.specs.Interleaved.{IsPromisedInterleaving};
-ghost use Rattle.hickory_resolver_theorems.specs.Resumed.{IsOverOneCache, IsStartedAndDriven, IsPromisedOver};
+ghost use Rattle.hickory_resolver_theorems.specs.Resumed.{IsOverOneCache, IsDrivenAlike, IsPromisedOver};
 ghost use Rattle.hickory_resolver_theorems.specs.CallFacts.{IsPromisedCall, KeepsWhatIsKnown};
 ghost use Rattle.hickory_resolver_theorems.specs.WalkLaws.{IsOneWalk};
 
@@ -94,12 +94,11 @@ pub fn one_cache_is_a_case()
         (after : CacheValue) → IsOverOneCache s question asks result after }
 {}
 
-/// A look-up that is started and fed at once with what comes back to each of its questions comes to what one that
-/// blocks does.
+/// A look-up that is started, and fed at once with what comes back to each of its questions, comes to what one that
+/// blocks does; and each that blocks can be driven so, where memory does not run out.
 pub fn a_driven_look_up_blocks()
     ensures { (s : LookupContext) (question : Query) (asks : List Exchange) (result : LookupResult)
-        (after : CacheValue) → IsStartedAndDriven s question asks result after
-        → IsReply s question asks result after }
+        (after : CacheValue) → IsDrivenAlike s question asks result after }
 {}
 
 /// A look-up whose hops each read the cache that stood when the hop was taken, whatever changed it in between, keeps

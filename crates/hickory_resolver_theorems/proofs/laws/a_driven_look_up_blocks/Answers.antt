@@ -1,5 +1,5 @@
-use Rattle.hickory_resolver_theorems.proofs.Driven.{driven_blocks}
+use Rattle.hickory_resolver_theorems.proofs.Driven.{driven_alike}
 use Rattle.hickory_resolver_theorems.proofs.laws.a_driven_look_up_blocks.Goals as goal
 
 pub returns : goal.returns
-returns c = driven_blocks
+returns c = driven_alike
