@@ -5,6 +5,7 @@ pub mod Cacheless
 pub mod Cores
 pub mod Covered
 pub mod Keeping
+pub mod ResumingCalls
 pub mod Statements
 pub mod Provenance
 pub mod WalkLaws
