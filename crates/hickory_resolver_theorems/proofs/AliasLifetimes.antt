@@ -16,10 +16,13 @@ use Rattle.hickory_resolver_model.specs.Lookup.{LookupValue, LookupResult}
 use Rattle.hickory_resolver_model.specs.AliasWalk.{walk_of}
 use Rattle.hickory_resolver_model.specs.Verdict.{Hop, Verdict, Accepted, Alias, NoMatch, verdict}
 use Rattle.hickory_resolver_model.specs.Hops.{LookupContext, ChainEnd, Special, Hit, Asked, Store, IsReply, made_entry, asks_of, earliest, alias_deadline, alias_limit, end_limit, limit_of, result_of, result_until, reply_of, last_stores, earlier_store, earlier_stores, stores_of, stores_when_asked, stores_of_verdict}
+use Rattle.hickory_resolver_model.specs.Resuming.{IsReplyOver}
 use Rattle.hickory_resolver_model.specs.Calls.{CallContext, start_at, Source, Static, Client, SubLookup, IsAnsweredFrom, IsAnsweredFor}
 use Rattle.hickory_resolver_model.specs.Run.{Settings, call_context_at, RequestValue, StepValue, answers_at, Run}
 use Rattle.hickory_resolver_theorems.specs.Statements.{LeastTtlIsZero}
 use Rattle.hickory_resolver_theorems.specs.Aliases.{counted_in, IsWithinAlias, OutlivesNoAlias, StoreOutlivesNoAlias, StoresOutliveNoAlias, NoAliasOutlives, IsLimitedBy, LimitedSubLookup, RunOutlivesNoAlias}
+use Rattle.hickory_resolver_theorems.specs.Resumed.{NoAliasOutlivesOver}
+use Rattle.hickory_resolver_theorems.proofs.OneCache.{reply-over}
 use Rattle.hickory_resolver_theorems.proofs.Weaker.{stages-weaker}
 
 module _ (s : LookupContext) (zero : LeastTtlIsZero s.cache.config (type_code type.CNAME)) where
@@ -115,8 +118,8 @@ module _ (s : LookupContext) (zero : LeastTtlIsZero s.cache.config (type_code ty
 
 -- ---- a look-up
 
-pub no_alias_outlives : (s : LookupContext) (question : Query) (asks : List Exchange) (result : LookupResult) (after : CacheValue) → (reply : IsReply s question asks result after) → NoAliasOutlives s question asks result after reply
-no_alias_outlives s question asks result after (inl whole) = λ zero.
+pub no_alias_outlives-over : (s : LookupContext) (question : Query) (asks : List Exchange) (result : LookupResult) (after : CacheValue) → (reply : IsReplyOver s question asks result after) → NoAliasOutlivesOver s question asks result after reply
+no_alias_outlives-over s question asks result after (inl whole) = λ zero.
     let h = whole.hops in
     let all = stores_of s h.passed h.last_hop h.last in (
       (
@@ -129,15 +132,20 @@ no_alias_outlives s question asks result after (inl whole) = λ zero.
       λ l e some. subst (λ xs. OutlivesNoAlias s xs h.last l.valid_until) (sym h.asks_are)
           (reply-limited s zero h.passed h.last_hop h.last l (sym whole.result_is ∙ e) (ap is_empty (sym h.asks_are) ∙ some)),
     )
-no_alias_outlives s question asks result after (inr (out, inl cut)) = λ zero.
+no_alias_outlives-over s question asks result after (inr (out, inl cut)) = λ zero.
     let h = cut.hops in (
-      cut.front,
-      cut.back,
+      cut.begun.front,
+      cut.begun.back,
       record {
-        after_is = cut.after_is;
-        in_time = subst (StoresOutliveNoAlias s h.passed h.last_hop h.last) (sym cut.parts) (stores-limited s zero h.passed h.last_hop h.last);
+        after_is = cut.begun.after_is;
+        in_time = subst (StoresOutliveNoAlias s h.passed h.last_hop h.last) (sym cut.begun.parts) (stores-limited s zero h.passed h.last_hop h.last);
       },
     )
+no_alias_outlives-over s question asks result after (inr (out, inr cut)) = tt
+
+pub no_alias_outlives : (s : LookupContext) (question : Query) (asks : List Exchange) (result : LookupResult) (after : CacheValue) → (reply : IsReply s question asks result after) → NoAliasOutlives s question asks result after reply
+no_alias_outlives s question asks result after (inl whole) = no_alias_outlives-over s question asks result after (reply-over s question asks result after (inl whole))
+no_alias_outlives s question asks result after (inr (out, inl cut)) = no_alias_outlives-over s question asks result after (reply-over s question asks result after (inr (out, inl cut)))
 no_alias_outlives s question asks result after (inr (out, inr cut)) = tt
 
 -- ---- a call, and a run

@@ -20,12 +20,14 @@ use Rattle.hickory_resolver_model.specs.Lookup.{LookupResult, hit_lookup, hit_se
 use Rattle.hickory_resolver_model.specs.SpecialUse.{special_use_result, is_loopback_name, is_nonexistent_name, loopback_data, one_record, no_records}
 use Rattle.hickory_resolver_model.specs.AliasWalk.{Walk, walk_of}
 use Rattle.hickory_resolver_model.specs.Verdict.{Hop, Accepted, Alias, NoMatch, is_accepted, found_message, next_hop, all_records, with_ttl_at_most}
-use Rattle.hickory_resolver_model.specs.Hops.{LookupContext, ChainEnd, Special, Hit, Asked, IsChainEnd, HopList, Store, IsReply, asks_of, hit_result, result_of_verdict, result_when_asked, result_of, alias_limit, limit_of, result_until, reply_of, stores_of_verdict, stores_when_asked, last_stores, earlier_store, stores_of, after_stores}
+use Rattle.hickory_resolver_model.specs.Hops.{LookupContext, ChainEnd, Special, Hit, Asked, IsChainEnd, Store, IsReply, asks_of, hit_result, result_of_verdict, result_when_asked, result_of, alias_limit, limit_of, result_until, reply_of, stores_of_verdict, stores_when_asked, last_stores, earlier_store, stores_of, after_stores}
+use Rattle.hickory_resolver_model.specs.Resuming.{is_asked, HopListOver, IsReplyOver}
 use Rattle.hickory_resolver_theorems.specs.Covered.{Dated, dated_exchanges, IsCovered, IsLoopback}
 use Rattle.hickory_resolver_theorems.specs.Statements.{LeastTtlIsZero, IsFreshRecord, AreFreshRecords, IsFreshReply, IsFreshOutcome, IsFreshEntry, AreFreshEntries, IsFresh}
 use Rattle.hickory_resolver_theorems.proofs.Lists.{all-weaker, all-append, all-front, all-back, all-map, all-has, has-all, has-right, has-map, find-has, ContainsByRecursion, contains-from_recursion}
 use Rattle.hickory_resolver_theorems.proofs.Covers.{Arrives, arrived-fresh, fresh-arrives, fresh-sooner, covered-has, covered-lower, clamped_message-le, clamped_message-greatest, greatest-short, least-has, saturating-le}
 use Rattle.hickory_resolver_theorems.proofs.VerdictFacts.{KeepsType, leads-keep, found-answers}
+use Rattle.hickory_resolver_theorems.proofs.OneCache.{reply-over}
 use Rattle.hickory_resolver_theorems.proofs.Stores.{StoresArrived, stores-fresh, entries-more, earlier-all}
 
 -- ---- special names
@@ -155,15 +157,16 @@ pub hits-fresh : (s : LookupContext) (sources : List Dated) (code : ℕ) → Are
 hits-fresh s sources code fresh q e same is =
     all-has (IsFreshEntry s.cache.config sources) s.cache.entries e fresh (find-has (λ x. is_for q x && is_current s.now x) s.cache.entries e is).0
 
-result-fresh : (s : LookupContext) (sources : List Dated) (hop : Hop) (count : ℕ) (last : ChainEnd) → KeepsType (type_code hop.query.query_type) hop → AreFreshHits s sources (type_code hop.query.query_type) → LeastTtlIsZero s.cache.config (type_code hop.query.query_type)
-    → AllByRecursion (λ x. ContainsByRecursion sources (record { moment = s.now; exchange = x })) (asks_of hop last) → IsChainEnd s count hop last
+result-fresh : (s : LookupContext) (sources : List Dated) (hop : Hop) (count : ℕ) (last : ChainEnd) (cache : CacheValue) → KeepsType (type_code hop.query.query_type) hop → AreFreshHits s sources (type_code hop.query.query_type) → LeastTtlIsZero s.cache.config (type_code hop.query.query_type)
+    → AllByRecursion (λ x. ContainsByRecursion sources (record { moment = s.now; exchange = x })) (asks_of hop last) → IsChainEnd (record s { cache = cache }) count hop last → (is_asked last ≡ false → cache ≡ s.cache)
     → IsFreshReply s.cache.config sources (type_code hop.query.query_type) s.now (result_of s hop last)
-result-fresh s sources hop count (Special reply) keeps fresh zero there ends = special_use_result-fresh s.cache.config sources hop.query s.now reply ends
-result-fresh s sources hop count (Hit entry) keeps fresh zero there ends =
-    let found = find-has (λ e. is_for hop.query e && is_current s.now e) s.cache.entries entry ends.1 in
+result-fresh s sources hop count (Special reply) cache keeps fresh zero there ends own = special_use_result-fresh s.cache.config sources hop.query s.now reply ends
+result-fresh s sources hop count (Hit entry) cache keeps fresh zero there ends own =
+    let is : current hop.query s.now s.cache.entries ≡ Some entry = subst (λ c. current hop.query s.now c.entries ≡ Some entry) (own refl) ends.1 in
+    let found = find-has (λ e. is_for hop.query e && is_current s.now e) s.cache.entries entry is in
     let both = and_parts (is_for hop.query entry) (is_current s.now entry) found.1 in
-    hit-fresh s.cache.config sources hop.query s.now entry entry.result both.0 (leb-true _ _ both.1) zero (fresh hop.query entry refl ends.1)
-result-fresh s sources hop count (Asked outcome) keeps fresh zero there ends = by (kind_of outcome) refl
+    hit-fresh s.cache.config sources hop.query s.now entry entry.result both.0 (leb-true _ _ both.1) zero (fresh hop.query entry refl is)
+result-fresh s sources hop count (Asked outcome) cache keeps fresh zero there ends own = by (kind_of outcome) refl
   where
     config : ConfigValue
     config = s.cache.config
@@ -233,11 +236,11 @@ again-arrives config sources now code q (Err e) limit same fresh = tt
 -- ---- a look-up
 
 -- what is known of a list of hops, with its own exchanges among the sources
-pub record AreFreshHops (s : LookupContext) (question : Query) (asks : List Exchange) (sources : List Dated) (h : HopList s question asks) : Type 0 where
+pub record AreFreshHops (s : LookupContext) (question : Query) (asks : List Exchange) (sources : List Dated) (h : HopListOver s question asks) : Type 0 where
   pub reply : LeastTtlIsZero s.cache.config (type_code question.query_type) → IsFreshReply s.cache.config sources (type_code question.query_type) s.now (reply_of s h.passed h.last_hop h.last)
   pub stores : AllByRecursion (StoresArrived s.cache.config sources) (stores_of s h.passed h.last_hop h.last)
 
-pub hops-fresh : (s : LookupContext) (question : Query) (asks : List Exchange) (sources : List Dated) (h : HopList s question asks) → AreFreshHits s sources (type_code question.query_type) → AllByRecursion (λ x. ContainsByRecursion sources (record { moment = s.now; exchange = x })) asks
+pub hops-fresh : (s : LookupContext) (question : Query) (asks : List Exchange) (sources : List Dated) (h : HopListOver s question asks) → AreFreshHits s sources (type_code question.query_type) → AllByRecursion (λ x. ContainsByRecursion sources (record { moment = s.now; exchange = x })) asks
     → AreFreshHops s question asks sources h
 hops-fresh s question asks sources h fresh there = record {
   reply = λ zero. reply-fresh s sources code h.passed h.last_hop h.last (reply zero);
@@ -253,7 +256,7 @@ hops-fresh s question asks sources h fresh there = record {
     result = result_of s h.last_hop h.last
 
     leads : KeepsType code h.last_hop × AllByRecursion (λ x. type_code x.query.query_type ≡ code) h.passed
-    leads = leads-keep code s (record { query = question; preserved = [] }) h.passed h.last_hop (record { type_is = refl; others = tt }) h.leads
+    leads = leads-keep code s h.caches (record { query = question; preserved = [] }) h.passed h.last_hop (record { type_is = refl; others = tt }) h.leads
 
     own : KeepsType (type_code h.last_hop.query.query_type) h.last_hop
     own = subst (λ c. KeepsType c h.last_hop) (sym leads.0.type_is) leads.0
@@ -266,7 +269,7 @@ hops-fresh s question asks sources h fresh there = record {
 
     reply : LeastTtlIsZero s.cache.config code → IsFreshReply s.cache.config sources code s.now result
     reply zero = subst (λ c. IsFreshReply s.cache.config sources c s.now result) leads.0.type_is
-        (result-fresh s sources h.last_hop _ h.last own (subst (AreFreshHits s sources) (sym leads.0.type_is) fresh) (subst (LeastTtlIsZero s.cache.config) (sym leads.0.type_is) zero) last_there h.ends)
+        (result-fresh s sources h.last_hop _ h.last h.last_cache own (subst (AreFreshHits s sources) (sym leads.0.type_is) fresh) (subst (LeastTtlIsZero s.cache.config) (sym leads.0.type_is) zero) last_there h.ends h.at_once)
 
 -- the exchanges of a look-up are among its sources
 pub own-sources : (sources : List Dated) (now : ℕ) (asks : List Exchange) → AllByRecursion (λ x. ContainsByRecursion (sources ++ dated_exchanges now asks) (record { moment = now; exchange = x })) asks
@@ -274,26 +277,34 @@ own-sources sources now asks =
     has-all (λ x. ContainsByRecursion (sources ++ dated_exchanges now asks) (record { moment = now; exchange = x })) asks
     (λ x h. has-right sources (dated_exchanges now asks) (record { moment = now; exchange = x }) (has-map (λ y. record { moment = now; exchange = y }) asks x h))
 
-pub fresh : (s : LookupContext) (question : Query) (asks : List Exchange) (result : LookupResult) (after : CacheValue) → IsReply s question asks result after → IsFresh s question asks result after
-fresh s question asks result after reply sources entries = by reply
+-- where the sources cover the entries before it, and have its exchanges, they cover its reply and the entries after it
+pub fresh-within : (s : LookupContext) (question : Query) (asks : List Exchange) (result : LookupResult) (after : CacheValue) (sources : List Dated) → IsReplyOver s question asks result after → AreFreshEntries s.cache sources → AllByRecursion (λ x. ContainsByRecursion sources (record { moment = s.now; exchange = x })) asks
+    → (LeastTtlIsZero s.cache.config (type_code question.query_type) → IsFreshReply s.cache.config sources (type_code question.query_type) s.now result) × AreFreshEntries after sources
+fresh-within s question asks result after sources reply known own = by reply
   where
-    all : List Dated
-    all = sources ++ dated_exchanges s.now asks
+    stored : (stores : List Store) → AllByRecursion (StoresArrived s.cache.config sources) stores → after ≡ after_stores stores s.cache → AreFreshEntries after sources
+    stored stores arrive e = subst (λ c. AreFreshEntries c sources) (sym e) (stores-fresh s.cache sources stores known arrive)
 
-    known : AreFreshEntries s.cache all
-    known = entries-more s.cache sources (dated_exchanges s.now asks) entries
+    out : result ≡ Err OutOfMemory → IsFreshReply s.cache.config sources (type_code question.query_type) s.now result
+    out e = subst (IsFreshReply s.cache.config sources (type_code question.query_type) s.now) (sym e) tt
 
-    stored : (stores : List Store) → AllByRecursion (StoresArrived s.cache.config all) stores → after ≡ after_stores stores s.cache → AreFreshEntries after all
-    stored stores arrive e = subst (λ c. AreFreshEntries c all) (sym e) (stores-fresh s.cache all stores known arrive)
+    hops : (h : HopListOver s question asks) → AreFreshHops s question asks sources h
+    hops h = hops-fresh s question asks sources h (hits-fresh s sources (type_code question.query_type) known) own
 
-    out : result ≡ Err OutOfMemory → IsFreshReply s.cache.config all (type_code question.query_type) s.now result
-    out e = subst (IsFreshReply s.cache.config all (type_code question.query_type) s.now) (sym e) tt
+    by : IsReplyOver s question asks result after → (LeastTtlIsZero s.cache.config (type_code question.query_type) → IsFreshReply s.cache.config sources (type_code question.query_type) s.now result) × AreFreshEntries after sources
+    by (inl whole) = (
+      (λ zero. subst (IsFreshReply s.cache.config sources (type_code question.query_type) s.now) (sym whole.result_is) ((hops whole.hops).reply zero)),
+      stored _ (hops whole.hops).stores whole.after_is,
+    )
+    by (inr (e, inl cut)) = (
+      (λ zero. out e),
+      stored cut.begun.front (all-front (StoresArrived s.cache.config sources) cut.begun.front cut.begun.back (subst (AllByRecursion (StoresArrived s.cache.config sources)) (sym cut.begun.parts) (hops cut.hops).stores)) cut.begun.after_is,
+    )
+    by (inr (e, inr cut)) = ((λ zero. out e), subst (λ c. AreFreshEntries c sources) (sym cut.after_is) known)
 
-    by : IsReply s question asks result after → (LeastTtlIsZero s.cache.config (type_code question.query_type) → IsFreshReply s.cache.config all (type_code question.query_type) s.now result) × AreFreshEntries after all
-    by (inl whole) =
-        let hops = hops-fresh s question asks all whole.hops (hits-fresh s all (type_code question.query_type) known) (own-sources sources s.now asks) in
-        ((λ zero. subst (IsFreshReply s.cache.config all (type_code question.query_type) s.now) (sym whole.result_is) (hops.reply zero)), stored _ hops.stores whole.after_is)
-    by (inr (e, inl cut)) =
-        let hops = hops-fresh s question asks all cut.hops (hits-fresh s all (type_code question.query_type) known) (own-sources sources s.now asks) in
-        ((λ zero. out e), stored cut.front (all-front (StoresArrived s.cache.config all) cut.front cut.back (subst (AllByRecursion (StoresArrived s.cache.config all)) (sym cut.parts) hops.stores)) cut.after_is)
-    by (inr (e, inr cut)) = ((λ zero. out e), subst (λ c. AreFreshEntries c all) (sym cut.after_is) known)
+pub fresh-over : (s : LookupContext) (question : Query) (asks : List Exchange) (result : LookupResult) (after : CacheValue) → IsReplyOver s question asks result after → IsFresh s question asks result after
+fresh-over s question asks result after reply sources entries =
+    fresh-within s question asks result after (sources ++ dated_exchanges s.now asks) reply (entries-more s.cache sources (dated_exchanges s.now asks) entries) (own-sources sources s.now asks)
+
+pub fresh : (s : LookupContext) (question : Query) (asks : List Exchange) (result : LookupResult) (after : CacheValue) → IsReply s question asks result after → IsFresh s question asks result after
+fresh s question asks result after reply = fresh-over s question asks result after (reply-over s question asks result after reply)

@@ -11,6 +11,7 @@ pub mod KeptCalls
 pub mod Headlines
 pub mod Lists
 pub mod Meanings
+pub mod OneCache
 pub mod OneCacheless
 pub mod Provenances
 pub mod Responses

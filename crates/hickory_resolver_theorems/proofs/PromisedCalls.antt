@@ -27,6 +27,7 @@ use Rattle.hickory_resolver_theorems.specs.Provenance.{is_source, dated_entry, s
 use Rattle.hickory_resolver_theorems.specs.Statements.{LeastTtlIsZero, IsFreshReply, IsFreshEntry, IsFreshSubLookup, IsWhatItResolvesTo, AreWhatTheyResolveTo, CachelessSubLookup}
 use Rattle.hickory_resolver_theorems.specs.CallFacts.{IsCallBy, IsOwnAnswer, AreFreshReplies, IsFreshForType, IsFreshlyStoredBy, FreshlyStoredSubLookup, call_sources, HasCallProvenance, IsFreshCall, IsTransparentCall, IsPromisedCall, PromisesName, PromisesHost, KeepsWhatIsKnown}
 use Rattle.hickory_resolver_theorems.proofs.Lists.{all-weaker, all-append, all-front, all-back, all-filter, all-has, has-all, has-left, has-map, has-filter, find-has, ContainsByRecursion, contains-from_recursion, contains-to_recursion}
+use Rattle.hickory_resolver_theorems.proofs.OneCache.{hops-over}
 use Rattle.hickory_resolver_theorems.proofs.VerdictFacts.{KeepsType, leads-keep}
 use Rattle.hickory_resolver_theorems.proofs.Stores.{Makes, after_stores-all, earlier-all, makes-fresh, makes-some, StoresArrived}
 use Rattle.hickory_resolver_theorems.proofs.Fresh.{for-type, AreFreshHits, hops-fresh, own-sources}
@@ -68,7 +69,7 @@ hops-typed s question asks h =
     code = type_code question.query_type
 
     leads : KeepsType code h.last_hop × AllByRecursion (λ x. type_code x.query.query_type ≡ code) h.passed
-    leads = leads-keep code s (first_hop question) h.passed h.last_hop (record { type_is = refl; others = tt }) h.leads
+    leads = let over = hops-over s question asks h in leads-keep code s over.caches (first_hop question) h.passed h.last_hop (record { type_is = refl; others = tt }) over.leads
 
 all-both : {A : Type 0} (P Q : A → Type 0) (xs : List A) → AllByRecursion P xs → AllByRecursion Q xs → AllByRecursion (λ x. P x × Q x) xs
 all-both P Q [] h k = tt
@@ -147,12 +148,12 @@ module _ (now : ℕ) (first : CacheValue) (cache : IsCache first.config first.ca
       arrive : (h : HopList s p.question p.asks) → AllByRecursion (HasArrived config code) (stores_of s h.passed h.last_hop h.last)
       arrive h =
           all-both (StoresArrived config (sources code)) (IsOfType code) (stores_of s h.passed h.last_hop h.last)
-          (hops-fresh s p.question p.asks (sources code) h hits there).stores (hops-typed s p.question p.asks h)
+          (hops-fresh s p.question p.asks (sources code) (hops-over s p.question p.asks h) hits there).stores (hops-typed s p.question p.asks h)
 
       by : (reply : IsReply s p.question p.asks p.result after) → IsSourcedPart config s p after reply
       by (inl whole) = record {
         stores = made _ (arrive whole.hops);
-        fresh = λ zero. subst (IsFreshReply config (sources code) code s.now) (sym whole.result_is) ((hops-fresh s p.question p.asks (sources code) whole.hops hits there).reply zero);
+        fresh = λ zero. subst (IsFreshReply config (sources code) code s.now) (sym whole.result_is) ((hops-fresh s p.question p.asks (sources code) (hops-over s p.question p.asks whole.hops) hits there).reply zero);
         known = stored _ (arrive whole.hops) whole.after_is;
       }
       by (inr (e, inl cut)) =

@@ -7,14 +7,17 @@ use Rattle.hickory_proto_core.specs.declared.recorded.Exchange.{Exchange}
 use Rattle.hickory_resolver_model.specs.Cache.{CacheValue, IsCache}
 use Rattle.hickory_resolver_model.specs.Lookup.{LookupResult}
 use Rattle.hickory_resolver_model.specs.Client.{ClientValue, start_of, IsLookup}
+use Rattle.hickory_resolver_model.specs.Hops.{LookupContext}
+use Rattle.hickory_resolver_model.specs.Resuming.{IsReplyOver}
 use Rattle.hickory_resolver_model.specs.Run.{Settings, first_cache, RequestValue, StepValue, IsRun}
 use Rattle.hickory_resolver_theorems.specs.Promises.{IsPromisedLookup, IsPromisedRun}
-use Rattle.hickory_resolver_theorems.proofs.Few.{few}
-use Rattle.hickory_resolver_theorems.proofs.Provenances.{from_sources}
-use Rattle.hickory_resolver_theorems.proofs.Fresh.{fresh}
-use Rattle.hickory_resolver_theorems.proofs.Transparent.{transparent}
+use Rattle.hickory_resolver_theorems.specs.Resumed.{IsPromisedOver}
+use Rattle.hickory_resolver_theorems.proofs.Few.{few, few-over}
+use Rattle.hickory_resolver_theorems.proofs.Provenances.{from_sources, from_sources-over}
+use Rattle.hickory_resolver_theorems.proofs.Fresh.{fresh, fresh-over}
+use Rattle.hickory_resolver_theorems.proofs.Transparent.{transparent, transparent-over}
 use Rattle.hickory_resolver_theorems.proofs.Headlines.{headline}
-use Rattle.hickory_resolver_theorems.proofs.AliasLifetimes.{no_alias_outlives, run_limited}
+use Rattle.hickory_resolver_theorems.proofs.AliasLifetimes.{no_alias_outlives, no_alias_outlives-over, run_limited}
 
 pub promised_lookup : {H : Type 0} (step : HandleStep H) (options : DnsRequestOptions) (now : ℕ) (before : ClientValue H) (question : Query) (result : LookupResult) (after : ClientValue H) → IsCache before.cache.config before.cache.capacity before.cache.entries → IsLookup step options now before question result after
     → IsPromisedLookup step options now before question result after
@@ -35,4 +38,13 @@ promised_run step s handle requests steps exchanges handle_after cache_after is 
   is = is;
   headline = headline s (first_cache s) requests steps exchanges cache_after is.run;
   no_alias_outlives = run_limited s (first_cache s) requests steps exchanges cache_after is.run;
+}
+
+pub promised_over : (s : LookupContext) (question : Query) (asks : List Exchange) (result : LookupResult) (after : CacheValue) (reply : IsReplyOver s question asks result after) → IsPromisedOver s question asks result after reply
+promised_over s question asks result after reply = record {
+  few = few-over s question asks result after reply;
+  provenance = λ cache. from_sources-over s question asks result after cache reply;
+  fresh = fresh-over s question asks result after reply;
+  transparent = transparent-over s question asks result after reply;
+  no_alias_outlives = no_alias_outlives-over s question asks result after reply;
 }

@@ -13,6 +13,7 @@ use Rattle.hickory_resolver_model.specs.Bounds.{ConfigValue, greatest_ttl}
 use Rattle.hickory_resolver_model.specs.Cache.{CacheValue, is_for, without_query}
 use Rattle.hickory_resolver_model.specs.Lookup.{LookupResult, question_of}
 use Rattle.hickory_resolver_model.specs.Hops.{LookupContext, IsReply, stores_of}
+use Rattle.hickory_resolver_model.specs.Resuming.{IsReplyOver}
 use Rattle.hickory_resolver_model.specs.Calls.{CallContext, Source, Static, Client, SubLookup, IsAnsweredFrom, IsAnsweredFor, start_at, asks_of_sub_lookups}
 use Rattle.hickory_resolver_model.specs.Run.{Settings, call_context_at, RequestValue, Lookup, LookupIp, ClearLookup, Clear, moment_of, StepReply, LookedUp, LookedUpIp, Cleared, drop_each, after_clear, IsServed, StepValue, Stage, IsStage, AreStages, Run}
 use Rattle.hickory_resolver_model.specs.Attempts.{attempts}
@@ -20,6 +21,7 @@ use Rattle.hickory_resolver_theorems.specs.Covered.{Dated, dated_exchanges, IsCo
 use Rattle.hickory_resolver_theorems.specs.Statements.{IsFreshRecord, IsFreshReply, IsFreshEntry, AreFreshEntries, IsFreshSubLookup, AsksAtMostEight, AreFreshAnswers, NothingOutlives}
 use Rattle.hickory_resolver_theorems.proofs.Lists.{all-weaker, all-filter}
 use Rattle.hickory_resolver_theorems.proofs.Covers.{covered-left}
+use Rattle.hickory_resolver_theorems.proofs.OneCache.{reply-over}
 use Rattle.hickory_resolver_theorems.proofs.Stores.{stores-config, entries-more}
 use Rattle.hickory_resolver_theorems.proofs.Few.{few}
 use Rattle.hickory_resolver_theorems.proofs.Fresh.{fresh}
@@ -28,10 +30,13 @@ use Rattle.hickory_resolver_theorems.proofs.Chains.{Chain, chain-name, chain-add
 
 -- ---- the bounds stay
 
+pub reply-config-over : (s : LookupContext) (question : Query) (asks : List Exchange) (result : LookupResult) (after : CacheValue) → IsReplyOver s question asks result after → after.config ≡ s.cache.config
+reply-config-over s question asks result after (inl whole) = ap (λ c. c.config) whole.after_is ∙ stores-config (stores_of s whole.hops.passed whole.hops.last_hop whole.hops.last) s.cache
+reply-config-over s question asks result after (inr (e, inl cut)) = ap (λ c. c.config) cut.begun.after_is ∙ stores-config cut.begun.front s.cache
+reply-config-over s question asks result after (inr (e, inr cut)) = ap (λ c. c.config) cut.after_is
+
 pub reply-config : (s : LookupContext) (question : Query) (asks : List Exchange) (result : LookupResult) (after : CacheValue) → IsReply s question asks result after → after.config ≡ s.cache.config
-reply-config s question asks result after (inl whole) = ap (λ c. c.config) whole.after_is ∙ stores-config (stores_of s whole.hops.passed whole.hops.last_hop whole.hops.last) s.cache
-reply-config s question asks result after (inr (e, inl cut)) = ap (λ c. c.config) cut.after_is ∙ stores-config cut.front s.cache
-reply-config s question asks result after (inr (e, inr cut)) = ap (λ c. c.config) cut.after_is
+reply-config s question asks result after reply = reply-config-over s question asks result after (reply-over s question asks result after reply)
 
 -- ---- a part
 

@@ -15,15 +15,17 @@ use Rattle.hickory_proto_core.specs.declared.net_error.NetError.{NetError}
 use Rattle.hickory_proto_core.specs.declared.net_error.NetError.TheVariants.{Message, Timeout, Proto, Dns, NoOutcome, Bounds, OutOfMemory}
 use Rattle.hickory_proto_core.specs.declared.net_error.DnsError.TheVariants.{ResponseCode, NoRecordsFound}
 use Rattle.hickory_resolver_model.specs.Bounds.{ConfigValue}
-use Rattle.hickory_resolver_model.specs.Cache.{CacheValue, is_for, is_current, age, aged_record, aged_message, aged_forward, aged_negative, aged_error, aged_outcome, positive_entry, negative_entry, not_after}
+use Rattle.hickory_resolver_model.specs.Cache.{CacheValue, current, is_for, is_current, age, aged_record, aged_message, aged_forward, aged_negative, aged_error, aged_outcome, positive_entry, negative_entry, not_after}
 use Rattle.hickory_resolver_model.specs.Lookup.{LookupResult}
 use Rattle.hickory_resolver_model.specs.SpecialUse.{special_use_result}
 use Rattle.hickory_resolver_model.specs.Verdict.{Hop, Verdict, Accepted, Alias, NoMatch, verdict}
-use Rattle.hickory_resolver_model.specs.Hops.{LookupContext, IsAliasHop, FollowsAliases, ChainEnd, Special, Hit, Asked, IsChainEnd, HopList, Store, IsReply, asks_of, result_when_asked, result_of_verdict, hit_result, result_of, alias_limit, limit_of, result_until, reply_of, stores_of_verdict, stores_when_asked, last_stores, earlier_store, stores_of, after_stores}
+use Rattle.hickory_resolver_model.specs.Hops.{LookupContext, IsAliasHop, ChainEnd, Special, Hit, Asked, IsChainEnd, Store, IsReply, asks_of, result_when_asked, result_of_verdict, hit_result, result_of, alias_limit, limit_of, result_until, reply_of, stores_of_verdict, stores_when_asked, last_stores, earlier_store, stores_of, after_stores}
+use Rattle.hickory_resolver_model.specs.Resuming.{is_asked, FollowsAliasesOver, HopListOver, IsReplyOver}
 use Rattle.hickory_resolver_theorems.specs.Cacheless.{ResolvesTo, IsConsistentWith, AreConsistentWith}
 use Rattle.hickory_resolver_theorems.specs.Cores.{folded_query, record_core, sections, forward_core, negative_core, error_core, ReplyCore, reply_core, entry_core}
 use Rattle.hickory_resolver_theorems.specs.Statements.{IsWhatItResolvesTo, AreWhatTheyResolveTo, IsTransparent}
 use Rattle.hickory_resolver_theorems.proofs.Lists.{all-weaker, all-append, all-front, all-back, all-has, find-has}
+use Rattle.hickory_resolver_theorems.proofs.OneCache.{verdict-elsewhere, reply-over}
 use Rattle.hickory_resolver_theorems.proofs.Stores.{Makes, after_stores-all, earlier-all}
 use Rattle.hickory_resolver_theorems.proofs.Folding.{map-map, query-same}
 use Rattle.hickory_resolver_theorems.proofs.VerdictFacts.{passed}
@@ -157,20 +159,20 @@ passed-on s hop x next off none p = by (hop-next s hop (kind_of x.outcome) off n
         record { live = live; on = there.on ∙ ap (λ h. GoesOn (folded_query h.query)) same; plain = sym (ap (λ h. h.preserved) same) ∙ there.plain }
     by (inr last) = absurd (last.no_alias next p.alias)
 
-led-meaning : (s : LookupContext) (table : TableValue) (hop : Hop) (xs : List Exchange) (last : Hop) (r : ReplyCore) (n : ℕ) → s.preserve_intermediates ≡ false → hop.preserved ≡ [] → AreConsistentWith table xs → FollowsAliases s hop xs last → ResolvesTo table hop.query r n → LedMeaning table xs last r n
-led-meaning s table hop [] last r n off none tells e means = record {
+led-meaning : (s : LookupContext) (table : TableValue) (caches : List CacheValue) (hop : Hop) (xs : List Exchange) (last : Hop) (r : ReplyCore) (n : ℕ) → s.preserve_intermediates ≡ false → hop.preserved ≡ [] → AreConsistentWith table xs → FollowsAliasesOver s caches hop xs last → ResolvesTo table hop.query r n → LedMeaning table xs last r n
+led-meaning s table [] hop [] last r n off none tells e means = record {
   rest = n;
   means = subst (λ h. ResolvesTo table h.query r n) (sym e) means;
   length_is = omega arith;
   plain = ap (λ h. h.preserved) e ∙ none;
   each = tt;
 }
-led-meaning s table hop (x ∷ xs) last r n off none (tells, all) (next, p, rest) means =
-    let on = passed-on s hop x next off none p in
+led-meaning s table (cache ∷ caches) hop (x ∷ xs) last r n off none (tells, all) (next, p, rest) means =
+    let on = passed-on (record s { cache = cache }) hop x next off none p in
     let plain = special_use_result-none hop.query hop.query s.now 0 refl p.upstream.0 in
     let t = told table hop.query x p.asked on.live tells in
     let there = on-means table hop.query next.query x.outcome r n plain t on.on means in
-    let more = led-meaning s table next xs last r there.0 off on.plain all rest there.1 in
+    let more = led-meaning s table caches next xs last r there.0 off on.plain all rest there.1 in
     record {
       rest = more.rest;
       means = more.means;
@@ -178,15 +180,17 @@ led-meaning s table hop (x ∷ xs) last r n off none (tells, all) (next, p, rest
       plain = more.plain;
       each = ((n, subst (λ q. ResolvesTo table q r n) (sym p.asked) means), more.each);
     }
+led-meaning s table [] hop (x ∷ xs) last r n off none tells never means = absurd never
+led-meaning s table (cache ∷ caches) hop [] last r n off none tells never means = absurd never
 
 -- ---- the last hop
 
 abbrev IsOutOr : LookupResult → ReplyCore → Type 0
 IsOutOr reply r = (reply ≡ Err OutOfMemory) ⊎ (reply_core reply ≡ r)
 
-asked-meaning : (s : LookupContext) (table : TableValue) (hop : Hop) (count : ℕ) (outcome : OutcomeValue) (r : ReplyCore) (n : ℕ) → s.preserve_intermediates ≡ false → hop.preserved ≡ [] → (outcome ≡ Err OutOfMemory → ⊥) → IsConsistentWith table (record { query = hop.query; outcome = outcome })
-    → IsChainEnd s count hop (Asked outcome) → ResolvesTo table hop.query r n → count + n ≤ 8 → reply_core (result_of s hop (Asked outcome)) ≡ r
-asked-meaning s table hop count outcome r n off none live tells ends means few = by (hop-next s hop (kind_of outcome) off none)
+asked-meaning : (s : LookupContext) (table : TableValue) (cache : CacheValue) (hop : Hop) (count : ℕ) (outcome : OutcomeValue) (r : ReplyCore) (n : ℕ) → s.preserve_intermediates ≡ false → hop.preserved ≡ [] → (outcome ≡ Err OutOfMemory → ⊥) → IsConsistentWith table (record { query = hop.query; outcome = outcome })
+    → IsChainEnd (record s { cache = cache }) count hop (Asked outcome) → ResolvesTo table hop.query r n → count + n ≤ 8 → reply_core (result_of s hop (Asked outcome)) ≡ r
+asked-meaning s table cache hop count outcome r n off none live tells ends means few = by (hop-next s hop (kind_of outcome) off none)
   where
     t : Told table hop.query outcome
     t = told table hop.query (record { query = hop.query; outcome = outcome }) refl live tells
@@ -197,12 +201,12 @@ asked-meaning s table hop count outcome r n off none live tells ends means few =
     by : GoesOnTo s hop (kind_of outcome) ⊎ EndsWith s hop (kind_of outcome) → reply_core (result_when_asked s hop (kind_of outcome)) ≡ r
     by (inl there) =
         let on = on-means table hop.query there.next.query outcome r n plain t there.on means in
-        absurd (omega (arith, ends.1 there.next there.alias, on.2, means-some table there.next.query r on.0 on.1, few))
+        absurd (omega (arith, ends.1 there.next (verdict-elsewhere s cache hop (kind_of outcome) ∙ there.alias), on.2, means-some table there.next.query r on.0 on.1, few))
     by (inr last) = ends-means table hop.query outcome r (reply_core (result_when_asked s hop (kind_of outcome))) n plain t last.ends means
 
-last-meaning : (s : LookupContext) (table : TableValue) (hop : Hop) (count : ℕ) (last : ChainEnd) (r : ReplyCore) (n : ℕ) → s.preserve_intermediates ≡ false → hop.preserved ≡ [] → AreWhatTheyResolveTo table s.cache → AreConsistentWith table (asks_of hop last) → IsChainEnd s count hop last → ResolvesTo table hop.query r n → count + n ≤ 8
+last-meaning : (s : LookupContext) (table : TableValue) (cache : CacheValue) (hop : Hop) (count : ℕ) (last : ChainEnd) (r : ReplyCore) (n : ℕ) → s.preserve_intermediates ≡ false → hop.preserved ≡ [] → AreWhatTheyResolveTo table s.cache → AreConsistentWith table (asks_of hop last) → IsChainEnd (record s { cache = cache }) count hop last → (is_asked last ≡ false → cache ≡ s.cache) → ResolvesTo table hop.query r n → count + n ≤ 8
     → IsOutOr (result_of s hop last) r
-last-meaning s table hop count (Special reply) r n off none meant tells ends means few = inr (by (means-cases table hop.query r n means))
+last-meaning s table cache hop count (Special reply) r n off none meant tells ends own means few = inr (by (means-cases table hop.query r n means))
   where
     there : IsSomeCore (special_use_result hop.query 0) (reply_core reply)
     there = special_use_result-some hop.query hop.query s.now 0 reply refl ends
@@ -214,20 +218,21 @@ last-meaning s table hop count (Special reply) r n off none meant tells ends mea
         sym there.core_is ∙ ap reply_core same ∙ x.core_is
     by (inr (inl o)) = let clash : Some there.reply ≡ None = sym there.is ∙ o.plain in cc
     by (inr (inr a)) = let clash : Some there.reply ≡ None = sym there.is ∙ a.plain in cc
-last-meaning s table hop count (Hit entry) r n off none meant tells ends means few =
-    let found = find-has (λ e. is_for hop.query e && is_current s.now e) s.cache.entries entry ends.1 in
-    let own = (and_parts (is_for hop.query entry) (is_current s.now entry) found.1).0 in
+last-meaning s table cache hop count (Hit entry) r n off none meant tells ends own means few =
+    let is : current hop.query s.now s.cache.entries ≡ Some entry = subst (λ c. current hop.query s.now c.entries ≡ Some entry) (own refl) ends.1 in
+    let found = find-has (λ e. is_for hop.query e && is_current s.now e) s.cache.entries entry is in
+    let mine = (and_parts (is_for hop.query entry) (is_current s.now entry) found.1).0 in
     let kept = all-has (IsWhatItResolvesTo table) s.cache.entries entry meant found.0 in
-    let here = means-same table entry.query hop.query (entry_core entry.result) kept.0 (sym (query-same hop.query entry.query own)) kept.1 in
+    let here = means-same table entry.query hop.query (entry_core entry.result) kept.0 (sym (query-same hop.query entry.query mine)) kept.1 in
     inr (hit-core hop.query s.now (age entry.original_time s.now) entry.result ∙ means-one table hop.query (entry_core entry.result) r kept.0 n here means)
-last-meaning s table hop count (Asked (Err OutOfMemory)) r n off none meant tells ends means few = inl refl
-last-meaning s table hop count (Asked (Ok m)) r n off none meant tells ends means few = inr (asked-meaning s table hop count (Ok m) r n off none (λ e. cc) tells.0 ends means few)
-last-meaning s table hop count (Asked (Err (Message text))) r n off none meant tells ends means few = inr (asked-meaning s table hop count (Err (Message text)) r n off none (λ e. cc) tells.0 ends means few)
-last-meaning s table hop count (Asked (Err Timeout)) r n off none meant tells ends means few = inr (asked-meaning s table hop count (Err Timeout) r n off none (λ e. cc) tells.0 ends means few)
-last-meaning s table hop count (Asked (Err (Proto error))) r n off none meant tells ends means few = inr (asked-meaning s table hop count (Err (Proto error)) r n off none (λ e. cc) tells.0 ends means few)
-last-meaning s table hop count (Asked (Err (Dns error))) r n off none meant tells ends means few = inr (asked-meaning s table hop count (Err (Dns error)) r n off none (λ e. cc) tells.0 ends means few)
-last-meaning s table hop count (Asked (Err NoOutcome)) r n off none meant tells ends means few = inr (asked-meaning s table hop count (Err NoOutcome) r n off none (λ e. cc) tells.0 ends means few)
-last-meaning s table hop count (Asked (Err (Bounds error))) r n off none meant tells ends means few = inr (asked-meaning s table hop count (Err (Bounds error)) r n off none (λ e. cc) tells.0 ends means few)
+last-meaning s table cache hop count (Asked (Err OutOfMemory)) r n off none meant tells ends own means few = inl refl
+last-meaning s table cache hop count (Asked (Ok m)) r n off none meant tells ends own means few = inr (asked-meaning s table cache hop count (Ok m) r n off none (λ e. cc) tells.0 ends means few)
+last-meaning s table cache hop count (Asked (Err (Message text))) r n off none meant tells ends own means few = inr (asked-meaning s table cache hop count (Err (Message text)) r n off none (λ e. cc) tells.0 ends means few)
+last-meaning s table cache hop count (Asked (Err Timeout)) r n off none meant tells ends own means few = inr (asked-meaning s table cache hop count (Err Timeout) r n off none (λ e. cc) tells.0 ends means few)
+last-meaning s table cache hop count (Asked (Err (Proto error))) r n off none meant tells ends own means few = inr (asked-meaning s table cache hop count (Err (Proto error)) r n off none (λ e. cc) tells.0 ends means few)
+last-meaning s table cache hop count (Asked (Err (Dns error))) r n off none meant tells ends own means few = inr (asked-meaning s table cache hop count (Err (Dns error)) r n off none (λ e. cc) tells.0 ends means few)
+last-meaning s table cache hop count (Asked (Err NoOutcome)) r n off none meant tells ends own means few = inr (asked-meaning s table cache hop count (Err NoOutcome) r n off none (λ e. cc) tells.0 ends means few)
+last-meaning s table cache hop count (Asked (Err (Bounds error))) r n off none meant tells ends own means few = inr (asked-meaning s table cache hop count (Err (Bounds error)) r n off none (λ e. cc) tells.0 ends means few)
 
 -- ---- stores
 
@@ -292,11 +297,11 @@ reply-meant s (x ∷ xs) hop last r is = until-meant (limit_of s (x ∷ xs) hop 
 
 -- ---- a look-up
 
-pub record AreMeantHops (s : LookupContext) (table : TableValue) (question : Query) (asks : List Exchange) (r : ReplyCore) (h : HopList s question asks) : Type 0 where
+pub record AreMeantHops (s : LookupContext) (table : TableValue) (question : Query) (asks : List Exchange) (r : ReplyCore) (h : HopListOver s question asks) : Type 0 where
   pub reply : IsOutOr (reply_of s h.passed h.last_hop h.last) r
   pub stores : AllByRecursion (StoresMeant table) (stores_of s h.passed h.last_hop h.last)
 
-hops-meant : (s : LookupContext) (table : TableValue) (question : Query) (asks : List Exchange) (r : ReplyCore) (n : ℕ) (h : HopList s question asks) → s.preserve_intermediates ≡ false → AreConsistentWith table asks → AreWhatTheyResolveTo table s.cache → ResolvesTo table question r n → n ≤ 8 → AreMeantHops s table question asks r h
+hops-meant : (s : LookupContext) (table : TableValue) (question : Query) (asks : List Exchange) (r : ReplyCore) (n : ℕ) (h : HopListOver s question asks) → s.preserve_intermediates ≡ false → AreConsistentWith table asks → AreWhatTheyResolveTo table s.cache → ResolvesTo table question r n → n ≤ 8 → AreMeantHops s table question asks r h
 hops-meant s table question asks r n h off tells meant means few = record {
   reply = reply-meant s h.passed h.last_hop h.last r reply;
   stores = all-append (StoresMeant table) (last_stores s h.last_hop h.last) _ (last-stored s table h.last_hop h.last r led.rest led.means reply)
@@ -308,23 +313,26 @@ hops-meant s table question asks r n h off tells meant means few = record {
     both = subst (AllByRecursion (IsConsistentWith table)) h.asks_are tells
 
     led : LedMeaning table h.passed h.last_hop r n
-    led = led-meaning s table (record { query = question; preserved = [] }) h.passed h.last_hop r n off refl (all-front (IsConsistentWith table) h.passed (asks_of h.last_hop h.last) both) h.leads means
+    led = led-meaning s table h.caches (record { query = question; preserved = [] }) h.passed h.last_hop r n off refl (all-front (IsConsistentWith table) h.passed (asks_of h.last_hop h.last) both) h.leads means
 
     reply : IsOutOr (result_of s h.last_hop h.last) r
     reply =
-        last-meaning s table h.last_hop (length h.passed) h.last r led.rest off led.plain meant (all-back (IsConsistentWith table) h.passed (asks_of h.last_hop h.last) both) h.ends led.means (omega (arith, led.length_is, few))
+        last-meaning s table h.last_cache h.last_hop (length h.passed) h.last r led.rest off led.plain meant (all-back (IsConsistentWith table) h.passed (asks_of h.last_hop h.last) both) h.ends h.at_once led.means (omega (arith, led.length_is, few))
 
-pub transparent : (s : LookupContext) (question : Query) (asks : List Exchange) (result : LookupResult) (after : CacheValue) → IsReply s question asks result after → IsTransparent s question asks result after
-transparent s question asks result after is table off apart tells meant r n means few = by is
+pub transparent-over : (s : LookupContext) (question : Query) (asks : List Exchange) (result : LookupResult) (after : CacheValue) → IsReplyOver s question asks result after → IsTransparent s question asks result after
+transparent-over s question asks result after is table off apart tells meant r n means few = by is
   where
     stored : (stores : List Store) → AllByRecursion (StoresMeant table) stores → after ≡ after_stores stores s.cache → AreWhatTheyResolveTo table after
     stored stores all e = subst (AreWhatTheyResolveTo table) (sym e) (stores-meant table stores s.cache meant all)
 
-    by : IsReply s question asks result after → ((result ≡ Err OutOfMemory) ⊎ (reply_core result ≡ r)) × AreWhatTheyResolveTo table after
+    by : IsReplyOver s question asks result after → ((result ≡ Err OutOfMemory) ⊎ (reply_core result ≡ r)) × AreWhatTheyResolveTo table after
     by (inl whole) =
         let hops = hops-meant s table question asks r n whole.hops off tells meant means few in
         (subst (λ x. IsOutOr x r) (sym whole.result_is) hops.reply, stored _ hops.stores whole.after_is)
     by (inr (e, inl cut)) =
         let hops = hops-meant s table question asks r n cut.hops off tells meant means few in
-        (inl e, stored cut.front (all-front (StoresMeant table) cut.front cut.back (subst (AllByRecursion (StoresMeant table)) (sym cut.parts) hops.stores)) cut.after_is)
+        (inl e, stored cut.begun.front (all-front (StoresMeant table) cut.begun.front cut.begun.back (subst (AllByRecursion (StoresMeant table)) (sym cut.begun.parts) hops.stores)) cut.begun.after_is)
     by (inr (e, inr cut)) = (inl e, subst (AreWhatTheyResolveTo table) (sym cut.after_is) meant)
+
+pub transparent : (s : LookupContext) (question : Query) (asks : List Exchange) (result : LookupResult) (after : CacheValue) → IsReply s question asks result after → IsTransparent s question asks result after
+transparent s question asks result after reply = transparent-over s question asks result after (reply-over s question asks result after reply)

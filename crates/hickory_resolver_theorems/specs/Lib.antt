@@ -8,6 +8,7 @@ pub mod Keeping
 pub mod ResumingCalls
 pub mod Statements
 pub mod Provenance
+pub mod Resumed
 pub mod WalkLaws
 pub mod Worked
 pub mod WorkedServices

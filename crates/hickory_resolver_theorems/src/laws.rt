@@ -12,6 +12,7 @@ ghost use Rattle.hickory_resolver_model.specs.Attempts.{Search, attempts};
 ghost use Rattle.hickory_resolver_theorems.specs.AttemptLaws.{AreAttemptsApart};
 ghost use Rattle.hickory_resolver_model.specs.Cache.{CacheValue, IsCache, without_query};
 ghost use Rattle.hickory_resolver_model.specs.Hops.{LookupContext, IsReply};
+ghost use Rattle.hickory_resolver_model.specs.Resuming.{IsReplyOver};
 ghost use Rattle.hickory_resolver_model.specs.Lookup.{LookupResult};
 ghost use Rattle.hickory_resolver_model.specs.Calls.{SubLookup, IsAnsweredFor, asks_of_sub_lookups};
 ghost use Rattle.hickory_resolver_model.specs.Resolver.{ResolverValue, AnswersCall};
@@ -20,6 +21,7 @@ ghost use Rattle.hickory_resolver_theorems.specs.Keeping.{IsServedOver};
 ghost use Rattle.hickory_resolver_theorems.specs.Statements.{IsFresh, IsTransparent, IsOneCacheless, Headline};
 ghost use Rattle.hickory_resolver_theorems.specs.Provenance.{HasProvenance};
 ghost use Rattle.hickory_resolver_theorems.specs.Aliases.{NoAliasOutlives};
+ghost use Rattle.hickory_resolver_theorems.specs.Resumed.{IsOverOneCache, IsPromisedOver};
 ghost use Rattle.hickory_resolver_theorems.specs.CallFacts.{IsPromisedCall, KeepsWhatIsKnown};
 ghost use Rattle.hickory_resolver_theorems.specs.WalkLaws.{IsOneWalk};
 
@@ -82,6 +84,21 @@ pub fn a_cache_changes_no_answer()
     ensures { (s : LookupContext) (question : Query) (asks : List Exchange) (result : LookupResult)
         (after : CacheValue) → IsReply s question asks result after
         → IsTransparent s question asks result after }
+{}
+
+/// A look-up that blocks is one whose hops each read the cache that stood when the hop was taken, where that is one
+/// cache.
+pub fn one_cache_is_a_case()
+    ensures { (s : LookupContext) (question : Query) (asks : List Exchange) (result : LookupResult)
+        (after : CacheValue) → IsOverOneCache s question asks result after }
+{}
+
+/// A look-up whose hops each read the cache that stood when the hop was taken, whatever changed it in between, keeps
+/// the promises of one over one cache.
+pub fn changing_caches_keep_the_promises()
+    ensures { (s : LookupContext) (question : Query) (asks : List Exchange) (result : LookupResult)
+        (after : CacheValue) → (reply : IsReplyOver s question asks result after)
+        → IsPromisedOver s question asks result after reply }
 {}
 
 /// A look-up that is what the hops say over the exchanges that were answered is so over those that a

@@ -1,0 +1,131 @@
+-- A look-up over one cache is one whose hops each read a cache of their own: the same one.
+use Rattle.std.proofs.Common.{◌≡◌, ◌⊎◌, true, List, [], ◌∷◌, ◌++◌, length, map, refl, subst, inl, inr}
+use Rattle.hickory_proto_core.specs.Handles.{holds_memory}
+use Rattle.hickory_proto_core.specs.ResponseKind.{ResponseKind, Answer, Negative, Failed}
+use Rattle.hickory_proto_core.specs.declared.query.Query.{Query}
+use Rattle.hickory_proto_core.specs.declared.recorded.Exchange.{Exchange}
+use Rattle.hickory_resolver_model.specs.Cache.{CacheValue}
+use Rattle.hickory_resolver_model.specs.Lookup.{LookupResult}
+use Rattle.hickory_resolver_model.specs.Verdict.{Hop, first_hop}
+use Rattle.hickory_resolver_model.specs.Hops.{LookupContext, GoesUpstream, IsAliasHop, FollowsAliases, IsChainEnd, HopList, IsReply, verdict_on}
+use Rattle.hickory_resolver_model.specs.Resuming.{FollowsAliasesOver, HopListOver, IsReplyOver}
+use Rattle.hickory_resolver_theorems.specs.Resumed.{AreOneCache, HopsReadOneCache, LastReadsOneCache, ReadsOneCache, IsOverOneCache}
+
+-- what a response is worth to a hop, whatever the cache
+pub verdict-elsewhere : (s : LookupContext) (cache : CacheValue) (hop : Hop) (kind : ResponseKind) → verdict_on (record s { cache = cache }) hop kind ≡ verdict_on s hop kind
+verdict-elsewhere s cache hop (Answer response) = refl
+verdict-elsewhere s cache hop (Negative none) = refl
+verdict-elsewhere s cache hop (Failed error) = refl
+
+-- the cache of the context, for each of some exchanges
+abbrev pub one_cache : LookupContext → List Exchange → List CacheValue
+one_cache s xs = map (λ x. s.cache) xs
+
+one_cache-all : (s : LookupContext) (xs : List Exchange) → AreOneCache s (one_cache s xs)
+one_cache-all s [] = tt
+one_cache-all s (x ∷ xs) = (refl, one_cache-all s xs)
+
+-- ---- from one cache
+
+pub follows-over : (s : LookupContext) (hop : Hop) (xs : List Exchange) (last : Hop) → FollowsAliases s hop xs last → FollowsAliasesOver s (one_cache s xs) hop xs last
+follows-over s hop [] last e = e
+follows-over s hop (x ∷ xs) last (next, p, rest) = (next, p, follows-over s next xs last rest)
+
+abbrev pub hops-over : (s : LookupContext) (question : Query) (asks : List Exchange) → HopList s question asks → HopListOver s question asks
+hops-over s question asks h = record {
+  caches = one_cache s h.passed;
+  passed = h.passed;
+  last_hop = h.last_hop;
+  last = h.last;
+  last_cache = s.cache;
+  leads = follows-over s (first_hop question) h.passed h.last_hop h.leads;
+  short = h.short;
+  ends = h.ends;
+  at_once = λ e. refl;
+  asks_are = h.asks_are;
+}
+
+abbrev last-over : (s : LookupContext) (asks passed : List Exchange) (hop : Hop) → (asks ≡ passed) ⊎ ((x : Exchange) × GoesUpstream s hop.query × (x.query ≡ hop.query) × (holds_memory x.outcome ≡ true) × (asks ≡ passed ++ x ∷ []))
+    → (asks ≡ passed) ⊎ ((x : Exchange) × (cache : CacheValue) × GoesUpstream (record s { cache = cache }) hop.query × (x.query ≡ hop.query) × (holds_memory x.outcome ≡ true) × (asks ≡ passed ++ x ∷ []))
+last-over s asks passed hop (inl e) = inl e
+last-over s asks passed hop (inr (x, up, same, holds, e)) = inr (x, s.cache, up, same, holds, e)
+
+abbrev pub reply-over : (s : LookupContext) (question : Query) (asks : List Exchange) (result : LookupResult) (after : CacheValue) → IsReply s question asks result after → IsReplyOver s question asks result after
+reply-over s question asks result after (inl whole) = inl (record { hops = hops-over s question asks whole.hops; result_is = whole.result_is; after_is = whole.after_is })
+reply-over s question asks result after (inr (out, inl cut)) =
+    inr (out, inl (record { hops = hops-over s question asks cut.hops; kept = cut.kept; begun = record { front = cut.front; back = cut.back; parts = cut.parts; after_is = cut.after_is } }))
+reply-over s question asks result after (inr (out, inr cut)) =
+    inr (
+      out,
+      inr (record {
+        caches = one_cache s cut.passed;
+        passed = cut.passed;
+        last_hop = cut.last_hop;
+        leads = follows-over s (first_hop question) cut.passed cut.last_hop cut.leads;
+        short = cut.short;
+        asks_are = last-over s asks cut.passed cut.last_hop cut.asks_are;
+        after_is = cut.after_is;
+      }),
+    )
+
+hops-over-one : (s : LookupContext) (question : Query) (asks : List Exchange) (h : HopList s question asks) → HopsReadOneCache s question asks (hops-over s question asks h)
+hops-over-one s question asks h = (one_cache-all s h.passed, refl)
+
+reply-over-one : (s : LookupContext) (question : Query) (asks : List Exchange) (result : LookupResult) (after : CacheValue) (reply : IsReply s question asks result after) → ReadsOneCache s question asks result after (reply-over s question asks result after reply)
+reply-over-one s question asks result after (inl whole) = hops-over-one s question asks whole.hops
+reply-over-one s question asks result after (inr (out, inl cut)) = hops-over-one s question asks cut.hops
+reply-over-one s question asks result after (inr (out, inr cut)) = (one_cache-all s cut.passed, by cut.asks_are)
+  where
+    by : (are : (asks ≡ cut.passed) ⊎ ((x : Exchange) × GoesUpstream s cut.last_hop.query × (x.query ≡ cut.last_hop.query) × (holds_memory x.outcome ≡ true) × (asks ≡ cut.passed ++ x ∷ [])))
+        → LastReadsOneCache s asks cut.passed cut.last_hop (last-over s asks cut.passed cut.last_hop are)
+    by (inl e) = tt
+    by (inr (x, up, same, holds, e)) = refl
+
+-- ---- and back
+
+follows-back : (s : LookupContext) (caches : List CacheValue) (hop : Hop) (xs : List Exchange) (last : Hop) → AreOneCache s caches → FollowsAliasesOver s caches hop xs last → FollowsAliases s hop xs last
+follows-back s [] hop [] last one e = e
+follows-back s (cache ∷ caches) hop (x ∷ xs) last (same, one) (next, p, rest) =
+    (next, subst (λ c. IsAliasHop (record s { cache = c }) hop x next) same p, follows-back s caches next xs last one rest)
+follows-back s [] hop (x ∷ xs) last one never = absurd never
+follows-back s (cache ∷ caches) hop [] last one never = absurd never
+
+abbrev hops-back : (s : LookupContext) (question : Query) (asks : List Exchange) (h : HopListOver s question asks) → HopsReadOneCache s question asks h → HopList s question asks
+hops-back s question asks h one = record {
+  passed = h.passed;
+  last_hop = h.last_hop;
+  last = h.last;
+  leads = follows-back s h.caches (first_hop question) h.passed h.last_hop one.0 h.leads;
+  short = h.short;
+  ends = subst (λ c. IsChainEnd (record s { cache = c }) (length h.passed) h.last_hop h.last) one.1 h.ends;
+  asks_are = h.asks_are;
+}
+
+reply-back : (s : LookupContext) (question : Query) (asks : List Exchange) (result : LookupResult) (after : CacheValue) (reply : IsReplyOver s question asks result after) → ReadsOneCache s question asks result after reply → IsReply s question asks result after
+reply-back s question asks result after (inl whole) one = inl (record { hops = hops-back s question asks whole.hops one; result_is = whole.result_is; after_is = whole.after_is })
+reply-back s question asks result after (inr (out, inl cut)) one =
+    inr (out, inl (record { hops = hops-back s question asks cut.hops one; kept = cut.kept; front = cut.begun.front; back = cut.begun.back; parts = cut.begun.parts; after_is = cut.begun.after_is }))
+reply-back s question asks result after (inr (out, inr cut)) (one, last) =
+    inr (
+      out,
+      inr (record {
+        passed = cut.passed;
+        last_hop = cut.last_hop;
+        leads = follows-back s cut.caches (first_hop question) cut.passed cut.last_hop one cut.leads;
+        short = cut.short;
+        asks_are = by cut.asks_are last;
+        after_is = cut.after_is;
+      }),
+    )
+  where
+    by : (are : (asks ≡ cut.passed) ⊎ ((x : Exchange) × (cache : CacheValue) × GoesUpstream (record s { cache = cache }) cut.last_hop.query × (x.query ≡ cut.last_hop.query) × (holds_memory x.outcome ≡ true) × (asks ≡ cut.passed ++ x ∷ [])))
+        → LastReadsOneCache s asks cut.passed cut.last_hop are
+        → (asks ≡ cut.passed) ⊎ ((x : Exchange) × GoesUpstream s cut.last_hop.query × (x.query ≡ cut.last_hop.query) × (holds_memory x.outcome ≡ true) × (asks ≡ cut.passed ++ x ∷ []))
+    by (inl e) own = inl e
+    by (inr (x, cache, up, same, holds, e)) own = inr (x, subst (λ c. GoesUpstream (record s { cache = c }) cut.last_hop.query) own up, same, holds, e)
+
+pub over_one_cache : (s : LookupContext) (question : Query) (asks : List Exchange) (result : LookupResult) (after : CacheValue) → IsOverOneCache s question asks result after
+over_one_cache s question asks result after = record {
+  forth = λ reply. (reply-over s question asks result after reply, reply-over-one s question asks result after reply);
+  back = reply-back s question asks result after;
+}

@@ -1,0 +1,100 @@
+-- What is promised of a look-up whose hops each read the cache that stood when the hop was taken. It is what is promised
+-- of one over one cache: the entries before it are those of the cache that stands at its end, and what was received are
+-- its own exchanges, dated with the moment of its start.
+use Rattle.std.specs.Prelude.{◌≡◌, ◌⊎◌, ◌≤◌, true, List, [], ◌∷◌, ◌++◌, length}
+use mathlib.Core.Logic.{inl, inr}
+use Rattle.std.specs.List.{AllByRecursion}
+use Rattle.hickory_proto_core.specs.Codes.{type_code}
+use Rattle.hickory_proto_core.specs.Handles.{holds_memory}
+use Rattle.hickory_proto_core.specs.codes.record_type.RecordType.TheVariants as type
+use Rattle.hickory_proto_core.specs.declared.query.Query.{Query}
+use Rattle.hickory_proto_core.specs.declared.recorded.Exchange.{Exchange}
+use Rattle.hickory_resolver_model.specs.Cache.{CacheValue, IsCache}
+use Rattle.hickory_resolver_model.specs.Lookup.{LookupResult}
+use Rattle.hickory_resolver_model.specs.Verdict.{Hop}
+use Rattle.hickory_resolver_model.specs.Hops.{LookupContext, GoesUpstream, Store, IsReply, stores_of}
+use Rattle.hickory_resolver_model.specs.Resuming.{HopListOver, IsReplyOver}
+use Rattle.hickory_resolver_theorems.specs.Aliases.{AfterStoresInTime, ResultOutlivesNoAlias}
+use Rattle.hickory_resolver_theorems.specs.Provenance.{IsFromSources}
+use Rattle.hickory_resolver_theorems.specs.Statements.{LeastTtlIsZero, IsFresh, IsTransparent}
+
+-- ---- one cache
+
+-- these are the cache of the context, which stands at the end
+abbrev pub AreOneCache : LookupContext → List CacheValue → Type 0
+AreOneCache s caches = AllByRecursion (λ cache. cache ≡ s.cache) caches
+
+abbrev pub HopsReadOneCache : (s : LookupContext) (question : Query) (asks : List Exchange)
+    → HopListOver s question asks → Type 0
+HopsReadOneCache s question asks hops = AreOneCache s hops.caches × (hops.last_cache ≡ s.cache)
+
+-- the hop whose exchange ran out of memory read it too, where there was one
+abbrev pub LastReadsOneCache : (s : LookupContext) (asks passed : List Exchange) (hop : Hop)
+    → (asks ≡ passed) ⊎ ((x : Exchange) × (cache : CacheValue)
+    × GoesUpstream (record s { cache = cache }) hop.query × (x.query ≡ hop.query) × (holds_memory x.outcome ≡ true)
+    × (asks ≡ passed ++ x ∷ [])) → Type 0
+LastReadsOneCache s asks passed hop (inl none) = Unit {0}
+LastReadsOneCache s asks passed hop (inr (x, cache, up, same, holds, e)) = cache ≡ s.cache
+
+-- every hop read the cache that stands at the end
+abbrev pub ReadsOneCache : (s : LookupContext) (question : Query) (asks : List Exchange) (result : LookupResult)
+    (after : CacheValue) → IsReplyOver s question asks result after → Type 0
+ReadsOneCache s question asks result after (inl whole) = HopsReadOneCache s question asks whole.hops
+ReadsOneCache s question asks result after (inr (out, inl cut)) = HopsReadOneCache s question asks cut.hops
+ReadsOneCache s question asks result after (inr (out, inr cut)) =
+    AreOneCache s cut.caches × LastReadsOneCache s asks cut.passed cut.last_hop cut.asks_are
+
+-- A look-up that blocks is one whose hops all read one cache: the two definitions say the same of it.
+pub record IsOverOneCache
+    (s : LookupContext) (question : Query) (asks : List Exchange) (result : LookupResult) (after : CacheValue)
+    : Type 0 where
+  pub forth : IsReply s question asks result after
+      → (over : IsReplyOver s question asks result after) × ReadsOneCache s question asks result after over
+  pub back : (over : IsReplyOver s question asks result after) → ReadsOneCache s question asks result after over
+      → IsReply s question asks result after
+
+-- ---- the promises
+
+-- As `NoAliasOutlives`: where the least TTL of CNAMEs is zero, the cache after it is the cache that stood, after stores
+-- that outlive no alias; and so does its result.
+abbrev pub NoAliasOutlivesOver : (s : LookupContext) (question : Query) (asks : List Exchange) (result : LookupResult)
+    (after : CacheValue) → IsReplyOver s question asks result after → Type 0
+NoAliasOutlivesOver s question asks result after (inl whole) =
+    LeastTtlIsZero s.cache.config (type_code type.CNAME)
+    → ((made : List Store) × AfterStoresInTime s whole.hops.passed whole.hops.last_hop whole.hops.last made [] after)
+    × ResultOutlivesNoAlias s asks whole.hops.last result
+NoAliasOutlivesOver s question asks result after (inr (out, inl cut)) =
+    LeastTtlIsZero s.cache.config (type_code type.CNAME)
+    → (made : List Store) × (left : List Store)
+    × AfterStoresInTime s cut.hops.passed cut.hops.last_hop cut.hops.last made left after
+NoAliasOutlivesOver s question asks result after (inr (out, inr cut)) = Unit {0}
+
+-- the stores that it made
+abbrev pub stores_made_over : (s : LookupContext) (question : Query) (asks : List Exchange) (result : LookupResult)
+    (after : CacheValue) → IsReplyOver s question asks result after → List Store
+stores_made_over s question asks result after (inl whole) =
+    stores_of s whole.hops.passed whole.hops.last_hop whole.hops.last
+stores_made_over s question asks result after (inr (out, inl cut)) = cut.begun.front
+stores_made_over s question asks result after (inr (out, inr cut)) = []
+
+-- As `HasProvenance`: where the least TTL of the asked type is zero, each record comes from the exchanges, or from the
+-- current entries of that type in the cache that stands at the end. A hit is read from no other.
+abbrev pub HasProvenanceOver : (s : LookupContext) (question : Query) (asks : List Exchange) (result : LookupResult)
+    (after : CacheValue) → IsReplyOver s question asks result after → Type 0
+HasProvenanceOver s question asks result after reply =
+    LeastTtlIsZero s.cache.config (type_code question.query_type)
+    → IsFromSources s question asks result (stores_made_over s question asks result after reply) after
+
+-- Eight questions are sent at most; every record has a source, over what a cache may hold; nothing outlives what was
+-- received; a cache changes no answer; no alias outlives its CNAMEs. What the hops before the last found in the caches
+-- that they read does not count.
+pub record IsPromisedOver
+    (s : LookupContext) (question : Query) (asks : List Exchange) (result : LookupResult) (after : CacheValue)
+    (reply : IsReplyOver s question asks result after)
+    : Type 0 where
+  pub few : length asks ≤ 8
+  pub provenance : IsCache s.cache.config s.cache.capacity s.cache.entries
+      → HasProvenanceOver s question asks result after reply
+  pub fresh : IsFresh s question asks result after
+  pub transparent : IsTransparent s question asks result after
+  pub no_alias_outlives : NoAliasOutlivesOver s question asks result after reply
