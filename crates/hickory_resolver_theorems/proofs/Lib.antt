@@ -1,6 +1,7 @@
 pub mod AliasLifetimes
 pub mod Answered
 pub mod PromisedCalls
+pub mod CallsAlone
 pub mod Chains
 pub mod Covers
 pub mod Few
@@ -10,6 +11,7 @@ pub mod Kept
 pub mod KeptCalls
 pub mod Headlines
 pub mod Lists
+pub mod LookupsAlone
 pub mod Meanings
 pub mod OneCache
 pub mod OneCacheless

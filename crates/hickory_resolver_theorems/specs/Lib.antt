@@ -1,6 +1,7 @@
 pub mod Aliases
 pub mod AttemptLaws
 pub mod CallFacts
+pub mod CallsAlone
 pub mod Cacheless
 pub mod Cores
 pub mod Covered

@@ -1,7 +1,7 @@
 -- A call of the resolver that does no I/O. It attempts its names one after another, each for the types of its plan, one
 -- after another. Each of these sub-look-ups is answered by the table of hosts, or it is started and goes on with what
 -- came back. In between, others may have stored, cleared or evicted. The moment of a call is that of its start.
-use Rattle.std.specs.Prelude.{◌≡◌, ◌⊎◌, Bool, true, false, List, [], ◌∷◌, ◌++◌, Option, Some, None, Ok, Err}
+use Rattle.std.specs.Prelude.{◌≡◌, ◌⊎◌, Bool, true, false, List, [], ◌∷◌, ◌++◌, Some, None, Ok, Err}
 use Rattle.hickory_proto_core.specs.Name.{NameValue}
 use Rattle.hickory_proto_core.specs.Handles.{OutcomeValue}
 use Rattle.hickory_proto_core.specs.codes.record_type.RecordType.{RecordType}
