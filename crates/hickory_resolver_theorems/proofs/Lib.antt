@@ -2,6 +2,7 @@ pub mod AliasLifetimes
 pub mod Answered
 pub mod PromisedCalls
 pub mod CallsAlone
+pub mod CallsEnd
 pub mod Chains
 pub mod Covers
 pub mod Few
