@@ -11,6 +11,7 @@ pub mod Fresh
 pub mod Kept
 pub mod KeptCalls
 pub mod Headlines
+pub mod InFlight
 pub mod Lists
 pub mod LookupsAlone
 pub mod Meanings
@@ -24,3 +25,4 @@ pub mod Transparent
 pub mod VerdictFacts
 pub mod Weaker
 pub mod PromisesHold
+pub mod Interleavings

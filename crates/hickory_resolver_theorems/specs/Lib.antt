@@ -10,6 +10,7 @@ pub mod ResumingCalls
 pub mod Statements
 pub mod Provenance
 pub mod Resumed
+pub mod Interleaved
 pub mod WalkLaws
 pub mod Worked
 pub mod WorkedServices

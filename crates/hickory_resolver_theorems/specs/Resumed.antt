@@ -1,9 +1,8 @@
 -- What is promised of a look-up whose hops each read the cache that stood when the hop was taken. It is what is promised
 -- of one over one cache: the entries before it are those of the cache that stands at its end, and what was received are
 -- its own exchanges, dated with the moment of its start.
-use Rattle.std.specs.Prelude.{◌≡◌, ◌⊎◌, ◌≤◌, true, List, [], ◌∷◌, ◌++◌, length}
+use Rattle.std.specs.Prelude.{◌≡◌, ◌⊎◌, ◌≤◌, true, List, [], ◌∷◌, ◌++◌, length, map, if◌then◌else◌}
 use mathlib.Core.Logic.{inl, inr}
-use Rattle.std.specs.List.{AllByRecursion}
 use Rattle.hickory_proto_core.specs.Codes.{type_code}
 use Rattle.hickory_proto_core.specs.Handles.{holds_memory}
 use Rattle.hickory_proto_core.specs.codes.record_type.RecordType.TheVariants as type
@@ -13,36 +12,39 @@ use Rattle.hickory_resolver_model.specs.Cache.{CacheValue, IsCache}
 use Rattle.hickory_resolver_model.specs.Lookup.{LookupResult}
 use Rattle.hickory_resolver_model.specs.Verdict.{Hop}
 use Rattle.hickory_resolver_model.specs.Hops.{LookupContext, GoesUpstream, Store, IsReply, stores_of}
-use Rattle.hickory_resolver_model.specs.Resuming.{HopListOver, IsReplyOver}
+use Rattle.hickory_resolver_model.specs.Resuming.{is_asked, HopListOver, IsReplyOver}
 use Rattle.hickory_resolver_theorems.specs.Aliases.{AfterStoresInTime, ResultOutlivesNoAlias}
 use Rattle.hickory_resolver_theorems.specs.Provenance.{IsFromSources}
 use Rattle.hickory_resolver_theorems.specs.Statements.{LeastTtlIsZero, IsFresh, IsTransparent}
 
--- ---- one cache
+-- ---- the caches that were read
 
--- these are the cache of the context, which stands at the end
-abbrev pub AreOneCache : LookupContext → List CacheValue → Type 0
-AreOneCache s caches = AllByRecursion (λ cache. cache ≡ s.cache) caches
+-- The caches that stood when the hops were taken that were asked, one for each exchange. A last hop that was not asked
+-- read the cache that stands at the end.
+abbrev pub caches_of_hops : (s : LookupContext) (question : Query) (asks : List Exchange)
+    → HopListOver s question asks → List CacheValue
+caches_of_hops s question asks hops = hops.caches ++ (if is_asked hops.last then hops.last_cache ∷ [] else [])
 
-abbrev pub HopsReadOneCache : (s : LookupContext) (question : Query) (asks : List Exchange)
-    → HopListOver s question asks → Type 0
-HopsReadOneCache s question asks hops = AreOneCache s hops.caches × (hops.last_cache ≡ s.cache)
-
--- the hop whose exchange ran out of memory read it too, where there was one
-abbrev pub LastReadsOneCache : (s : LookupContext) (asks passed : List Exchange) (hop : Hop)
+-- that of the hop whose exchange ran out of memory, where there was one
+abbrev pub cache_of_last : (s : LookupContext) (asks passed : List Exchange) (hop : Hop)
     → (asks ≡ passed) ⊎ ((x : Exchange) × (cache : CacheValue)
     × GoesUpstream (record s { cache = cache }) hop.query × (x.query ≡ hop.query) × (holds_memory x.outcome ≡ true)
-    × (asks ≡ passed ++ x ∷ [])) → Type 0
-LastReadsOneCache s asks passed hop (inl none) = Unit {0}
-LastReadsOneCache s asks passed hop (inr (x, cache, up, same, holds, e)) = cache ≡ s.cache
+    × (asks ≡ passed ++ x ∷ [])) → List CacheValue
+cache_of_last s asks passed hop (inl none) = []
+cache_of_last s asks passed hop (inr (x, cache, up, same, holds, e)) = cache ∷ []
 
--- every hop read the cache that stands at the end
+abbrev pub caches_read : (s : LookupContext) (question : Query) (asks : List Exchange) (result : LookupResult)
+    (after : CacheValue) → IsReplyOver s question asks result after → List CacheValue
+caches_read s question asks result after (inl whole) = caches_of_hops s question asks whole.hops
+caches_read s question asks result after (inr (out, inl cut)) = caches_of_hops s question asks cut.hops
+caches_read s question asks result after (inr (out, inr cut)) =
+    cut.caches ++ cache_of_last s asks cut.passed cut.last_hop cut.asks_are
+
+-- they are all the one that stands at the end
 abbrev pub ReadsOneCache : (s : LookupContext) (question : Query) (asks : List Exchange) (result : LookupResult)
     (after : CacheValue) → IsReplyOver s question asks result after → Type 0
-ReadsOneCache s question asks result after (inl whole) = HopsReadOneCache s question asks whole.hops
-ReadsOneCache s question asks result after (inr (out, inl cut)) = HopsReadOneCache s question asks cut.hops
-ReadsOneCache s question asks result after (inr (out, inr cut)) =
-    AreOneCache s cut.caches × LastReadsOneCache s asks cut.passed cut.last_hop cut.asks_are
+ReadsOneCache s question asks result after over =
+    caches_read s question asks result after over ≡ map (λ x. s.cache) asks
 
 -- A look-up that blocks is one whose hops all read one cache: the two definitions say the same of it.
 pub record IsOverOneCache

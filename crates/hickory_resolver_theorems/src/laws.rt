@@ -1,5 +1,5 @@
 //! Laws of the definitions.
-ghost use Rattle.std.specs.Prelude.{◌≡◌, ℕ, List, [], length, ◌≤◌, Result};
+ghost use Rattle.std.specs.Prelude.{◌≡◌, ℕ, Bool, List, [], length, ◌≤◌, Result};
 ghost use Rattle.hickory_proto_core.specs.Name.{NameValue};
 ghost use Rattle.hickory_proto_core.specs.Records.{RecordValue};
 ghost use Rattle.hickory_proto_core.specs.Recorded.{RecordedAs};
@@ -21,6 +21,7 @@ ghost use Rattle.hickory_resolver_theorems.specs.Keeping.{IsServedOver};
 ghost use Rattle.hickory_resolver_theorems.specs.Statements.{IsFresh, IsTransparent, IsOneCacheless, Headline};
 ghost use Rattle.hickory_resolver_theorems.specs.Provenance.{HasProvenance};
 ghost use Rattle.hickory_resolver_theorems.specs.Aliases.{NoAliasOutlives};
+ghost use Rattle.hickory_resolver_theorems.specs.Interleaved.{IsPromisedInterleaving};
 ghost use Rattle.hickory_resolver_theorems.specs.Resumed.{IsOverOneCache, IsPromisedOver};
 ghost use Rattle.hickory_resolver_theorems.specs.CallFacts.{IsPromisedCall, KeepsWhatIsKnown};
 ghost use Rattle.hickory_resolver_theorems.specs.WalkLaws.{IsOneWalk};
@@ -99,6 +100,12 @@ pub fn changing_caches_keep_the_promises()
     ensures { (s : LookupContext) (question : Query) (asks : List Exchange) (result : LookupResult)
         (after : CacheValue) → (reply : IsReplyOver s question asks result after)
         → IsPromisedOver s question asks result after reply }
+{}
+
+/// Over every list of events, from a cache without entries: each look-up keeps its promises, whatever others start, go
+/// on, end, store, evict and clear between its steps.
+pub fn every_interleaving_keeps_the_promises()
+    ensures { (preserve : Bool) (empty : CacheValue) → IsPromisedInterleaving preserve empty }
 {}
 
 /// A look-up that is what the hops say over the exchanges that were answered is so over those that a
