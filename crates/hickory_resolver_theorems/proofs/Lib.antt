@@ -1,6 +1,8 @@
 pub mod AliasLifetimes
 pub mod Answered
 pub mod PromisedCalls
+pub mod CallsAlone
+pub mod CallsEnd
 pub mod Chains
 pub mod Covers
 pub mod Driven
@@ -12,6 +14,7 @@ pub mod KeptCalls
 pub mod Headlines
 pub mod InFlight
 pub mod Lists
+pub mod LookupsAlone
 pub mod Meanings
 pub mod OneCache
 pub mod OneCacheless

@@ -1,10 +1,12 @@
 pub mod Aliases
 pub mod AttemptLaws
 pub mod CallFacts
+pub mod CallsAlone
 pub mod Cacheless
 pub mod Cores
 pub mod Covered
 pub mod Keeping
+pub mod ResumingCalls
 pub mod Statements
 pub mod Provenance
 pub mod Resumed

@@ -1,0 +1,112 @@
+-- A call of the resolver that does no I/O. It attempts its names one after another, each for the types of its plan, one
+-- after another. Each of these sub-look-ups is answered by the table of hosts, or it is started and goes on with what
+-- came back. In between, others may have stored, cleared or evicted. The moment of a call is that of its start.
+use Rattle.std.specs.Prelude.{◌≡◌, ◌⊎◌, Bool, true, false, List, [], ◌∷◌, ◌++◌, Some, None, Ok, Err}
+use Rattle.hickory_proto_core.specs.Name.{NameValue}
+use Rattle.hickory_proto_core.specs.Handles.{OutcomeValue}
+use Rattle.hickory_proto_core.specs.codes.record_type.RecordType.{RecordType}
+use Rattle.hickory_proto_core.specs.declared.net_error.NetError.TheVariants.{OutOfMemory}
+use Rattle.hickory_resolver_model.specs.Attempts.{attempts}
+use Rattle.hickory_resolver_model.specs.Cache.{CacheValue}
+use Rattle.hickory_resolver_model.specs.Calls.{CallContext, start_at, CallPlan, Says, next_type, IsAttemptResult, IsLastReply, stops}
+use Rattle.hickory_resolver_model.specs.Hosts.{IsStatic}
+use Rattle.hickory_resolver_model.specs.Lookup.{LookupValue, LookupResult, question_of}
+use Rattle.hickory_resolver_model.specs.Resuming.{WaitingValue, ProgressValue, Waits, IsDone, Starts, Resumes}
+use Rattle.hickory_resolver_model.specs.Run.{Settings, Call, AtOnce, Attempt}
+
+-- how far a call came: what it does with each name, whether the table of hosts is looked at for this name, the name, the
+-- results of the name's sub-look-ups so far, and the names that are left
+pub record AttemptValue : Type 0 where
+  pub plan : CallPlan
+  pub looked : Bool
+  pub name : NameValue
+  pub results : List LookupResult
+  pub left : List NameValue
+
+-- a call whose sub-look-up waits
+pub record WaitingCallValue : Type 0 where
+  pub attempt : AttemptValue
+  pub sub : WaitingValue
+
+pub data CallProgressValue : Type 0 where
+  CallWaits : WaitingCallValue → CallProgressValue
+  CallIsDone : LookupResult → CallProgressValue
+
+-- the same attempt with the result of one more sub-look-up, and the attempt at the next name
+abbrev pub with_result : AttemptValue → LookupResult → AttemptValue
+with_result a result = record a { results = a.results ++ result ∷ [] }
+
+abbrev pub at_next : AttemptValue → NameValue → List NameValue → AttemptValue
+at_next a name left = record a { looked = a.plan.hosts_for_all; name = name; results = []; left = left }
+
+-- a type of the plan is to be looked up, and the table of hosts has it, or memory runs out for a copy of that
+pub record FindsStatic (s : CallContext) (a : AttemptValue) (t : RecordType) (result : LookupResult) : Type 0 where
+  pub next : next_type a.plan.types a.results ≡ Some t
+  pub looked : a.looked ≡ true
+  pub found : LookupValue
+  pub has : IsStatic (question_of a.name t) s.now s.hosts (Some found)
+  pub result_is : (result ≡ Ok found) ⊎ (result ≡ Err OutOfMemory)
+
+-- a type of the plan is looked up, which the table does not have, or is not looked at for
+pub record StartsSub
+    (s : CallContext) (a : AttemptValue) (t : RecordType) (before : CacheValue) (progress : ProgressValue)
+    (after : CacheValue)
+    : Type 0 where
+  pub next : next_type a.plan.types a.results ≡ Some t
+  pub not_static : (a.looked ≡ false) ⊎ IsStatic (question_of a.name t) s.now s.hosts None
+  pub starts : Starts (start_at s before) (question_of a.name t) progress after
+
+-- How a call goes on over the cache that stands: one sub-look-up after another is done at once, and one attempt after
+-- another, until one of them waits or the call is done.
+pub data GoesOn (s : CallContext) : AttemptValue → CacheValue → CallProgressValue → CacheValue → Type 0 where
+  by_hosts : {a : AttemptValue} {t : RecordType} {result : LookupResult} {before after : CacheValue}
+      {progress : CallProgressValue} → FindsStatic s a t result
+      → GoesOn s (with_result a result) before progress after → GoesOn s a before progress after
+  waits : {a : AttemptValue} {t : RecordType} {w : WaitingValue} {before after : CacheValue}
+      → StartsSub s a t before (Waits w) after
+      → GoesOn s a before (CallWaits (record { attempt = a; sub = w })) after
+  at_once : {a : AttemptValue} {t : RecordType} {result : LookupResult} {before mid after : CacheValue}
+      {progress : CallProgressValue} → StartsSub s a t before (IsDone result) mid
+      → GoesOn s (with_result a result) mid progress after → GoesOn s a before progress after
+  stopped : {a : AttemptValue} {result : LookupResult} {before : CacheValue}
+      → IsAttemptResult a.plan.types a.results result → stops result ≡ true
+      → GoesOn s a before (CallIsDone result) before
+  next_name : {a : AttemptValue} {result : LookupResult} {name : NameValue} {names : List NameValue}
+      {before after : CacheValue} {progress : CallProgressValue}
+      → IsAttemptResult a.plan.types a.results result → stops result ≡ false → a.left ≡ name ∷ names
+      → GoesOn s (at_next a name names) before progress after → GoesOn s a before progress after
+  no_name : {a : AttemptValue} {last result : LookupResult} {before : CacheValue}
+      → IsAttemptResult a.plan.types a.results last → stops last ≡ false → a.left ≡ []
+      → IsLastReply a.plan.literal (λ r. r ≡ last) result → GoesOn s a before (CallIsDone result) before
+
+-- names are attempted by a plan
+abbrev pub StartsNames : CallContext → CallPlan → Bool → List NameValue → CacheValue → CallProgressValue → CacheValue
+    → Type 0
+StartsNames s plan looked [] before progress after =
+    (result : LookupResult) × IsLastReply plan.literal (Says plan.no_names) result
+    × (progress ≡ CallIsDone result) × (after ≡ before)
+StartsNames s plan looked (name ∷ names) before progress after =
+    GoesOn s (record { plan = plan; looked = looked; name = name; results = []; left = names }) before progress after
+
+-- a call is started; or memory runs out before anything is attempted
+abbrev pub StartsCall : CallContext → Settings → Call → CacheValue → CallProgressValue → CacheValue → Type 0
+StartsCall s settings (AtOnce answer) before progress after = (progress ≡ CallIsDone answer) × (after ≡ before)
+StartsCall s settings (Attempt name plan) before progress after =
+    StartsNames s plan true (attempts settings.search name) before progress after
+
+abbrev pub RunsOutAtStart : CacheValue → CallProgressValue → CacheValue → Type 0
+RunsOutAtStart before progress after = (progress ≡ CallIsDone (Err OutOfMemory)) × (after ≡ before)
+
+-- the sub-look-up that waited goes on, and the call with it
+abbrev pub GoesOnAfter : CallContext → AttemptValue → ProgressValue → CacheValue → CallProgressValue → CacheValue
+    → Type 0
+GoesOnAfter s a (Waits w) before progress after =
+    (progress ≡ CallWaits (record { attempt = a; sub = w })) × (after ≡ before)
+GoesOnAfter s a (IsDone result) before progress after = GoesOn s (with_result a result) before progress after
+
+-- a call that waits goes on with what came back to its question
+abbrev pub ResumesCall : CallContext → WaitingCallValue → OutcomeValue → CacheValue → CallProgressValue → CacheValue
+    → Type 0
+ResumesCall s w outcome before progress after =
+    (sub : ProgressValue) × (mid : CacheValue) × Resumes (start_at s before) w.sub outcome sub mid
+    × GoesOnAfter s w.attempt sub mid progress after
