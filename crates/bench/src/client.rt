@@ -128,8 +128,8 @@ fn add_requests(
     Ok(())
 }
 
-// Each host but the last is an alias of the next, and the last has so many addresses.
-fn handle_of(alloc: Global, aliases: u64, addresses: u32) -> Result<TableHandle, NetError> {
+/// Each host but the last is an alias of the next, and the last has so many addresses.
+pub fn handle_of(alloc: Global, aliases: u64, addresses: u32) -> Result<TableHandle, NetError> {
     let mut outcomes = Vec::new(alloc);
     match add_outcomes(alloc, &mut outcomes, aliases, addresses) {
         Ok(()) => TableHandle::new(outcomes),

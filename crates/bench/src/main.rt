@@ -5,6 +5,7 @@
 mod bare;
 mod cache;
 mod client;
+mod fed_times;
 mod host_times;
 mod hostile_times;
 mod measure;
@@ -34,6 +35,7 @@ fn print_times<R: Clock + Print>(rt: &R, alloc: Global) -> anyhow::Result<()> {
     bare::print_times(rt, alloc, &mut watch)?;
     name_times::print_times(alloc, &mut watch)?;
     client::print_times(alloc, &mut watch)?;
+    fed_times::print_times(alloc, &mut watch)?;
     host_times::print_times(alloc, &mut watch)?;
     hostile_times::print_times(alloc, &mut watch)?;
     script_times::print_times(alloc, &mut watch)?;

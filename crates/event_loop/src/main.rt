@@ -1,0 +1,76 @@
+//! Three look-ups at once over one client. What was asked last is answered first, as it may be over a network.
+#![tactic(auto)]
+
+use hickory_proto_core::dns_handle::Outcome;
+use hickory_proto_core::{
+    DnsResponse, Message, Name, NetError, OpCode, Query, RData, Record, RecordType, ScriptHandle,
+};
+use hickory_resolver::{CachingClient, Lookup, Progress, Waiting};
+use std::alloc::Global;
+use std::net::Ipv4Addr;
+
+type Client = CachingClient<ScriptHandle>;
+
+fn main(rt: HostRuntime) -> anyhow::Result<()> {
+    let alloc = rt.alloc();
+    let mut text = String::new(alloc);
+    // The client's own handle is never asked: the loop below sends the questions.
+    let handle = ScriptHandle::new(Vec::new(alloc));
+    serve(alloc, &mut text, &mut CachingClient::new(alloc, 100, handle, false))?;
+    Ok(rt.print(text)?)
+}
+
+// Starts the look-ups, and goes on with the one whose question was sent last, until none waits.
+fn serve(alloc: Global, text: &mut String, client: &mut Client) -> Result<(), NetError> {
+    let mut waiting = Vec::new(alloc);
+    for host in ["www.example.com.", "blog.example.com.", "mail.example.com."] {
+        let query = Query::query(Name::from_ascii(alloc, host)?, RecordType::A);
+        note(text, &mut waiting, client.start(query, 100))?;
+    }
+    for _ in 0..24 {
+        let Some(last) = waiting.pop() else { break };
+        let outcome = answer(alloc, last.question());
+        note(text, &mut waiting, client.resume(last, outcome))?;
+    }
+    Ok(())
+}
+
+// Sends the question of a look-up that waits, or adds what it came to.
+fn note(text: &mut String, waiting: &mut Vec<Waiting>, progress: Progress) -> Result<(), NetError> {
+    match progress {
+        Progress::Waiting(look_up) => {
+            let question = look_up.question();
+            write!(text, "send {question}\n")?;
+            waiting.push(look_up)?;
+            Ok(())
+        }
+        Progress::Done(result) => push_answers(text, &result?),
+    }
+}
+
+fn push_answers(text: &mut String, lookup: &Lookup) -> Result<(), NetError> {
+    for answer in lookup.answers() {
+        write!(text, "{answer}\n")?;
+    }
+    Ok(())
+}
+
+// What comes back to a question: `blog` is an alias of `www`, and every other name has an address.
+fn answer(alloc: Global, question: &Query) -> Outcome {
+    let owner = question.name.clone()?;
+    let rdata = match alias_of(alloc, &owner)? {
+        Some(target) => RData::CNAME(target),
+        None => RData::A(Ipv4Addr::new(192, 0, 2, 1)),
+    };
+    let mut message = Message::response(alloc, 0, OpCode::Query);
+    message.add_query(question.clone()?)?;
+    message.add_answer(Record::from_rdata(owner, 60, rdata))?;
+    Ok(DnsResponse::from_message(message))
+}
+
+fn alias_of(alloc: Global, owner: &Name) -> Result<Option<Name>, NetError> {
+    if *owner == Name::from_ascii(alloc, "blog.example.com.")? {
+        return Ok(Some(Name::from_ascii(alloc, "www.example.com.")?));
+    }
+    Ok(None)
+}
