@@ -20,15 +20,15 @@ use Rattle.hickory_resolver_theorems.proofs.Chains.{Chain, chain-name, chain-add
 
 -- ---- lists of events
 
-happen-append : (preserve : Bool) (before mid after : WorldValue) (es fs : List EventValue) → Happen preserve before es mid → Happen preserve mid fs after → Happen preserve before (es ++ fs) after
+pub happen-append : (preserve : Bool) (before mid after : WorldValue) (es fs : List EventValue) → Happen preserve before es mid → Happen preserve mid fs after → Happen preserve before (es ++ fs) after
 happen-append preserve before mid after [] fs e more = subst (λ w. Happen preserve w fs after) e more
 happen-append preserve before mid after (event ∷ es) fs (next, is, rest) more = (next, is, happen-append preserve next mid after es fs rest more)
 
-received-append : (es fs : List EventValue) → received_in (es ++ fs) ≡ received_in es ++ received_in fs
+pub received-append : (es fs : List EventValue) → received_in (es ++ fs) ≡ received_in es ++ received_in fs
 received-append [] fs = refl
 received-append (event ∷ es) fs = ap (λ xs. received_by event ++ xs) (received-append es fs) ∙ sym (append_assoc (received_by event) (received_in es) (received_in fs))
 
-ended-append : (es fs : List EventValue) → ended_in (es ++ fs) ≡ ended_in es ++ ended_in fs
+pub ended-append : (es fs : List EventValue) → ended_in (es ++ fs) ≡ ended_in es ++ ended_in fs
 ended-append [] fs = refl
 ended-append (event ∷ es) fs = ap (λ ds. ended_by event ++ ds) (ended-append es fs) ∙ sym (append_assoc (ended_by event) (ended_in es) (ended_in fs))
 
