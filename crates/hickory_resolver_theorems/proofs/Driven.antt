@@ -13,17 +13,17 @@ use Rattle.hickory_resolver_theorems.specs.Resumed.{IsDriven, IsStartedAndDriven
 use Rattle.hickory_resolver_theorems.specs.Interleaved.{PendingValue}
 use Rattle.hickory_resolver_theorems.proofs.Lists.{all-append}
 use Rattle.hickory_resolver_theorems.proofs.OneCache.{AreOneCache, all-back-one}
-use Rattle.hickory_resolver_theorems.proofs.InFlight.{passed_of, passed_of-length, passed_of-more, stores-same, reply-same, IsAnswered, IsOnItsWay, started, resumed}
+use Rattle.hickory_resolver_theorems.proofs.InFlight.{passed_of, passed_of-length, passed_of-more, stores-same, reply-same, HasReply, IsOnItsWay, started, resumed}
 
 -- by caches that are all the one that stands
-answered-blocks : (s : LookupContext) (question : Query) (asks : List Exchange) (caches : List CacheValue) (result : LookupResult) (after : CacheValue) → AreOneCache s caches → IsAnswered s question asks caches result after → IsReply s question asks result after
+answered-blocks : (s : LookupContext) (question : Query) (asks : List Exchange) (caches : List CacheValue) (result : LookupResult) (after : CacheValue) → AreOneCache s caches → HasReply s question asks caches result after → IsReply s question asks result after
 answered-blocks s question asks caches result after one is = all-back-one s question asks result after is.reply (subst (AreOneCache s) (sym is.caches_are) one)
 
 driven-on : (s : LookupContext) (question : Query) (xs : List Exchange) (caches : List CacheValue) (progress : ProgressValue) (cache : CacheValue) (ys : List Exchange) (result : LookupResult) (after : CacheValue)
     → AreOneCache s caches → IsOnItsWay s question xs caches progress cache → IsDriven s progress cache ys result after → IsReply s question (xs ++ ys) result after
 driven-on s question xs caches progress cache [] result after one is (done, same) =
     subst (λ zs. IsReply s question zs result after) (sym (append-nil xs))
-    (answered-blocks s question xs caches result after one (subst (λ c. IsAnswered s question xs caches result c) (sym same) (subst (λ g. IsOnItsWay s question xs caches g cache) done is)))
+    (answered-blocks s question xs caches result after one (subst (λ c. HasReply s question xs caches result c) (sym same) (subst (λ g. IsOnItsWay s question xs caches g cache) done is)))
 driven-on s question xs caches (Waits w) cache (x ∷ ys) result after one (is, now_is, same) (asked, next, mid, resumes, rest) =
     let p : PendingValue = record { question = question; asks = xs; caches = caches; cache = s.cache; waiting = w } in
     let own : record { query = w.hop.query; outcome = x.outcome } ≡ x = λ i. record { query = sym asked i; outcome = x.outcome } in

@@ -101,13 +101,13 @@ pub record HasPassed (s : LookupContext) (question : Query) (xs : List Exchange)
   pub passed_are : passed ≡ passed_of s xs
 
 -- it came to what the hops of its question say, each over its cache
-pub record IsAnswered (s : LookupContext) (question : Query) (asks : List Exchange) (caches : List CacheValue) (result : LookupResult) (after : CacheValue) : Type 0 where
+pub record HasReply (s : LookupContext) (question : Query) (asks : List Exchange) (caches : List CacheValue) (result : LookupResult) (after : CacheValue) : Type 0 where
   pub reply : IsReplyOver s question asks result after
   pub caches_are : caches_read s question asks result after reply ≡ caches
 
 -- memory ran out among exchanges that all led on
 cut-answered : (s : LookupContext) (question : Query) (xs : List Exchange) (caches : List CacheValue) (hop : Hop) (result : LookupResult) (after : CacheValue)
-    → FollowsAliasesOver s caches (first_hop question) xs hop → length xs ≤ 7 → result ≡ Err OutOfMemory → after ≡ s.cache → IsAnswered s question xs caches result after
+    → FollowsAliasesOver s caches (first_hop question) xs hop → length xs ≤ 7 → result ≡ Err OutOfMemory → after ≡ s.cache → HasReply s question xs caches result after
 cut-answered s question xs caches hop result after leads short out same = record {
   reply = inr (out, inr (record { caches = caches; passed = xs; last_hop = hop; leads = leads; short = short; asks_are = inl refl; after_is = same }));
   caches_are = append-nil caches;
@@ -133,7 +133,7 @@ module _ (s : LookupContext) (question : Query) (xs : List Exchange) (caches : L
 
   -- all stores were made
   whole-answered : (last : ChainEnd) (cache : CacheValue) → IsChainEnd (record s { cache = cache }) (length xs) hop last → (is_asked last ≡ false → cache ≡ s.cache) → result ≡ reply_at s (passed_of s xs) hop last → after ≡ after_stores (stores_at s (passed_of s xs) hop last) s.cache
-      → IsAnswered s question (xs ++ asks_of hop last) (read last cache) result after
+      → HasReply s question (xs ++ asks_of hop last) (read last cache) result after
   whole-answered last cache ends own result_is after_is = record {
     reply = inl (record {
       hops = hops last cache ends own;
@@ -145,7 +145,7 @@ module _ (s : LookupContext) (question : Query) (xs : List Exchange) (caches : L
 
   -- or a beginning of those of a result that is kept
   kept-answered : (last : ChainEnd) (cache : CacheValue) → IsChainEnd (record s { cache = cache }) (length xs) hop last → (is_asked last ≡ false → cache ≡ s.cache) → is_kept (result_of s hop last) ≡ true → EndsAs s (passed_of s xs) hop last result after
-      → IsAnswered s question (xs ++ asks_of hop last) (read last cache) result after
+      → HasReply s question (xs ++ asks_of hop last) (read last cache) result after
   kept-answered last cache ends own kept (inl (result_is, after_is)) = whole-answered last cache ends own result_is after_is
   kept-answered last cache ends own kept (inr (out, takes, begun)) = record {
     reply = inr (
@@ -167,32 +167,32 @@ module _ (s : LookupContext) (question : Query) (xs : List Exchange) (caches : L
       (subst (AllByRecursion StoresNothing) (ap (λ stores. stores ++ stores_back (result_of s hop last) s.now (end_limit s hop last) (passed_of s xs)) (sym none) ∙ sym begun.parts)
       (back-nothing (result_of s hop last) s.now (end_limit s hop last) (passed_of s xs) unkept)))
 
-  not-asked : IsAnswered s question (xs ++ []) (caches ++ []) result after → IsAnswered s question xs caches result after
-  not-asked is = subst (λ ys. IsAnswered s question ys caches result after) (append-nil xs) (subst (λ cs. IsAnswered s question (xs ++ []) cs result after) (append-nil caches) is)
+  not-asked : HasReply s question (xs ++ []) (caches ++ []) result after → HasReply s question xs caches result after
+  not-asked is = subst (λ ys. HasReply s question ys caches result after) (append-nil xs) (subst (λ cs. HasReply s question (xs ++ []) cs result after) (append-nil caches) is)
 
   -- it ends where it asks nothing
   at_once-answered : (last : ChainEnd) → last_stores s hop last ≡ [] → IsChainEnd s (length xs) hop last → EndsAs s (passed_of s xs) hop last result after → (b : Bool) → is_kept (result_of s hop last) ≡ b
-      → IsAnswered s question (xs ++ asks_of hop last) (read last s.cache) result after ⊎ IsAnswered s question xs caches result after
+      → HasReply s question (xs ++ asks_of hop last) (read last s.cache) result after ⊎ HasReply s question xs caches result after
   at_once-answered last none ends (inl (result_is, after_is)) b e = inl (whole-answered last s.cache ends (λ own. refl) result_is after_is)
   at_once-answered last none ends (inr out) true e = inl (kept-answered last s.cache ends (λ own. refl) e (inr out))
   at_once-answered last none ends (inr (out, takes, begun)) false e = inr (cut-answered s question xs caches hop result after leads short out (unkept-same last none e begun))
 
-  unasked-answered : (last : ChainEnd) → is_asked last ≡ false → IsChainEnd s (length xs) hop last → EndsAs s (passed_of s xs) hop last result after → IsAnswered s question xs caches result after
+  unasked-answered : (last : ChainEnd) → is_asked last ≡ false → IsChainEnd s (length xs) hop last → EndsAs s (passed_of s xs) hop last result after → HasReply s question xs caches result after
   unasked-answered (Special reply) unasked ends how = by (at_once-answered (Special reply) refl ends how (is_kept (result_of s hop (Special reply))) refl)
     where
-      by : IsAnswered s question (xs ++ []) (caches ++ []) result after ⊎ IsAnswered s question xs caches result after → IsAnswered s question xs caches result after
+      by : HasReply s question (xs ++ []) (caches ++ []) result after ⊎ HasReply s question xs caches result after → HasReply s question xs caches result after
       by (inl is) = not-asked is
       by (inr is) = is
   unasked-answered (Hit entry) unasked ends how = by (at_once-answered (Hit entry) refl ends how (is_kept (result_of s hop (Hit entry))) refl)
     where
-      by : IsAnswered s question (xs ++ []) (caches ++ []) result after ⊎ IsAnswered s question xs caches result after → IsAnswered s question xs caches result after
+      by : HasReply s question (xs ++ []) (caches ++ []) result after ⊎ HasReply s question xs caches result after → HasReply s question xs caches result after
       by (inl is) = not-asked is
       by (inr is) = is
   unasked-answered (Asked outcome) unasked ends how = cc
 
   -- it ends with what came back
   asked-answered : (outcome : OutcomeValue) (cache : CacheValue) → IsChainEnd (record s { cache = cache }) (length xs) hop (Asked outcome) → EndsAs s (passed_of s xs) hop (Asked outcome) result after
-      → IsAnswered s question (xs ++ record { query = hop.query; outcome = outcome } ∷ []) (caches ++ cache ∷ []) result after
+      → HasReply s question (xs ++ record { query = hop.query; outcome = outcome } ∷ []) (caches ++ cache ∷ []) result after
   asked-answered outcome cache ends (inl (result_is, after_is)) = whole-answered (Asked outcome) cache ends (λ e. cc) result_is after_is
   asked-answered outcome cache ends (inr (out, takes, begun)) = kept-answered (Asked outcome) cache ends (λ e. cc) (kept-asked s hop outcome takes) (inr (out, takes, begun))
 
@@ -207,7 +207,7 @@ pub record IsInFlight (s : LookupContext) (p : PendingValue) : Type 0 where
 abbrev pub IsOnItsWay : LookupContext → Query → List Exchange → List CacheValue → ProgressValue → CacheValue → Type 0
 IsOnItsWay s question asks caches (Waits w) after =
     IsInFlight s (record { question = question; asks = asks; caches = caches; cache = s.cache; waiting = w }) × (w.now ≡ s.now) × (after ≡ s.cache)
-IsOnItsWay s question asks caches (IsDone result) after = IsAnswered s question asks caches result after
+IsOnItsWay s question asks caches (IsDone result) after = HasReply s question asks caches result after
 
 come : (s : LookupContext) (question : Query) (xs : List Exchange) (caches : List CacheValue) (passed : List PassedValue) (hop : Hop) (progress : ProgressValue) (after : CacheValue) → HasPassed s question xs caches passed hop → ComesTo s passed hop progress after → IsOnItsWay s question xs caches progress after
 come s question xs caches passed hop (Waits w) after has (up, w_is, same) = (

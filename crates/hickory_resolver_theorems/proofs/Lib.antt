@@ -20,6 +20,7 @@ pub mod OneCache
 pub mod OneCacheless
 pub mod Provenances
 pub mod Responses
+pub mod RunEvents
 pub mod Runs
 pub mod Stores
 pub mod Transparent

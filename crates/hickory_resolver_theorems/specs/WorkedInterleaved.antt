@@ -1,8 +1,9 @@
 -- Worked cases of look-ups that are in flight together over one cache.
-use Rattle.std.specs.Prelude.{ℕ, ◌+◌, false, List, [], ◌∷◌, codes, Ok, refl}
+use Rattle.std.specs.Prelude.{ℕ, ◌+◌, false, List, [], ◌∷◌, codes, Ok, Err, refl}
 use Rattle.std.proofs.Common.{arith, inl, inr}
 use Rattle.hickory_proto_core.specs.Name.{NameValue}
 use Rattle.hickory_proto_core.specs.Handles.{OutcomeValue}
+use Rattle.hickory_proto_core.specs.declared.net_error.NetError.TheVariants.{OutOfMemory}
 use Rattle.hickory_resolver_model.specs.Cache.{CacheValue, Entry}
 use Rattle.hickory_resolver_model.specs.Lookup.{LookupValue}
 use Rattle.hickory_resolver_model.specs.Verdict.{first_hop}
@@ -66,6 +67,12 @@ target_stored_meanwhile =
     starts a 0 ∷ starts b 0 ∷ Fed (in_flight b 0) (came b) (IsDone (Ok (given b 10 10)))
     ∷ Fed (in_flight a 0) (Ok (response (asks_a a) alias_alone)) (IsDone (Ok (given b 10 10))) ∷ []
 
+-- an outcome that is out of memory, for one of two
+abbrev pub one_runs_out : List EventValue
+one_runs_out =
+    starts a 0 ∷ starts b 0 ∷ Fed (in_flight a 0) (Err OutOfMemory) (IsDone (Err OutOfMemory))
+    ∷ Fed (in_flight b 0) (came b) (IsDone (Ok (given b 10 10))) ∷ []
+
 -- the address of the target, under the name that led there
 abbrev pub alias_kept : Entry
 alias_kept = record (kept a 0) { result = Ok (response (asks_a a) (rr b 10 address ∷ [])) }
@@ -80,6 +87,8 @@ pub record InterleavedCases : Type 0 where
   -- entry that was hit
   pub target_is_hit : Happen false (world_of (holding [])) target_stored_meanwhile
       (world (kept b 0 ∷ alias_kept ∷ []) [])
+  -- a look-up that runs out of memory stores nothing, and the other goes on
+  pub other_goes_on : Happen false (world_of (holding [])) one_runs_out (world (kept b 0 ∷ []) [])
 
 pub interleaved_cases : InterleavedCases
 interleaved_cases = record {
@@ -200,6 +209,45 @@ interleaved_cases = record {
               alias = refl;
               early = omega arith;
               goes_on = inl (Hit (kept b 0), refl, (refl, refl), inl (refl, refl));
+            }),
+            refl,
+          ),
+          refl,
+        ),
+      ),
+    ),
+  );
+  other_goes_on = (
+    world [] (in_flight a 0 ∷ []),
+    (((refl, refl), refl, refl), refl),
+    (
+      world [] (in_flight a 0 ∷ in_flight b 0 ∷ []),
+      (((refl, refl), refl, refl), refl),
+      (
+        world [] (in_flight b 0 ∷ []),
+        (
+          [],
+          in_flight b 0 ∷ [],
+          refl,
+          inr (record {
+            result = Err OutOfMemory;
+            progress_is = refl;
+            no_alias = λ next h. cc;
+            ends = inl (refl, refl);
+          }),
+          refl,
+        ),
+        (
+          world (kept b 0 ∷ []) [],
+          (
+            [],
+            [],
+            refl,
+            inr (record {
+              result = Ok (given b 10 10);
+              progress_is = refl;
+              no_alias = λ next h. cc;
+              ends = inl (refl, refl);
             }),
             refl,
           ),

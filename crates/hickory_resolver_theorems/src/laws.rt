@@ -22,6 +22,7 @@ ghost use Rattle.hickory_resolver_theorems.specs.Statements.{IsFresh, IsTranspar
 ghost use Rattle.hickory_resolver_theorems.specs.Provenance.{HasProvenance};
 ghost use Rattle.hickory_resolver_theorems.specs.Aliases.{NoAliasOutlives};
 ghost use Rattle.hickory_resolver_theorems.specs.Interleaved.{IsPromisedInterleaving};
+ghost use Rattle.hickory_resolver_theorems.specs.OneAtATime.{IsOneAtATime};
 ghost use Rattle.hickory_resolver_theorems.specs.Resumed.{IsOverOneCache, IsDrivenAlike, IsPromisedOver};
 ghost use Rattle.hickory_resolver_theorems.specs.CallFacts.{IsPromisedCall, KeepsWhatIsKnown};
 ghost use Rattle.hickory_resolver_theorems.specs.WalkLaws.{IsOneWalk};
@@ -113,6 +114,13 @@ pub fn changing_caches_keep_the_promises()
 /// on, end, store, evict and clear between its steps.
 pub fn every_interleaving_keeps_the_promises()
     ensures { (preserve : Bool) (empty : CacheValue) → IsPromisedInterleaving preserve empty }
+{}
+
+/// Every run is a list of such events in which no look-up waits: one look-up at a time.
+pub fn a_run_is_one_look_up_at_a_time()
+    ensures { (s : Settings) (before : CacheValue) (requests : List RequestValue) (steps : List StepValue)
+        (exchanges : List Exchange) (after : CacheValue) (run : Run s before requests steps exchanges after)
+        → IsOneAtATime s before requests steps exchanges after run }
 {}
 
 /// A look-up that is what the hops say over the exchanges that were answered is so over those that a
