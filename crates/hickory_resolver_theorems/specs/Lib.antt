@@ -11,6 +11,7 @@ pub mod Statements
 pub mod Provenance
 pub mod Resumed
 pub mod Interleaved
+pub mod InterleavedCalls
 pub mod WalkLaws
 pub mod Worked
 pub mod WorkedServices
