@@ -17,11 +17,11 @@ use Rattle.hickory_resolver_model.specs.Resuming.{WaitingValue, ProgressValue, W
 use Rattle.hickory_resolver_model.specs.Run.{Settings, Call, AtOnce, Attempt, IsCall, drop_each}
 use Rattle.hickory_resolver_theorems.specs.CallsAlone.{IsRestOfCall, LeadsToWhole}
 use Rattle.hickory_resolver_theorems.specs.Covered.{Dated, dated_exchanges}
-use Rattle.hickory_resolver_theorems.specs.Interleaved.{PendingValue, DoneValue, WorldValue, world_of, EventValue, Started, Fed, Dropped, ClearedOfAll, ClearedOf, asks_with, caches_with, Happens, Happen, ended_by, received_by, received_in}
-use Rattle.hickory_resolver_theorems.specs.InterleavedCalls.{PendingCallValue, DoneCallValue, CallWorldValue, call_world_of, call_context_over, CallEventValue, CallStarted, CallFed, CallDropped, AllCleared, NameCleared, HostsReplaced, exchange_with, call_pending, call_done, placed, CallHappens, CallsHappen, calls_ended_by, calls_received_by, calls_received_in, tables_by, tables_in, IsPromisedAmong, InterleavedSubLookup, IsPromisedCallEnd, IsPromisedCallInterleaving}
+use Rattle.hickory_resolver_theorems.specs.Interleaved.{PendingValue, DoneValue, WorldValue, world_of, EventValue, Started, Fed, Dropped, ClearedOfAll, ClearedOf, asks_with, caches_with, Happens, Happen, ended_by, received_by, ended_in, received_in}
+use Rattle.hickory_resolver_theorems.specs.InterleavedCalls.{PendingCallValue, DoneCallValue, CallWorldValue, call_world_of, call_context_over, CallEventValue, CallStarted, CallFed, CallDropped, AllCleared, NameCleared, HostsReplaced, exchange_with, call_pending, call_done, placed, CallHappens, CallsHappen, calls_ended_by, calls_received_by, calls_received_in, tables_by, tables_in, IsQuestionOf, IsStartedIn, IsAskedIn, IsPromisedAmong, InterleavedSubLookup, IsPromisedCallEnd, IsPromisedCallInterleaving}
 use Rattle.hickory_resolver_theorems.specs.ResumingCalls.{AttemptValue, WaitingCallValue, CallProgressValue, CallWaits, CallIsDone, with_result, at_next, FindsStatic, StartsSub, GoesOn, by_hosts, waits, at_once, stopped, next_name, no_name, StartsNames, StartsCall, RunsOutAtStart, GoesOnAfter}
 use Rattle.hickory_resolver_theorems.proofs.Interleavings.{interleaved}
-use Rattle.hickory_resolver_theorems.proofs.Lists.{contains-from_recursion, contains-to_recursion, has-left, has-right}
+use Rattle.hickory_resolver_theorems.proofs.Lists.{all-weaker, all-append, all-front, all-back, contains-from_recursion, contains-to_recursion, has-left, has-right}
 use Rattle.hickory_resolver_theorems.proofs.RestOfCall.{asks-append, by_client, static, rest_stopped, attempts_of, rest_next, rest_none, more_done}
 
 -- ---- lists that go on
@@ -57,6 +57,15 @@ now-stays s w outcome sub after (inl f) = elim f.goes_on [
 ]
 now-stays s w outcome sub after (inr e) = let clash = e.progress_is in cc
 
+received-fed : (before : List EventValue) (event : EventValue) (after : List EventValue) (received own : List Dated) → received_in before ≡ received → received_by event ≡ own → received_in after ≡ [] → received_in ((before ++ event ∷ []) ++ after) ≡ received ++ own
+received-fed before event after received own e k none =
+    received-append (before ++ event ∷ []) after
+    ∙ ap₂ (λ xs ys. xs ++ ys) (received-append before (event ∷ []) ∙ ap₂ (λ xs ys. xs ++ ys) e (append-nil (received_by event) ∙ k)) none ∙ append-nil (received ++ own)
+
+ended-append : (xs ys : List EventValue) → ended_in (xs ++ ys) ≡ ended_in xs ++ ended_in ys
+ended-append [] ys = refl
+ended-append (x ∷ xs) ys = ap (λ l. ended_by x ++ l) (ended-append xs ys) ∙ sym (append_assoc (ended_by x) (ended_in xs) (ended_in ys))
+
 among-later : (preserve : Bool) (empty : CacheValue) (xs ys : List EventValue) (d : DoneValue) → IsPromisedAmong preserve empty xs d → IsFront xs ys → IsPromisedAmong preserve empty ys d
 among-later preserve empty xs ys d is (more, e) = record {
   earlier = is.earlier;
@@ -86,6 +95,25 @@ module _ (s : Settings) (empty : CacheValue) (none : empty.entries ≡ []) where
   leads-later : (tables others : List (List Host)) (lookups more : List EventValue) (call : Call) (now : ℕ) (done : List SubLookup) (a : AttemptValue) → IsFront tables others → IsFront lookups more → Leads tables lookups call now done a → Leads others more call now done a
   leads-later tables others lookups more call now done a f g leads T L h k = leads T L (front-trans tables others T f h) (front-trans lookups more L g k)
 
+  -- what it may look up are questions of the call
+  abbrev Within : Call → AttemptValue → Type 0
+  Within call a = (name : NameValue) (t : RecordType) (results : List LookupResult) → Contains (a.name ∷ a.left) name → next_type a.plan.types results ≡ Some t → IsQuestionOf s call (question_of name t)
+
+  within-own : (call : Call) (a : AttemptValue) (t : RecordType) → Within call a → next_type a.plan.types a.results ≡ Some t → IsQuestionOf s call (question_of a.name t)
+  within-own call a t within next = within a.name t a.results (contains-from_recursion (a.name ∷ a.left) a.name (inl refl)) next
+
+  within-next : (call : Call) (a : AttemptValue) (name : NameValue) (names : List NameValue) → a.left ≡ name ∷ names → Within call a → Within call (at_next a name names)
+  within-next call a name names left within other t results has next =
+      within other t results (contains-from_recursion (a.name ∷ a.left) other (inr (contains-to_recursion a.left other (subst (λ ns. Contains ns other) (sym left) has)))) next
+
+  -- a look-up of a question of a call, from its moment
+  abbrev IsOfCall : Call → ℕ → DoneValue → Type 0
+  IsOfCall call now d = (d.now ≡ now) × IsQuestionOf s call d.question
+
+  -- a call in flight is this one
+  abbrev IsThisCall : Call → ℕ → PendingCallValue → Type 0
+  IsThisCall call now c = (c.call ≡ call) × (c.waiting.sub.now ≡ now)
+
   -- what is known of a call in flight and of the look-up for which it waits
   record IsKnownCall (tables : List (List Host)) (lookups : List EventValue) (c : PendingCallValue) (p : PendingValue) : Type 0 where
     same : p.waiting ≡ c.waiting.sub
@@ -98,6 +126,7 @@ module _ (s : Settings) (empty : CacheValue) (none : empty.entries ≡ []) where
     done : List SubLookup
     asks_are : c.asks ≡ asks_of_sub_lookups done ++ p.asks
     leads : Leads tables lookups c.call c.waiting.sub.now done c.waiting.attempt
+    within : Within c.call c.waiting.attempt
 
   known-later : (tables others : List (List Host)) (lookups more : List EventValue) (c : PendingCallValue) (p : PendingValue) → IsFront tables others → IsFront lookups more → IsKnownCall tables lookups c p → IsKnownCall others more c p
   known-later tables others lookups more c p f g is = record {
@@ -111,6 +140,7 @@ module _ (s : Settings) (empty : CacheValue) (none : empty.entries ≡ []) where
     done = is.done;
     asks_are = is.asks_are;
     leads = leads-later tables others lookups more c.call c.waiting.sub.now is.done c.waiting.attempt f g is.leads;
+    within = is.within;
   }
 
   -- for each call in flight there is its look-up, in the same order
@@ -195,6 +225,8 @@ module _ (s : Settings) (empty : CacheValue) (none : empty.entries ≡ []) where
       nothing : received_in more ≡ []
       known : Match tables (lookups ++ more) (call_pending call asks progress) new
       ended : AllByRecursion (IsPromisedCallEnd s empty tables (lookups ++ more)) (call_done call now asks progress)
+      asked : AllByRecursion (IsOfCall call now) (ended_in more)
+      own : AllByRecursion (IsThisCall call now) (call_pending call asks progress)
 
     -- it is done, and nothing more was looked up
     gone-done : (lookups : List EventValue) (parts : List SubLookup) (result : LookupResult) (after : CacheValue) (ps : List PendingValue) → Happen preserve (world_of empty) lookups (record { cache = after; pending = ps }) → IsPromisedCallEnd s empty tables lookups (record { call = call; now = now; asks = asks_of_sub_lookups parts; result = result })
@@ -208,6 +240,8 @@ module _ (s : Settings) (empty : CacheValue) (none : empty.entries ≡ []) where
           nothing = refl;
           known = tt;
           ended = (subst (λ ls. IsPromisedCallEnd s empty tables ls (record { call = call; now = now; asks = asks_of_sub_lookups parts; result = result })) (sym (append-nil lookups)) is, tt);
+          asked = tt;
+          own = tt;
         }
 
     gone-over : (lookups : List EventValue) (done : List SubLookup) (a : AttemptValue) (result : LookupResult) (after : CacheValue) (ps : List PendingValue) → Happen preserve (world_of empty) lookups (record { cache = after; pending = ps }) → Leads tables lookups call now done a → IsRestOfCall (Answers tables lookups now) a empty [] result empty
@@ -218,8 +252,8 @@ module _ (s : Settings) (empty : CacheValue) (none : empty.entries ≡ []) where
         (record { parts = done; asks_are = refl; is = inl (subst (λ xs. IsCall (Answers tables lookups now) s empty call xs result empty) (append-nil done) whole) })
 
     -- the first look-up's event, and the others'
-    gone-after : (lookups : List EventValue) (event : EventValue) (asks : List Exchange) (progress : CallProgressValue) (after : CacheValue) (ps : List PendingValue) → received_by event ≡ [] → Gone (lookups ++ event ∷ []) asks progress after ps → Gone lookups asks progress after ps
-    gone-after lookups event asks progress after ps nothing g =
+    gone-after : (lookups : List EventValue) (event : EventValue) (asks : List Exchange) (progress : CallProgressValue) (after : CacheValue) (ps : List PendingValue) → received_by event ≡ [] → AllByRecursion (IsOfCall call now) (ended_by event) → Gone (lookups ++ event ∷ []) asks progress after ps → Gone lookups asks progress after ps
+    gone-after lookups event asks progress after ps nothing asked g =
         let e = append_assoc lookups (event ∷ []) g.more in
         record {
           more = event ∷ g.more;
@@ -228,15 +262,17 @@ module _ (s : Settings) (empty : CacheValue) (none : empty.entries ≡ []) where
           nothing = ap₂ (λ xs ys. xs ++ ys) nothing g.nothing;
           known = subst (λ ls. Match tables ls (call_pending call asks progress) g.new) e g.known;
           ended = subst (λ ls. AllByRecursion (IsPromisedCallEnd s empty tables ls) (call_done call now asks progress)) e g.ended;
+          asked = all-append (IsOfCall call now) (ended_by event) (ended_in g.more) asked g.asked;
+          own = g.own;
         }
 
     gone-asks : (lookups : List EventValue) (done : List SubLookup) (p : SubLookup) (progress : CallProgressValue) (after : CacheValue) (ps : List PendingValue) → p.asks ≡ [] → Gone lookups (asks_of_sub_lookups (done ++ p ∷ [])) progress after ps → Gone lookups (asks_of_sub_lookups done) progress after ps
     gone-asks lookups done p progress after ps unasked g =
         subst (λ xs. Gone lookups xs progress after ps) (asks-append done p ∙ ap (λ xs. asks_of_sub_lookups done ++ xs) unasked ∙ append-nil (asks_of_sub_lookups done)) g
 
-    gone-waits : (lookups : List EventValue) (done : List SubLookup) (a : AttemptValue) (t : RecordType) (w : WaitingValue) (before after : CacheValue) (ps : List PendingValue) → Happen preserve (world_of empty) lookups (record { cache = before; pending = ps }) → Leads tables lookups call now done a → StartsSub ctx a t before (Waits w) after
+    gone-waits : (lookups : List EventValue) (done : List SubLookup) (a : AttemptValue) (t : RecordType) (w : WaitingValue) (before after : CacheValue) (ps : List PendingValue) → Happen preserve (world_of empty) lookups (record { cache = before; pending = ps }) → Leads tables lookups call now done a → Within call a → StartsSub ctx a t before (Waits w) after
         → Gone lookups (asks_of_sub_lookups done) (CallWaits (record { attempt = a; sub = w })) after ps
-    gone-waits lookups done a t w before after ps happened leads started =
+    gone-waits lookups done a t w before after ps happened leads within started =
         let q = question_of a.name t in
         let p : PendingValue = record { question = q; asks = []; caches = []; cache = before; waiting = w } in
         let event = Started q now (Waits w) in
@@ -258,10 +294,13 @@ module _ (s : Settings) (empty : CacheValue) (none : empty.entries ≡ []) where
               done = done;
               asks_are = sym (append-nil (asks_of_sub_lookups done));
               leads = subst (λ n. Leads tables (lookups ++ event ∷ []) call n done a) (sym now_is) (leads-later tables tables lookups (lookups ++ event ∷ []) call now done a (front-self tables) (front-more lookups (event ∷ [])) leads);
+              within = within;
             },
             tt,
           );
           ended = tt;
+          asked = tt;
+          own = ((refl, now_is), tt);
         }
 
     -- the look-up that an event ended, among those that ended up to then
@@ -281,29 +320,29 @@ module _ (s : Settings) (empty : CacheValue) (none : empty.entries ≡ []) where
           promised = (subst (AllByRecursion _) is_end all).0;
         }
 
-    goes : (a : AttemptValue) (before : CacheValue) (progress : CallProgressValue) (after : CacheValue) (lookups : List EventValue) (done : List SubLookup) (ps : List PendingValue) → Happen preserve (world_of empty) lookups (record { cache = before; pending = ps }) → Leads tables lookups call now done a → GoesOn ctx a before progress after
+    goes : (a : AttemptValue) (before : CacheValue) (progress : CallProgressValue) (after : CacheValue) (lookups : List EventValue) (done : List SubLookup) (ps : List PendingValue) → Happen preserve (world_of empty) lookups (record { cache = before; pending = ps }) → Leads tables lookups call now done a → Within call a → GoesOn ctx a before progress after
         → Gone lookups (asks_of_sub_lookups done) progress after ps
-    goes a before progress after lookups done ps happened leads (by_hosts {t = t} {result = result} found more) =
+    goes a before progress after lookups done ps happened leads within (by_hosts {t = t} {result = result} found more) =
         gone-asks lookups done (static a t result) progress after ps refl
-        (goes (with_result a result) before progress after lookups (done ++ static a t result ∷ []) ps happened (leads-found lookups done a t result found leads) more)
-    goes a before progress after lookups done ps happened leads (waits {t = t} {w = w} started) = gone-waits lookups done a t w before after ps happened leads started
-    goes a before progress after lookups done ps happened leads (at_once {t = t} {result = result} {mid = mid} started more) =
+        (goes (with_result a result) before progress after lookups (done ++ static a t result ∷ []) ps happened (leads-found lookups done a t result found leads) within more)
+    goes a before progress after lookups done ps happened leads within (waits {t = t} {w = w} started) = gone-waits lookups done a t w before after ps happened leads within started
+    goes a before progress after lookups done ps happened leads within (at_once {t = t} {result = result} {mid = mid} started more) =
         let q = question_of a.name t in
         let event = Started q now (IsDone result) in
         let d : DoneValue = record { question = q; now = now; asks = []; caches = []; result = result } in
         let first : WorldValue = record { cache = before; pending = ps } in
         let second : WorldValue = record { cache = mid; pending = ps } in
         let happens : Happens preserve first event second = (started.starts, sym (append-nil ps)) in
-        gone-after lookups event (asks_of_sub_lookups done) progress after ps refl
+        gone-after lookups event (asks_of_sub_lookups done) progress after ps refl ((refl, within-own call a t within started.next), tt)
         (gone-asks (lookups ++ event ∷ []) done (by_client a t [] result) progress after ps refl
         (goes (with_result a result) mid progress after (lookups ++ event ∷ []) (done ++ by_client a t [] result ∷ []) ps (happen-more preserve (world_of empty) lookups first event second happened happens)
-        (leads-ended lookups (lookups ++ event ∷ []) done a t d started.next started.not_static refl refl (front-more lookups (event ∷ [])) (among-now lookups event first second d happened happens refl) leads) more))
-    goes a before progress after lookups done ps happened leads (stopped {result = result} is stop) =
+        (leads-ended lookups (lookups ++ event ∷ []) done a t d started.next started.not_static refl refl (front-more lookups (event ∷ [])) (among-now lookups event first second d happened happens refl) leads) within more))
+    goes a before progress after lookups done ps happened leads within (stopped {result = result} is stop) =
         gone-over lookups done a result before ps happened leads (rest_stopped (Answers tables lookups now) a result empty is stop)
-    goes a before progress after lookups done ps happened leads (next_name {result = result} {name = name} {names = names} is on left more) =
+    goes a before progress after lookups done ps happened leads within (next_name {result = result} {name = name} {names = names} is on left more) =
         goes (at_next a name names) before progress after lookups done ps happened
-        (λ T L h k parts r end rest. leads T L h k parts r end (rest_next (Answers T L now) a result name names empty is on left parts r end rest)) more
-    goes a before progress after lookups done ps happened leads (no_name {last = last} {result = result} is on left reply) =
+        (λ T L h k parts r end rest. leads T L h k parts r end (rest_next (Answers T L now) a result name names empty is on left parts r end rest)) (within-next call a name names left within) more
+    goes a before progress after lookups done ps happened leads within (no_name {last = last} {result = result} is on left reply) =
         gone-over lookups done a result before ps happened leads (rest_none (Answers tables lookups now) a last result empty is on left reply)
 
     run_out : (lookups : List EventValue) (before : CacheValue) (progress : CallProgressValue) (after : CacheValue) (ps : List PendingValue) → Happen preserve (world_of empty) lookups (record { cache = before; pending = ps }) → RunsOutAtStart before progress after → Gone lookups [] progress after ps
@@ -324,7 +363,8 @@ module _ (s : Settings) (empty : CacheValue) (none : empty.entries ≡ []) where
         goes tables hosts stood (Attempt n plan) now (record { plan = plan; looked = true; name = name; results = []; left = names }) before progress after lookups [] ps happened
         (λ T L h k parts r end rest.
         subst (λ ns. AreAttempts (Answers T L now) plan true empty ns (Says plan.no_names) parts r end) (sym e)
-        (attempts_of (Answers T L now) plan true name names empty (Says plan.no_names) parts r end rest)) more
+        (attempts_of (Answers T L now) plan true name names empty (Says plan.no_names) parts r end rest))
+        (λ other t results has next. (other, t, results, subst (λ ns. Contains ns other) (sym e) has, next, refl)) more
 
     begun : (call : Call) → StartsCall (call_context_over s now hosts) s call before progress after ⊎ RunsOutAtStart before progress after → Gone tables hosts stood call now lookups [] progress after ps
     begun call (inr out) = run_out tables hosts stood call now lookups before progress after ps happened out
@@ -336,26 +376,68 @@ module _ (s : Settings) (empty : CacheValue) (none : empty.entries ≡ []) where
 
   -- ---- events
 
+  -- a call in flight was started
+  abbrev IsBegun : List CallEventValue → PendingCallValue → Type 0
+  IsBegun events c = IsStartedIn events c.call c.waiting.sub.now
+
+  started-later : (events more : List CallEventValue) (call : Call) (now : ℕ) → IsStartedIn events call now → IsStartedIn (events ++ more) call now
+  started-later events more call now (progress, has) = (progress, contains-front events (events ++ more) (CallStarted call now progress) has (front-more events more))
+
+  begun-later : (events more : List CallEventValue) (cs : List PendingCallValue) → AllByRecursion (IsBegun events) cs → AllByRecursion (IsBegun (events ++ more)) cs
+  begun-later events more cs all = all-weaker (IsBegun events) (IsBegun (events ++ more)) (λ c h. started-later events more c.call c.waiting.sub.now h) cs all
+
+  asked-later : (events more : List CallEventValue) (d : DoneValue) → IsAskedIn s events d → IsAskedIn s (events ++ more) d
+  asked-later events more d (call, started, is) = (call, started-later events more call d.now started, is)
+
+  -- the look-ups of a call are asked by it, where it was started
+  own-asked : (events : List CallEventValue) (call : Call) (now : ℕ) → IsStartedIn events call now → (d : DoneValue) → IsOfCall call now d → IsAskedIn s events d
+  own-asked events call now started d (same, is) = (call, subst (IsStartedIn events call) (sym same) started, is)
+
+  asked-more : (events more : List CallEventValue) (before after : List EventValue) (call : Call) (now : ℕ) → IsStartedIn (events ++ more) call now → AllByRecursion (IsAskedIn s events) (ended_in before) → AllByRecursion (IsOfCall call now) (ended_in after) → AllByRecursion (IsAskedIn s (events ++ more)) (ended_in (before ++ after))
+  asked-more events more before after call now started all own =
+      subst (AllByRecursion (IsAskedIn s (events ++ more))) (sym (ended-append before after))
+      (all-append (IsAskedIn s (events ++ more)) (ended_in before) (ended_in after)
+      (all-weaker (IsAskedIn s events) (IsAskedIn s (events ++ more)) (asked-later events more) (ended_in before) all)
+      (all-weaker (IsOfCall call now) (IsAskedIn s (events ++ more)) (own-asked (events ++ more) call now started) (ended_in after) own))
+
+  asked-none : (events more : List CallEventValue) (before after : List EventValue) → ended_in after ≡ [] → AllByRecursion (IsAskedIn s events) (ended_in before) → AllByRecursion (IsAskedIn s (events ++ more)) (ended_in (before ++ after))
+  asked-none events more before after none all =
+      subst (AllByRecursion (IsAskedIn s (events ++ more))) (sym (ended-append before after ∙ ap (λ l. ended_in before ++ l) none ∙ append-nil (ended_in before)))
+      (all-weaker (IsAskedIn s events) (IsAskedIn s (events ++ more)) (asked-later events more) (ended_in before) all)
+
+  asked-fed : (before : List EventValue) (event : EventValue) (after : List EventValue) (events : List CallEventValue) → AllByRecursion (IsAskedIn s events) (ended_in (before ++ event ∷ after)) → AllByRecursion (IsAskedIn s events) (ended_in ((before ++ event ∷ []) ++ after))
+  asked-fed before event after events all = subst (λ ls. AllByRecursion (IsAskedIn s events) (ended_in ls)) (sym (append_assoc before (event ∷ []) after)) all
+
+  this-begun : (events : List CallEventValue) (call : Call) (now : ℕ) → IsStartedIn events call now → (c : PendingCallValue) → IsThisCall call now c → IsBegun events c
+  this-begun events call now started c (same, now_is) = subst (λ k. IsStartedIn events k c.waiting.sub.now) (sym same) (subst (IsStartedIn events call) (sym now_is) started)
+
+  own-begun : (events : List CallEventValue) (call : Call) (now : ℕ) → IsStartedIn events call now → (cs : List PendingCallValue) → AllByRecursion (IsThisCall call now) cs → AllByRecursion (IsBegun events) cs
+  own-begun events call now started cs own = all-weaker (IsThisCall call now) (IsBegun events) (this-begun events call now started) cs own
+
   -- what is known of the resolver after some events
-  record Good (tables : List (List Host)) (received : List Dated) (world : CallWorldValue) : Type 0 where
+  record Good (events : List CallEventValue) (tables : List (List Host)) (received : List Dated) (world : CallWorldValue) : Type 0 where
     lookups : List EventValue
     pending : List PendingValue
     happened : Happen preserve (world_of empty) lookups (record { cache = world.cache; pending = pending })
     received_is : received_in lookups ≡ received
     stood : Contains tables world.hosts
     known : Match tables lookups world.calls pending
+    asked : AllByRecursion (IsAskedIn s events) (ended_in lookups)
+    begun_in : AllByRecursion (IsBegun events) world.calls
 
   -- and of the calls that the last one ended
-  record GoodStep (tables : List (List Host)) (received : List Dated) (ended : List DoneCallValue) (world : CallWorldValue) : Type 0 where
-    good : Good tables received world
+  record GoodStep (events : List CallEventValue) (tables : List (List Host)) (received : List Dated) (ended : List DoneCallValue) (world : CallWorldValue) : Type 0 where
+    good : Good events tables received world
     ends : AllByRecursion (IsPromisedCallEnd s empty tables good.lookups) ended
 
-  same_tables : (tables : List (List Host)) (received : List Dated) (ended : List DoneCallValue) (world : CallWorldValue) → GoodStep tables received ended world → GoodStep (tables ++ []) received ended world
-  same_tables tables received ended world is = subst (λ T. GoodStep T received ended world) (sym (append-nil tables)) is
+  same_tables : (events : List CallEventValue) (tables : List (List Host)) (received : List Dated) (ended : List DoneCallValue) (world : CallWorldValue) → GoodStep events tables received ended world → GoodStep events (tables ++ []) received ended world
+  same_tables events tables received ended world is = subst (λ T. GoodStep events T received ended world) (sym (append-nil tables)) is
 
-  module _ (tables : List (List Host)) (received : List Dated) (before : CallWorldValue) (good : Good tables received before) (after : CallWorldValue) where
-    started-good : (call : Call) (now : ℕ) (progress : CallProgressValue) → CallHappens s before (CallStarted call now progress) after → GoodStep tables (received ++ []) (call_done call now [] progress) after
+  module _ (events : List CallEventValue) (tables : List (List Host)) (received : List Dated) (before : CallWorldValue) (good : Good events tables received before) (after : CallWorldValue) where
+    started-good : (call : Call) (now : ℕ) (progress : CallProgressValue) → CallHappens s before (CallStarted call now progress) after → GoodStep (events ++ CallStarted call now progress ∷ []) tables (received ++ []) (call_done call now [] progress) after
     started-good call now progress (starts, hosts_is, calls_is) =
+        let event = CallStarted call now progress in
+        let now_begun : IsStartedIn (events ++ event ∷ []) call now = (progress, contains-from_recursion (events ++ event ∷ []) event (has-right events (event ∷ []) event (inl refl))) in
         let g = begun tables before.hosts good.stood now good.lookups before.cache good.pending good.happened progress after.cache call starts in
         let all = good.lookups ++ g.more in
         let others = match-later tables tables good.lookups all (front-self tables) (front-more good.lookups g.more) before.calls good.pending good.known in
@@ -367,11 +449,20 @@ module _ (s : Settings) (empty : CacheValue) (none : empty.entries ≡ []) where
             received_is = received-append good.lookups g.more ∙ ap₂ (λ xs ys. xs ++ ys) good.received_is g.nothing;
             stood = subst (Contains tables) (sym hosts_is) good.stood;
             known = subst (λ cs. Match tables all cs (good.pending ++ g.new)) (sym calls_is) (match-append tables all before.calls (call_pending call [] progress) good.pending g.new others g.known);
+            asked = asked-more events (event ∷ []) good.lookups g.more call now now_begun good.asked g.asked;
+            begun_in = subst (AllByRecursion (IsBegun (events ++ event ∷ []))) (sym calls_is)
+                (all-append (IsBegun (events ++ event ∷ [])) before.calls (call_pending call [] progress) (begun-later events (event ∷ []) before.calls good.begun_in) (own-begun (events ++ event ∷ []) call now now_begun (call_pending call [] progress) g.own));
           };
           ends = g.ended;
         }
 
-    module _ (c : PendingCallValue) (outcome : OutcomeValue) (front back : List PendingCallValue) (around : IsAround tables good.lookups front c back good.pending) where
+    module _ (c : PendingCallValue) (outcome : OutcomeValue) (front back : List PendingCallValue) (around : IsAround tables good.lookups front c back good.pending) (now_event : CallEventValue) (others_begun : AllByRecursion (IsBegun events) front × IsBegun events c × AllByRecursion (IsBegun events) back) where
+      abbrev now_events : List CallEventValue
+      now_events = events ++ now_event ∷ []
+
+      abbrev own_begun : IsStartedIn now_events c.call c.waiting.sub.now
+      own_begun = started-later events (now_event ∷ []) c.call c.waiting.sub.now others_begun.1
+
       abbrev p : PendingValue
       p = around.own
 
@@ -400,7 +491,7 @@ module _ (s : Settings) (empty : CacheValue) (none : empty.entries ≡ []) where
 
       -- its look-up waits on
       waits-good : (sub : WaitingValue) (mid : CacheValue) → Resumes (start_at step before.cache) c.waiting.sub outcome (Waits sub) mid → (progress : CallProgressValue) → GoesOnAfter step c.waiting.attempt (Waits sub) mid progress after.cache → after.hosts ≡ before.hosts
-          → after.calls ≡ front ++ call_pending c.call (c.asks ++ x ∷ []) progress ++ back → GoodStep tables (received ++ dated_exchanges c.waiting.sub.now (x ∷ [])) (call_done c.call c.waiting.sub.now (c.asks ++ x ∷ []) progress) after
+          → after.calls ≡ front ++ call_pending c.call (c.asks ++ x ∷ []) progress ++ back → GoodStep now_events tables (received ++ dated_exchanges c.waiting.sub.now (x ∷ [])) (call_done c.call c.waiting.sub.now (c.asks ++ x ∷ []) progress) after
       waits-good sub mid resumes progress (is, cache_is) hosts_is calls_is =
           let w : WaitingCallValue = record { attempt = c.waiting.attempt; sub = sub } in
           let own : PendingValue = record { question = p.question; asks = asks_with p outcome; caches = caches_with p; cache = before.cache; waiting = sub } in
@@ -424,6 +515,7 @@ module _ (s : Settings) (empty : CacheValue) (none : empty.entries ≡ []) where
             asks_are = asks_now;
             leads = subst (λ n. Leads tables all c.call n k.done c.waiting.attempt) (sym now_is)
                 (leads-later tables tables good.lookups all c.call c.waiting.sub.now k.done c.waiting.attempt (front-self tables) (front-more good.lookups (event ∷ [])) k.leads);
+            within = k.within;
           } in
           let calls : after.calls ≡ front ++ next ∷ back = subst (λ g. after.calls ≡ front ++ call_pending c.call (c.asks ++ x ∷ []) g ++ back) is calls_is ∙ append_assoc front (next ∷ []) back in
           record {
@@ -435,13 +527,16 @@ module _ (s : Settings) (empty : CacheValue) (none : empty.entries ≡ []) where
               stood = subst (Contains tables) (sym hosts_is) good.stood;
               known = subst (λ cs. Match tables all cs pending) (sym calls)
                   (match-append tables all front (next ∷ back) around.first (own ∷ around.rest) (later front around.first around.fronts) (known, later back around.rest around.backs));
+              asked = asked-none events (now_event ∷ []) good.lookups (event ∷ []) refl good.asked;
+              begun_in = subst (AllByRecursion (IsBegun now_events)) (sym calls)
+                  (all-append (IsBegun now_events) front (next ∷ back) (begun-later events (now_event ∷ []) front others_begun.0) (subst (IsStartedIn now_events c.call) (sym now_is) own_begun, begun-later events (now_event ∷ []) back others_begun.2));
             };
             ends = subst (λ g. AllByRecursion (IsPromisedCallEnd s empty tables all) (call_done c.call c.waiting.sub.now (c.asks ++ x ∷ []) g)) (sym is) tt;
           }
 
       -- its look-up is done
       done-good : (result : LookupResult) (mid : CacheValue) → Resumes (start_at step before.cache) c.waiting.sub outcome (IsDone result) mid → (progress : CallProgressValue) → GoesOnAfter step c.waiting.attempt (IsDone result) mid progress after.cache → after.hosts ≡ before.hosts
-          → after.calls ≡ (front ++ back) ++ call_pending c.call (c.asks ++ x ∷ []) progress → GoodStep tables (received ++ dated_exchanges c.waiting.sub.now (x ∷ [])) (call_done c.call c.waiting.sub.now (c.asks ++ x ∷ []) progress) after
+          → after.calls ≡ (front ++ back) ++ call_pending c.call (c.asks ++ x ∷ []) progress → GoodStep now_events tables (received ++ dated_exchanges c.waiting.sub.now (x ∷ [])) (call_done c.call c.waiting.sub.now (c.asks ++ x ∷ []) progress) after
       done-good result mid resumes progress more hosts_is calls_is =
           let now = c.waiting.sub.now in
           let a = c.waiting.attempt in
@@ -454,9 +549,12 @@ module _ (s : Settings) (empty : CacheValue) (none : empty.entries ≡ []) where
           let leads = leads-ended tables k.hosts k.stood c.call now good.lookups fed k.done a k.asked_type d k.next k.not_static k.question_is (ap (λ (v : WaitingValue). v.now) k.same) (front-more good.lookups (event ∷ []))
           (among-now tables k.hosts k.stood c.call now good.lookups event first second d good.happened happens refl) k.leads in
           let part = by_client a k.asked_type (asks_with p outcome) result in
-          let gone = goes tables before.hosts good.stood c.call now (with_result a result) mid progress after.cache fed (k.done ++ part ∷ []) pending (happen-more preserve (world_of empty) good.lookups first event second good.happened happens) leads more in
+          let gone = goes tables before.hosts good.stood c.call now (with_result a result) mid progress after.cache fed (k.done ++ part ∷ []) pending (happen-more preserve (world_of empty) good.lookups first event second good.happened happens) leads k.within more in
           let g = subst (λ xs. Gone tables before.hosts good.stood c.call now fed xs progress after.cache pending) (asks-append k.done part ∙ sym asks_now) gone in
           let all = fed ++ g.more in
+          let own_question : IsQuestionOf s c.call p.question = subst (IsQuestionOf s c.call) (sym k.question_is) (within-own c.call a k.asked_type k.within k.next) in
+          let asked = asked-fed good.lookups event g.more now_events
+          (asked-more events (now_event ∷ []) good.lookups (event ∷ g.more) c.call now own_begun good.asked ((ap (λ (v : WaitingValue). v.now) k.same, own_question), g.asked)) in
           let front_is : IsFront good.lookups all = front-trans good.lookups fed all (front-more good.lookups (event ∷ [])) (front-more fed g.more) in
           let later : (cs : List PendingCallValue) (ps : List PendingValue) → Match tables good.lookups cs ps → Match tables all cs ps = match-later tables tables good.lookups all (front-self tables) front_is in
           let others = match-append tables all front back around.first around.rest (later front around.first around.fronts) (later back around.rest around.backs) in
@@ -465,9 +563,14 @@ module _ (s : Settings) (empty : CacheValue) (none : empty.entries ≡ []) where
               lookups = all;
               pending = pending ++ g.new;
               happened = g.happened;
-              received_is = received-append fed g.more ∙ ap₂ (λ xs ys. xs ++ ys) (received-append good.lookups (event ∷ []) ∙ ap₂ (λ xs ys. xs ++ ys) good.received_is (append-nil (received_by event) ∙ received_now)) g.nothing ∙ append-nil _;
+              received_is = received-fed good.lookups event g.more received (dated_exchanges c.waiting.sub.now (x ∷ [])) good.received_is received_now g.nothing;
               stood = subst (Contains tables) (sym hosts_is) good.stood;
               known = subst (λ cs. Match tables all cs (pending ++ g.new)) (sym calls_is) (match-append tables all (front ++ back) (call_pending c.call (c.asks ++ x ∷ []) progress) pending g.new others g.known);
+              asked = asked;
+              begun_in = subst (AllByRecursion (IsBegun now_events)) (sym calls_is)
+                  (all-append (IsBegun now_events) (front ++ back) (call_pending c.call (c.asks ++ x ∷ []) progress)
+                  (all-append (IsBegun now_events) front back (begun-later events (now_event ∷ []) front others_begun.0) (begun-later events (now_event ∷ []) back others_begun.2))
+                  (own-begun now_events c.call now own_begun (call_pending c.call (c.asks ++ x ∷ []) progress) g.own));
             };
             ends = g.ended;
           }
@@ -475,9 +578,9 @@ module _ (s : Settings) (empty : CacheValue) (none : empty.entries ≡ []) where
     -- ---- an event
 
     -- nothing is received and no call ends, beside calls in flight whose look-ups are these
-    kept-good : (tables_after : List (List Host)) → IsFront tables tables_after → Contains tables_after after.hosts → (more : List EventValue) → received_in more ≡ [] → (pending : List PendingValue) → Happen preserve (world_of empty) (good.lookups ++ more) (record { cache = after.cache; pending = pending })
-        → Match tables good.lookups after.calls pending → GoodStep tables_after (received ++ []) [] after
-    kept-good tables_after f stood more nothing pending happened known = record {
+    kept-good : (event : CallEventValue) (tables_after : List (List Host)) → IsFront tables tables_after → Contains tables_after after.hosts → (more : List EventValue) → received_in more ≡ [] → ended_in more ≡ [] → AllByRecursion (IsBegun events) after.calls → (pending : List PendingValue) → Happen preserve (world_of empty) (good.lookups ++ more) (record { cache = after.cache; pending = pending })
+        → Match tables good.lookups after.calls pending → GoodStep (events ++ event ∷ []) tables_after (received ++ []) [] after
+    kept-good event tables_after f stood more nothing none_ended begun pending happened known = record {
       good = record {
         lookups = good.lookups ++ more;
         pending = pending;
@@ -485,11 +588,13 @@ module _ (s : Settings) (empty : CacheValue) (none : empty.entries ≡ []) where
         received_is = received-append good.lookups more ∙ ap₂ (λ xs ys. xs ++ ys) good.received_is nothing;
         stood = stood;
         known = match-later tables tables_after good.lookups (good.lookups ++ more) f (front-more good.lookups more) after.calls pending known;
+        asked = asked-none events (event ∷ []) good.lookups more none_ended good.asked;
+        begun_in = begun-later events (event ∷ []) after.calls begun;
       };
       ends = tt;
     }
 
-    dropped-good : (c : PendingCallValue) → CallHappens s before (CallDropped c) after → GoodStep (tables ++ []) (received ++ []) [] after
+    dropped-good : (c : PendingCallValue) → CallHappens s before (CallDropped c) after → GoodStep (events ++ CallDropped c ∷ []) (tables ++ []) (received ++ []) [] after
     dropped-good c (front, back, is, e) =
         let around = match-around tables good.lookups front c back good.pending (subst (λ cs. Match tables good.lookups cs good.pending) is good.known) in
         let p = around.own in
@@ -498,21 +603,26 @@ module _ (s : Settings) (empty : CacheValue) (none : empty.entries ≡ []) where
         let second : WorldValue = record { cache = before.cache; pending = pending } in
         let happens : Happens preserve first (Dropped p) second = (around.first, around.rest, around.are, refl) in
         let happened = happen-more preserve (world_of empty) good.lookups first (Dropped p) second good.happened happens in
-        kept-good (tables ++ []) (front-more tables []) (contains-front tables (tables ++ []) after.hosts (subst (λ (w : CallWorldValue). Contains tables w.hosts) (sym e) good.stood) (front-more tables [])) (Dropped p ∷ []) refl pending
+        let begun = subst (AllByRecursion (IsBegun events)) is good.begun_in in
+        let rest = all-back (IsBegun events) front (c ∷ back) begun in
+        let left : AllByRecursion (IsBegun events) (front ++ back) = all-append (IsBegun events) front back (all-front (IsBegun events) front (c ∷ back) begun) rest.1 in
+        kept-good (CallDropped c) (tables ++ []) (front-more tables []) (contains-front tables (tables ++ []) after.hosts (subst (λ (w : CallWorldValue). Contains tables w.hosts) (sym e) good.stood) (front-more tables [])) (Dropped p ∷ []) refl refl
+        (subst (λ (w : CallWorldValue). AllByRecursion (IsBegun events) w.calls) (sym e) left) pending
         (subst (λ (w : CallWorldValue). Happen preserve (world_of empty) (good.lookups ++ Dropped p ∷ []) (record { cache = w.cache; pending = pending })) (sym e) happened)
         (subst (λ (w : CallWorldValue). Match tables good.lookups w.calls pending) (sym e) (match-append tables good.lookups front back around.first around.rest around.fronts around.backs))
 
     -- the cache is cleared by events of the client
-    cleared-good : (cache : CacheValue) → after ≡ record before { cache = cache } → (more : List EventValue) → received_in more ≡ [] → Happen preserve (world_of empty) (good.lookups ++ more) (record { cache = cache; pending = good.pending }) → GoodStep (tables ++ []) (received ++ []) [] after
-    cleared-good cache e more nothing happened =
-        kept-good (tables ++ []) (front-more tables []) (contains-front tables (tables ++ []) after.hosts (subst (λ (w : CallWorldValue). Contains tables w.hosts) (sym e) good.stood) (front-more tables [])) more nothing good.pending
+    cleared-good : (event : CallEventValue) (cache : CacheValue) → after ≡ record before { cache = cache } → (more : List EventValue) → received_in more ≡ [] → ended_in more ≡ [] → Happen preserve (world_of empty) (good.lookups ++ more) (record { cache = cache; pending = good.pending }) → GoodStep (events ++ event ∷ []) (tables ++ []) (received ++ []) [] after
+    cleared-good event cache e more nothing none_ended happened =
+        kept-good event (tables ++ []) (front-more tables []) (contains-front tables (tables ++ []) after.hosts (subst (λ (w : CallWorldValue). Contains tables w.hosts) (sym e) good.stood) (front-more tables [])) more nothing none_ended
+        (subst (λ (w : CallWorldValue). AllByRecursion (IsBegun events) w.calls) (sym e) good.begun_in) good.pending
         (subst (λ (w : CallWorldValue). Happen preserve (world_of empty) (good.lookups ++ more) (record { cache = w.cache; pending = good.pending })) (sym e) happened)
         (subst (λ (w : CallWorldValue). Match tables good.lookups w.calls good.pending) (sym e) good.known)
 
-    hosts-good : (hosts : List Host) → after ≡ record before { hosts = hosts } → GoodStep (tables ++ hosts ∷ []) (received ++ []) [] after
+    hosts-good : (hosts : List Host) → after ≡ record before { hosts = hosts } → GoodStep (events ++ HostsReplaced hosts ∷ []) (tables ++ hosts ∷ []) (received ++ []) [] after
     hosts-good hosts e =
         let new : Contains (tables ++ hosts ∷ []) hosts = contains-from_recursion (tables ++ hosts ∷ []) hosts (has-right tables (hosts ∷ []) hosts (inl refl)) in
-        kept-good (tables ++ hosts ∷ []) (front-more tables (hosts ∷ [])) (subst (λ (w : CallWorldValue). Contains (tables ++ hosts ∷ []) w.hosts) (sym e) new) [] refl good.pending
+        kept-good (HostsReplaced hosts) (tables ++ hosts ∷ []) (front-more tables (hosts ∷ [])) (subst (λ (w : CallWorldValue). Contains (tables ++ hosts ∷ []) w.hosts) (sym e) new) [] refl refl (subst (λ (w : CallWorldValue). AllByRecursion (IsBegun events) w.calls) (sym e) good.begun_in) good.pending
         (subst (λ (w : CallWorldValue). Happen preserve (world_of empty) (good.lookups ++ []) (record { cache = w.cache; pending = good.pending })) (sym e)
         (subst (λ ls. Happen preserve (world_of empty) ls (record { cache = before.cache; pending = good.pending })) (sym (append-nil good.lookups)) good.happened))
         (subst (λ (w : CallWorldValue). Match tables good.lookups w.calls good.pending) (sym e) good.known)
@@ -526,6 +636,10 @@ module _ (s : Settings) (empty : CacheValue) (none : empty.entries ≡ []) where
   clears-nothing t [] = refl
   clears-nothing t (n ∷ ns) = clears-nothing t ns
 
+  clears-end-none : (t : RecordType) (ns : List NameValue) → ended_in (clears t ns) ≡ []
+  clears-end-none t [] = refl
+  clears-end-none t (n ∷ ns) = clears-end-none t ns
+
   clears-each : (t : RecordType) (ns : List NameValue) (cache : CacheValue) (pending : List PendingValue) → Happen preserve (record { cache = cache; pending = pending }) (clears t ns) (record { cache = drop_each t ns cache; pending = pending })
   clears-each t [] cache pending = refl
   clears-each t (n ∷ ns) cache pending = (record { cache = without_query cache (question_of n t); pending = pending }, refl, clears-each t ns (without_query cache (question_of n t)) pending)
@@ -534,65 +648,76 @@ module _ (s : Settings) (empty : CacheValue) (none : empty.entries ≡ []) where
   happen-append start [] mid ys after e more = subst (λ w. Happen preserve w ys after) e more
   happen-append start (x ∷ xs) mid ys after (next, is, rest) more = (next, is, happen-append next xs mid ys after rest more)
 
-  fed-good : (tables : List (List Host)) (received : List Dated) (before : CallWorldValue) (good : Good tables received before) (c : PendingCallValue) (outcome : OutcomeValue) (progress : CallProgressValue) (after : CallWorldValue) → CallHappens s before (CallFed c outcome progress) after
-      → GoodStep tables (received ++ dated_exchanges c.waiting.sub.now (exchange_with c outcome ∷ [])) (call_done c.call c.waiting.sub.now (c.asks ++ exchange_with c outcome ∷ []) progress) after
-  fed-good tables received before good c outcome progress after (front, back, calls, (sub, mid, resumes, more), hosts_is, calls_is) = by sub resumes more calls_is
+  fed-good : (events : List CallEventValue) (tables : List (List Host)) (received : List Dated) (before : CallWorldValue) (good : Good events tables received before) (c : PendingCallValue) (outcome : OutcomeValue) (progress : CallProgressValue) (after : CallWorldValue) → CallHappens s before (CallFed c outcome progress) after
+      → GoodStep (events ++ CallFed c outcome progress ∷ []) tables (received ++ dated_exchanges c.waiting.sub.now (exchange_with c outcome ∷ [])) (call_done c.call c.waiting.sub.now (c.asks ++ exchange_with c outcome ∷ []) progress) after
+  fed-good events tables received before good c outcome progress after (front, back, calls, (sub, mid, resumes, more), hosts_is, calls_is) = by sub resumes more calls_is
     where
       around : IsAround tables good.lookups front c back good.pending
       around = match-around tables good.lookups front c back good.pending (subst (λ cs. Match tables good.lookups cs good.pending) calls good.known)
 
+      begun : AllByRecursion (IsBegun events) front × IsBegun events c × AllByRecursion (IsBegun events) back
+      begun =
+          let all = subst (AllByRecursion (IsBegun events)) calls good.begun_in in
+          let rest = all-back (IsBegun events) front (c ∷ back) all in
+          (all-front (IsBegun events) front (c ∷ back) all, rest.0, rest.1)
+
       by : (sub : ProgressValue) → Resumes (start_at (call_context_over s c.waiting.sub.now before.hosts) before.cache) c.waiting.sub outcome sub mid → GoesOnAfter (call_context_over s c.waiting.sub.now before.hosts) c.waiting.attempt sub mid progress after.cache
           → after.calls ≡ placed sub front (call_pending c.call (c.asks ++ exchange_with c outcome ∷ []) progress) back
-          → GoodStep tables (received ++ dated_exchanges c.waiting.sub.now (exchange_with c outcome ∷ [])) (call_done c.call c.waiting.sub.now (c.asks ++ exchange_with c outcome ∷ []) progress) after
-      by (Waits w) resumes more calls_is = waits-good tables received before good after c outcome front back around w mid resumes progress more hosts_is calls_is
-      by (IsDone result) resumes more calls_is = done-good tables received before good after c outcome front back around result mid resumes progress more hosts_is calls_is
+          → GoodStep (events ++ CallFed c outcome progress ∷ []) tables (received ++ dated_exchanges c.waiting.sub.now (exchange_with c outcome ∷ [])) (call_done c.call c.waiting.sub.now (c.asks ++ exchange_with c outcome ∷ []) progress) after
+      by (Waits w) resumes more calls_is = waits-good events tables received before good after c outcome front back around (CallFed c outcome progress) begun w mid resumes progress more hosts_is calls_is
+      by (IsDone result) resumes more calls_is = done-good events tables received before good after c outcome front back around (CallFed c outcome progress) begun result mid resumes progress more hosts_is calls_is
 
-  event-good : (tables : List (List Host)) (received : List Dated) (before : CallWorldValue) → Good tables received before → (event : CallEventValue) (after : CallWorldValue) → CallHappens s before event after
-      → GoodStep (tables ++ tables_by event) (received ++ calls_received_by event) (calls_ended_by event) after
-  event-good tables received before good (CallStarted call now progress) after happens =
-      same_tables tables (received ++ []) (call_done call now [] progress) after (started-good tables received before good after call now progress happens)
-  event-good tables received before good (CallFed c outcome progress) after happens =
-      same_tables tables (received ++ calls_received_by (CallFed c outcome progress)) (calls_ended_by (CallFed c outcome progress)) after (fed-good tables received before good c outcome progress after happens)
-  event-good tables received before good (CallDropped c) after happens = dropped-good tables received before good after c happens
-  event-good tables received before good AllCleared after e =
+  event-good : (events : List CallEventValue) (tables : List (List Host)) (received : List Dated) (before : CallWorldValue) → Good events tables received before → (event : CallEventValue) (after : CallWorldValue) → CallHappens s before event after
+      → GoodStep (events ++ event ∷ []) (tables ++ tables_by event) (received ++ calls_received_by event) (calls_ended_by event) after
+  event-good events tables received before good (CallStarted call now progress) after happens =
+      same_tables (events ++ CallStarted call now progress ∷ []) tables (received ++ []) (call_done call now [] progress) after (started-good events tables received before good after call now progress happens)
+  event-good events tables received before good (CallFed c outcome progress) after happens =
+      same_tables (events ++ CallFed c outcome progress ∷ []) tables (received ++ calls_received_by (CallFed c outcome progress)) (calls_ended_by (CallFed c outcome progress)) after (fed-good events tables received before good c outcome progress after happens)
+  event-good events tables received before good (CallDropped c) after happens = dropped-good events tables received before good after c happens
+  event-good events tables received before good AllCleared after e =
       let first : WorldValue = record { cache = before.cache; pending = good.pending } in
       let second : WorldValue = record { cache = record before.cache { entries = [] }; pending = good.pending } in
-      cleared-good tables received before good after (record before.cache { entries = [] }) e (ClearedOfAll ∷ []) refl (happen-more preserve (world_of empty) good.lookups first ClearedOfAll second good.happened refl)
-  event-good tables received before good (NameCleared t (Ok n)) after e =
+      cleared-good events tables received before good after AllCleared (record before.cache { entries = [] }) e (ClearedOfAll ∷ []) refl refl (happen-more preserve (world_of empty) good.lookups first ClearedOfAll second good.happened refl)
+  event-good events tables received before good (NameCleared t (Ok n)) after e =
       let ns = attempts s.search n in
       let first : WorldValue = record { cache = before.cache; pending = good.pending } in
       let second : WorldValue = record { cache = drop_each t ns before.cache; pending = good.pending } in
-      cleared-good tables received before good after (drop_each t ns before.cache) e (clears t ns) (clears-nothing t ns) (happen-append (world_of empty) good.lookups first (clears t ns) second good.happened (clears-each t ns before.cache good.pending))
-  event-good tables received before good (NameCleared t (Err fault)) after e =
-      cleared-good tables received before good after before.cache e [] refl
+      cleared-good events tables received before good after (NameCleared t (Ok n)) (drop_each t ns before.cache) e (clears t ns) (clears-nothing t ns) (clears-end-none t ns) (happen-append (world_of empty) good.lookups first (clears t ns) second good.happened (clears-each t ns before.cache good.pending))
+  event-good events tables received before good (NameCleared t (Err fault)) after e =
+      cleared-good events tables received before good after (NameCleared t (Err fault)) before.cache e [] refl refl
       (subst (λ ls. Happen preserve (world_of empty) ls (record { cache = before.cache; pending = good.pending })) (sym (append-nil good.lookups)) good.happened)
-  event-good tables received before good (HostsReplaced hosts) after e = hosts-good tables received before good after hosts e
+  event-good events tables received before good (HostsReplaced hosts) after e = hosts-good events tables received before good after hosts e
 
-  events-good : (tables : List (List Host)) (received : List Dated) (before : CallWorldValue) → Good tables received before → (events : List CallEventValue) (after : CallWorldValue) → CallsHappen s before events after → Good (tables ++ tables_in events) (received ++ calls_received_in events) after
-  events-good tables received before good [] after e =
-      subst (λ T. Good T (received ++ []) after) (sym (append-nil tables)) (subst (λ r. Good tables r after) (sym (append-nil received)) (subst (Good tables received) (sym e) good))
-  events-good tables received before good (event ∷ events) after (mid, is, rest) =
-      let more = events-good (tables ++ tables_by event) (received ++ calls_received_by event) mid (event-good tables received before good event mid is).good events after rest in
-      subst (λ T. Good T (received ++ calls_received_in (event ∷ events)) after) (append_assoc tables (tables_by event) (tables_in events))
-      (subst (λ r. Good ((tables ++ tables_by event) ++ tables_in events) r after) (append_assoc received (calls_received_by event) (calls_received_in events)) more)
+  events-good : (earlier : List CallEventValue) (tables : List (List Host)) (received : List Dated) (before : CallWorldValue) → Good earlier tables received before → (events : List CallEventValue) (after : CallWorldValue) → CallsHappen s before events after → Good (earlier ++ events) (tables ++ tables_in events) (received ++ calls_received_in events) after
+  events-good earlier tables received before good [] after e =
+      subst (λ es. Good es (tables ++ []) (received ++ []) after) (sym (append-nil earlier))
+      (subst (λ T. Good earlier T (received ++ []) after) (sym (append-nil tables)) (subst (λ r. Good earlier tables r after) (sym (append-nil received)) (subst (Good earlier tables received) (sym e) good)))
+  events-good earlier tables received before good (event ∷ events) after (mid, is, rest) =
+      let more = events-good (earlier ++ event ∷ []) (tables ++ tables_by event) (received ++ calls_received_by event) mid (event-good earlier tables received before good event mid is).good events after rest in
+      subst (λ es. Good es (tables ++ tables_in (event ∷ events)) (received ++ calls_received_in (event ∷ events)) after) (append_assoc earlier (event ∷ []) events)
+      (subst (λ T. Good ((earlier ++ event ∷ []) ++ events) T (received ++ calls_received_in (event ∷ events)) after) (append_assoc tables (tables_by event) (tables_in events))
+      (subst (λ r. Good ((earlier ++ event ∷ []) ++ events) ((tables ++ tables_by event) ++ tables_in events) r after) (append_assoc received (calls_received_by event) (calls_received_in events)) more))
 
 pub calls_interleaved : (s : Settings) (empty : CacheValue) (first : List Host) → IsPromisedCallInterleaving s empty first
 calls_interleaved s empty first none events event before after happen happens =
-    let start : Good s empty none (first ∷ []) [] (call_world_of empty first) = record {
+    let start : Good s empty none [] (first ∷ []) [] (call_world_of empty first) = record {
       lookups = [];
       pending = [];
       happened = refl;
       received_is = refl;
       stood = contains-from_recursion (first ∷ []) first (inl refl);
       known = tt;
+      asked = tt;
+      begun_in = tt;
     } in
-    let good = events-good s empty none (first ∷ []) [] (call_world_of empty first) start events before happen in
-    let step = event-good s empty none (first ∷ tables_in events) (calls_received_in events) before good event after happens in
+    let good = events-good s empty none [] (first ∷ []) [] (call_world_of empty first) start events before happen in
+    let step = event-good s empty none events (first ∷ tables_in events) (calls_received_in events) before good event after happens in
     record {
       lookups = step.good.lookups;
       world = record { cache = after.cache; pending = step.good.pending };
       happen = step.good.happened;
       cache_is = refl;
       received_is = step.good.received_is;
+      asked = step.good.asked;
       ended = step.ends;
     }

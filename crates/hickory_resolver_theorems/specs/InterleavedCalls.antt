@@ -3,19 +3,21 @@
 -- table of hosts is replaced. A call that blocks is one with no other event between its own. To the client, calls in
 -- flight are look-ups in flight: a call that is done is made of sub-look-ups that each keep their promises. Of the
 -- settings all but the table of hosts stays.
-use Rattle.std.specs.Prelude.{◌≡◌, ◌⊎◌, ℕ, Bool, false, List, [], ◌∷◌, ◌++◌, Result, None}
+use Rattle.std.specs.Prelude.{◌≡◌, ◌⊎◌, ℕ, Bool, false, List, [], ◌∷◌, ◌++◌, Result, Some, None}
 use Rattle.std.specs.List.{AllByRecursion, Contains}
 use Rattle.hickory_proto_core.specs.Name.{NameValue}
 use Rattle.hickory_proto_core.specs.Handles.{OutcomeValue}
 use Rattle.hickory_proto_core.specs.names.name_error.NameError.{NameError}
+use Rattle.hickory_proto_core.specs.declared.query.Query.{Query}
 use Rattle.hickory_proto_core.specs.declared.recorded.Exchange.{Exchange}
 use Rattle.hickory_proto_core.specs.codes.record_type.RecordType.{RecordType}
+use Rattle.hickory_resolver_model.specs.Attempts.{attempts}
 use Rattle.hickory_resolver_model.specs.Cache.{CacheValue}
-use Rattle.hickory_resolver_model.specs.Lookup.{LookupResult}
+use Rattle.hickory_resolver_model.specs.Lookup.{LookupResult, question_of}
 use Rattle.hickory_resolver_model.specs.Hosts.{Host, IsStatic}
-use Rattle.hickory_resolver_model.specs.Calls.{CallContext, Source, Static, Client, SubLookup, SubLookupRelation, IsAnsweredByHosts, asks_of_sub_lookups}
+use Rattle.hickory_resolver_model.specs.Calls.{CallContext, Source, Static, Client, SubLookup, SubLookupRelation, IsAnsweredByHosts, next_type, asks_of_sub_lookups}
 use Rattle.hickory_resolver_model.specs.Resuming.{ProgressValue, Waits, IsDone}
-use Rattle.hickory_resolver_model.specs.Run.{Settings, Call, after_clear}
+use Rattle.hickory_resolver_model.specs.Run.{Settings, Call, AtOnce, Attempt, after_clear}
 use Rattle.hickory_resolver_theorems.specs.CallFacts.{IsCallBy}
 use Rattle.hickory_resolver_theorems.specs.Covered.{Dated, dated_exchanges}
 use Rattle.hickory_resolver_theorems.specs.Interleaved.{DoneValue, WorldValue, world_of, EventValue, Happens, Happen, ended_by, received_by, ended_in, received_in, IsPromisedEnd}
@@ -140,6 +142,21 @@ tables_in (event ∷ events) = tables_by event ++ tables_in events
 
 -- ---- what is promised
 
+-- a question of a call: of a name that it attempts, for a type of its plan
+abbrev pub IsQuestionOf : Settings → Call → Query → Type 0
+IsQuestionOf s (AtOnce answer) q = ⊥
+IsQuestionOf s (Attempt n plan) q =
+    (name : NameValue) × (t : RecordType) × (results : List LookupResult) × Contains (attempts s.search n) name
+    × (next_type plan.types results ≡ Some t) × (q ≡ question_of name t)
+
+-- a call was started at this moment among these events
+abbrev pub IsStartedIn : List CallEventValue → Call → ℕ → Type 0
+IsStartedIn events call now = (progress : CallProgressValue) × Contains events (CallStarted call now progress)
+
+-- the question of a look-up is one of a call that was started at the look-up's moment
+abbrev pub IsAskedIn : Settings → List CallEventValue → DoneValue → Type 0
+IsAskedIn s events d = (call : Call) × IsStartedIn events call d.now × IsQuestionOf s call d.question
+
 -- A look-up that ended among these events, with what is promised of it: see `IsPromisedEnd`.
 pub record IsPromisedAmong
     (preserve : Bool) (empty : CacheValue) (lookups : List EventValue) (d : DoneValue)
@@ -197,8 +214,8 @@ pub record IsPromisedCallEnd
   pub is : IsCallBy (InterleavedSubLookup s empty tables lookups d.now) s empty d.call parts d.result empty
 
 -- The event after some events over a cache without entries, with no call in flight at first. To the client, what
--- happened up to then are these events, of look-ups: over the same cache, by the same exchanges. The call that the
--- event ended keeps its promises.
+-- happened up to then are these events, of look-ups: over the same cache, by the same exchanges, and for questions of
+-- the calls alone. The call that the event ended keeps its promises.
 pub record IsPromisedCallEvent
     (s : Settings) (empty : CacheValue) (first : List Host) (events : List CallEventValue) (event : CallEventValue)
     (after : CallWorldValue)
@@ -208,6 +225,7 @@ pub record IsPromisedCallEvent
   pub happen : Happen s.preserve_intermediates (world_of empty) lookups world
   pub cache_is : world.cache ≡ after.cache
   pub received_is : received_in lookups ≡ calls_received_in events ++ calls_received_by event
+  pub asked : AllByRecursion (IsAskedIn s (events ++ event ∷ [])) (ended_in lookups)
   pub ended : AllByRecursion
       (IsPromisedCallEnd s empty (first ∷ tables_in events ++ tables_by event) lookups) (calls_ended_by event)
 
