@@ -1,5 +1,5 @@
 -- A call over a cache that nobody else changes, step by step: it comes to the call of the definition.
-use Rattle.std.proofs.Common.{◌≡◌, ◌∙◌, Bool, true, false, List, [], ◌∷◌, ◌++◌, Some, refl, sym, ap, subst, inl, inr, append_assoc}
+use Rattle.std.proofs.Common.{◌≡◌, ◌∙◌, Bool, true, List, [], ◌∷◌, ◌++◌, refl, sym, ap, subst, append_assoc}
 use Rattle.std.proofs.lemmas.List.{append-nil}
 use Rattle.hickory_proto_core.specs.Name.{NameValue}
 use Rattle.hickory_proto_core.specs.Handles.{OutcomeValue}
@@ -9,70 +9,25 @@ use Rattle.hickory_proto_core.specs.codes.record_type.RecordType.{RecordType}
 use Rattle.hickory_resolver_model.specs.Attempts.{attempts}
 use Rattle.hickory_resolver_model.specs.Cache.{CacheValue}
 use Rattle.hickory_resolver_model.specs.Lookup.{LookupResult, question_of}
-use Rattle.hickory_resolver_model.specs.Calls.{CallContext, start_at, Static, Client, SubLookup, IsAnsweredFor, next_type, IsAttemptResult, IsLastReply, results_of, stops, CallPlan, Says, AreAttempts, asks_of_sub_lookups}
+use Rattle.hickory_resolver_model.specs.Calls.{CallContext, start_at, SubLookup, IsAnsweredFor, CallPlan, Says, AreAttempts, asks_of_sub_lookups}
 use Rattle.hickory_resolver_model.specs.Resuming.{WaitingValue, ProgressValue, Waits, IsDone}
 use Rattle.hickory_resolver_model.specs.Run.{Settings, Call, AtOnce, Attempt, IsCall, RanOutBeforeAsking}
 use Rattle.hickory_resolver_theorems.specs.ResumingCalls.{AttemptValue, WaitingCallValue, CallProgressValue, with_result, at_next, FindsStatic, StartsSub, GoesOn, by_hosts, waits, at_once, stopped, next_name, no_name, StartsNames, StartsCall, RunsOutAtStart, GoesOnAfter, ResumesCall}
 use Rattle.hickory_resolver_theorems.specs.CallsAlone.{LookupSoFar, IsRestOfCall, CallRelation, LeadsToWhole, IsCallSentAlone, IsCallDoneAlone, CallSoFar}
+use Rattle.hickory_resolver_theorems.proofs.RestOfCall.{asks-append, by_client, static, rest_stopped, attempts_of, rest_next, rest_none, more_done}
 use Rattle.hickory_resolver_theorems.proofs.LookupsAlone.{lookup_started, lookup_resumed}
 
--- ---- one part, or none, before what is left of a call
-
-asks-append : (parts : List SubLookup) (p : SubLookup) → asks_of_sub_lookups (parts ++ p ∷ []) ≡ asks_of_sub_lookups parts ++ p.asks
-asks-append [] p = append-nil p.asks
-asks-append (q ∷ qs) p = ap (λ xs. q.asks ++ xs) (asks-append qs p) ∙ sym (append_assoc q.asks (asks_of_sub_lookups qs) p.asks)
-
 module _ (s : CallContext) where
-  rest_after : (a : AttemptValue) (t : RecordType) (before mid : CacheValue) (p : SubLookup) → next_type a.plan.types a.results ≡ Some t → IsAnsweredFor s a.looked before (question_of a.name t) p mid → (parts : List SubLookup) (result : LookupResult) (after : CacheValue) → IsRestOfCall s (with_result a p.result) mid parts result after → IsRestOfCall s a before (p ∷ parts) result after
-  rest_after a t before mid p next answered parts result after (front, back, r, end, e, are, is, rest) =
-      let P : List LookupResult → Type 0 = λ rs. IsAttemptResult a.plan.types rs r in
-      (p ∷ front, back, r, end, ap (λ ps. p ∷ ps) e, (t, mid, next, answered, are), subst P (append_assoc a.results (p.result ∷ []) (results_of front)) is, rest)
-
-  -- the attempt is over
-  over_by : (a : AttemptValue) (r : LookupResult) → IsAttemptResult a.plan.types a.results r → IsAttemptResult a.plan.types (a.results ++ []) r
-  over_by a r is = let P : List LookupResult → Type 0 = λ rs. IsAttemptResult a.plan.types rs r in subst P (sym (append-nil a.results)) is
-
-  rest_stopped : (a : AttemptValue) (r : LookupResult) (before : CacheValue) → IsAttemptResult a.plan.types a.results r → stops r ≡ true → IsRestOfCall s a before [] r before
-  rest_stopped a r before is stop = ([], [], r, before, refl, refl, over_by a r is, inl (stop, refl, refl, refl))
-
-  -- what is left of a call from the first of some names, at which nothing was looked up yet: attempts at them
-  attempts_of : (plan : CallPlan) (looked : Bool) (name : NameValue) (names : List NameValue) (before : CacheValue) (IsLast : LookupResult → Type 0) (parts : List SubLookup) (result : LookupResult) (after : CacheValue) → IsRestOfCall s (record { plan = plan; looked = looked; name = name; results = []; left = names }) before parts result after
-      → AreAttempts (IsAnsweredFor s) plan looked before (name ∷ names) IsLast parts result after
-  attempts_of plan looked name names before IsLast parts result after (front, back, r, mid, e, are, is, rest) = (front, back, r, mid, e, record { are = are; result_is = is }, rest)
-
-  rest_next : (a : AttemptValue) (r : LookupResult) (name : NameValue) (names : List NameValue) (before : CacheValue) → IsAttemptResult a.plan.types a.results r → stops r ≡ false → a.left ≡ name ∷ names → (parts : List SubLookup) (result : LookupResult) (after : CacheValue) → IsRestOfCall s (at_next a name names) before parts result after → IsRestOfCall s a before parts result after
-  rest_next a r name names before is on left parts result after rest =
-      let P : List NameValue → Type 0 = λ ns. AreAttempts (IsAnsweredFor s) a.plan a.plan.hosts_for_all before ns (λ x. x ≡ r) parts result after in
-      ([], parts, r, before, refl, refl, over_by a r is, inr (on, subst P (sym left) (attempts_of a.plan a.plan.hosts_for_all name names before (λ x. x ≡ r) parts result after rest)))
-
-  rest_none : (a : AttemptValue) (last r : LookupResult) (before : CacheValue) → IsAttemptResult a.plan.types a.results last → stops last ≡ false → a.left ≡ [] → IsLastReply a.plan.literal (λ x. x ≡ last) r → IsRestOfCall s a before [] r before
-  rest_none a last r before is on left reply =
-      let P : List NameValue → Type 0 = λ ns. AreAttempts (IsAnsweredFor s) a.plan a.plan.hosts_for_all before ns (λ x. x ≡ last) [] r before in
-      ([], [], last, before, refl, refl, over_by a last is, inr (on, subst P (sym left) (refl, reply, refl)))
-
-  -- ---- the call goes on
-
   module _ (IsWhole : CallRelation) where
-    more_done : (done : List SubLookup) (a : AttemptValue) (t : RecordType) (before mid : CacheValue) (p : SubLookup) → next_type a.plan.types a.results ≡ Some t → IsAnsweredFor s a.looked before (question_of a.name t) p mid → LeadsToWhole s IsWhole done a before → LeadsToWhole s IsWhole (done ++ p ∷ []) (with_result a p.result) mid
-    more_done done a t before mid p next answered whole parts result after rest =
-        subst (λ ps. IsWhole ps result after) (sym (append_assoc done (p ∷ []) parts)) (whole (p ∷ parts) result after (rest_after a t before mid p next answered parts result after rest))
-
-    at_end : (done : List SubLookup) (a : AttemptValue) (result : LookupResult) (before : CacheValue) → LeadsToWhole s IsWhole done a before → IsRestOfCall s a before [] result before → IsCallDoneAlone IsWhole (asks_of_sub_lookups done) result before
+    at_end : (done : List SubLookup) (a : AttemptValue) (result : LookupResult) (before : CacheValue) → LeadsToWhole (IsAnsweredFor s) IsWhole done a before → IsRestOfCall (IsAnsweredFor s) a before [] result before → IsCallDoneAlone IsWhole (asks_of_sub_lookups done) result before
     at_end done a result before whole rest =
         record { parts = done; asks_are = refl; whole = subst (λ ps. IsWhole ps result before) (append-nil done) (whole [] result before rest) }
 
-    -- a part that the client answered
-    abbrev by_client : (a : AttemptValue) (t : RecordType) (asks : List Exchange) (result : LookupResult) → SubLookup
-    by_client a t asks result = record { question = question_of a.name t; source = Client; asks = asks; result = result }
-
-    abbrev static : (a : AttemptValue) (t : RecordType) (result : LookupResult) → SubLookup
-    static a t result = record { question = question_of a.name t; source = Static; asks = []; result = result }
-
-    found_done : (done : List SubLookup) (a : AttemptValue) (t : RecordType) (result : LookupResult) (before : CacheValue) → FindsStatic s a t result → LeadsToWhole s IsWhole done a before → LeadsToWhole s IsWhole (done ++ static a t result ∷ []) (with_result a result) before
+    found_done : (done : List SubLookup) (a : AttemptValue) (t : RecordType) (result : LookupResult) (before : CacheValue) → FindsStatic s a t result → LeadsToWhole (IsAnsweredFor s) IsWhole done a before → LeadsToWhole (IsAnsweredFor s) IsWhole (done ++ static a t result ∷ []) (with_result a result) before
     found_done done a t result before f whole =
-        more_done done a t before before (static a t result) f.next (refl, record { asks_hosts = f.looked; found = f.found; has = f.has; result_is = f.result_is; nothing_asked = refl; unchanged = refl }) whole
+        more_done (IsAnsweredFor s) IsWhole done a t before before (static a t result) f.next (refl, record { asks_hosts = f.looked; found = f.found; has = f.has; result_is = f.result_is; nothing_asked = refl; unchanged = refl }) whole
 
-    started_wait : (done : List SubLookup) (a : AttemptValue) (t : RecordType) (w : WaitingValue) (before after : CacheValue) → StartsSub s a t before (Waits w) after → LeadsToWhole s IsWhole done a before → IsCallSentAlone s IsWhole (asks_of_sub_lookups done) (record { attempt = a; sub = w }) after
+    started_wait : (done : List SubLookup) (a : AttemptValue) (t : RecordType) (w : WaitingValue) (before after : CacheValue) → StartsSub s a t before (Waits w) after → LeadsToWhole (IsAnsweredFor s) IsWhole done a before → IsCallSentAlone s IsWhole (asks_of_sub_lookups done) (record { attempt = a; sub = w }) after
     started_wait done a t w before after started whole =
         let sub = lookup_started (start_at s before) (question_of a.name t) (Waits w) after started.starts in
         let P : CacheValue → Type 0 = λ c. IsCallSentAlone s IsWhole (asks_of_sub_lookups done) (record { attempt = a; sub = w }) c in
@@ -88,15 +43,15 @@ module _ (s : CallContext) where
           rest = whole;
         })
 
-    started_done : (done : List SubLookup) (a : AttemptValue) (t : RecordType) (result : LookupResult) (before mid : CacheValue) → StartsSub s a t before (IsDone result) mid → LeadsToWhole s IsWhole done a before → LeadsToWhole s IsWhole (done ++ by_client a t [] result ∷ []) (with_result a result) mid
+    started_done : (done : List SubLookup) (a : AttemptValue) (t : RecordType) (result : LookupResult) (before mid : CacheValue) → StartsSub s a t before (IsDone result) mid → LeadsToWhole (IsAnsweredFor s) IsWhole done a before → LeadsToWhole (IsAnsweredFor s) IsWhole (done ++ by_client a t [] result ∷ []) (with_result a result) mid
     started_done done a t result before mid started whole =
-        more_done done a t before mid (by_client a t [] result) started.next (refl, record { not_static = started.not_static; reply = lookup_started (start_at s before) (question_of a.name t) (IsDone result) mid started.starts }) whole
+        more_done (IsAnsweredFor s) IsWhole done a t before mid (by_client a t [] result) started.next (refl, record { not_static = started.not_static; reply = lookup_started (start_at s before) (question_of a.name t) (IsDone result) mid started.starts }) whole
 
     asks_stay : (done : List SubLookup) (p : SubLookup) (progress : CallProgressValue) (after : CacheValue) → p.asks ≡ [] → CallSoFar s IsWhole (asks_of_sub_lookups (done ++ p ∷ [])) progress after → CallSoFar s IsWhole (asks_of_sub_lookups done) progress after
     asks_stay done p progress after none far =
         subst (λ xs. CallSoFar s IsWhole xs progress after) (asks-append done p ∙ ap (λ xs. asks_of_sub_lookups done ++ xs) none ∙ append-nil (asks_of_sub_lookups done)) far
 
-    pub goes_on : (a : AttemptValue) (before : CacheValue) (progress : CallProgressValue) (after : CacheValue) (done : List SubLookup) → LeadsToWhole s IsWhole done a before → GoesOn s a before progress after → CallSoFar s IsWhole (asks_of_sub_lookups done) progress after
+    pub goes_on : (a : AttemptValue) (before : CacheValue) (progress : CallProgressValue) (after : CacheValue) (done : List SubLookup) → LeadsToWhole (IsAnsweredFor s) IsWhole done a before → GoesOn s a before progress after → CallSoFar s IsWhole (asks_of_sub_lookups done) progress after
     goes_on a before progress after done whole (by_hosts {t = t} {result = result} found more) =
         asks_stay done (static a t result) progress after refl
         (goes_on (with_result a result) before progress after (done ++ static a t result ∷ []) (found_done done a t result before found whole) more)
@@ -104,10 +59,10 @@ module _ (s : CallContext) where
     goes_on a before progress after done whole (at_once {t = t} {result = result} {mid = mid} started more) =
         asks_stay done (by_client a t [] result) progress after refl
         (goes_on (with_result a result) mid progress after (done ++ by_client a t [] result ∷ []) (started_done done a t result before mid started whole) more)
-    goes_on a before progress after done whole (stopped {result = result} is stop) = at_end done a result before whole (rest_stopped a result before is stop)
+    goes_on a before progress after done whole (stopped {result = result} is stop) = at_end done a result before whole (rest_stopped (IsAnsweredFor s) a result before is stop)
     goes_on a before progress after done whole (next_name {result = result} {name = name} {names = names} is on left more) =
-        goes_on (at_next a name names) before progress after done (λ parts r end rest. whole parts r end (rest_next a result name names before is on left parts r end rest)) more
-    goes_on a before progress after done whole (no_name {last = last} {result = result} is on left reply) = at_end done a result before whole (rest_none a last result before is on left reply)
+        goes_on (at_next a name names) before progress after done (λ parts r end rest. whole parts r end (rest_next (IsAnsweredFor s) a result name names before is on left parts r end rest)) more
+    goes_on a before progress after done whole (no_name {last = last} {result = result} is on left reply) = at_end done a result before whole (rest_none (IsAnsweredFor s) a last result before is on left reply)
 
   -- ---- a call is started
 
@@ -118,7 +73,7 @@ module _ (s : CallContext) where
       subst (λ p. CallSoFar s IsWhole [] p after) (sym done) (record { parts = []; asks_are = refl; whole = (refl, reply, e) })
   started plan looked (name ∷ names) first progress after more =
       goes_on (λ parts result end. AreAttempts (IsAnsweredFor s) plan looked first (name ∷ names) (Says plan.no_names) parts result end)
-      (record { plan = plan; looked = looked; name = name; results = []; left = names }) first progress after [] (attempts_of plan looked name names first (Says plan.no_names)) more
+      (record { plan = plan; looked = looked; name = name; results = []; left = names }) first progress after [] (attempts_of (IsAnsweredFor s) plan looked name names first (Says plan.no_names)) more
 
   pub started_call : (settings : Settings) (call : Call) (first : CacheValue) (progress : CallProgressValue) (after : CacheValue) → StartsCall s settings call first progress after → CallSoFar s (IsCall (IsAnsweredFor s) settings first call) [] progress after
   started_call settings (AtOnce answer) first progress after (done, e) =
@@ -159,10 +114,10 @@ module _ (s : CallContext) where
           rest = far.rest;
         }))
     resumed_by (IsDone result) mid reply progress after more =
-        let p = by_client IsWhole w.attempt far.asked_type sent result in
+        let p = by_client w.attempt far.asked_type sent result in
         subst (λ xs. CallSoFar s IsWhole xs progress after) (asks-append far.done p ∙ asks_now)
         (goes_on IsWhole (with_result w.attempt result) mid progress after (far.done ++ p ∷ [])
-        (more_done IsWhole far.done w.attempt far.asked_type cache mid p far.next (refl, record { not_static = far.not_static; reply = reply }) far.rest) more)
+        (more_done (IsAnsweredFor s) IsWhole far.done w.attempt far.asked_type cache mid p far.next (refl, record { not_static = far.not_static; reply = reply }) far.rest) more)
 
     pub resumed : (progress : CallProgressValue) (after : CacheValue) → ResumesCall s w outcome cache progress after → CallSoFar s IsWhole (asks ++ came ∷ []) progress after
     resumed progress after (sub, mid, resumes, more) =

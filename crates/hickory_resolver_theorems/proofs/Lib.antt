@@ -1,6 +1,7 @@
 pub mod AliasLifetimes
 pub mod Answered
 pub mod PromisedCalls
+pub mod RestOfCall
 pub mod CallsAlone
 pub mod CallsEnd
 pub mod Chains
@@ -28,3 +29,4 @@ pub mod VerdictFacts
 pub mod Weaker
 pub mod PromisesHold
 pub mod Interleavings
+pub mod CallInterleavings

@@ -10,7 +10,7 @@ use Rattle.hickory_resolver_model.specs.Lookup.{LookupResult, question_of}
 use Rattle.hickory_resolver_model.specs.Verdict.{first_hop}
 use Rattle.hickory_resolver_model.specs.Hops.{LookupContext, GoesUpstream, FollowsAliases, IsReply, alias_limit}
 use Rattle.hickory_resolver_model.specs.Hosts.{IsStatic}
-use Rattle.hickory_resolver_model.specs.Calls.{CallContext, start_at, SubLookup, IsAnsweredFor, next_type, IsAttemptResult, AreSubLookups, results_of, stops, AreAttempts, asks_of_sub_lookups}
+use Rattle.hickory_resolver_model.specs.Calls.{CallContext, start_at, SubLookup, SubLookupRelation, IsAnsweredFor, next_type, IsAttemptResult, AreSubLookups, results_of, stops, AreAttempts, asks_of_sub_lookups}
 use Rattle.hickory_resolver_model.specs.Resuming.{PassedValue, WaitingValue, ProgressValue, Waits, IsDone}
 use Rattle.hickory_resolver_theorems.specs.ResumingCalls.{AttemptValue, WaitingCallValue, CallProgressValue, CallWaits, CallIsDone}
 
@@ -38,26 +38,28 @@ LookupSoFar s question asks (IsDone result) after = IsReply s question asks resu
 
 -- ---- a call of the resolver
 
--- What is left of a call, from an attempt and the results that it has: these parts, which come to this result.
-abbrev pub IsRestOfCall : CallContext → AttemptValue → CacheValue → List SubLookup → LookupResult → CacheValue → Type 0
-IsRestOfCall s a before parts result after =
+-- What is left of a call, from an attempt and the results that it has, whose questions are answered in this way: these
+-- parts, which come to this result.
+abbrev pub IsRestOfCall : SubLookupRelation → AttemptValue → CacheValue → List SubLookup → LookupResult → CacheValue
+    → Type 0
+IsRestOfCall Answers a before parts result after =
     (front : List SubLookup) × (back : List SubLookup) × (r : LookupResult) × (mid : CacheValue)
     × (parts ≡ front ++ back)
-    × AreSubLookups (IsAnsweredFor s) a.looked a.name a.plan.types before a.results front mid
+    × AreSubLookups Answers a.looked a.name a.plan.types before a.results front mid
     × IsAttemptResult a.plan.types (a.results ++ results_of front) r
     × (((stops r ≡ true) × (back ≡ []) × (result ≡ r) × (after ≡ mid))
     ⊎ ((stops r ≡ false)
-    × AreAttempts (IsAnsweredFor s) a.plan a.plan.hosts_for_all mid a.left (λ x. x ≡ r) back result after))
+    × AreAttempts Answers a.plan a.plan.hosts_for_all mid a.left (λ x. x ≡ r) back result after))
 
 -- what a call comes to by all its parts: a relation of the parts, the result and the cache after it
 abbrev pub CallRelation : Type 1
 CallRelation = List SubLookup → LookupResult → CacheValue → Type 0
 
 -- whatever the rest of a call comes to, with the parts that are done it is the whole call
-abbrev pub LeadsToWhole : CallContext → CallRelation → List SubLookup → AttemptValue → CacheValue → Type 0
-LeadsToWhole s IsWhole done a cache =
+abbrev pub LeadsToWhole : SubLookupRelation → CallRelation → List SubLookup → AttemptValue → CacheValue → Type 0
+LeadsToWhole Answers IsWhole done a cache =
     (parts : List SubLookup) (result : LookupResult) (after : CacheValue)
-    → IsRestOfCall s a cache parts result after → IsWhole (done ++ parts) result after
+    → IsRestOfCall Answers a cache parts result after → IsWhole (done ++ parts) result after
 
 -- A call that waits: the parts that are done, and the exchanges of the look-up that waits, over the cache that stands.
 pub record IsCallSentAlone
@@ -70,7 +72,7 @@ pub record IsCallSentAlone
   pub not_static : (w.attempt.looked ≡ false) ⊎ IsStatic (question_of w.attempt.name asked_type) s.now s.hosts None
   pub sub : LookupSoFar (start_at s cache) (question_of w.attempt.name asked_type) sent (Waits w.sub) cache
   pub asks_are : asks ≡ asks_of_sub_lookups done ++ sent
-  pub rest : LeadsToWhole s IsWhole done w.attempt cache
+  pub rest : LeadsToWhole (IsAnsweredFor s) IsWhole done w.attempt cache
 
 -- these parts made the exchanges, and the call came to this by them
 pub record IsCallDoneAlone

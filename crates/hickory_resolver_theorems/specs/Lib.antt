@@ -12,6 +12,7 @@ pub mod Provenance
 pub mod Resumed
 pub mod Interleaved
 pub mod OneAtATime
+pub mod InterleavedCalls
 pub mod WalkLaws
 pub mod Worked
 pub mod WorkedServices

@@ -14,6 +14,7 @@ ghost use Rattle.hickory_resolver_model.specs.Cache.{CacheValue, IsCache, withou
 ghost use Rattle.hickory_resolver_model.specs.Hops.{LookupContext, IsReply};
 ghost use Rattle.hickory_resolver_model.specs.Resuming.{IsReplyOver};
 ghost use Rattle.hickory_resolver_model.specs.Lookup.{LookupResult};
+ghost use Rattle.hickory_resolver_model.specs.Hosts.{Host};
 ghost use Rattle.hickory_resolver_model.specs.Calls.{SubLookup, IsAnsweredFor, asks_of_sub_lookups};
 ghost use Rattle.hickory_resolver_model.specs.Resolver.{ResolverValue, AnswersCall};
 ghost use Rattle.hickory_resolver_model.specs.Run.{Settings, Call, after_clear, call_context_at, RequestValue, StepReply, StepValue, IsServed, Run};
@@ -24,6 +25,7 @@ ghost use Rattle.hickory_resolver_theorems.specs.Aliases.{NoAliasOutlives};
 ghost use Rattle.hickory_resolver_theorems.specs.Interleaved.{IsPromisedInterleaving};
 ghost use Rattle.hickory_resolver_theorems.specs.OneAtATime.{IsOneAtATime};
 ghost use Rattle.hickory_resolver_theorems.specs.Resumed.{IsOverOneCache, IsDrivenAlike, IsPromisedOver};
+ghost use Rattle.hickory_resolver_theorems.specs.InterleavedCalls.{IsPromisedCallInterleaving};
 ghost use Rattle.hickory_resolver_theorems.specs.CallFacts.{IsPromisedCall, KeepsWhatIsKnown};
 ghost use Rattle.hickory_resolver_theorems.specs.WalkLaws.{IsOneWalk};
 
@@ -121,6 +123,13 @@ pub fn a_run_is_one_look_up_at_a_time()
     ensures { (s : Settings) (before : CacheValue) (requests : List RequestValue) (steps : List StepValue)
         (exchanges : List Exchange) (after : CacheValue) (run : Run s before requests steps exchanges after)
         → IsOneAtATime s before requests steps exchanges after run }
+{}
+
+/// Calls of a resolver in flight over one cache, in any order, are look-ups in flight: each call that is done is made
+/// of sub-look-ups, as one that blocks, and each of these was answered by a table of hosts that stood, or keeps the
+/// promises of a look-up.
+pub fn interleaved_calls_keep_the_promises()
+    ensures { (s : Settings) (empty : CacheValue) (first : List Host) → IsPromisedCallInterleaving s empty first }
 {}
 
 /// A look-up that is what the hops say over the exchanges that were answered is so over those that a
