@@ -22,19 +22,28 @@ use Rattle.hickory_resolver_theorems.proofs.OneCache.{verdict-elsewhere}
 
 -- ---- what is kept of the questions that were asked
 
-abbrev passed_of : LookupContext → List Exchange → List PassedValue
+abbrev pub passed_of : LookupContext → List Exchange → List PassedValue
 passed_of s xs = map (λ x. record { query = x.query; limit = alias_limit s x.query (kind_of x.outcome) }) xs
+
+pub passed_of-length : (s : LookupContext) (xs : List Exchange) → length (passed_of s xs) ≡ length xs
+passed_of-length s xs = length-map xs (λ x. record { query = x.query; limit = alias_limit s x.query (kind_of x.outcome) })
+
+-- one question more
+pub passed_of-more : (s : LookupContext) (xs : List Exchange) (x : Exchange) (q : Query) → x.query ≡ q → passed_of s (xs ++ x ∷ []) ≡ passed_of s xs ++ record { query = q; limit = alias_limit s q (kind_of x.outcome) } ∷ []
+passed_of-more s xs x q asked =
+    map-append (λ y. record { query = y.query; limit = alias_limit s y.query (kind_of y.outcome) }) xs (x ∷ [])
+    ∙ ap (λ own. passed_of s xs ++ record { query = own; limit = alias_limit s own (kind_of x.outcome) } ∷ []) asked
 
 limit-same : (s : LookupContext) (xs : List Exchange) (hop : Hop) (last : ChainEnd) → limit_back (passed_of s xs) (end_limit s hop last) ≡ limit_of s xs hop last
 limit-same s [] hop last = refl
 limit-same s (x ∷ xs) hop last = ap (λ limit. min (alias_limit s x.query (kind_of x.outcome)) limit) (limit-same s xs hop last)
 
-stores-same : (s : LookupContext) (xs : List Exchange) (hop : Hop) (last : ChainEnd) → stores_back (result_of s hop last) s.now (end_limit s hop last) (passed_of s xs) ≡ earlier_stores s xs hop last
+pub stores-same : (s : LookupContext) (xs : List Exchange) (hop : Hop) (last : ChainEnd) → stores_back (result_of s hop last) s.now (end_limit s hop last) (passed_of s xs) ≡ earlier_stores s xs hop last
 stores-same s [] hop last = refl
 stores-same s (x ∷ xs) hop last =
     ap₂ (λ stores limit. stores ++ earlier_store (result_of s hop last) s.now x.query limit ∷ []) (stores-same s xs hop last) (limit-same s (x ∷ xs) hop last)
 
-reply-same : (s : LookupContext) (xs : List Exchange) (hop : Hop) (last : ChainEnd) → reply_at s (passed_of s xs) hop last ≡ reply_of s xs hop last
+pub reply-same : (s : LookupContext) (xs : List Exchange) (hop : Hop) (last : ChainEnd) → reply_at s (passed_of s xs) hop last ≡ reply_of s xs hop last
 reply-same s [] hop (Special reply) = refl
 reply-same s [] hop (Hit entry) = refl
 reply-same s [] hop (Asked outcome) = refl
@@ -92,13 +101,13 @@ pub record HasPassed (s : LookupContext) (question : Query) (xs : List Exchange)
   pub passed_are : passed ≡ passed_of s xs
 
 -- it came to what the hops of its question say, each over its cache
-pub record IsAnswered (s : LookupContext) (question : Query) (asks : List Exchange) (caches : List CacheValue) (result : LookupResult) (after : CacheValue) : Type 0 where
+pub record HasReply (s : LookupContext) (question : Query) (asks : List Exchange) (caches : List CacheValue) (result : LookupResult) (after : CacheValue) : Type 0 where
   pub reply : IsReplyOver s question asks result after
   pub caches_are : caches_read s question asks result after reply ≡ caches
 
 -- memory ran out among exchanges that all led on
 cut-answered : (s : LookupContext) (question : Query) (xs : List Exchange) (caches : List CacheValue) (hop : Hop) (result : LookupResult) (after : CacheValue)
-    → FollowsAliasesOver s caches (first_hop question) xs hop → length xs ≤ 7 → result ≡ Err OutOfMemory → after ≡ s.cache → IsAnswered s question xs caches result after
+    → FollowsAliasesOver s caches (first_hop question) xs hop → length xs ≤ 7 → result ≡ Err OutOfMemory → after ≡ s.cache → HasReply s question xs caches result after
 cut-answered s question xs caches hop result after leads short out same = record {
   reply = inr (out, inr (record { caches = caches; passed = xs; last_hop = hop; leads = leads; short = short; asks_are = inl refl; after_is = same }));
   caches_are = append-nil caches;
@@ -124,7 +133,7 @@ module _ (s : LookupContext) (question : Query) (xs : List Exchange) (caches : L
 
   -- all stores were made
   whole-answered : (last : ChainEnd) (cache : CacheValue) → IsChainEnd (record s { cache = cache }) (length xs) hop last → (is_asked last ≡ false → cache ≡ s.cache) → result ≡ reply_at s (passed_of s xs) hop last → after ≡ after_stores (stores_at s (passed_of s xs) hop last) s.cache
-      → IsAnswered s question (xs ++ asks_of hop last) (read last cache) result after
+      → HasReply s question (xs ++ asks_of hop last) (read last cache) result after
   whole-answered last cache ends own result_is after_is = record {
     reply = inl (record {
       hops = hops last cache ends own;
@@ -136,7 +145,7 @@ module _ (s : LookupContext) (question : Query) (xs : List Exchange) (caches : L
 
   -- or a beginning of those of a result that is kept
   kept-answered : (last : ChainEnd) (cache : CacheValue) → IsChainEnd (record s { cache = cache }) (length xs) hop last → (is_asked last ≡ false → cache ≡ s.cache) → is_kept (result_of s hop last) ≡ true → EndsAs s (passed_of s xs) hop last result after
-      → IsAnswered s question (xs ++ asks_of hop last) (read last cache) result after
+      → HasReply s question (xs ++ asks_of hop last) (read last cache) result after
   kept-answered last cache ends own kept (inl (result_is, after_is)) = whole-answered last cache ends own result_is after_is
   kept-answered last cache ends own kept (inr (out, takes, begun)) = record {
     reply = inr (
@@ -158,32 +167,32 @@ module _ (s : LookupContext) (question : Query) (xs : List Exchange) (caches : L
       (subst (AllByRecursion StoresNothing) (ap (λ stores. stores ++ stores_back (result_of s hop last) s.now (end_limit s hop last) (passed_of s xs)) (sym none) ∙ sym begun.parts)
       (back-nothing (result_of s hop last) s.now (end_limit s hop last) (passed_of s xs) unkept)))
 
-  not-asked : IsAnswered s question (xs ++ []) (caches ++ []) result after → IsAnswered s question xs caches result after
-  not-asked is = subst (λ ys. IsAnswered s question ys caches result after) (append-nil xs) (subst (λ cs. IsAnswered s question (xs ++ []) cs result after) (append-nil caches) is)
+  not-asked : HasReply s question (xs ++ []) (caches ++ []) result after → HasReply s question xs caches result after
+  not-asked is = subst (λ ys. HasReply s question ys caches result after) (append-nil xs) (subst (λ cs. HasReply s question (xs ++ []) cs result after) (append-nil caches) is)
 
   -- it ends where it asks nothing
   at_once-answered : (last : ChainEnd) → last_stores s hop last ≡ [] → IsChainEnd s (length xs) hop last → EndsAs s (passed_of s xs) hop last result after → (b : Bool) → is_kept (result_of s hop last) ≡ b
-      → IsAnswered s question (xs ++ asks_of hop last) (read last s.cache) result after ⊎ IsAnswered s question xs caches result after
+      → HasReply s question (xs ++ asks_of hop last) (read last s.cache) result after ⊎ HasReply s question xs caches result after
   at_once-answered last none ends (inl (result_is, after_is)) b e = inl (whole-answered last s.cache ends (λ own. refl) result_is after_is)
   at_once-answered last none ends (inr out) true e = inl (kept-answered last s.cache ends (λ own. refl) e (inr out))
   at_once-answered last none ends (inr (out, takes, begun)) false e = inr (cut-answered s question xs caches hop result after leads short out (unkept-same last none e begun))
 
-  unasked-answered : (last : ChainEnd) → is_asked last ≡ false → IsChainEnd s (length xs) hop last → EndsAs s (passed_of s xs) hop last result after → IsAnswered s question xs caches result after
+  unasked-answered : (last : ChainEnd) → is_asked last ≡ false → IsChainEnd s (length xs) hop last → EndsAs s (passed_of s xs) hop last result after → HasReply s question xs caches result after
   unasked-answered (Special reply) unasked ends how = by (at_once-answered (Special reply) refl ends how (is_kept (result_of s hop (Special reply))) refl)
     where
-      by : IsAnswered s question (xs ++ []) (caches ++ []) result after ⊎ IsAnswered s question xs caches result after → IsAnswered s question xs caches result after
+      by : HasReply s question (xs ++ []) (caches ++ []) result after ⊎ HasReply s question xs caches result after → HasReply s question xs caches result after
       by (inl is) = not-asked is
       by (inr is) = is
   unasked-answered (Hit entry) unasked ends how = by (at_once-answered (Hit entry) refl ends how (is_kept (result_of s hop (Hit entry))) refl)
     where
-      by : IsAnswered s question (xs ++ []) (caches ++ []) result after ⊎ IsAnswered s question xs caches result after → IsAnswered s question xs caches result after
+      by : HasReply s question (xs ++ []) (caches ++ []) result after ⊎ HasReply s question xs caches result after → HasReply s question xs caches result after
       by (inl is) = not-asked is
       by (inr is) = is
   unasked-answered (Asked outcome) unasked ends how = cc
 
   -- it ends with what came back
   asked-answered : (outcome : OutcomeValue) (cache : CacheValue) → IsChainEnd (record s { cache = cache }) (length xs) hop (Asked outcome) → EndsAs s (passed_of s xs) hop (Asked outcome) result after
-      → IsAnswered s question (xs ++ record { query = hop.query; outcome = outcome } ∷ []) (caches ++ cache ∷ []) result after
+      → HasReply s question (xs ++ record { query = hop.query; outcome = outcome } ∷ []) (caches ++ cache ∷ []) result after
   asked-answered outcome cache ends (inl (result_is, after_is)) = whole-answered (Asked outcome) cache ends (λ e. cc) result_is after_is
   asked-answered outcome cache ends (inr (out, takes, begun)) = kept-answered (Asked outcome) cache ends (λ e. cc) (kept-asked s hop outcome takes) (inr (out, takes, begun))
 
@@ -198,7 +207,7 @@ pub record IsInFlight (s : LookupContext) (p : PendingValue) : Type 0 where
 abbrev pub IsOnItsWay : LookupContext → Query → List Exchange → List CacheValue → ProgressValue → CacheValue → Type 0
 IsOnItsWay s question asks caches (Waits w) after =
     IsInFlight s (record { question = question; asks = asks; caches = caches; cache = s.cache; waiting = w }) × (w.now ≡ s.now) × (after ≡ s.cache)
-IsOnItsWay s question asks caches (IsDone result) after = IsAnswered s question asks caches result after
+IsOnItsWay s question asks caches (IsDone result) after = HasReply s question asks caches result after
 
 come : (s : LookupContext) (question : Query) (xs : List Exchange) (caches : List CacheValue) (passed : List PassedValue) (hop : Hop) (progress : ProgressValue) (after : CacheValue) → HasPassed s question xs caches passed hop → ComesTo s passed hop progress after → IsOnItsWay s question xs caches progress after
 come s question xs caches passed hop (Waits w) after has (up, w_is, same) = (
@@ -208,7 +217,7 @@ come s question xs caches passed hop (Waits w) after has (up, w_is, same) = (
 )
 come s question xs caches passed hop (IsDone result) after has (last, unasked, ends, how) =
     unasked-answered s question xs caches hop has.leads has.short result after last unasked
-    (subst (λ n. IsChainEnd s n hop last) (ap length has.passed_are ∙ length-map xs (λ x. record { query = x.query; limit = alias_limit s x.query (kind_of x.outcome) })) ends)
+    (subst (λ n. IsChainEnd s n hop last) (ap length has.passed_are ∙ passed_of-length s xs) ends)
     (subst (λ ps. EndsAs s ps hop last result after) has.passed_are how)
 
 pub started : (s : LookupContext) (question : Query) (progress : ProgressValue) (after : CacheValue) → ComesTo s [] (first_hop question) progress after → IsOnItsWay s question [] [] progress after
@@ -232,14 +241,14 @@ resumed s p outcome progress after is = by
     x = record { query = hop.query; outcome = outcome }
 
     count : length p.waiting.passed ≡ length p.asks
-    count = ap length is.passed.passed_are ∙ length-map p.asks (λ y. record { query = y.query; limit = alias_limit s y.query (kind_of y.outcome) })
+    count = ap length is.passed.passed_are ∙ passed_of-length s p.asks
 
     has : (next : Hop) → verdict_on s hop (kind_of outcome) ≡ Some (Alias next) → length p.waiting.passed < 7
         → HasPassed s p.question (p.asks ++ x ∷ []) (p.caches ++ p.cache ∷ []) (p.waiting.passed ++ passed_by s hop outcome ∷ []) next
     has next alias early = record {
       leads = follows-more s p.caches (first_hop p.question) p.asks hop p.cache x next is.passed.leads (record { upstream = is.upstream; asked = refl; alias = verdict-elsewhere s p.cache hop (kind_of outcome) ∙ alias });
       short = omega (arith, early, count, length-append p.asks (x ∷ []));
-      passed_are = ap (λ ps. ps ++ passed_by s hop outcome ∷ []) is.passed.passed_are ∙ sym (map-append (λ y. record { query = y.query; limit = alias_limit s y.query (kind_of y.outcome) }) p.asks (x ∷ []));
+      passed_are = ap (λ ps. ps ++ passed_by s hop outcome ∷ []) is.passed.passed_are ∙ sym (passed_of-more s p.asks x hop.query refl);
     }
 
     on : (next : Hop) → HasPassed s p.question (p.asks ++ x ∷ []) (p.caches ++ p.cache ∷ []) (p.waiting.passed ++ passed_by s hop outcome ∷ []) next

@@ -25,7 +25,7 @@ use Rattle.hickory_resolver_theorems.proofs.AliasLifetimes.{no_alias_outlives-ov
 use Rattle.hickory_resolver_theorems.proofs.OneCache.{reply-over, reply-over-one}
 use Rattle.hickory_resolver_theorems.proofs.PromisedCalls.{cleared-keeps, without_query-keeps}
 use Rattle.hickory_resolver_theorems.proofs.Runs.{reply-config-over}
-use Rattle.hickory_resolver_theorems.proofs.InFlight.{IsAnswered, IsInFlight, IsOnItsWay, started, resumed, in-flight-elsewhere}
+use Rattle.hickory_resolver_theorems.proofs.InFlight.{HasReply, IsInFlight, IsOnItsWay, started, resumed, in-flight-elsewhere}
 
 -- each of these exchanges, of a look-up that was started at a moment, was received
 abbrev AreReceived : List Dated → ℕ → List Exchange → Type 0
@@ -76,7 +76,7 @@ record IsGoodEnd (preserve : Bool) (received : List Dated) (ended : List DoneVal
   entries : AreFreshEntries after.cache received
   meant : (table : TableValue) → IsSeenBy table preserve received ended → AreWhatTheyResolveTo table after.cache
 
-end-good : (preserve : Bool) (received more : List Dated) (ended : List DoneValue) (before after : WorldValue) (d : DoneValue) → IsGood preserve received ended before → AreReceived (received ++ more) d.now d.asks → IsAnswered (context_in preserve before d.now) d.question d.asks d.caches d.result after.cache
+end-good : (preserve : Bool) (received more : List Dated) (ended : List DoneValue) (before after : WorldValue) (d : DoneValue) → IsGood preserve received ended before → AreReceived (received ++ more) d.now d.asks → HasReply (context_in preserve before d.now) d.question d.asks d.caches d.result after.cache
     → IsGoodEnd preserve (received ++ more) (ended ++ d ∷ []) before after d
 end-good preserve received more ended before after d good own is = record {
   promised = record {
@@ -134,7 +134,7 @@ module _ (preserve : Bool) (received : List Dated) (ended : List DoneValue) (bef
   )
 
   -- a look-up ends, beside those that stay in flight
-  done-good : (more : List Dated) (after : WorldValue) (d : DoneValue) → AreReceived (received ++ more) d.now d.asks → IsAnswered (context_in preserve before d.now) d.question d.asks d.caches d.result after.cache → AllByRecursion (IsKnown preserve before received) after.pending
+  done-good : (more : List Dated) (after : WorldValue) (d : DoneValue) → AreReceived (received ++ more) d.now d.asks → HasReply (context_in preserve before d.now) d.question d.asks d.caches d.result after.cache → AllByRecursion (IsKnown preserve before received) after.pending
       → IsGood preserve (received ++ more) (ended ++ d ∷ []) after × AllByRecursion (IsPromisedEnd preserve (received ++ more) (ended ++ d ∷ []) before after) (d ∷ [])
   done-good more after d own is pending =
       let end = end-good preserve received more ended before after d good own is in (
@@ -233,5 +233,6 @@ interleaved preserve empty none events event before after happen happens =
     record {
       ended = good.1;
       entries = good.0.entries;
+      meant = good.0.meant;
       waiting = all-weaker (IsKnown preserve after (received_in events ++ received_by event)) (λ p. length p.asks ≤ 7) (λ p known. known.0.passed.short) after.pending good.0.pending;
     }

@@ -6,6 +6,7 @@ pub mod CallsAlone
 pub mod CallsEnd
 pub mod Chains
 pub mod Covers
+pub mod Driven
 pub mod Few
 pub mod Folding
 pub mod Fresh
@@ -20,6 +21,7 @@ pub mod OneCache
 pub mod OneCacheless
 pub mod Provenances
 pub mod Responses
+pub mod RunEvents
 pub mod Runs
 pub mod Stores
 pub mod Transparent

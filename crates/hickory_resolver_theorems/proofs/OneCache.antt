@@ -121,7 +121,7 @@ hops-back s question asks h one = record {
   asks_are = h.asks_are;
 }
 
-all-back-one : (s : LookupContext) (question : Query) (asks : List Exchange) (result : LookupResult) (after : CacheValue) (reply : IsReplyOver s question asks result after) → AreOneCache s (caches_read s question asks result after reply) → IsReply s question asks result after
+pub all-back-one : (s : LookupContext) (question : Query) (asks : List Exchange) (result : LookupResult) (after : CacheValue) (reply : IsReplyOver s question asks result after) → AreOneCache s (caches_read s question asks result after reply) → IsReply s question asks result after
 all-back-one s question asks result after (inl whole) one = inl (record { hops = hops-back s question asks whole.hops one; result_is = whole.result_is; after_is = whole.after_is })
 all-back-one s question asks result after (inr (out, inl cut)) one =
     inr (out, inl (record { hops = hops-back s question asks cut.hops one; kept = cut.kept; front = cut.begun.front; back = cut.begun.back; parts = cut.begun.parts; after_is = cut.begun.after_is }))

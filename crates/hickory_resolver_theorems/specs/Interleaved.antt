@@ -1,6 +1,6 @@
 -- Many look-ups over one cache, in any order. Each is started, waits for what comes back to its question, and goes on
--- with it; between two steps of one, others start, go on and end, entries are stored, evicted and cleared, and a look-up
--- that blocks may be done at once. What is promised of a look-up alone holds of each of them.
+-- with it; between two steps of one, others start, go on and end, entries are stored, evicted and cleared, and one that
+-- blocks may be done at once. What is promised of a look-up alone holds of each of them.
 use Rattle.std.specs.Prelude.{◌≡◌, ◌⊎◌, ◌≤◌, ℕ, Bool, false, List, [], ◌∷◌, ◌++◌, length, map, Err}
 use Rattle.std.specs.List.{AllByRecursion}
 use Rattle.hickory_proto_core.specs.Codes.{type_code}
@@ -17,7 +17,7 @@ use Rattle.hickory_resolver_theorems.specs.Cacheless.{IsTable, ResolvesTo, IsCon
 use Rattle.hickory_resolver_theorems.specs.Cores.{ReplyCore, reply_core}
 use Rattle.hickory_resolver_theorems.specs.Covered.{Dated, dated_exchanges}
 use Rattle.hickory_resolver_theorems.specs.Resumed.{NoAliasOutlivesOver, caches_read}
-use Rattle.hickory_resolver_theorems.specs.Statements.{LeastTtlIsZero, IsFreshReply, AreFreshEntries}
+use Rattle.hickory_resolver_theorems.specs.Statements.{LeastTtlIsZero, IsFreshReply, AreFreshEntries, AreWhatTheyResolveTo}
 
 -- ---- what there is
 
@@ -176,8 +176,8 @@ pub record IsPromisedEnd
 
 -- The event after some events over a cache without entries, with no look-up in flight at first. The look-up that it
 -- ended keeps its promises. Each entry of the cache is covered by what was received up to then, where the least TTL of
--- its type is zero. And a look-up that waits sent eight questions at most, with the one whose outcome it waits for. The
--- moments of the look-ups are in any order.
+-- its type is zero, and is what its question means, as the results are. And a look-up that waits sent eight questions at
+-- most, with the one whose outcome it waits for. The moments of the look-ups are in any order.
 pub record IsPromisedEvent
     (preserve : Bool) (events : List EventValue) (event : EventValue) (before after : WorldValue)
     : Type 0 where
@@ -185,6 +185,9 @@ pub record IsPromisedEvent
       (IsPromisedEnd preserve (received_in events ++ received_by event) (ended_in events ++ ended_by event)
       before after) (ended_by event)
   pub entries : AreFreshEntries after.cache (received_in events ++ received_by event)
+  pub meant : (table : TableValue)
+      → IsSeenBy table preserve (received_in events ++ received_by event) (ended_in events ++ ended_by event)
+      → AreWhatTheyResolveTo table after.cache
   pub waiting : AllByRecursion (λ p. length p.asks ≤ 7) after.pending
 
 -- Of every event, whatever came before it: so of each event of a list.

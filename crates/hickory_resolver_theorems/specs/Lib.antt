@@ -12,10 +12,12 @@ pub mod Provenance
 pub mod Resumed
 pub mod Interleaved
 pub mod InterleavedCalls
+pub mod OneAtATime
 pub mod WalkLaws
 pub mod Worked
 pub mod WorkedServices
 pub mod WorkedLoop
 pub mod WorkedRequests
 pub mod WorkedRun
+pub mod WorkedInterleaved
 pub mod Promises

@@ -1,5 +1,5 @@
 -- What is promised of a look-up whose hops each read the cache that stood when the hop was taken. It is what is promised
--- of one over one cache: the entries before it are those of the cache that stands at its end, and what was received are
+-- of one over one cache: the entries before it are those of the cache that stands at its end, and what was received is
 -- its own exchanges, dated with the moment of its start.
 use Rattle.std.specs.Prelude.{◌≡◌, ◌⊎◌, ◌≤◌, true, List, [], ◌∷◌, ◌++◌, length, map, if◌then◌else◌}
 use mathlib.Core.Logic.{inl, inr}
@@ -11,8 +11,8 @@ use Rattle.hickory_proto_core.specs.declared.recorded.Exchange.{Exchange}
 use Rattle.hickory_resolver_model.specs.Cache.{CacheValue, IsCache}
 use Rattle.hickory_resolver_model.specs.Lookup.{LookupResult}
 use Rattle.hickory_resolver_model.specs.Verdict.{Hop}
-use Rattle.hickory_resolver_model.specs.Hops.{LookupContext, GoesUpstream, Store, IsReply, stores_of}
-use Rattle.hickory_resolver_model.specs.Resuming.{is_asked, HopListOver, IsReplyOver}
+use Rattle.hickory_resolver_model.specs.Hops.{LookupContext, GoesUpstream, Store, IsWhole, IsReply, stores_of}
+use Rattle.hickory_resolver_model.specs.Resuming.{ProgressValue, Waits, IsDone, Starts, Resumes, is_asked, HopListOver, IsReplyOver}
 use Rattle.hickory_resolver_theorems.specs.Aliases.{AfterStoresInTime, ResultOutlivesNoAlias}
 use Rattle.hickory_resolver_theorems.specs.Provenance.{IsFromSources}
 use Rattle.hickory_resolver_theorems.specs.Statements.{LeastTtlIsZero, IsFresh, IsTransparent}
@@ -54,6 +54,32 @@ pub record IsOverOneCache
       → (over : IsReplyOver s question asks result after) × ReadsOneCache s question asks result after over
   pub back : (over : IsReplyOver s question asks result after) → ReadsOneCache s question asks result after over
       → IsReply s question asks result after
+
+-- A look-up is driven from where it stands: what comes back to each of its questions is fed to it at once, so that
+-- nothing but itself changes the cache.
+abbrev pub IsDriven : LookupContext → ProgressValue → CacheValue → List Exchange → LookupResult → CacheValue → Type 0
+IsDriven s progress cache [] result after = (progress ≡ IsDone result) × (after ≡ cache)
+IsDriven s (Waits w) cache (x ∷ xs) result after =
+    (x.query ≡ w.hop.query) × (next : ProgressValue) × (mid : CacheValue)
+    × Resumes (record s { cache = cache }) w x.outcome next mid × IsDriven s next mid xs result after
+IsDriven s (IsDone early) cache (x ∷ xs) result after = ⊥
+
+-- it is started, and driven to its end
+pub record IsStartedAndDriven
+    (s : LookupContext) (question : Query) (asks : List Exchange) (result : LookupResult) (after : CacheValue)
+    : Type 0 where
+  pub progress : ProgressValue
+  pub cache : CacheValue
+  pub starts : Starts s question progress cache
+  pub driven : IsDriven s progress cache asks result after
+
+-- A look-up that is driven is one that blocks. One that blocks can be driven, where it ends with all its stores; where
+-- memory runs out, a look-up that blocks may end in more ways, as after an error came back.
+pub record IsDrivenAlike
+    (s : LookupContext) (question : Query) (asks : List Exchange) (result : LookupResult) (after : CacheValue)
+    : Type 0 where
+  pub forth : IsStartedAndDriven s question asks result after → IsReply s question asks result after
+  pub back : IsWhole s question asks result after → IsStartedAndDriven s question asks result after
 
 -- ---- the promises
 

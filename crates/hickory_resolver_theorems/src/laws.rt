@@ -23,8 +23,9 @@ ghost use Rattle.hickory_resolver_theorems.specs.Statements.{IsFresh, IsTranspar
 ghost use Rattle.hickory_resolver_theorems.specs.Provenance.{HasProvenance};
 ghost use Rattle.hickory_resolver_theorems.specs.Aliases.{NoAliasOutlives};
 ghost use Rattle.hickory_resolver_theorems.specs.Interleaved.{IsPromisedInterleaving};
-ghost use Rattle.hickory_resolver_theorems.specs.Resumed.{IsOverOneCache, IsPromisedOver};
 ghost use Rattle.hickory_resolver_theorems.specs.InterleavedCalls.{IsPromisedCallInterleaving};
+ghost use Rattle.hickory_resolver_theorems.specs.OneAtATime.{IsOneAtATime};
+ghost use Rattle.hickory_resolver_theorems.specs.Resumed.{IsOverOneCache, IsDrivenAlike, IsPromisedOver};
 ghost use Rattle.hickory_resolver_theorems.specs.CallFacts.{IsPromisedCall, KeepsWhatIsKnown};
 ghost use Rattle.hickory_resolver_theorems.specs.WalkLaws.{IsOneWalk};
 
@@ -96,6 +97,13 @@ pub fn one_cache_is_a_case()
         (after : CacheValue) → IsOverOneCache s question asks result after }
 {}
 
+/// A look-up that is started, and fed at once with what comes back to each of its questions, comes to what one that
+/// blocks does; and each that blocks can be driven so, where memory does not run out.
+pub fn a_driven_look_up_blocks()
+    ensures { (s : LookupContext) (question : Query) (asks : List Exchange) (result : LookupResult)
+        (after : CacheValue) → IsDrivenAlike s question asks result after }
+{}
+
 /// A look-up whose hops each read the cache that stood when the hop was taken, whatever changed it in between, keeps
 /// the promises of one over one cache.
 pub fn changing_caches_keep_the_promises()
@@ -108,6 +116,13 @@ pub fn changing_caches_keep_the_promises()
 /// on, end, store, evict and clear between its steps.
 pub fn every_interleaving_keeps_the_promises()
     ensures { (preserve : Bool) (empty : CacheValue) → IsPromisedInterleaving preserve empty }
+{}
+
+/// Every run is a list of such events in which no look-up waits: one look-up at a time.
+pub fn a_run_is_one_look_up_at_a_time()
+    ensures { (s : Settings) (before : CacheValue) (requests : List RequestValue) (steps : List StepValue)
+        (exchanges : List Exchange) (after : CacheValue) (run : Run s before requests steps exchanges after)
+        → IsOneAtATime s before requests steps exchanges after run }
 {}
 
 /// Calls of a resolver in flight over one cache, in any order, are look-ups in flight: each call that is done is made

@@ -3,6 +3,7 @@ ghost use Rattle.hickory_resolver_theorems.specs.Worked.{EvictionCases, Lifetime
 ghost use Rattle.hickory_resolver_theorems.specs.WorkedServices.{ServiceCases};
 ghost use Rattle.hickory_resolver_theorems.specs.WorkedLoop.{LoopCases};
 ghost use Rattle.hickory_resolver_theorems.specs.WorkedRun.{RunCases};
+ghost use Rattle.hickory_resolver_theorems.specs.WorkedInterleaved.{InterleavedCases};
 ghost use Rattle.hickory_resolver_theorems.specs.WorkedRequests.{RequestCases};
 
 /// What the definitions say of small caches, bounds, names and messages.
@@ -15,5 +16,6 @@ pub fn worked_cases()
     ensures services { ServiceCases }
     ensures loops { LoopCases }
     ensures runs { RunCases }
+    ensures interleaved { InterleavedCases }
     ensures requests { RequestCases }
 {}

@@ -2,6 +2,7 @@ use Rattle.hickory_resolver_theorems.specs.Worked.{eviction_cases, lifetime_case
 use Rattle.hickory_resolver_theorems.specs.WorkedServices.{service_cases}
 use Rattle.hickory_resolver_theorems.specs.WorkedLoop.{loop_cases}
 use Rattle.hickory_resolver_theorems.specs.WorkedRun.{run_cases}
+use Rattle.hickory_resolver_theorems.specs.WorkedInterleaved.{interleaved_cases}
 use Rattle.hickory_resolver_theorems.specs.WorkedRequests.{request_cases}
 use Rattle.hickory_resolver_theorems.proofs.worked.worked_cases.Goals as goal
 
@@ -15,5 +16,6 @@ returns c = record {
   services = service_cases;
   loops = loop_cases;
   runs = run_cases;
+  interleaved = interleaved_cases;
   requests = request_cases;
 }
