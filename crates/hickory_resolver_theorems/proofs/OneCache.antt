@@ -92,11 +92,11 @@ reply-over-one s question asks result after (inr (out, inr cut)) = by cut.asks_a
 abbrev pub AreOneCache : LookupContext → List CacheValue → Type 0
 AreOneCache s caches = AllByRecursion (λ cache. cache ≡ s.cache) caches
 
-one_cache-all : (s : LookupContext) (xs : List Exchange) → AreOneCache s (one_cache s xs)
+pub one_cache-all : (s : LookupContext) (xs : List Exchange) → AreOneCache s (one_cache s xs)
 one_cache-all s [] = tt
 one_cache-all s (x ∷ xs) = (refl, one_cache-all s xs)
 
-follows-back : (s : LookupContext) (caches : List CacheValue) (hop : Hop) (xs : List Exchange) (last : Hop) → AreOneCache s caches → FollowsAliasesOver s caches hop xs last → FollowsAliases s hop xs last
+pub follows-back : (s : LookupContext) (caches : List CacheValue) (hop : Hop) (xs : List Exchange) (last : Hop) → AreOneCache s caches → FollowsAliasesOver s caches hop xs last → FollowsAliases s hop xs last
 follows-back s [] hop [] last one e = e
 follows-back s (cache ∷ caches) hop (x ∷ xs) last (same, one) (next, p, rest) =
     (next, subst (λ c. IsAliasHop (record s { cache = c }) hop x next) same p, follows-back s caches next xs last one rest)
@@ -144,7 +144,7 @@ all-back-one s question asks result after (inr (out, inr cut)) one =
     by (inl e) own = inl e
     by (inr (x, cache, up, same, holds, e)) own = inr (x, subst (λ c. GoesUpstream (record s { cache = c }) cut.last_hop.query) own.0 up, same, holds, e)
 
-reply-back : (s : LookupContext) (question : Query) (asks : List Exchange) (result : LookupResult) (after : CacheValue) (reply : IsReplyOver s question asks result after) → ReadsOneCache s question asks result after reply → IsReply s question asks result after
+pub reply-back : (s : LookupContext) (question : Query) (asks : List Exchange) (result : LookupResult) (after : CacheValue) (reply : IsReplyOver s question asks result after) → ReadsOneCache s question asks result after reply → IsReply s question asks result after
 reply-back s question asks result after reply one = all-back-one s question asks result after reply (subst (AreOneCache s) (sym one) (one_cache-all s asks))
 
 pub over_one_cache : (s : LookupContext) (question : Query) (asks : List Exchange) (result : LookupResult) (after : CacheValue) → IsOverOneCache s question asks result after

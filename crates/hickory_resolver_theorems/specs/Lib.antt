@@ -11,8 +11,8 @@ pub mod Statements
 pub mod Provenance
 pub mod Resumed
 pub mod Interleaved
-pub mod OneAtATime
 pub mod InterleavedCalls
+pub mod OneAtATime
 pub mod WalkLaws
 pub mod Worked
 pub mod WorkedServices

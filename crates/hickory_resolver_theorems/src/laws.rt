@@ -23,9 +23,9 @@ ghost use Rattle.hickory_resolver_theorems.specs.Statements.{IsFresh, IsTranspar
 ghost use Rattle.hickory_resolver_theorems.specs.Provenance.{HasProvenance};
 ghost use Rattle.hickory_resolver_theorems.specs.Aliases.{NoAliasOutlives};
 ghost use Rattle.hickory_resolver_theorems.specs.Interleaved.{IsPromisedInterleaving};
+ghost use Rattle.hickory_resolver_theorems.specs.InterleavedCalls.{IsPromisedCallInterleaving};
 ghost use Rattle.hickory_resolver_theorems.specs.OneAtATime.{IsOneAtATime};
 ghost use Rattle.hickory_resolver_theorems.specs.Resumed.{IsOverOneCache, IsDrivenAlike, IsPromisedOver};
-ghost use Rattle.hickory_resolver_theorems.specs.InterleavedCalls.{IsPromisedCallInterleaving};
 ghost use Rattle.hickory_resolver_theorems.specs.CallFacts.{IsPromisedCall, KeepsWhatIsKnown};
 ghost use Rattle.hickory_resolver_theorems.specs.WalkLaws.{IsOneWalk};
 
