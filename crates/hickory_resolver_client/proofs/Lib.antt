@@ -5,5 +5,5 @@ pub mod Targets
 pub mod Selecting
 pub mod Stepping
 pub mod PassedStores
-pub mod Walked
-pub mod LastHop
+pub mod Progressing
+pub mod Driven

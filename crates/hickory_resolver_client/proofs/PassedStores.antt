@@ -11,7 +11,8 @@ use Rattle.hickory_proto_core.specs.declared.net_error.DnsError.TheVariants.{Res
 use Rattle.hickory_resolver_model.specs.Cache.{CacheValue, store_until}
 use Rattle.hickory_resolver_model.specs.Lookup.{LookupResult}
 use Rattle.hickory_resolver_model.specs.Hops.{Store, store_of, as_outcome, result_until, is_kept, earlier_store, after_store, after_stores}
-use Rattle.hickory_resolver_client.specs.Steps.{PassedValue, limit_back, stores_back, IsBeginning, IsFinished}
+use Rattle.hickory_resolver_model.specs.Resuming.{PassedValue, limit_back, stores_back, IsBeginning}
+use Rattle.hickory_resolver_client.specs.Steps.{IsFinished}
 
 pub after_stores-append : (xs ys : List Store) (cache : CacheValue) → after_stores (xs ++ ys) cache ≡ after_stores ys (after_stores xs cache)
 after_stores-append [] ys cache = refl
@@ -72,7 +73,7 @@ stored_all now reply limit first left all before after none on =
 
 -- ---- a failure is not kept
 
-unchanged : (error : NetError) (q : Query) (now limit : ℕ) (cache : CacheValue) → is_no_records_found error ≡ false → after_store (store_of q (Err error) now limit) cache ≡ cache
+pub unchanged : (error : NetError) (q : Query) (now limit : ℕ) (cache : CacheValue) → is_no_records_found error ≡ false → after_store (store_of q (Err error) now limit) cache ≡ cache
 unchanged (Message text) q now limit cache none = refl
 unchanged Timeout q now limit cache none = refl
 unchanged (Proto e) q now limit cache none = refl
@@ -82,14 +83,14 @@ unchanged NoOutcome q now limit cache none = refl
 unchanged (Bounds e) q now limit cache none = refl
 unchanged OutOfMemory q now limit cache none = refl
 
-none_kept : (error : NetError) (now limit : ℕ) (passed : List PassedValue) (cache : CacheValue) → is_no_records_found error ≡ false → after_stores (stores_back (Err error) now limit passed) cache ≡ cache
+pub none_kept : (error : NetError) (now limit : ℕ) (passed : List PassedValue) (cache : CacheValue) → is_no_records_found error ≡ false → after_stores (stores_back (Err error) now limit passed) cache ≡ cache
 none_kept error now limit [] cache none = refl
 none_kept error now limit (p ∷ ps) cache none =
     let s = earlier_store (Err error) now p.query (limit_back (p ∷ ps) limit) in
     after_stores-append (stores_back (Err error) now limit ps) (s ∷ []) cache
     ∙ ap (after_store s) (none_kept error now limit ps cache none) ∙ unchanged error p.query now (limit_back (p ∷ ps) limit) cache none
 
-error_until : (b : Bool) (limit : ℕ) (error : NetError) → (if b then result_until limit (Err error) else Err error) ≡ Err error
+pub error_until : (b : Bool) (limit : ℕ) (error : NetError) → (if b then result_until limit (Err error) else Err error) ≡ Err error
 error_until true limit error = refl
 error_until false limit error = refl
 

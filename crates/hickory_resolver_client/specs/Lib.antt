@@ -3,3 +3,4 @@ pub mod Special
 pub mod Verdicts
 pub mod Walks
 pub mod Counts
+pub mod Contexts
