@@ -150,6 +150,34 @@ impl<H: DnsHandle, S: BuildHasher> CachingClient<H, S> {
         self.core.resume(waiting, outcome)
     }
 
+    /// Sends the question of a look-up that waits to the handle, with these options, and gives what came back
+    /// beside the look-up.
+    pub fn ask(&mut self, waiting: Waiting, options: DnsRequestOptions) -> (Waiting, Outcome)
+        ensures same { result.0 ≡ waiting }
+        ensures sent { H.step self.old.handle (record { query = waiting.hop.query; options = options }) result.1
+            self.new.handle }
+        ensures stays { self.new ≡ record self.old { handle = self.new.handle } }
+    {
+        let Waiting {
+            moment,
+            passed,
+            hop,
+        } = waiting;
+        let Hop { query, preserved } = hop;
+        let asked = DnsRequest { query, options };
+        let outcome = self.handle.send(&asked);
+        let hop = Hop {
+            query: asked.query,
+            preserved,
+        };
+        let waiting = Waiting {
+            moment,
+            passed,
+            hop,
+        };
+        (waiting, outcome)
+    }
+
     /// Empties the cache. Takes no memory.
     pub fn clear_cache(&mut self)
         ensures cleared { self.new ≡ record self.old { cache = record self.old.cache { entries = [] } } }
