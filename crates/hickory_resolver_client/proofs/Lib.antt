@@ -3,7 +3,7 @@ pub mod Zones
 pub mod Walking
 pub mod Targets
 pub mod Selecting
-pub mod Stepping
+pub mod Settling
 pub mod PassedStores
 pub mod Progressing
 pub mod Driven

@@ -17,7 +17,7 @@ use Rattle.hickory_resolver_client.specs.Special.{IsUnlessOut, IsSpecialReply}
 use Rattle.hickory_resolver_client.specs.Steps.{NeverFailsNegative, IsWorkedOn, IsSettled, IsFinished}
 use Rattle.hickory_resolver_client.specs.declared.caching_core.HopStep.TheVariants.{Next, Done}
 use Rattle.hickory_resolver_client.proofs.PassedStores.{after_stores-append, none_kept, error_until}
-use Rattle.hickory_resolver_client.proofs.Stepping.{never_fails}
+use Rattle.hickory_resolver_client.proofs.Settling.{never_fails}
 
 -- what is kept took memory, unless nothing was asked
 kept_failure : (kind : ResponseKind) (error : NetError) (s : LookupContext) (hop : Hop) → NeverFailsNegative kind → kind ≡ Failed error → is_kept (result_when_asked s hop kind) ≡ true → ⊥

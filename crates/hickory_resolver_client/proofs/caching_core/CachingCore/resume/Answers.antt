@@ -3,7 +3,7 @@ use Rattle.hickory_proto_core.specs.ResponseKind.{kind_of}
 use Rattle.hickory_resolver_model.specs.Hops.{LookupContext}
 use Rattle.hickory_resolver_model.specs.Resuming.{ComesTo}
 use Rattle.hickory_resolver_client.specs.Contexts.{context_of, progress_of}
-use Rattle.hickory_resolver_client.proofs.Stepping.{never_fails}
+use Rattle.hickory_resolver_client.proofs.Settling.{never_fails}
 use Rattle.hickory_resolver_client.proofs.Progressing.{resumed_out, resumed_done, resumed_next, resumed_cut}
 use Rattle.hickory_resolver_client.proofs.caching_core.CachingCore.resume.Goals as goal
 

@@ -3,7 +3,7 @@ use Rattle.std.specs.Option.{option_map_or}
 use Rattle.hickory_resolver_model.specs.Cache.{last_moment}
 use Rattle.hickory_resolver_model.specs.Hops.{alias_deadline}
 use Rattle.hickory_resolver_client.specs.Contexts.{context_of}
-use Rattle.hickory_resolver_client.proofs.Stepping.{settle_exists, settle_none, settle_last, settle_next}
+use Rattle.hickory_resolver_client.proofs.Settling.{settle_exists, settle_none, settle_last, settle_next}
 use Rattle.hickory_resolver_client.proofs.caching_core.CachingCore.settle_answer.Goals as goal
 
 pub returns-then-depth-lt7-clause-settled : goal.returns-then-depth-lt7-clause-settled

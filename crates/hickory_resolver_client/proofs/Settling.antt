@@ -1,21 +1,21 @@
--- One hop of a look-up.
-use Rattle.std.proofs.Common.{◌≡◌, ◌<◌, ◌≤◌, ◌∙◌, ℕ, Bool, true, false, cond, [], ◌∷◌, Option, None, Some, Ok, Err, refl, sym, ap, ap₂, subst, inl, inr, arith}
+-- What a hop comes to that was asked.
+use Rattle.std.proofs.Common.{◌≡◌, ◌<◌, ◌≤◌, ◌∙◌, ℕ, Bool, true, false, cond, [], ◌∷◌, Option, Some, Ok, Err, refl, sym, ap, ap₂, subst, inl, inr, arith}
 use Rattle.std.specs.Option.{option_map_or}
 use Rattle.hickory_proto_core.specs.Messages.{MessageValue}
 use Rattle.hickory_proto_core.specs.Errors.{NoRecordsValue}
-use Rattle.hickory_proto_core.specs.Handles.{OutcomeValue, holds_memory}
+use Rattle.hickory_proto_core.specs.Handles.{OutcomeValue}
 use Rattle.hickory_proto_core.specs.ResponseKind.{Answer, Negative, Failed, kind_of, negative_of}
 use Rattle.hickory_proto_core.specs.codes.response_code.ResponseCode.{ResponseCode as Code}
 use Rattle.hickory_proto_core.specs.declared.net_error.NetError.TheVariants.{Message, Timeout, Proto, Dns, NoOutcome, Bounds, OutOfMemory}
 use Rattle.hickory_proto_core.specs.declared.net_error.DnsError.TheVariants.{ResponseCode, NoRecordsFound}
-use Rattle.hickory_resolver_model.specs.Cache.{CacheValue, Entry, last_moment, IsGotUntil}
+use Rattle.hickory_resolver_model.specs.Cache.{CacheValue, last_moment}
 use Rattle.hickory_resolver_model.specs.Lookup.{LookupResult, found_lookup}
 use Rattle.hickory_resolver_model.specs.Bounds.{least}
 use Rattle.hickory_resolver_model.specs.AliasWalk.{walk_of}
 use Rattle.hickory_resolver_model.specs.Verdict.{Hop, Verdict, Accepted, Alias, NoMatch, verdict}
 use Rattle.hickory_resolver_model.specs.Hops.{LookupContext, alias_deadline, alias_limit, result_of_verdict, stores_of_verdict, store_of, after_stores, no_match}
 use Rattle.hickory_resolver_client.proofs.Limits.{earliest_deadline}
-use Rattle.hickory_resolver_client.specs.Special.{IsUnlessOut, IsSpecialReply}
+use Rattle.hickory_resolver_client.specs.Special.{IsUnlessOut}
 use Rattle.hickory_resolver_client.specs.Verdicts.{IsVerdict}
 use Rattle.hickory_resolver_client.specs.Steps.{NeverFailsNegative, SettledAs, IsWorkedOn, IsSettled}
 use Rattle.hickory_resolver_client.specs.declared.verdict.Verdict as response
@@ -40,20 +40,9 @@ never_fails (Err NoOutcome) k h = cc
 never_fails (Err (Bounds e)) k h = cc
 never_fails (Err OutOfMemory) k h = cc
 
--- something is made of what is no failure, and it holds memory
+-- something is made of an answer
 pub worked_answer : (m : MessageValue) → IsWorkedOn (Answer m)
 worked_answer m error e = let clash : Answer m ≡ Failed error = e in cc
-
-pub worked_holds : (outcome : OutcomeValue) → IsWorkedOn (kind_of outcome) → holds_memory outcome ≡ true
-worked_holds (Ok m) worked = refl
-worked_holds (Err (Message text)) worked = absurd (worked (Message text) refl)
-worked_holds (Err Timeout) worked = absurd (worked Timeout refl)
-worked_holds (Err (Proto e)) worked = absurd (worked (Proto e) refl)
-worked_holds (Err (Dns (ResponseCode code))) worked = absurd (worked (Dns (ResponseCode code)) refl)
-worked_holds (Err (Dns (NoRecordsFound n))) worked = refl
-worked_holds (Err NoOutcome) worked = absurd (worked NoOutcome refl)
-worked_holds (Err (Bounds e)) worked = absurd (worked (Bounds e) refl)
-worked_holds (Err OutOfMemory) worked = absurd (worked OutOfMemory refl)
 
 -- ---- an answer, by its verdict
 
@@ -126,15 +115,3 @@ module _ (s : LookupContext) (hop : Hop) (depth : ℕ) (m : MessageValue) (keep 
   settle_next next back e early =
       let v = is_chain _ m next back (judged (variant.Alias next back) e) in
       (ap (λ h. h.query) same_hop, limited, ap (λ u. Some u) v.0, early, refl)
-
--- ---- one hop
-
-pub not_special : (found got : Option LookupResult) → ((r : LookupResult) → got ≡ Some r → ⊥) → IsSpecialReply found got → found ≡ None
-not_special None got none is = refl
-not_special (Some r) got none (inl e) = absurd (none _ e)
-not_special (Some r) got none (inr e) = absurd (none _ e)
-
-pub missed : (found : Option Entry) (now : ℕ) (got : Option (OutcomeValue × ℕ)) → ((hit : OutcomeValue × ℕ) → got ≡ Some hit → ⊥) → IsGotUntil found now got → found ≡ None
-missed None now got none is_got = refl
-missed (Some entry) now got none (inl e) = absurd (none _ e)
-missed (Some entry) now got none (inr e) = absurd (none _ e)
