@@ -1,7 +1,8 @@
-pub mod AttemptChains
-pub mod Families
 pub mod Answering
+pub mod CallSteps
+pub mod DrivenCalls
 pub mod FirstCaches
 pub mod KeptSteps
 pub mod LastPlaces
 pub mod ServedRuns
+pub mod Starting

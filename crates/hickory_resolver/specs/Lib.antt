@@ -1,7 +1,9 @@
-pub mod Attempting
+pub mod CallProgress
+pub mod CallSteps
 pub mod Listening
 pub mod Replies
 pub mod Serving
+pub mod Starting
 pub mod Transcripts
 pub use Rattle.hickory_resolver_lookup.specs.Requests
 pub use Rattle.hickory_resolver_model.specs.AliasWalk

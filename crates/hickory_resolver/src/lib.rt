@@ -1,6 +1,8 @@
 //! A stub resolver's core: names and types are turned into records, by way of an upstream that is handed in.
 #![tactic(auto)]
 
+mod attempting;
+mod calling;
 mod keeping;
 pub mod listener;
 mod literals;
@@ -9,10 +11,12 @@ pub mod lookup_ip_future;
 mod recording;
 pub mod resolver;
 pub mod resolver_builder;
+mod results;
 pub mod runs;
 pub mod search;
 mod serve;
 pub mod transcript;
+pub mod waiting_call;
 
 /// The cache, and the bounds that it keeps to.
 pub mod cache {
@@ -22,7 +26,7 @@ pub mod cache {
 
 /// The client: a cache over an upstream, and the names that it does not ask for.
 pub mod caching_client {
-    pub use hickory_resolver_client::{CachingClient, is_special_use};
+    pub use hickory_resolver_client::{CachingClient, Progress, Waiting, is_special_use};
 }
 
 /// What a resolver is configured with.
@@ -55,7 +59,7 @@ pub mod request {
 }
 
 pub use cache::{MAX_TTL, ResponseCache, TtlBounds, TtlConfig};
-pub use caching_client::{CachingClient, is_special_use};
+pub use caching_client::{CachingClient, Progress, Waiting, is_special_use};
 pub use config::{
     ConnectionConfig, LookupIpStrategy, NameServerConfig, OpportunisticEncryption,
     OpportunisticEncryptionConfig, ProtocolConfig, ResolveHosts, ResolverConfig, ResolverOpts,
@@ -73,3 +77,4 @@ pub use resolver_builder::ResolverBuilder;
 pub use runs::{run, run_told, run_with_hasher};
 pub use search::attempts;
 pub use transcript::{Reply, Step, Transcript};
+pub use waiting_call::{CallProgress, WaitingCall};

@@ -16,22 +16,22 @@ pub fn literal_at_once(
     owner: Name,
     address: IpAddr,
     now: u64,
-) -> Result<LookupIp, NetError>
+) -> Result<Lookup, NetError>
     ensures { (result ≡ Ok (literal_at_once owner address now)) ⊎ (result ≡ Err OutOfMemory) }
 {
     let rdata = RData::from(address);
     let question = Query::query(owner, rdata.record_type());
-    as_addresses(Lookup::from_rdata(alloc, question, rdata, now))
+    Lookup::from_rdata(alloc, question, rdata, now)
 }
 
 /// Record data as the last resort: owned by the name without labels, under the question for the root, for a
 /// day from this moment (seconds).
-pub(crate) fn last_resort(alloc: Global, rdata: RData, now: u64) -> Result<LookupIp, NetError>
+pub(crate) fn last_resort(alloc: Global, rdata: RData, now: u64) -> Result<Lookup, NetError>
     ensures { (result ≡ Ok (last_resort (data_of rdata) now)) ⊎ (result ≡ Err OutOfMemory) }
 {
     let mut records = Vec::new(alloc);
     records.push(Record::from_rdata(Name::new(alloc), MAX_TTL, rdata))?;
-    as_addresses(Lookup::new_with_max_ttl(Query::new(alloc), records, now))
+    Lookup::new_with_max_ttl(Query::new(alloc), records, now)
 }
 
 /// A result that is read as addresses.

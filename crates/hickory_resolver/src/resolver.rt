@@ -10,16 +10,23 @@ ghost use Rattle.hickory_resolver_model.specs.Attempts.{attempts};
 ghost use Rattle.hickory_resolver_model.specs.Calls.{last_resort, literal_at_last};
 ghost use Rattle.hickory_resolver_model.specs.Options.{request_options_of};
 ghost use Rattle.hickory_resolver_model.specs.Resolver.{AnswersCall, AnswersHost, after_clear_lookup, settings};
-ghost use Rattle.hickory_resolver_model.specs.Run.{Attempt, address_call, address_plan, drop_each, name_plan};
+ghost use Rattle.hickory_resolver_model.specs.Run.{Attempt, address_call, address_plan, drop_each};
 ghost use Rattle.hickory_resolver_theorems.specs.CallFacts.{KeepsWhatIsKnown, PromisesHost, PromisesName};
+ghost use Rattle.hickory_resolver.specs.CallProgress.{call_progress_of};
+ghost use Rattle.hickory_resolver.specs.CallSteps.{plan_value};
+ghost use Rattle.hickory_resolver.specs.Starting.{ResumesAt, StartsAt, StartsHost, StartsName};
 
-use crate::literals::literal_at_once;
+use crate::attempting::Sought;
+use crate::calling::{resume, start};
+use crate::literals::{as_addresses, literal_at_once};
 use crate::lookup_future::LookupFuture;
 use crate::lookup_ip_future::LookupIpFuture;
 use crate::resolver_builder::ResolverBuilder;
 use crate::search::attempts;
+use crate::waiting_call::{CallProgress, WaitingCall};
 use hickory_proto_core::{
-    DnsHandle, DnsRequestOptions, IntoName, Name, NameError, NetError, Query, RData, RecordType,
+    DnsHandle, DnsRequestOptions, IntoName, Name, NameError, NetError, Outcome, Query, RData,
+    RecordType,
 };
 use hickory_resolver_cache::ResponseCache;
 use hickory_resolver_client::CachingClient;
@@ -118,7 +125,17 @@ impl<H: DnsHandle, S: BuildHasher> Resolver<H, S> {
         // `len` is called for its clause on what holds of every cache.
         let _len = self.client.cache().len();
         let name = name.into_name(self.alloc())?;
-        self.lookup_name(name, record_type, now)
+        let mut names = self.attempts(name)?;
+        names.reverse();
+        let options = self.request_options();
+        LookupFuture::lookup_with_hosts(
+            names,
+            record_type,
+            options,
+            &mut self.client,
+            &self.hosts,
+            now,
+        )
     }
 
     /// Looks up the addresses of a host, at a moment (seconds). The names that are attempted for it are those of
@@ -136,8 +153,49 @@ impl<H: DnsHandle, S: BuildHasher> Resolver<H, S> {
         let address = host.to_ip();
         match host.into_name(self.alloc()) {
             Ok(name) => self.lookup_host(address, name, now),
-            Err(fault) => self.literal_or_fault(address, fault, now),
+            Err(fault) => as_addresses(self.literal_or_fault(address, fault, now)),
         }
+    }
+
+    /// Starts a look-up of records of a type for a name, at a moment (seconds), and leaves it to the caller to send
+    /// its questions. What is looked up, and in which order, is as `lookup` says. It is done where no question
+    /// needs to be sent, else it waits for what comes back to one.
+    pub fn start_lookup<N: IntoName>(
+        &mut self,
+        name: N,
+        record_type: RecordType,
+        now: u64,
+    ) -> CallProgress
+        ensures { StartsName (N.into_name_gives name) record_type now self.old (call_progress_of result) self.new }
+    {
+        match name.into_name(self.alloc()) {
+            Ok(name) => self.start_call(name, Sought::Records(record_type), None, now),
+            Err(fault) => CallProgress::Done(Err(NetError::from(fault))),
+        }
+    }
+
+    /// Starts a look-up of the addresses of a host, at a moment (seconds), and leaves it to the caller to send its
+    /// questions. What is looked up, and in which order, is as `lookup_ip` says. It is done where no question needs
+    /// to be sent, else it waits for what comes back to one. `LookupIp::from` reads what it gives as addresses.
+    pub fn start_lookup_ip<N: IntoName>(&mut self, host: N, now: u64) -> CallProgress
+        ensures { StartsHost (N.to_ip_gives host) (N.into_name_gives host) now self.old (call_progress_of result)
+            self.new }
+    {
+        let address = host.to_ip();
+        match host.into_name(self.alloc()) {
+            Ok(name) => self.start_host(address, name, now),
+            Err(fault) => CallProgress::Done(self.literal_or_fault(address, fault, now)),
+        }
+    }
+
+    /// Goes on with a call by what came back to its question, which is sent with the options of
+    /// `request_options`. The moment of all that is kept and given is that of the start of the call. The cache and the
+    /// table of hosts are those that stand: in between, other calls may have kept answers, the cache may have been
+    /// cleared, and the table replaced.
+    pub fn resume(&mut self, waiting: WaitingCall, outcome: Outcome) -> CallProgress
+        ensures { ResumesAt waiting outcome self.old (call_progress_of result) self.new }
+    {
+        resume(waiting, outcome, &mut self.client, &self.hosts)
     }
 
     /// `lookup` of PTR records, at a moment (seconds): of an address, the names that it has. A text is read as a
@@ -249,28 +307,6 @@ impl<H: DnsHandle, S: BuildHasher> Resolver<H, S> {
         self.client.clear_cache();
     }
 
-    // Looks up a name that was read.
-    fn lookup_name(
-        &mut self,
-        name: Name,
-        record_type: RecordType,
-        now: u64,
-    ) -> Result<Lookup, NetError>
-        ensures { AnswersCall H.step now (Attempt name (name_plan record_type)) self.old result self.new }
-    {
-        let mut names = self.attempts(name)?;
-        names.reverse();
-        let options = self.request_options();
-        LookupFuture::lookup_with_hosts(
-            names,
-            record_type,
-            options,
-            &mut self.client,
-            &self.hosts,
-            now,
-        )
-    }
-
     // Looks up the addresses of a name that was read, of a text that spells this address.
     fn lookup_host(
         &mut self,
@@ -283,10 +319,62 @@ impl<H: DnsHandle, S: BuildHasher> Resolver<H, S> {
     {
         match address {
             Some(address) if self.options.ndots <= 4 => {
-                literal_at_once(self.alloc(), name, address, now)
+                as_addresses(literal_at_once(self.alloc(), name, address, now))
             }
             Some(address) => self.attempt_host(name, Some(address), now),
             None => self.attempt_host(name, None, now),
+        }
+    }
+
+    // Starts a look-up of the addresses of a name that was read, of a text that spells this address.
+    fn start_host(&mut self, address: Option<IpAddr>, name: Name, now: u64) -> CallProgress
+        ensures { StartsAt now (address_call (settings self.old) address (Ok name) now) self.old
+            (call_progress_of result) self.new }
+    {
+        match address {
+            Some(address) if self.options.ndots <= 4 => {
+                CallProgress::Done(literal_at_once(self.alloc(), name, address, now))
+            }
+            Some(address) => self.start_addresses(name, Some(address), now),
+            None => self.start_addresses(name, None, now),
+        }
+    }
+
+    // Starts a look-up of addresses for a name, with this address as the last resort.
+    fn start_addresses(&mut self, name: Name, address: Option<IpAddr>, now: u64) -> CallProgress
+        ensures { StartsAt now (Attempt name (address_plan (settings self.old).strategy
+            (option_map (λ literal. literal_at_last literal now) address))) self.old (call_progress_of result)
+            self.new }
+    {
+        let sought = Sought::Addresses(self.ip_strategy());
+        self.start_call(name, sought, record_data(address), now)
+    }
+
+    // Starts a call for a name.
+    fn start_call(
+        &mut self,
+        name: Name,
+        sought: Sought,
+        literal: Option<RData>,
+        now: u64,
+    ) -> CallProgress
+        ensures { StartsAt now (Attempt name (plan_value sought literal now)) self.old (call_progress_of result)
+            self.new }
+    {
+        match self.attempts(name) {
+            Ok(mut names) => {
+                names.reverse();
+                start(
+                    names,
+                    sought,
+                    literal,
+                    true,
+                    &mut self.client,
+                    &self.hosts,
+                    now,
+                )
+            }
+            Err(_) => CallProgress::Done(Err(NetError::OutOfMemory)),
         }
     }
 
@@ -297,7 +385,7 @@ impl<H: DnsHandle, S: BuildHasher> Resolver<H, S> {
         address: Option<IpAddr>,
         fault: NameError,
         now: u64,
-    ) -> Result<LookupIp, NetError>
+    ) -> Result<Lookup, NetError>
         ensures { AnswersHost H.step (λ a. a ≡ address) (λ n. n ≡ Err fault) now self.now result self.now }
     {
         match (fault, address) {
@@ -354,8 +442,8 @@ impl<H: DnsHandle, S: BuildHasher> Resolver<H, S> {
         attempts(self.alloc(), name, self.options.ndots, domain, search)
     }
 
-    // How each question is sent.
-    fn request_options(&self) -> DnsRequestOptions
+    /// How each question is sent.
+    pub fn request_options(&self) -> DnsRequestOptions
         ensures { result ≡ request_options_of self.now.options }
     {
         DnsRequestOptions {

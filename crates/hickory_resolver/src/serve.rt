@@ -1,10 +1,10 @@
 //! Requests that are served one by one, over a handle that keeps what it sends, and heard of.
-ghost use Rattle.std.specs.Prelude.{◌≡◌, List, IfOk, OnErr, OnOk, map};
+ghost use Rattle.std.specs.Prelude.{List, OnErr, OnOk, map};
 ghost use Rattle.hickory_proto_core.specs.declared.recorded.Exchange.{Exchange};
-ghost use Rattle.hickory_resolver_model.specs.Run.{StepValue, ends_run};
+ghost use Rattle.hickory_resolver_model.specs.Run.{StepValue};
 ghost use Rattle.hickory_resolver_lookup.specs.Requests.{request_of};
 ghost use Rattle.hickory_resolver.specs.Listening.{HearsAll};
-ghost use Rattle.hickory_resolver.specs.Serving.{FailsToHear, MakesRun, MakesStage};
+ghost use Rattle.hickory_resolver.specs.Serving.{FailsToHear, MakesRun};
 
 use crate::listener::Listener;
 use crate::recording::{answer_by, upstream_of};
@@ -27,35 +27,19 @@ pub fn serve_each<H: DnsHandle, S: BuildHasher, L: Listener>(
     ensures err { OnErr result (FailsToHear L.hears L.fails listener.old (map request_of requests.now) listener.new) }
 {
     for request in requests {
-        let is_last = serve(resolver, listener, request)?;
+        let before = upstream_of(resolver).exchanges().len();
+        let reply = answer_by(resolver, request);
+        let is_last = reply.ends_run();
+        let sent = &upstream_of(resolver).exchanges()[before..];
+        let step = Step {
+            now: request.moment(),
+            exchanges: sent.len(),
+            reply,
+        };
+        listener.hear(request, sent, step)?;
         if is_last {
             return Ok(());
         }
     }
     Ok(())
-}
-
-// Serves a request and lets a listener hear of it: whether it found no memory.
-fn serve<H: DnsHandle, S: BuildHasher, L: Listener>(
-    resolver: &mut Resolver<Recorded<H>, S>,
-    listener: &mut L,
-    request: &Request,
-) -> Result<bool, AllocError>
-    ensures ok { IfOk result (λ is_last. (sent : List Exchange) × (made : StepValue)
-        × MakesStage H.step (request_of request.now) resolver.old sent made resolver.new
-        × L.hears listener.old (request_of request.now) sent made listener.new × (is_last ≡ ends_run made.reply)) }
-    ensures err { OnErr result ((sent : List Exchange) × (made : StepValue)
-        × L.fails listener.old (request_of request.now) sent made listener.new) }
-{
-    let before = upstream_of(resolver).exchanges().len();
-    let reply = answer_by(resolver, request);
-    let is_last = reply.ends_run();
-    let sent = &upstream_of(resolver).exchanges()[before..];
-    let step = Step {
-        now: request.moment(),
-        exchanges: sent.len(),
-        reply,
-    };
-    listener.hear(request, sent, step)?;
-    Ok(is_last)
 }

@@ -1,11 +1,34 @@
-use Rattle.std.proofs.Common.{[], Err, refl, subst, reverse}
-use Rattle.hickory_proto_core.specs.declared.net_error.NetError.{NetError}
+use Rattle.std.proofs.Common.{false, List, [], reverse, subst}
 use Rattle.hickory_resolver_model.specs.Run.{name_plan}
-use Rattle.hickory_resolver.specs.Attempting.{GoesOn}
-use Rattle.hickory_resolver.proofs.AttemptChains.{looks_up}
+use Rattle.hickory_resolver_model.specs.Hosts.{Host}
+use Rattle.hickory_resolver_model.specs.Resolver.{call_context_of}
+use Rattle.hickory_resolver_theorems.specs.ResumingCalls.{WaitingCallValue, ResumesCall, StartsNames}
+use Rattle.hickory_resolver.specs.CallProgress.{call_progress_of}
+use Rattle.hickory_resolver.proofs.DrivenCalls.{driven_done, driven_fewer, driven_on, driven_start}
 use Rattle.hickory_resolver.proofs.lookup_future.LookupFuture.lookup.Goals as goal
 
-pub returns : goal.returns
-returns g c =
-    let P : NetError → Type 0 = λ e. GoesOn g.H.DnsHandle.step c.args.options [] c.args.now (name_plan c.args.record_type) (reverse c.args.names.items) (Err e) c.args.client.now c.go_on.result c.go_on.new.client in
-    looks_up g.H.DnsHandle.step c.args.options [] c.args.now c.args.client.now _ _ (name_plan c.args.record_type) refl _ _ refl (subst P c.from.ensures (c.go_on.ensures []))
+pub loop-progress-init : goal.loop-progress-init
+loop-progress-init g c =
+    let S : List Host → Type 0 = λ hosts. StartsNames (call_context_of c.args.client.now hosts c.args.now) (name_plan c.args.record_type) false (reverse c.args.names.items) c.args.client.now.cache (call_progress_of c.start-progress.result) c.start-progress.new.client.cache in
+    driven_start g.H.DnsHandle.step c.args.options [] c.args.now (name_plan c.args.record_type) false (reverse c.args.names.items) c.args.client.now (call_progress_of c.start-progress.result) c.start-progress.new.client (subst S c.default-hosts.ensures c.start-progress.ensures.starts) c.start-progress.ensures.stays
+
+pub loop-progress-smaller : goal.loop-progress-smaller
+loop-progress-smaller g c =
+    let d = rw c.in-Waiting.is at c.loop-progress.invariant in
+    let R : List Host → Type 0 = λ hosts. ResumesCall (call_context_of c.ask-waiting.new.client hosts c.ask-waiting.result.0.sub.now) c.ask-waiting.result.0 c.ask-waiting.result.1 c.ask-waiting.new.client.cache (call_progress_of c.resume-progress.result) c.resume-progress.new.client.cache in
+    let W : WaitingCallValue → Type 0 = λ w. ResumesCall (call_context_of c.ask-waiting.new.client [] w.sub.now) w c.ask-waiting.result.1 c.ask-waiting.new.client.cache (call_progress_of c.resume-progress.result) c.resume-progress.new.client.cache in
+    rw c.in-Waiting.is
+    (driven_fewer g.H.DnsHandle.step c.args.options [] c.args.now (name_plan c.args.record_type) false (reverse c.args.names.items) c.args.client.now c.in-Waiting.waiting c.loop-progress.client d c.ask-waiting.result.1 c.ask-waiting.new.client c.ask-waiting.ensures.sent c.ask-waiting.ensures.stays
+    (call_progress_of c.resume-progress.result) c.resume-progress.new.client (subst W c.ask-waiting.ensures.same (subst R c.default-hosts.ensures c.resume-progress.ensures.resumes)) c.resume-progress.ensures.stays)
+
+pub loop-progress-preserved : goal.loop-progress-preserved
+loop-progress-preserved g c =
+    let d = rw c.in-Waiting.is at c.loop-progress.invariant in
+    let R : List Host → Type 0 = λ hosts. ResumesCall (call_context_of c.ask-waiting.new.client hosts c.ask-waiting.result.0.sub.now) c.ask-waiting.result.0 c.ask-waiting.result.1 c.ask-waiting.new.client.cache (call_progress_of c.resume-progress.result) c.resume-progress.new.client.cache in
+    let W : WaitingCallValue → Type 0 = λ w. ResumesCall (call_context_of c.ask-waiting.new.client [] w.sub.now) w c.ask-waiting.result.1 c.ask-waiting.new.client.cache (call_progress_of c.resume-progress.result) c.resume-progress.new.client.cache in
+    driven_on g.H.DnsHandle.step c.args.options [] c.args.now (name_plan c.args.record_type) false (reverse c.args.names.items) c.args.client.now c.in-Waiting.waiting c.loop-progress.client d c.ask-waiting.result.1 c.ask-waiting.new.client c.ask-waiting.ensures.sent c.ask-waiting.ensures.stays
+    (call_progress_of c.resume-progress.result) c.resume-progress.new.client (subst W c.ask-waiting.ensures.same (subst R c.default-hosts.ensures c.resume-progress.ensures.resumes)) c.resume-progress.ensures.stays
+
+pub returns-in-Done : goal.returns-in-Done
+returns-in-Done g c =
+    driven_done g.H.DnsHandle.step c.args.options [] c.args.now (name_plan c.args.record_type) false (reverse c.args.names.items) c.args.client.now c.in-Done.result c.loop-progress.client (rw c.in-Done.is at c.loop-progress.invariant)

@@ -1,14 +1,36 @@
-use Rattle.std.proofs.Common.{None, Err, refl, subst, reverse}
-use Rattle.hickory_proto_core.specs.declared.net_error.NetError.{NetError}
+use Rattle.std.proofs.Common.{true, reverse, sym, subst}
+use Rattle.std.specs.Option.{option_map}
+use Rattle.hickory_proto_core.specs.Records.{data_of}
+use Rattle.hickory_resolver_model.specs.Calls.{last_resort}
 use Rattle.hickory_resolver_model.specs.Run.{address_plan}
-use Rattle.hickory_resolver.specs.Attempting.{GoesOn}
-use Rattle.hickory_resolver.proofs.AttemptChains.{looks_up}
-use Rattle.hickory_resolver.proofs.Families.{looks_up_or_last_resort}
+use Rattle.hickory_resolver_model.specs.Lookup.{LookupResult}
+use Rattle.hickory_resolver_model.specs.Resolver.{LooksUp, call_context_of}
+use Rattle.hickory_resolver_theorems.specs.ResumingCalls.{WaitingCallValue, ResumesCall}
+use Rattle.hickory_resolver.specs.CallProgress.{call_progress_of}
+use Rattle.hickory_resolver.proofs.DrivenCalls.{driven_done, driven_fewer, driven_on, driven_start}
 use Rattle.hickory_resolver.proofs.lookup_ip_future.LookupIpFuture.lookup.Goals as goal
 
-pub returns : goal.returns
-returns g c =
-    let P : NetError → Type 0 = λ e. GoesOn g.H.DnsHandle.step c.args.options c.args.hosts.now c.args.now (address_plan c.args.strategy None) (reverse c.args.names.items) (Err e) c.args.client.now c.go_on-reply.result c.go_on-reply.new.client in
-    looks_up_or_last_resort g.H.DnsHandle.step c.args.options c.args.hosts.now c.args.now c.args.strategy _ _ _ _ c.go_on-reply.result c.or_last_resort.result
-    (looks_up g.H.DnsHandle.step c.args.options c.args.hosts.now c.args.now c.args.client.now _ _ (address_plan c.args.strategy None) refl _ _ refl (subst P c.from.ensures c.go_on-reply.ensures))
-    c.or_last_resort.ensures
+pub loop-progress-init : goal.loop-progress-init
+loop-progress-init g c =
+    driven_start g.H.DnsHandle.step c.args.options c.args.hosts.now c.args.now (address_plan c.args.strategy (option_map (λ rdata. last_resort (data_of rdata) c.args.now) c.args.finally_ip_addr)) true (reverse c.args.names.items) c.args.client.now (call_progress_of c.start-progress.result) c.start-progress.new.client c.start-progress.ensures.starts c.start-progress.ensures.stays
+
+pub loop-progress-smaller : goal.loop-progress-smaller
+loop-progress-smaller g c =
+    let d = rw c.in-Waiting.is at c.loop-progress.invariant in
+    let W : WaitingCallValue → Type 0 = λ w. ResumesCall (call_context_of c.ask-waiting.new.client c.args.hosts.now w.sub.now) w c.ask-waiting.result.1 c.ask-waiting.new.client.cache (call_progress_of c.resume-progress.result) c.resume-progress.new.client.cache in
+    rw c.in-Waiting.is
+    (driven_fewer g.H.DnsHandle.step c.args.options c.args.hosts.now c.args.now (address_plan c.args.strategy (option_map (λ rdata. last_resort (data_of rdata) c.args.now) c.args.finally_ip_addr)) true (reverse c.args.names.items) c.args.client.now c.in-Waiting.waiting c.loop-progress.client d c.ask-waiting.result.1 c.ask-waiting.new.client c.ask-waiting.ensures.sent c.ask-waiting.ensures.stays
+    (call_progress_of c.resume-progress.result) c.resume-progress.new.client (subst W c.ask-waiting.ensures.same c.resume-progress.ensures.resumes) c.resume-progress.ensures.stays)
+
+pub loop-progress-preserved : goal.loop-progress-preserved
+loop-progress-preserved g c =
+    let d = rw c.in-Waiting.is at c.loop-progress.invariant in
+    let W : WaitingCallValue → Type 0 = λ w. ResumesCall (call_context_of c.ask-waiting.new.client c.args.hosts.now w.sub.now) w c.ask-waiting.result.1 c.ask-waiting.new.client.cache (call_progress_of c.resume-progress.result) c.resume-progress.new.client.cache in
+    driven_on g.H.DnsHandle.step c.args.options c.args.hosts.now c.args.now (address_plan c.args.strategy (option_map (λ rdata. last_resort (data_of rdata) c.args.now) c.args.finally_ip_addr)) true (reverse c.args.names.items) c.args.client.now c.in-Waiting.waiting c.loop-progress.client d c.ask-waiting.result.1 c.ask-waiting.new.client c.ask-waiting.ensures.sent c.ask-waiting.ensures.stays
+    (call_progress_of c.resume-progress.result) c.resume-progress.new.client (subst W c.ask-waiting.ensures.same c.resume-progress.ensures.resumes) c.resume-progress.ensures.stays
+
+pub returns-in-Done : goal.returns-in-Done
+returns-in-Done g c =
+    let looked_up = driven_done g.H.DnsHandle.step c.args.options c.args.hosts.now c.args.now (address_plan c.args.strategy (option_map (λ rdata. last_resort (data_of rdata) c.args.now) c.args.finally_ip_addr)) true (reverse c.args.names.items) c.args.client.now c.in-Done.result c.loop-progress.client (rw c.in-Done.is at c.loop-progress.invariant) in
+    let P : LookupResult → Type 0 = λ r. LooksUp g.H.DnsHandle.step c.args.options c.args.hosts.now c.args.now (address_plan c.args.strategy (option_map (λ rdata. last_resort (data_of rdata) c.args.now) c.args.finally_ip_addr)) true (reverse c.args.names.items) c.args.client.now r c.loop-progress.client in
+    subst P (sym c.as_addresses.ensures) looked_up

@@ -1,0 +1,163 @@
+-- How the code of a call goes on: what it keeps between two sub-look-ups, and what each of its steps comes to.
+use Rattle.std.specs.Prelude.{◌≡◌, ◌⊎◌, ◌<◌, ◌+◌, ◌*◌, ℕ, Bool, true, false, codes, List, [], ◌∷◌, length, reverse, Option, Some, None, Ok, Err}
+use Rattle.std.specs.Option.{option_map}
+use Rattle.hickory_proto_core.specs.Name.{NameValue}
+use Rattle.hickory_proto_core.specs.Records.{data_of}
+use Rattle.hickory_proto_core.specs.codes.record_type.RecordType.{RecordType}
+use Rattle.hickory_proto_core.specs.declared.query.Query.{Query}
+use Rattle.hickory_proto_core.specs.declared.record_data.RData.{RData}
+use Rattle.hickory_proto_core.specs.declared.net_error.NetError.TheVariants.{OutOfMemory}
+use Rattle.hickory_resolver_client.specs.Contexts.{progress_of}
+use Rattle.hickory_resolver_model.specs.Cache.{CacheValue}
+use Rattle.hickory_resolver_model.specs.Calls.{CallContext, start_at, Plan, One, Both, Fallback, CallPlan, last_resort}
+use Rattle.hickory_resolver_model.specs.Hosts.{IsStatic}
+use Rattle.hickory_resolver_model.specs.Lookup.{LookupValue, LookupResult, question_of}
+use Rattle.hickory_resolver_model.specs.Resuming.{WaitingValue, ProgressValue, Waits, IsDone, PassedValue, Starts}
+use Rattle.hickory_resolver_model.specs.Run.{plan_of}
+use Rattle.hickory_resolver_theorems.specs.ResumingCalls.{AttemptValue, CallProgressValue, CallIsDone, GoesOn, GoesOnAfter}
+use Rattle.hickory_resolver.specs.declared.attempting.Sought.{Sought}
+use Rattle.hickory_resolver.specs.declared.attempting.Sought.TheVariants.{Records, Addresses}
+use Rattle.hickory_resolver.specs.declared.attempting.Types.{Types}
+use Rattle.hickory_resolver.specs.declared.attempting.Types.TheVariants as types
+use Rattle.hickory_resolver.specs.declared.attempting.Attempt.{Attempt}
+use Rattle.hickory_resolver.specs.declared.attempting.Step.{Step}
+use Rattle.hickory_resolver.specs.declared.attempting.Step.TheVariants as step
+
+-- ---- what is looked up
+
+abbrev pub types_value : Types → Plan
+types_value (types.One t) = One t
+types_value (types.Both t u) = Both t u
+types_value (types.Fallback t u) = Fallback t u
+
+abbrev pub types_of : Sought → Plan
+types_of (Records t) = One t
+types_of (Addresses strategy) = plan_of strategy
+
+abbrev pub asks_for_all : Sought → Bool
+asks_for_all (Records t) = false
+asks_for_all (Addresses strategy) = true
+
+abbrev pub no_names_of : Sought → List ℕ
+no_names_of (Records t) = codes "can not lookup for no names"
+no_names_of (Addresses strategy) = codes "can not lookup IPs for no names"
+
+-- what a call does with each name, whose moment this is
+abbrev pub plan_value : Sought → Option RData → ℕ → CallPlan
+plan_value sought literal now = record {
+  types = types_of sought;
+  hosts_for_all = asks_for_all sought;
+  literal = option_map (λ rdata. last_resort (data_of rdata) now) literal;
+  no_names = no_names_of sought;
+}
+
+-- the first type of a name
+abbrev pub first_type : Plan → RecordType
+first_type (One t) = t
+first_type (Both t u) = t
+first_type (Fallback t u) = t
+
+-- the name once more, while the first type is looked up and a second one may follow
+abbrev pub again_for : Plan → Option LookupResult → NameValue → Option NameValue
+again_for (One t) first name = None
+again_for (Both t u) None name = Some name
+again_for (Both t u) (Some r) name = None
+again_for (Fallback t u) None name = Some name
+again_for (Fallback t u) (Some r) name = None
+
+abbrev pub results_so_far : Option LookupResult → List LookupResult
+results_so_far None = []
+results_so_far (Some r) = r ∷ []
+
+-- a type that is looked up next, with the name
+abbrev pub second_of : NameValue → Option RecordType → Option (NameValue × RecordType)
+second_of name None = None
+second_of name (Some t) = Some (name, t)
+
+-- a call at a name
+abbrev pub attempt_value : Attempt → NameValue → ℕ → AttemptValue
+attempt_value a name now = record {
+  plan = plan_value a.sought a.literal now;
+  looked = a.looked;
+  name = name;
+  results = results_so_far a.first;
+  left = reverse a.left.items;
+}
+
+-- at the beginning of a name
+abbrev pub first_value : Attempt → NameValue → ℕ → AttemptValue
+first_value a name now = record (attempt_value a name now) { results = [] }
+
+-- the question that a look-up was started with
+abbrev pub first_of : List PassedValue → Query → Query
+first_of [] query = query
+first_of (p ∷ ps) query = p.query
+
+abbrev pub first_question : WaitingValue → Query
+first_question w = first_of w.passed w.hop.query
+
+-- ---- steps
+
+-- the look-up of a type came so far, or the call is over
+pub data StepValue : Type 0 where
+  Goes : ProgressValue → StepValue
+  Over : LookupResult → StepValue
+
+abbrev pub step_of : Step → StepValue
+step_of (step.Goes progress) = Goes (progress_of progress)
+step_of (step.Over result) = Over result
+
+-- the table of hosts is not looked at, or has nothing
+abbrev pub IsNotStatic : CallContext → Bool → NameValue → RecordType → Type 0
+IsNotStatic s looked name t = (looked ≡ false) ⊎ IsStatic (question_of name t) s.now s.hosts None
+
+-- A type is looked up for a name: by the client, or the table of hosts has it, or memory runs out before.
+abbrev pub LooksUpOnce : CallContext → Bool → NameValue → RecordType → CacheValue → StepValue → CacheValue → Type 0
+LooksUpOnce s looked name t before step after =
+    ((progress : ProgressValue) × (step ≡ Goes progress) × IsNotStatic s looked name t
+    × Starts (start_at s before) (question_of name t) progress after)
+    ⊎ (((found : LookupValue) × (step ≡ Goes (IsDone (Ok found))) × (looked ≡ true)
+    × IsStatic (question_of name t) s.now s.hosts (Some found) × (after ≡ before))
+    ⊎ ((step ≡ Over (Err OutOfMemory)) × (after ≡ before)))
+
+-- what a call comes to after a step, over the cache that the step left
+abbrev pub ComesAfter : CallContext → AttemptValue → StepValue → CacheValue → CallProgressValue → CacheValue → Type 0
+ComesAfter s a (Goes progress) mid end after = GoesOnAfter s a progress mid end after
+ComesAfter s a (Over result) mid end after = (end ≡ CallIsDone result) × (after ≡ mid)
+
+-- the code can go on with this name: the name is there once more where it may be needed; and a look-up that waits
+-- was started with the name, at this moment
+abbrev pub IsBegunWith : NameValue → ℕ → ProgressValue → Type 0
+IsBegunWith name now (Waits w) = ((first_question w).name ≡ name) × (w.now ≡ now)
+IsBegunWith name now (IsDone result) = Unit {0}
+
+pub record IsReady (a : Attempt) (name : NameValue) (now : ℕ) (progress : ProgressValue) : Type 0 where
+  pub again_is : a.again ≡ again_for (types_of a.sought) a.first name
+  pub begun : IsBegunWith name now progress
+
+abbrev pub IsReadyAfter : Attempt → NameValue → ℕ → StepValue → Type 0
+IsReadyAfter a name now (Goes progress) = IsReady a name now progress
+IsReadyAfter a name now (Over result) = Unit {0}
+
+-- how many times a type may be looked up yet, at most, after the one that came so far
+abbrev pub count_again : Option NameValue → ℕ
+count_again None = 0
+count_again (Some name) = 1
+
+abbrev pub turns_left : Attempt → ℕ
+turns_left a = 2 * length a.left.items + count_again a.again
+
+-- a step that does not end the call leaves fewer
+abbrev pub IsFewer : StepValue → ℕ → ℕ → Type 0
+IsFewer (Goes progress) fewer more = fewer < more
+IsFewer (Over result) fewer more = Unit {0}
+
+-- Whatever a call comes to after a step, it comes to from here.
+pub record GoesFrom
+    (s : CallContext) (from : AttemptValue) (before : CacheValue) (a : Attempt) (now : ℕ) (step : StepValue)
+    (mid : CacheValue)
+    : Type 0 where
+  pub name : NameValue
+  pub ready : IsReadyAfter a name now step
+  pub goes : (end : CallProgressValue) (after : CacheValue)
+      → ComesAfter s (attempt_value a name now) step mid end after → GoesOn s from before end after

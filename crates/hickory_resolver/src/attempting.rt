@@ -1,0 +1,298 @@
+//! Attempts at several names, one after another, without I/O: what a call does until it waits or is done.
+ghost use Rattle.std.specs.Prelude.{◌≡◌, ◌⊎◌, ◌*◌, ℕ, length, [], ◌∷◌, ◌++◌, None, Some, false, true, IfOk, IfSome, IsOkUnless, IsTrue, Err};
+ghost use Rattle.std.specs.Option.{option_map};
+ghost use Rattle.hickory_proto_core.specs.Name.{NameValue};
+ghost use Rattle.hickory_proto_core.specs.Records.{data_of};
+ghost use Rattle.hickory_proto_core.specs.declared.net_error.NetError.TheVariants.{OutOfMemory};
+ghost use Rattle.hickory_resolver_model.specs.Calls.{IsAttemptResult, IsLastReply, Says, last_resort, next_type, stops};
+ghost use Rattle.hickory_resolver_model.specs.Client.{KeepsHandle};
+ghost use Rattle.hickory_resolver_model.specs.Hosts.{IsStatic};
+ghost use Rattle.hickory_resolver_model.specs.Resolver.{call_context_of};
+ghost use Rattle.hickory_resolver_theorems.specs.ResumingCalls.{with_result};
+ghost use Rattle.hickory_resolver.specs.CallSteps.{types_value, first_type, again_for, types_of, asks_for_all, no_names_of, results_so_far, LooksUpOnce, GoesFrom, IsFewer, attempt_value, first_value, second_of, step_of, turns_left};
+
+use crate::literals::last_resort;
+use crate::results::{attempted, is_out_of_memory, stops};
+use hickory_proto_core::{DnsHandle, Name, NetError, Query, RData, RecordType};
+use hickory_resolver_client::{CachingClient, Progress};
+use hickory_resolver_config::LookupIpStrategy;
+use hickory_resolver_hosts::Hosts;
+use hickory_resolver_lookup::Lookup;
+use std::alloc::Global;
+use std::hash::BuildHasher;
+
+/// What a call looks up for each of its names.
+#[derive(Clone, Copy)]
+pub enum Sought {
+    /// Records of a type. The table of hosts is asked for the first name alone.
+    Records(RecordType),
+    /// Addresses. The table of hosts is asked for every name.
+    Addresses(LookupIpStrategy),
+}
+
+/// The types that are looked up for a name.
+#[derive(Clone, Copy)]
+pub enum Types {
+    /// One.
+    One(RecordType),
+    /// Both, whose results are made one.
+    Both(RecordType, RecordType),
+    /// The first, and the second where the first has no answers.
+    Fallback(RecordType, RecordType),
+}
+
+/// A call at one of its names.
+#[derive(Drop)]
+pub struct Attempt {
+    /// What is looked up.
+    pub sought: Sought,
+    /// What stands in where no name has answers.
+    pub literal: Option<RData>,
+    /// Whether the table of hosts is asked for this name.
+    pub looked: bool,
+    /// The name once more, where a second type may follow.
+    pub again: Option<Name>,
+    /// The result of the first type, where the second is looked up.
+    pub first: Option<Result<Lookup, NetError>>,
+    /// The names that are left, from the last to the next.
+    pub left: Vec<Name>,
+}
+
+/// What a step of a call comes to.
+#[derive(Drop)]
+pub enum Step {
+    /// A type of the name is looked up, and came so far.
+    Goes(Progress),
+    /// The call is over.
+    Over(Result<Lookup, NetError>),
+}
+
+impl Sought {
+    // The types that are looked up for a name.
+    fn types(self) -> Types
+        ensures { types_value result ≡ types_of self }
+    {
+        let (v4, v6) = (RecordType::A, RecordType::AAAA);
+        match self {
+            Sought::Records(record_type) => Types::One(record_type),
+            Sought::Addresses(LookupIpStrategy::Ipv4Only) => Types::One(v4),
+            Sought::Addresses(LookupIpStrategy::Ipv6Only) => Types::One(v6),
+            Sought::Addresses(LookupIpStrategy::Ipv4AndIpv6) => Types::Both(v4, v6),
+            Sought::Addresses(LookupIpStrategy::Ipv6AndIpv4) => Types::Both(v6, v4),
+            Sought::Addresses(LookupIpStrategy::Ipv6thenIpv4) => Types::Fallback(v6, v4),
+            Sought::Addresses(LookupIpStrategy::Ipv4thenIpv6) => Types::Fallback(v4, v6),
+        }
+    }
+
+    // Whether the table of hosts is asked for every name.
+    fn asks_hosts_for_all(self) -> bool
+        ensures { result ≡ asks_for_all self }
+    {
+        matches!(self, Sought::Addresses(_))
+    }
+
+    // What is said where there is no name.
+    pub fn no_names(self) -> NetError
+        ensures { Says (no_names_of self) (Err result) }
+    {
+        match self {
+            Sought::Records(_) => NetError::from("can not lookup for no names"),
+            Sought::Addresses(_) => NetError::from("can not lookup IPs for no names"),
+        }
+    }
+}
+
+impl Types {
+    // The type that is looked up first.
+    fn first(self) -> RecordType
+        ensures { result ≡ first_type (types_value self) }
+    {
+        match self {
+            Types::One(first) | Types::Both(first, _) | Types::Fallback(first, _) => first,
+        }
+    }
+
+    // The name once more, where a second type may follow.
+    fn again(self, name: &Name) -> Result<Option<Name>, NetError>
+        ensures ok { IfOk result (λ again. again ≡ again_for (types_value self) None name.now) }
+        ensures err { IsOkUnless result OutOfMemory }
+    {
+        match self {
+            Types::One(_) => Ok(None),
+            Types::Both(_, _) | Types::Fallback(_, _) => Ok(Some(name.clone()?)),
+        }
+    }
+
+    // The type that is looked up after the result of the first.
+    fn second(self, first: &Result<Lookup, NetError>) -> Option<RecordType>
+        ensures { result ≡ next_type (types_value self) (first.now ∷ []) }
+    {
+        match self {
+            Types::One(_) => None,
+            Types::Both(_, second) => match is_out_of_memory(first) {
+                true => None,
+                false => Some(second),
+            },
+            Types::Fallback(_, second) => match stops(first) {
+                true => None,
+                false => Some(second),
+            },
+        }
+    }
+}
+
+impl Attempt {
+    /// Begins with a name.
+    pub fn begin<H: DnsHandle, S: BuildHasher, T: BuildHasher>(
+        &mut self,
+        name: Name,
+        client: &mut CachingClient<H, S>,
+        hosts: &Hosts<T>,
+        now: u64,
+    ) -> Step
+        ensures goes { GoesFrom (call_context_of client.old hosts.now now) (first_value self.old name now)
+            client.old.cache self.new now (step_of result) client.new.cache }
+        ensures left { self.new.left ≡ self.old.left }
+        ensures stays { KeepsHandle client.old client.new }
+    {
+        let types = self.sought.types();
+        match types.again(&name) {
+            Ok(again) => {
+                self.first = None;
+                self.again = again;
+                look_up(name, types.first(), self.looked, client, hosts, now)
+            }
+            Err(error) => Step::Over(Err(error)),
+        }
+    }
+
+    /// Goes on with the result of a type: the second type, the next name, or the end of the call.
+    pub fn go_on<H: DnsHandle, S: BuildHasher, T: BuildHasher>(
+        &mut self,
+        latest: Result<Lookup, NetError>,
+        client: &mut CachingClient<H, S>,
+        hosts: &Hosts<T>,
+        now: u64,
+    ) -> Step
+        ensures goes { (name : NameValue)
+            → self.old.again ≡ again_for (types_of self.old.sought) self.old.first name
+            → GoesFrom (call_context_of client.old hosts.now now)
+            (with_result (attempt_value self.old name now) latest) client.old.cache self.new now
+            (step_of result) client.new.cache }
+        ensures fewer { IsFewer (step_of result) (turns_left self.new) (turns_left self.old) }
+        ensures stays { KeepsHandle client.old client.new }
+    {
+        match self.second(&latest) {
+            Some((name, second)) => {
+                self.first = Some(latest);
+                look_up(name, second, self.looked, client, hosts, now)
+            }
+            None => self.end(latest, client, hosts, now),
+        }
+    }
+
+    // The name and the type that are looked up after this result, if any are.
+    fn second(&mut self, latest: &Result<Lookup, NetError>) -> Option<(Name, RecordType)>
+        ensures second { (name : NameValue) → self.old.again ≡ again_for (types_of self.old.sought) self.old.first name
+            → result ≡ second_of name (next_type (types_of self.old.sought)
+            (results_so_far self.old.first ++ latest.now ∷ [])) }
+        ensures again { IfSome result (λ both. self.old.again ≡ Some both.0) }
+        ensures stays { self.new ≡ record self.old { again = None } }
+    {
+        match self.again.take() {
+            Some(name) => match self.sought.types().second(latest) {
+                Some(second) => Some((name, second)),
+                None => None,
+            },
+            None => None,
+        }
+    }
+
+    // Ends with a name, whose last type has this result: the next name follows, or the call is over.
+    fn end<H: DnsHandle, S: BuildHasher, T: BuildHasher>(
+        &mut self,
+        latest: Result<Lookup, NetError>,
+        client: &mut CachingClient<H, S>,
+        hosts: &Hosts<T>,
+        now: u64,
+    ) -> Step
+        ensures goes { (name : NameValue)
+            → next_type (types_of self.old.sought) (results_so_far self.old.first ++ latest ∷ []) ≡ None
+            → GoesFrom (call_context_of client.old hosts.now now)
+            (with_result (attempt_value self.old name now) latest) client.old.cache self.new now
+            (step_of result) client.new.cache }
+        ensures fewer { IsFewer (step_of result) (turns_left self.new) (2 * length self.old.left.items) }
+        ensures stays { KeepsHandle client.old client.new }
+    {
+        let reply = attempted(self.sought.types(), self.first.take(), latest);
+        if stops(&reply) {
+            return Step::Over(reply);
+        }
+        match self.left.pop() {
+            Some(name) => {
+                drop(reply);
+                self.looked = self.sought.asks_hosts_for_all();
+                self.begin(name, client, hosts, now)
+            }
+            None => {
+                let alloc = *self.left.allocator();
+                Step::Over(last_reply(alloc, self.literal.take(), reply, now))
+            }
+        }
+    }
+}
+
+/// What a call replies where no name has answers: the last resort if there is one, or else this.
+pub fn last_reply(
+    alloc: Global,
+    literal: Option<RData>,
+    last: Result<Lookup, NetError>,
+    now: u64,
+) -> Result<Lookup, NetError>
+    ensures { IsLastReply (option_map (λ rdata. last_resort (data_of rdata) now) literal) (λ x. x ≡ last) result }
+{
+    match literal {
+        Some(rdata) => {
+            drop(last);
+            last_resort(alloc, rdata, now)
+        }
+        None => last,
+    }
+}
+
+// Looks up a type for a name: what the table of hosts has, if it is asked, or else by the client.
+fn look_up<H: DnsHandle, S: BuildHasher, T: BuildHasher>(
+    name: Name,
+    record_type: RecordType,
+    looked: bool,
+    client: &mut CachingClient<H, S>,
+    hosts: &Hosts<T>,
+    now: u64,
+) -> Step
+    ensures looks_up { LooksUpOnce (call_context_of client.old hosts.now now) looked name record_type
+        client.old.cache (step_of result) client.new.cache }
+    ensures stays { KeepsHandle client.old client.new }
+{
+    let question = Query::query(name, record_type);
+    if skips_hosts(looked, hosts, &question) {
+        return Step::Goes(client.start(question, now));
+    }
+    match hosts.lookup_static_host(&question, now) {
+        Ok(Some(found)) => Step::Goes(Progress::Done(Ok(found))),
+        Ok(None) => Step::Goes(client.start(question, now)),
+        Err(error) => Step::Over(Err(error)),
+    }
+}
+
+// Whether the table of hosts is not looked at, or it is known at once that it has nothing for a question: it has no
+// names. Of a question for PTR records that is never known, since the table first reads which address its name
+// stands for.
+fn skips_hosts<T: BuildHasher>(looked: bool, hosts: &Hosts<T>, question: &Query) -> bool
+    ensures none { IsTrue result → (now : ℕ) → (looked ≡ false) ⊎ IsStatic question.now now hosts.now None }
+    ensures asked { result ≡ false → looked ≡ true }
+{
+    if !looked {
+        return true;
+    }
+    hosts.is_empty() && question.query_type != RecordType::PTR
+}

@@ -1,0 +1,93 @@
+//! A call that does no I/O: it says which question is to be sent, and goes on with what came back to it.
+ghost use Rattle.std.specs.Prelude.{◌≡◌, reverse};
+ghost use Rattle.hickory_proto_core.specs.Name.{NameValue};
+ghost use Rattle.hickory_resolver_client.specs.Contexts.{progress_of};
+ghost use Rattle.hickory_resolver_model.specs.Client.{KeepsHandle};
+ghost use Rattle.hickory_resolver_model.specs.Resolver.{call_context_of};
+ghost use Rattle.hickory_resolver_theorems.specs.ResumingCalls.{GoesOnAfter, ResumesCall, StartsNames};
+ghost use Rattle.hickory_resolver.specs.CallProgress.{call_progress_of};
+ghost use Rattle.hickory_resolver.specs.CallSteps.{IsReady, attempt_value, plan_value};
+
+use crate::attempting::{Attempt, Sought, Step, last_reply};
+use crate::waiting_call::{CallProgress, WaitingCall};
+use hickory_proto_core::{DnsHandle, Name, Outcome, RData};
+use hickory_resolver_client::{CachingClient, Progress};
+use hickory_resolver_hosts::Hosts;
+use std::hash::BuildHasher;
+
+/// Starts a call for names, from the last of the list to the first, at a moment (seconds). The flag says whether
+/// the table of hosts is asked for the first name that is attempted.
+pub fn start<H: DnsHandle, S: BuildHasher, T: BuildHasher>(
+    mut names: Vec<Name>,
+    sought: Sought,
+    literal: Option<RData>,
+    looked: bool,
+    client: &mut CachingClient<H, S>,
+    hosts: &Hosts<T>,
+    now: u64,
+) -> CallProgress
+    ensures starts { StartsNames (call_context_of client.old hosts.now now) (plan_value sought literal now) looked
+        (reverse names.items) client.old.cache (call_progress_of result) client.new.cache }
+    ensures stays { KeepsHandle client.old client.new }
+{
+    let Some(name) = names.pop() else {
+        let alloc = *names.allocator();
+        return CallProgress::Done(last_reply(alloc, literal, Err(sought.no_names()), now));
+    };
+    let mut attempt = Attempt {
+        sought,
+        literal,
+        looked,
+        again: None,
+        first: None,
+        left: names,
+    };
+    match attempt.begin(name, client, hosts, now) {
+        Step::Goes(progress) => go_on(attempt, progress, client, hosts, now),
+        Step::Over(result) => CallProgress::Done(result),
+    }
+}
+
+/// Goes on with a call by what came back to its question.
+pub fn resume<H: DnsHandle, S: BuildHasher, T: BuildHasher>(
+    waiting: WaitingCall,
+    outcome: Outcome,
+    client: &mut CachingClient<H, S>,
+    hosts: &Hosts<T>,
+) -> CallProgress
+    ensures resumes { ResumesCall (call_context_of client.old hosts.now waiting.sub.now) waiting outcome
+        client.old.cache (call_progress_of result) client.new.cache }
+    ensures stays { KeepsHandle client.old client.new }
+{
+    let WaitingCall { attempt, sub } = waiting;
+    let now = sub.now();
+    let progress = client.resume(sub, outcome);
+    go_on(attempt, progress, client, hosts, now)
+}
+
+// Goes on with a call whose look-up of a type came so far, until one waits or the call is over.
+fn go_on<H: DnsHandle, S: BuildHasher, T: BuildHasher>(
+    attempt: Attempt,
+    progress: Progress,
+    client: &mut CachingClient<H, S>,
+    hosts: &Hosts<T>,
+    now: u64,
+) -> CallProgress
+    requires { (name : NameValue) × IsReady attempt name now (progress_of progress) }
+    ensures goes { (name : NameValue) → IsReady attempt name now (progress_of progress)
+        → GoesOnAfter (call_context_of client.old hosts.now now) (attempt_value attempt name now)
+        (progress_of progress) client.old.cache (call_progress_of result) client.new.cache }
+    ensures stays { KeepsHandle client.old client.new }
+{
+    let mut attempt = attempt;
+    let mut progress = progress;
+    loop {
+        match progress {
+            Progress::Waiting(sub) => return CallProgress::Waiting(WaitingCall { attempt, sub }),
+            Progress::Done(result) => match attempt.go_on(result, client, hosts, now) {
+                Step::Goes(next) => progress = next,
+                Step::Over(result) => return CallProgress::Done(result),
+            },
+        }
+    }
+}

@@ -1,0 +1,78 @@
+//! A call that waits for what comes back to a question.
+ghost use Rattle.std.specs.Prelude.{◌≡◌};
+
+use crate::attempting::Attempt;
+use hickory_proto_core::{DnsHandle, DnsRequestOptions, NetError, Outcome, Query};
+use hickory_resolver_client::{CachingClient, Waiting};
+use hickory_resolver_lookup::Lookup;
+use std::hash::BuildHasher;
+use std::marker::Model;
+
+/// A call that waits for what comes back to a question. Its moment is that of its start, however late it goes on.
+/// One that is dropped stores nothing further: what was kept of its questions before stays.
+///
+/// A call of one resolver may go on with another. Each question is then answered by the cache and the table of hosts
+/// of the resolver that goes on with it; which names and types are looked up, and the last resort, were settled at
+/// the start.
+#[derive(Drop)]
+pub struct WaitingCall {
+    pub(crate) attempt: Attempt,
+    pub(crate) sub: Waiting,
+}
+
+impl Model for WaitingCall {
+    ghost use Rattle.std.specs.Prelude.{◌≡◌};
+    ghost use Rattle.hickory_resolver_theorems.specs.ResumingCalls.{WaitingCallValue};
+    ghost use Rattle.hickory_resolver.specs.CallSteps.{again_for, attempt_value, first_question, types_of};
+
+    ghost Value = { WaitingCallValue };
+
+    ghost view = { λ w. record {
+      attempt = attempt_value w.attempt (first_question w.sub).name w.sub.now;
+      sub = w.sub;
+    } };
+
+    ghost invariant = { λ w. w.attempt.again
+        ≡ again_for (types_of w.attempt.sought) w.attempt.first (first_question w.sub).name };
+}
+
+/// How far a call came.
+#[derive(Drop)]
+pub enum CallProgress {
+    /// It waits for what comes back to a question.
+    Waiting(WaitingCall),
+    /// It is done, with this result.
+    Done(Result<Lookup, NetError>),
+}
+
+impl WaitingCall {
+    /// The question that is to be sent, with the options of the resolver (`Resolver::request_options`).
+    pub fn question(&self) -> &Query
+        ensures { result.now ≡ self.now.sub.hop.query }
+    {
+        self.sub.question()
+    }
+
+    // Sends the question by the handle of a client, and gives what came back beside the call.
+    pub(crate) fn ask<H: DnsHandle, S: BuildHasher>(
+        self,
+        client: &mut CachingClient<H, S>,
+        options: DnsRequestOptions,
+    ) -> (WaitingCall, Outcome)
+        ensures same { result.0 ≡ self }
+        ensures sent { H.step client.old.handle (record { query = self.sub.hop.query; options = options }) result.1
+            client.new.handle }
+        ensures stays { client.new ≡ record client.old { handle = client.new.handle } }
+    {
+        let WaitingCall { attempt, sub } = self;
+        let (sub, outcome) = client.ask(sub, options);
+        (WaitingCall { attempt, sub }, outcome)
+    }
+
+    /// The moment of its start (seconds).
+    pub fn now(&self) -> u64
+        ensures { result ≡ self.now.sub.now }
+    {
+        self.sub.now()
+    }
+}
