@@ -1,50 +1,65 @@
-//! Three look-ups at once over one client. What was asked last is answered first, as it may be over a network.
+//! Three look-ups at once over one resolver. What was asked last is answered first, as it may be over a network.
 #![tactic(auto)]
 
 use hickory_proto_core::dns_handle::Outcome;
 use hickory_proto_core::{
     DnsResponse, Message, Name, NetError, OpCode, Query, RData, Record, RecordType, ScriptHandle,
 };
-use hickory_resolver::{CachingClient, Lookup, Progress, Waiting};
+use hickory_resolver::{CallProgress, Lookup, Resolver, ResolverConfig, WaitingCall};
 use std::alloc::Global;
 use std::net::Ipv4Addr;
-
-type Client = CachingClient<ScriptHandle>;
 
 fn main(rt: HostRuntime) -> anyhow::Result<()> {
     let alloc = rt.alloc();
     let mut text = String::new(alloc);
-    // The client's own handle is never asked: the loop below sends the questions.
-    let handle = ScriptHandle::new(Vec::new(alloc));
-    serve(alloc, &mut text, &mut CachingClient::new(alloc, 100, handle, false))?;
+    serve(alloc, &mut text, &mut resolver(alloc)?)?;
     Ok(rt.print(text)?)
 }
 
+// A resolver that looks short names up below example.com. Its own handle is never asked: the loop sends the questions.
+fn resolver(alloc: Global) -> Result<Resolver<ScriptHandle>, NetError> {
+    let mut config = ResolverConfig::default(alloc);
+    config.add_search(Name::from_ascii(alloc, "example.com.")?)?;
+    let handle = ScriptHandle::new(Vec::new(alloc));
+    Resolver::builder_with_config(config, handle).build()
+}
+
 // Starts the look-ups, and goes on with the one whose question was sent last, until none waits.
-fn serve(alloc: Global, text: &mut String, client: &mut Client) -> Result<(), NetError> {
+fn serve(
+    alloc: Global,
+    text: &mut String,
+    resolver: &mut Resolver<ScriptHandle>,
+) -> Result<(), NetError> {
     let mut waiting = Vec::new(alloc);
-    for host in ["www.example.com.", "blog.example.com.", "mail.example.com."] {
-        let query = Query::query(Name::from_ascii(alloc, host)?, RecordType::A);
-        note(text, &mut waiting, client.start(query, 100))?;
+    for host in ["www", "blog", "mail"] {
+        note(
+            text,
+            &mut waiting,
+            resolver.start_lookup(host, RecordType::A, 100),
+        )?;
     }
     for _ in 0..24 {
         let Some(last) = waiting.pop() else { break };
         let outcome = answer(alloc, last.question());
-        note(text, &mut waiting, client.resume(last, outcome))?;
+        note(text, &mut waiting, resolver.resume(last, outcome))?;
     }
     Ok(())
 }
 
 // Sends the question of a look-up that waits, or adds what it came to.
-fn note(text: &mut String, waiting: &mut Vec<Waiting>, progress: Progress) -> Result<(), NetError> {
+fn note(
+    text: &mut String,
+    waiting: &mut Vec<WaitingCall>,
+    progress: CallProgress,
+) -> Result<(), NetError> {
     match progress {
-        Progress::Waiting(look_up) => {
-            let question = look_up.question();
+        CallProgress::Waiting(call) => {
+            let question = call.question();
             write!(text, "send {question}\n")?;
-            waiting.push(look_up)?;
+            waiting.push(call)?;
             Ok(())
         }
-        Progress::Done(result) => push_answers(text, &result?),
+        CallProgress::Done(found) => push_answers(text, &found?),
     }
 }
 

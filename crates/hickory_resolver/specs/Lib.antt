@@ -17,6 +17,7 @@ pub use Rattle.hickory_resolver_model.specs.Hosts
 pub use Rattle.hickory_resolver_model.specs.Lookup
 pub use Rattle.hickory_resolver_model.specs.Options
 pub use Rattle.hickory_resolver_model.specs.Resolver
+pub use Rattle.hickory_resolver_model.specs.Resuming
 pub use Rattle.hickory_resolver_model.specs.Run
 pub use Rattle.hickory_resolver_model.specs.SpecialUse
 pub use Rattle.hickory_resolver_model.specs.Verdict
@@ -25,6 +26,7 @@ pub use Rattle.hickory_resolver_theorems.specs.Cores
 pub use Rattle.hickory_resolver_theorems.specs.Covered
 pub use Rattle.hickory_resolver_theorems.specs.Statements
 pub use Rattle.hickory_resolver_theorems.specs.Provenance
+pub use Rattle.hickory_resolver_theorems.specs.ResumingCalls
 pub use Rattle.hickory_resolver_hosts.specs.Reading
 pub use Rattle.hickory_resolver_hosts.specs.Watched
 pub use Rattle.hickory_resolver_hosts.specs.declared as hosts

@@ -24,9 +24,11 @@ pub mod cache {
     pub use hickory_resolver_lookup::{MAX_TTL, TtlBounds, TtlConfig};
 }
 
-/// The client: a cache over an upstream, and the names that it does not ask for.
+/// The client: a cache over an upstream, the part of it that does no I/O, and the names that it does not ask for.
 pub mod caching_client {
-    pub use hickory_resolver_client::{CachingClient, Progress, Waiting, is_special_use};
+    pub use hickory_resolver_client::{
+        CachingClient, CachingCore, Progress, Waiting, is_special_use,
+    };
 }
 
 /// What a resolver is configured with.
@@ -59,7 +61,7 @@ pub mod request {
 }
 
 pub use cache::{MAX_TTL, ResponseCache, TtlBounds, TtlConfig};
-pub use caching_client::{CachingClient, Progress, Waiting, is_special_use};
+pub use caching_client::{CachingClient, CachingCore, Progress, Waiting, is_special_use};
 pub use config::{
     ConnectionConfig, LookupIpStrategy, NameServerConfig, OpportunisticEncryption,
     OpportunisticEncryptionConfig, ProtocolConfig, ResolveHosts, ResolverConfig, ResolverOpts,

@@ -7,8 +7,17 @@ use std::process::ExitCode;
 use std::rt::{Env, Files};
 use std::{env, fmt, fs, io};
 
+// The text is whole before any of it is written, so it is written directly: a buffer would hide a write that
+// fails.
 fn main(rt: HostRuntime) -> ExitCode {
-    match run(&rt) {
+    let replayed = match read_files(&rt) {
+        Ok((script, hosts)) => {
+            let mut writer = Watched::new(io::writer(&rt));
+            replay(rt.alloc(), &script, hosts.as_deref(), &mut writer).map_err(RunError::Replay)
+        }
+        Err(error) => Err(error),
+    };
+    match replayed {
         Ok(()) => ExitCode::SUCCESS,
         Err(error) => {
             let status = error.status();
@@ -48,24 +57,16 @@ impl fmt::Display for RunError {
     }
 }
 
-impl From<ReplayError> for RunError {
-    fn from(error: ReplayError) -> RunError {
-        RunError::Replay(error)
-    }
-}
-
-// The text is whole before any of it is written, so it is written directly: a buffer would hide a write that
-// fails.
-fn run<R: AllocGlobal + Env + Files + Print>(rt: &R) -> Result<(), RunError> {
+// The bytes of the script, and those of the hosts where there are any.
+fn read_files<R: AllocGlobal + Env + Files>(
+    rt: &R,
+) -> Result<(Vec<u8>, Option<Vec<u8>>), RunError> {
     let (script, hosts) = paths(rt)?;
     let script = read(rt, script)?;
-    let hosts = match hosts {
-        Some(path) => Some(read(rt, path)?),
-        None => None,
-    };
-    let mut writer = Watched::new(io::writer(rt));
-    replay(rt.alloc(), &script, hosts.as_deref(), &mut writer)?;
-    Ok(())
+    match hosts {
+        Some(path) => Ok((script, Some(read(rt, path)?))),
+        None => Ok((script, None)),
+    }
 }
 
 // The arguments behind the program's name: the path of the script, and that of the hosts where there is one.
