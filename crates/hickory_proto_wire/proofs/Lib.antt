@@ -7,3 +7,4 @@ pub mod Adds
 pub mod Data
 pub mod Written
 pub mod Sections
+pub mod Messages

@@ -11,7 +11,7 @@ use Rattle.hickory_proto_wire.specs.Octets.{◌>>=◌, u16_at, u32_at}
 use Rattle.hickory_proto_wire.specs.Names.{name_at}
 use Rattle.hickory_proto_wire.specs.RecordData.{data_at, record_data_at}
 use Rattle.hickory_proto_wire.specs.Records.{query_at, head_at, record_from, record_at}
-use Rattle.hickory_proto_wire.specs.Writing.{Begins, Stands, Spells, Adds, SpellsData, AddsData, data_code}
+use Rattle.hickory_proto_wire.specs.Writing.{Begins, Stands, Spells, Adds, SpellsData, AddsData, data_code, coded_at}
 use Rattle.hickory_proto_wire.proofs.Stands.{stands_front, stands_behind}
 use Rattle.hickory_proto_wire.proofs.Adds.{adds_one, adds_then}
 
@@ -71,9 +71,9 @@ own_data known empty new x none a =
 record_spelled : (known a b c e f d : List ℕ) (name : NameValue) (value : DataValue) (class ttl : ℕ)
     → Spells name_at known a name → Spells u16_at known b (data_code value) → Spells u16_at known c class
     → Spells u32_at known e ttl → Spells u16_at known f (length d) → SpellsData known d value
-    → Spells record_at known (a ++ (b ++ (c ++ (e ++ (f ++ d)))))
-    (record { name = name; dns_class = class_of class; ttl = ttl; rdata = value })
-unfolding record_at head_at record_from record_data_at
+    → Spells coded_at known (a ++ (b ++ (c ++ (e ++ (f ++ d)))))
+    (data_code value, record { name = name; dns_class = class_of class; ttl = ttl; rdata = value })
+unfolding coded_at head_at record_from record_data_at
 record_spelled known a b c e f d name value class ttl ra rb rc re rf rd bytes at begins le s =
     let p1 : ℕ = at + length a in
     let p2 : ℕ = at + length a + length b in
@@ -114,7 +114,7 @@ join o0 o1 o2 a b p q = q ∙ ap (λ (x : List ℕ). x ++ b) p ∙ append_assoc 
 pub record_adds : (known o0 o1 o2 o3 o4 o5 o6 d : List ℕ) (name : NameValue) (value : DataValue) (class ttl : ℕ)
     → Adds name_at known o0 o1 name → Adds u16_at known o1 o2 (data_code value) → Adds u16_at known o2 o3 class
     → Adds u32_at known o3 o4 ttl → Adds u16_at known o4 o5 (length d) → o6 ≡ o5 ++ d → SpellsData known d value
-    → Adds record_at known o0 o6 (record { name = name; dns_class = class_of class; ttl = ttl; rdata = value })
+    → Adds coded_at known o0 o6 (data_code value, record { name = name; dns_class = class_of class; ttl = ttl; rdata = value })
 record_adds known o0 o1 o2 o3 o4 o5 o6 d name value class ttl a b c e f last rd = (
   a.0 ++ (b.0 ++ (c.0 ++ (e.0 ++ (f.0 ++ d)))),
   join o0 o1 o6 a.0 (b.0 ++ (c.0 ++ (e.0 ++ (f.0 ++ d)))) a.1

@@ -1,7 +1,13 @@
 -- What was written, by what the reader reads of it.
-use Rattle.std.specs.Prelude.{◌≡◌, ℕ, ◌+◌, ◌-◌, ◌/◌, ◌%◌, ◌≤◌, ◌<◌, List, [], ◌∷◌, ◌++◌, length, take, drop, Result, Ok, Bool, true, false, ◌==◌, if◌then◌else◌}
+use Rattle.std.specs.Prelude.{◌≡◌, ℕ, ◌+◌, ◌-◌, ◌*◌, ◌/◌, ◌%◌, ◌≤◌, ◌<◌, List, [], ◌∷◌, ◌++◌, length, take, drop, map, Option, Result, Ok, Bool, true, false, ◌==◌, if◌then◌else◌}
 use Rattle.std.specs.List.{flat_map}
-use Rattle.hickory_proto_codes.specs.Codes.{type_code, type_of, class_code, class_of}
+use Rattle.std.specs.Option.{option_map}
+use Rattle.hickory_proto_codes.specs.Codes.{type_code, type_of, class_code, class_of, op_code, op_of, response_code, response_of}
+use Rattle.hickory_proto_core.specs.declared.message.Metadata.{Metadata}
+use Rattle.hickory_proto_wire.specs.Edns.{EdnsValue}
+use Rattle.hickory_proto_wire.specs.Records.{head_at, record_from}
+use Rattle.hickory_proto_wire.specs.declared.wire_record.OptRecord.{OptRecord}
+use Rattle.hickory_proto_wire.specs.declared.wire_message.WireMessage.{WireMessage}
 use Rattle.hickory_proto_core.specs.declared.query.Query.{Query}
 use Rattle.hickory_proto_core.specs.Records.{RecordValue, DataValue, a_data, aaaa_data, cname_data, ns_data, ptr_data, soa_data, srv_data, mx_data, txt_data, unknown_data}
 use Rattle.hickory_proto_wire.specs.declared.wire_error.WireFault.{WireFault}
@@ -116,3 +122,53 @@ abbrev pub Follows : {A : Type 0} → (List ℕ → ℕ → Result (A × ℕ) Wi
 Follows read old new x =
     (octets : List ℕ) × (new ≡ old ++ octets)
     × ((bytes : List ℕ) → Begins new bytes → read bytes (length old) ≡ Ok (x, length new))
+
+-- a record and the code of its type
+unfoldable pub coded_at : List ℕ → ℕ → Result ((ℕ × RecordValue) × ℕ) WireFault
+coded_at bytes at = do
+  head ← head_at bytes at
+  found ← record_from bytes head
+  Ok ((head.code, found), head.end)
+
+-- the weight of a bit that is set
+abbrev pub weighed : Bool → ℕ → ℕ
+weighed set weight = if set then weight else 0
+
+-- the second number of the header (RFC 1035, section 4.1.1)
+abbrev pub flags_of : WireMessage → Bool → ℕ → ℕ → ℕ
+flags_of m truncated op code =
+    weighed m.is_response 32768 + op * 2048 + weighed m.message.metadata.authoritative 1024 + weighed truncated 512
+    + weighed m.message.metadata.recursion_desired 256 + weighed m.message.metadata.recursion_available 128
+    + weighed m.reserved 64 + weighed m.authentic_data 32 + weighed m.checking_disabled 16 + code
+
+-- what is read again of a message that was written with these records
+abbrev pub named_metadata : Metadata → Bool → Metadata
+named_metadata metadata truncated = record {
+  id = metadata.id;
+  op_code = op_of (op_code metadata.op_code);
+  authoritative = metadata.authoritative;
+  truncation = truncated;
+  recursion_desired = metadata.recursion_desired;
+  recursion_available = metadata.recursion_available;
+  response_code = response_of (response_code metadata.response_code);
+}
+
+abbrev pub shown : WireMessage → Bool → List RecordValue → List RecordValue → List RecordValue → WireMessage
+shown m truncated answers authorities additionals = record {
+  is_response = m.is_response;
+  reserved = m.reserved;
+  authentic_data = m.authentic_data;
+  checking_disabled = m.checking_disabled;
+  edns = m.edns;
+  message = record {
+    metadata = named_metadata m.message.metadata truncated;
+    queries = map named_query m.message.queries;
+    answers = map named_record answers;
+    authorities = map named_record authorities;
+    additionals = map named_record additionals;
+  };
+}
+
+-- the OPT record of a message
+abbrev pub opt_of : Option EdnsValue → ℕ → Option OptRecord
+opt_of edns extended = option_map (λ e. record { extended = extended; edns = e }) edns

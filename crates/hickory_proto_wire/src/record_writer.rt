@@ -1,8 +1,8 @@
 //! Questions and records as octets (RFC 1035, sections 4.1.2 and 4.1.3).
 ghost use Rattle.std.specs.Prelude.{◌≡◌, OnOk};
 ghost use Rattle.hickory_proto_core.specs.Records.{data_of};
-ghost use Rattle.hickory_proto_wire.specs.Records.{query_at, record_at};
-ghost use Rattle.hickory_proto_wire.specs.Writing.{Adds, data_code, named_query, named_record};
+ghost use Rattle.hickory_proto_wire.specs.Records.{query_at};
+ghost use Rattle.hickory_proto_wire.specs.Writing.{Adds, coded_at, data_code, named_query, named_record};
 
 use crate::data_writer::put_data;
 use crate::name_writer::put_name;
@@ -52,7 +52,8 @@ pub(crate) fn put_record(
     out: &mut Vec<u8>,
     added: &Record,
 ) -> Result<(), ToWireError>
-    ensures { OnOk result (Adds record_at known.now out.old.items out.new.items (named_record added.now)) }
+    ensures { OnOk result (Adds coded_at known.now out.old.items out.new.items
+        (data_code added.now.rdata, named_record added.now)) }
 {
     let mut octets = Vec::new(alloc);
     put_data(known, places, &mut octets, &added.rdata)?;

@@ -1,7 +1,7 @@
 //! The sections of a message, one behind the other (RFC 1035, section 4.1).
 ghost use Rattle.std.specs.Prelude.{◌≡◌, map, length, OnOk};
 ghost use Rattle.hickory_proto_wire.specs.Records.{query_at, record_at, repeat_at};
-ghost use Rattle.hickory_proto_wire.specs.Writing.{Follows, named_query, named_record};
+ghost use Rattle.hickory_proto_wire.specs.Writing.{Follows, coded_at, data_code, named_query, named_record};
 
 use crate::record_writer::{put_query, put_record};
 use crate::to_wire_error::ToWireError;
@@ -53,7 +53,8 @@ fn add_record(
     places: &mut Vec<u16>,
     added: &Record,
 ) -> Result<(), ToWireError>
-    ensures { OnOk result (Follows record_at message.old.items message.new.items (named_record added.now)) }
+    ensures { OnOk result (Follows coded_at message.old.items message.new.items
+        (data_code added.now.rdata, named_record added.now)) }
 {
     let mut octets = Vec::new(alloc);
     put_record(alloc, message, places, &mut octets, added)?;
