@@ -8,3 +8,4 @@ pub mod Data
 pub mod Written
 pub mod Sections
 pub mod Messages
+pub mod Opt

@@ -79,7 +79,7 @@ coded_record old new code x a = (
 
 -- ---- the additional section
 
-last_found : (count all : ℕ) (bytes : List ℕ) (at : ℕ) (found g more : Found) (next : ℕ) (head : RecordHead)
+pub last_found : (count all : ℕ) (bytes : List ℕ) (at : ℕ) (found g more : Found) (next : ℕ) (head : RecordHead)
     → all ≡ count + 1 → additionals_at count bytes at found ≡ Ok (g, next) → head_at bytes next ≡ Ok head
     → found_with bytes head g ≡ Ok more → additionals_at all bytes at found ≡ Ok (more, head.end)
 unfolding additionals_at
@@ -160,3 +160,19 @@ whole_is header v0 v1 v2 v3 v4 queries answers authorities found twelve h q a n 
     let first : repeat_at (query_at v4) header.queries 12 ≡ Ok (queries, length v1) =
     ap (λ (n : ℕ). repeat_at (query_at v4) header.queries n) (sym twelve) ∙ q.2 v4 b1 in
     rw (h v4 b0, first, a.2 v4 b2, n.2 v4 b3, r.2 v4 b4, eq-eqb (length v4) (length v4) refl) refl
+
+pub header_made : (o0 o1 o2 o3 o4 o5 o6 : List ℕ) (id flags q a n r : ℕ) → o0 ≡ [] → o1 ≡ o0 ++ u16_octets id
+    → o2 ≡ o1 ++ u16_octets flags → o3 ≡ o2 ++ u16_octets q → o4 ≡ o3 ++ u16_octets a → o5 ≡ o4 ++ u16_octets n
+    → o6 ≡ o5 ++ u16_octets r → (bytes : List ℕ) → Begins o6 bytes
+    → header_at bytes ≡ Ok (record { id = id; flags = flags; queries = q; answers = a; authorities = n; additionals = r })
+header_made o0 o1 o2 o3 o4 o5 o6 id flags q a n r e0 e1 e2 e3 e4 e5 e6 bytes b =
+    let p1 : o1 ≡ u16_octets id = e1 ∙ ap (λ (o : List ℕ). o ++ u16_octets id) e0 in
+    let p2 : o2 ≡ u16_octets id ++ u16_octets flags = e2 ∙ ap (λ (o : List ℕ). o ++ u16_octets flags) p1 in
+    let p3 : o3 ≡ u16_octets id ++ (u16_octets flags ++ u16_octets q) = e3 ∙ ap (λ (o : List ℕ). o ++ u16_octets q) p2 in
+    let p4 : o4 ≡ u16_octets id ++ (u16_octets flags ++ (u16_octets q ++ u16_octets a)) =
+    e4 ∙ ap (λ (o : List ℕ). o ++ u16_octets a) p3 in
+    let p5 : o5 ≡ u16_octets id ++ (u16_octets flags ++ (u16_octets q ++ (u16_octets a ++ u16_octets n))) =
+    e5 ∙ ap (λ (o : List ℕ). o ++ u16_octets n) p4 in
+    let p6 : o6 ≡ u16_octets id ++ (u16_octets flags ++ (u16_octets q ++ (u16_octets a ++ (u16_octets n ++ u16_octets r)))) =
+    e6 ∙ ap (λ (o : List ℕ). o ++ u16_octets r) p5 in
+    header_there id flags q a n r bytes (subst (λ (o : List ℕ). Begins o bytes) p6 b)

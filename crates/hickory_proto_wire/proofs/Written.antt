@@ -27,7 +27,7 @@ query_adds known o0 o1 o2 o3 name code class a b c =
 
 -- ---- bytes that end with what stands in them
 
-stands_len : (octets bytes : List ℕ) (at : ℕ) → Stands octets bytes at → at + length octets ≤ length bytes
+pub stands_len : (octets bytes : List ℕ) (at : ℕ) → Stands octets bytes at → at + length octets ≤ length bytes
 stands_len octets bytes at s =
     omega (arith, s.3, ap length s.2, length-append s.0 (octets ++ s.1), length-append octets s.1)
 
@@ -108,7 +108,7 @@ record_spelled known a b c e f d name value class ttl ra rb rc re rf rd bytes at
       whole,
     ) refl
 
-join : (o0 o1 o2 a b : List ℕ) → o1 ≡ o0 ++ a → o2 ≡ o1 ++ b → o2 ≡ o0 ++ (a ++ b)
+pub join : (o0 o1 o2 a b : List ℕ) → o1 ≡ o0 ++ a → o2 ≡ o1 ++ b → o2 ≡ o0 ++ (a ++ b)
 join o0 o1 o2 a b p q = q ∙ ap (λ (x : List ℕ). x ++ b) p ∙ append_assoc o0 a b
 
 pub record_adds : (known o0 o1 o2 o3 o4 o5 o6 d : List ℕ) (name : NameValue) (value : DataValue) (class ttl : ℕ)

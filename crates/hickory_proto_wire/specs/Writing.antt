@@ -1,11 +1,13 @@
 -- What was written, by what the reader reads of it.
-use Rattle.std.specs.Prelude.{◌≡◌, ℕ, ◌+◌, ◌-◌, ◌*◌, ◌/◌, ◌%◌, ◌≤◌, ◌<◌, List, [], ◌∷◌, ◌++◌, length, take, drop, map, Option, Result, Ok, Bool, true, false, ◌==◌, if◌then◌else◌}
+use Rattle.std.specs.Prelude.{◌≡◌, ℕ, ◌+◌, ◌-◌, ◌*◌, ◌/◌, ◌%◌, ◌≤◌, ◌<◌, List, [], ◌∷◌, ◌++◌, length, take, drop, map, Option, None, Some, Result, Ok, Bool, true, false, ◌==◌, if◌then◌else◌, nat_lt, ◌||◌}
 use Rattle.std.specs.List.{flat_map}
 use Rattle.std.specs.Option.{option_map}
 use Rattle.hickory_proto_codes.specs.Codes.{type_code, type_of, class_code, class_of, op_code, op_of, response_code, response_of}
 use Rattle.hickory_proto_core.specs.declared.message.Metadata.{Metadata}
 use Rattle.hickory_proto_wire.specs.Edns.{EdnsValue}
-use Rattle.hickory_proto_wire.specs.Records.{head_at, record_from}
+use Rattle.hickory_proto_wire.specs.declared.header.Header.{Header}
+use Rattle.hickory_proto_wire.specs.Messages.{extended_of}
+use Rattle.hickory_proto_wire.specs.Records.{head_at, record_from, opt_from}
 use Rattle.hickory_proto_wire.specs.declared.wire_record.OptRecord.{OptRecord}
 use Rattle.hickory_proto_wire.specs.declared.wire_message.WireMessage.{WireMessage}
 use Rattle.hickory_proto_core.specs.declared.query.Query.{Query}
@@ -172,3 +174,40 @@ shown m truncated answers authorities additionals = record {
 -- the OPT record of a message
 abbrev pub opt_of : Option EdnsValue → ℕ → Option OptRecord
 opt_of edns extended = option_map (λ e. record { extended = extended; edns = e }) edns
+
+-- an OPT record and the code of its type
+unfoldable pub opt_at : List ℕ → ℕ → Result ((ℕ × OptRecord) × ℕ) WireFault
+opt_at bytes at = do
+  head ← head_at bytes at
+  opt ← opt_from bytes head
+  Ok ((head.code, opt), head.end)
+
+abbrev pub opt_count : Option EdnsValue → ℕ
+opt_count None = 0
+opt_count (Some edns) = 1
+
+-- the header of a message with so many records, and the upper bits of its response code
+pub record IsHeader (m : WireMessage) (truncated : Bool) (answer_count authority_count additional_count : ℕ) (header : Header)
+    (extended : ℕ) : Type 0 where
+  pub id : header.id ≡ m.message.metadata.id
+  pub op : op_code m.message.metadata.op_code < 16
+  pub flags : header.flags
+      ≡ flags_of m truncated (op_code m.message.metadata.op_code) (response_code m.message.metadata.response_code % 16)
+  pub code : extended_of (opt_of m.edns extended) * 16 + response_code m.message.metadata.response_code % 16
+      ≡ response_code m.message.metadata.response_code
+  pub queries : header.queries ≡ length m.message.queries
+  pub answers : header.answers ≡ answer_count
+  pub authorities : header.authorities ≡ authority_count
+  pub additionals : header.additionals ≡ additional_count + opt_count m.edns
+
+-- what is read again where only the first records were kept, the others of all sections left out: where there are
+-- any, the message says that it was cut
+abbrev pub record_count : WireMessage → ℕ
+record_count m = length m.message.answers + length m.message.authorities + length m.message.additionals
+
+abbrev pub cut : WireMessage → ℕ → WireMessage
+cut m kept =
+    shown m (m.message.metadata.truncation || nat_lt kept (record_count m))
+    (take kept m.message.answers)
+    (take (kept - length m.message.answers) m.message.authorities)
+    (take (kept - length m.message.answers - length m.message.authorities) m.message.additionals)

@@ -4,6 +4,7 @@
 mod data_writer;
 pub mod edns;
 mod header;
+mod message_writer;
 mod name_writer;
 mod octet_writer;
 mod reader;

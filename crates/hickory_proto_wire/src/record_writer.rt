@@ -44,6 +44,13 @@ fn data_code(rdata: &RData) -> u16
     }
 }
 
+// The code of the type of a record.
+pub(crate) fn record_code(added: &Record) -> u16
+    ensures { result ≡ data_code added.now.rdata }
+{
+    data_code(&added.rdata)
+}
+
 // A record. Its data are made apart, since their length stands before them.
 pub(crate) fn put_record(
     alloc: Global,

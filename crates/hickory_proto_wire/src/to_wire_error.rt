@@ -17,6 +17,18 @@ pub enum ToWireError {
     /// Unknown data have the code of a type that is parsed, or the code of OPT in the additional section.
     #[error("unknown data of a known type")]
     KnownType,
+    /// The kind of message has a code past 15 (RFC 1035, section 4.1.1).
+    #[error("kind of message past 15")]
+    OpCodeTooLarge,
+    /// The response code is past 15 without OPT, or past 4095 with it (RFC 6891, section 6.1.3).
+    #[error("response code too large")]
+    ResponseCodeTooLarge,
+    /// A section has more than 65,535 entries.
+    #[error("too many records")]
+    TooManyRecords,
+    /// The limit is below what is always written: the header, the questions and the OPT record.
+    #[error("limit too small")]
+    LimitTooSmall,
     /// The data of a record take more than 65,535 octets.
     #[error("data too long")]
     DataTooLong,
