@@ -1,5 +1,6 @@
 -- The OPT record and the header of a message that was written.
 use Rattle.std.proofs.Common.{◌≡◌, ℕ, zero, suc, ◌-◌, ◌+◌, ◌*◌, ◌/◌, ◌%◌, ◌≤◌, ◌<◌, Bool, true, false, cond, ltb, eqb, List, [], ◌∷◌, ◌++◌, length, take, drop, map, Option, None, Some, Result, Ok, Err, refl, sym, ap, subst, ◌∙◌, append_assoc, length-append, arith}
+use Rattle.std.specs.Prelude.{◌||◌, nat_lt}
 use Rattle.std.specs.Option.{option_map}
 use Rattle.std.proofs.lemmas.Bool.{le-ltb, eq-eqb}
 use Rattle.std.proofs.lemmas.List.{take_at, drop_at}
@@ -18,7 +19,7 @@ use Rattle.hickory_proto_wire.specs.Octets.{◌>>=◌, u16_at, u32_at}
 use Rattle.hickory_proto_wire.specs.Names.{name_at}
 use Rattle.hickory_proto_wire.specs.Records.{repeat_at, query_at, record_at, head_at, opt_from, found_with, additionals_at, nothing_found}
 use Rattle.hickory_proto_wire.specs.Messages.{header_at, bit, extended_of, metadata_of, assembled, message_of}
-use Rattle.hickory_proto_wire.specs.Writing.{Begins, Stands, Spells, Adds, Follows, u16_octets, weighed, flags_of, named_query, named_record, shown, opt_of, opt_at, opt_count, IsHeader}
+use Rattle.hickory_proto_wire.specs.Writing.{Begins, Stands, Spells, Adds, Follows, u16_octets, weighed, flags_of, named_query, named_record, shown, opt_of, opt_at, opt_count, IsHeader, record_count, cut}
 use Rattle.hickory_proto_wire.proofs.Fits.{bind_ok, ok_is}
 use Rattle.hickory_proto_wire.proofs.Stands.{stands_front, stands_behind, begins_more, u16_spelled}
 use Rattle.hickory_proto_wire.proofs.Adds.{u16_adds}
@@ -310,3 +311,12 @@ pub none_last : (count : ℕ) (records : List RecordValue) (o0 o1 : List ℕ)
 none_last count records o0 o1 a =
     let same : count ≡ count + 0 = omega arith in
     subst (λ (n : ℕ). Follows (λ bytes at. additionals_at n bytes at nothing_found) o0 o1 (only_records records)) same a
+
+-- a message with these records is the message cut so
+pub shown_cut : (m : WireMessage) (kept : ℕ) (truncated : Bool) (answers authorities additionals : List RecordValue)
+    → truncated ≡ (m.message.metadata.truncation || nat_lt kept (record_count m))
+    → answers ≡ take kept m.message.answers
+    → authorities ≡ take (kept - length m.message.answers) m.message.authorities
+    → additionals ≡ take (kept - length m.message.answers - length m.message.authorities) m.message.additionals
+    → shown m truncated answers authorities additionals ≡ cut m kept
+shown_cut m kept truncated answers authorities additionals t a n r = rw (t, a, n, r) refl

@@ -6,7 +6,7 @@ use Rattle.hickory_proto_codes.specs.Codes.{type_code, type_of, class_code, clas
 use Rattle.hickory_proto_core.specs.declared.message.Metadata.{Metadata}
 use Rattle.hickory_proto_wire.specs.Edns.{EdnsValue}
 use Rattle.hickory_proto_wire.specs.declared.header.Header.{Header}
-use Rattle.hickory_proto_wire.specs.Messages.{extended_of}
+use Rattle.hickory_proto_wire.specs.Messages.{extended_of, message_of}
 use Rattle.hickory_proto_wire.specs.Records.{head_at, record_from, opt_from}
 use Rattle.hickory_proto_wire.specs.declared.wire_record.OptRecord.{OptRecord}
 use Rattle.hickory_proto_wire.specs.declared.wire_message.WireMessage.{WireMessage}
@@ -211,3 +211,7 @@ cut m kept =
     (take kept m.message.answers)
     (take (kept - length m.message.answers) m.message.authorities)
     (take (kept - length m.message.answers - length m.message.authorities) m.message.additionals)
+
+-- what was written of a message is read as it, but for records that were left out, and is within the limit
+abbrev pub IsCut : WireMessage → ℕ → List ℕ → Type 0
+IsCut m limit octets = (kept : ℕ) × (message_of octets ≡ Ok (cut m kept)) × (length octets ≤ limit)

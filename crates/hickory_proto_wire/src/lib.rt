@@ -1,6 +1,7 @@
 //! Messages as bytes (RFC 1035, section 4.1).
 #![tactic(auto)]
 
+mod cut_writer;
 mod data_writer;
 pub mod edns;
 mod header;

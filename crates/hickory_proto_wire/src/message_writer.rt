@@ -40,7 +40,7 @@ fn flags_of(message: &WireMessage, truncated: bool, op: u16, code: u16) -> u16
 }
 
 // The number of entries of a section.
-fn count_of(count: usize) -> Result<u16, ToWireError>
+pub(crate) fn count_of(count: usize) -> Result<u16, ToWireError>
     ensures { IfOk result (λ n. n ≡ count) }
 {
     if 65535 < count {
