@@ -1,3 +1,11 @@
 pub mod Walks
 pub mod Fits
 pub mod Loops
+pub mod Stands
+pub mod Runs
+pub mod Adds
+pub mod Data
+pub mod Written
+pub mod Sections
+pub mod Messages
+pub mod Opt

@@ -5,3 +5,4 @@ pub mod Edns
 pub mod Found
 pub mod Records
 pub mod Messages
+pub mod Writing

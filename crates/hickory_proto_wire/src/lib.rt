@@ -1,9 +1,17 @@
 //! Messages as bytes (RFC 1035, section 4.1).
 #![tactic(auto)]
 
+mod cut_writer;
+mod data_writer;
 pub mod edns;
 mod header;
+mod message_writer;
+mod name_writer;
+mod octet_writer;
 mod reader;
+mod record_writer;
+mod section_writer;
+mod to_wire_error;
 pub mod wire_error;
 pub mod wire_message;
 mod wire_name;

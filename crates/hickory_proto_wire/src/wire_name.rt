@@ -32,7 +32,7 @@ pub(crate) struct Walk {
 }
 
 #[tactic(auto, unfolding(crate::specs::Names::piece_at))]
-fn piece_at(bytes: &[u8], at: usize) -> Result<(Piece, usize), WireError>
+pub(crate) fn piece_at(bytes: &[u8], at: usize) -> Result<(Piece, usize), WireError>
     ensures { Gives (λ x. x) result (piece_at bytes.now at) }
 {
     let (first, after) = octet_at(bytes, at)?;

@@ -21,7 +21,7 @@ pub(crate) struct RecordHead {
     class: u16,
     ttl: u32,
     start: usize,
-    end: usize,
+    pub(crate) end: usize,
 }
 
 // The OPT record: what belongs to the message's response code, and the rest.
@@ -82,7 +82,7 @@ pub(crate) fn queries_at(
 }
 
 #[tactic(auto, unfolding(crate::specs::Records::head_at))]
-fn head_at(alloc: Global, bytes: &[u8], at: usize) -> Result<RecordHead, WireError>
+pub(crate) fn head_at(alloc: Global, bytes: &[u8], at: usize) -> Result<RecordHead, WireError>
     ensures exact { Gives (λ x. x) result (head_at bytes.now at) }
     ensures within { IfOk result (λ x. (x.start ≤ x.end) × (x.end ≤ length bytes.now)) }
 {
