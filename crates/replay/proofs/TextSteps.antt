@@ -1,5 +1,5 @@
 -- The text of a run, step by step, and why there is no table of hosts.
-use Rattle.std.proofs.Common.{◌≡◌, ◌∙◌, ℕ, Bool, true, false, not, MatchBool, List, [], ◌∷◌, ◌++◌, take, drop, map, Result, Ok, Err, IfOk, MatchResult, String, string_bytes, refl, sym, ap, subst, inl, inr, append_assoc}
+use Rattle.std.proofs.Common.{◌≡◌, ◌∙◌, ℕ, Bool, true, false, not, MatchBool, List, [], ◌∷◌, ◌++◌, take, drop, map, Result, Ok, Err, IfOk, String, string_bytes, refl, sym, ap, subst, inl, inr, append_assoc}
 use Rattle.std.proofs.lemmas.Bool.{and_from}
 use Rattle.std.proofs.lemmas.List.{append-nil}
 use Rattle.hickory_proto_core.specs.Handles.{OutcomeValue, HandleStep, RecordedValue, ScriptStep}
@@ -73,12 +73,6 @@ told_run step config options hosts upstream requests text hears adds before step
         heard_text text hears adds requests steps exchanges before after heard ∙ ap (λ t. t ++ run_text requests steps exchanges) none,
       );
     }
-
--- what is said of the text that is made of what a run came to, where it came to something
-pub text_of_told : {A T E F : Type 0} (P : T → Type 0) (Q : A → Type 0) (text : A → T) → ((told : A) → Q told → P (text told)) → (run : Result A F) (result : Result T E) (error : E) → IfOk run Q
-    → MatchResult run (λ told. result ≡ Ok (text told)) (λ e. result ≡ Err error) → IfOk result P
-text_of_told P Q text on (Ok told) result error q is = subst (λ r. IfOk r P) (sym is) (on told q)
-text_of_told P Q text on (Err e) result error q is = subst (λ r. IfOk r P) (sym is) tt
 
 -- the text of a run of what a script says is that of the script
 module _ (script : ScriptValue) (hosts : List Host) (config : ResolverConfigValue) (options : OptionsValue) (outcomes : List (Query × OutcomeValue)) (requests : List RequestValue)

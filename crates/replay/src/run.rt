@@ -1,17 +1,18 @@
 //! Runs a script.
-ghost use Rattle.std.specs.Prelude.{◌≡◌, Err, IfErr, IfOk, IsOkUnless, MatchResult, None, Ok, map, string_bytes};
+ghost use Rattle.std.specs.Prelude.{◌≡◌, IfErr, IfOk, IsOkUnless, MatchResult, None, map, string_bytes};
 ghost use Rattle.hickory_proto_core.specs.Table.{last_given, outcome_in};
 ghost use Rattle.hickory_proto_core.specs.declared.query.Query.{Query};
 ghost use Rattle.hickory_resolver.specs.Requests.{request_of};
 ghost use Rattle.hickory_resolver_model.specs.Bounds.{bounds_fault};
 ghost use Rattle.hickory_resolver_model.specs.Options.{bounds_of};
-ghost use Rattle.replay.specs.ScriptRun.{IsNoTable, IsRefused, IsReplayed, IsScriptTold, IsTable, first_moment};
+ghost use Rattle.hickory_resolver_model.specs.Run.{settings_of};
+ghost use Rattle.replay.specs.ScriptRun.{IsNoTable, IsRefused, IsReplayed, IsScriptTold, IsTable, IsTold, first_moment};
 
 use crate::error::ReplayError;
 use crate::output::TextListener;
 use hickory_proto_core::dns_handle::Outcome;
-use hickory_proto_core::{DnsHandle, NetError, Query, Recorded, ScriptHandle, TableHandle};
-use hickory_resolver::{Heard, Hosts, Request, ResolverConfig, run_told};
+use hickory_proto_core::{DnsHandle, Query, Recorded, ScriptHandle, TableHandle};
+use hickory_resolver::{Heard, Hosts, Request, ResolverConfig, ResolverOpts, run_told};
 use replay_script::{Script, read_script};
 use std::alloc::{AllocError, Global};
 use std::hash::{BuildHasher, BuildHasherDefault, FoldHasher};
@@ -70,8 +71,8 @@ pub fn replay_text_with_hashers<S: BuildHasher + Drop, T: BuildHasher + Drop>(
     ensures err { IfErr result (IsRefused script.now hosts.now) }
 {
     let script = read_script(alloc, script)?;
-    let hosts = read_table(alloc, hosts, first_moment(&script.requests), hosts_hasher)?;
-    run_script(alloc, script, hosts, cache_hasher, table_hasher)
+    let table = read_table(alloc, hosts, first_moment(&script.requests), hosts_hasher)?;
+    run_script(alloc, script, table, cache_hasher, table_hasher)
 }
 
 // The moment of the first request, or 0.
@@ -121,30 +122,12 @@ fn run_script<S: BuildHasher + Drop, T: BuildHasher + Drop>(
         search,
     } = script;
     let config = ResolverConfig::from_parts(domain, search, Vec::new(alloc));
-    let text = String::new(alloc);
-    let listener = TextListener { text };
     if table {
         let upstream = table_of(outcomes, table_hasher)?;
-        text_of(run_told(
-            config,
-            options,
-            hosts,
-            upstream,
-            &requests,
-            cache_hasher,
-            listener,
-        ))
+        text_of_run(config, options, hosts, upstream, &requests, cache_hasher)
     } else {
         let upstream = ScriptHandle::new(without_questions(alloc, outcomes)?);
-        text_of(run_told(
-            config,
-            options,
-            hosts,
-            upstream,
-            &requests,
-            cache_hasher,
-            listener,
-        ))
+        text_of_run(config, options, hosts, upstream, &requests, cache_hasher)
     }
 }
 
@@ -175,18 +158,35 @@ fn without_questions(
         .collect(alloc)
 }
 
-// The text that was made of a run.
-fn text_of<H: DnsHandle, S: BuildHasher>(
-    run: Result<Heard<Recorded<H>, S, TextListener>, NetError>,
+// The text of a run of requests over an upstream.
+fn text_of_run<H: DnsHandle + Drop, S: BuildHasher + Drop>(
+    config: ResolverConfig,
+    options: ResolverOpts,
+    hosts: Hosts<S>,
+    upstream: H,
+    requests: &[Request],
+    hasher: S,
 ) -> Result<String, ReplayError>
-    ensures { MatchResult run (λ heard. result ≡ Ok heard.listener.text) (λ _. result ≡ Err ReplayError.Memory) }
+    requires { bounds_fault (bounds_of options) ≡ None }
+    ensures ok { IfOk result (λ text. IsTold H.step (settings_of config options hosts) upstream
+        (map request_of requests.now) (string_bytes text)) }
+    ensures err { IsOkUnless result ReplayError.Memory }
 {
-    match run {
-        Ok(heard) => {
-            let Heard { resolver, listener } = heard;
-            drop(resolver);
-            Ok(listener.text)
-        }
+    let text = String::new(*config.search.allocator());
+    let listener = TextListener { text };
+    match run_told(config, options, hosts, upstream, requests, hasher, listener) {
+        Ok(heard) => Ok(text_of(heard)),
         Err(_) => Err(ReplayError::Memory),
     }
+}
+
+// The text that was made of a run.
+fn text_of<H: DnsHandle + Drop, S: BuildHasher + Drop>(
+    heard: Heard<Recorded<H>, S, TextListener>,
+) -> String
+    ensures { result ≡ heard.listener.text }
+{
+    let Heard { resolver, listener } = heard;
+    drop(resolver);
+    listener.text
 }
