@@ -1,0 +1,71 @@
+//! Names, and what makes them.
+use crate::marks::done;
+use crate::sample::{IP, name, www};
+use crate::shown::show;
+use hickory_proto_core::{IntoName, Name, NameError, NetError, ip_text};
+use std::alloc::Global;
+use std::net::Ipv6Addr;
+
+const WWW: &str = "www.example.com.";
+
+/// Makes the call of a case, and says whether there is such a case.
+pub fn make(rt: &impl Print, alloc: Global, case: &str) -> Result<bool, NetError> {
+    match case {
+        "Name::from_ascii"
+        | "Name::from_str"
+        | "Name::from_ip"
+        | "IntoName of a text"
+        | "IntoName of an address" => {
+            show(rt, call!(rt, case, made(alloc, case)));
+            Ok(true)
+        }
+        "ip_text" => {
+            show(rt, call!(rt, case, ip_text(alloc, IP)));
+            Ok(true)
+        }
+        "Name::append_domain" => done(append_domain(rt, alloc, case)),
+        "Name::base_name" | "Name::trim_to" => done(show_part(rt, alloc, case)),
+        "Name::to_ascii" => done(to_ascii(rt, alloc, case)),
+        _ => Ok(false),
+    }
+}
+
+fn made(alloc: Global, case: &str) -> Result<Name, NameError> {
+    match case {
+        "Name::from_ascii" => Name::from_ascii(alloc, WWW),
+        "Name::from_str" => Name::from_str(alloc, WWW),
+        "Name::from_ip" => Name::from_ip(alloc, IP),
+        "IntoName of a text" => WWW.into_name(alloc),
+        _ => Ipv6Addr::LOCALHOST.into_name(alloc),
+    }
+}
+
+fn append_domain(rt: &impl Print, alloc: Global, case: &str) -> Result<(), NetError> {
+    let first = name(alloc, "a")?;
+    let domain = www(alloc)?;
+    show(rt, call!(rt, case, first.append_domain(&domain)));
+    Ok(())
+}
+
+fn show_part(rt: &impl Print, alloc: Global, case: &str) -> Result<(), NetError> {
+    let name = www(alloc)?;
+    show(rt, part(rt, case, &name));
+    Ok(())
+}
+
+fn part(rt: &impl Print, case: &str, name: &Name) -> Result<Name, NameError> {
+    call!(
+        rt,
+        case,
+        match case {
+            "Name::base_name" => name.base_name(),
+            _ => name.trim_to(2),
+        }
+    )
+}
+
+fn to_ascii(rt: &impl Print, alloc: Global, case: &str) -> Result<(), NetError> {
+    let name = www(alloc)?;
+    show(rt, call!(rt, case, name.to_ascii(alloc)));
+    Ok(())
+}
