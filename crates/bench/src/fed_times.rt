@@ -113,14 +113,14 @@ impl Subject for Fed {
         let mut answers: u64 = 0;
         for _ in 0..self.subject.lookups {
             let query = self.subject.first.clone()?;
-            let found = fed(&mut self.subject.client, &mut self.upstream, query);
+            let found = look_up(&mut self.subject.client, &mut self.upstream, query);
             answers = answers.wrapping_add(answers_of(found)?);
         }
         Ok(answers)
     }
 }
 
-fn fed(
+fn look_up(
     client: &mut CachingClient<TableHandle>,
     upstream: &mut TableHandle,
     query: Query,

@@ -8,7 +8,12 @@ use std::net::Ipv4Addr;
 
 /// An owner has the address 192.0.2.1, or that with another last part, for so many seconds.
 pub fn address(alloc: Global, owner: &str, seconds: u32, last: u8) -> Outcome {
-    answer(alloc, owner, seconds, RData::A(Ipv4Addr::new(192, 0, 2, last)))
+    answer(
+        alloc,
+        owner,
+        seconds,
+        RData::A(Ipv4Addr::new(192, 0, 2, last)),
+    )
 }
 
 /// An owner is an alias of a target for so many seconds.

@@ -39,7 +39,12 @@ impl Session {
     }
 
     /// Hands a look-up what came back to its question, and adds what it comes to.
-    pub fn resume(&mut self, text: &mut String, number: u8, outcome: Outcome) -> Result<(), NetError> {
+    pub fn resume(
+        &mut self,
+        text: &mut String,
+        number: u8,
+        outcome: Outcome,
+    ) -> Result<(), NetError> {
         match self.waiting.remove(&number) {
             Some(waiting) => {
                 let progress = self.client.resume(waiting, outcome);
@@ -61,12 +66,7 @@ impl Session {
         Ok(text.push_str("cleared\n")?)
     }
 
-    fn tell(
-        &mut self,
-        text: &mut String,
-        number: u8,
-        progress: Progress,
-    ) -> Result<(), NetError> {
+    fn tell(&mut self, text: &mut String, number: u8, progress: Progress) -> Result<(), NetError> {
         match progress {
             Progress::Waiting(waiting) => {
                 let question = waiting.question();
