@@ -8,6 +8,7 @@ mod passing;
 mod session;
 
 use hickory_proto_core::NetError;
+use session::Session;
 use std::alloc::Global;
 
 fn main(rt: HostRuntime) -> anyhow::Result<()> {
@@ -18,13 +19,13 @@ fn main(rt: HostRuntime) -> anyhow::Result<()> {
 }
 
 fn push_all(alloc: Global, text: &mut String) -> Result<(), NetError> {
-    crossing::push_crossing(alloc, text)?;
-    crossing::push_cleared(alloc, text)?;
-    crossing::push_dropped(alloc, text)?;
-    crossing::push_out_of_memory(alloc, text)?;
-    crossing::push_room_for_one(alloc, text)?;
-    passing::push_stored(alloc, text)?;
-    passing::push_later(alloc, text)?;
-    passing::push_evicted(alloc, text)?;
-    passing::push_eight(alloc, text)
+    crossing::push_crossing(alloc, text, &mut Session::new(alloc, 8))?;
+    crossing::push_cleared(alloc, text, &mut Session::new(alloc, 8))?;
+    crossing::push_dropped(alloc, text, &mut Session::new(alloc, 8))?;
+    crossing::push_out_of_memory(alloc, text, &mut Session::new(alloc, 8))?;
+    crossing::push_room_for_one(alloc, text, &mut Session::new(alloc, 1))?;
+    passing::push_stored(alloc, text, &mut Session::new(alloc, 8))?;
+    passing::push_later(alloc, text, &mut Session::new(alloc, 8))?;
+    passing::push_evicted(alloc, text, &mut Session::new(alloc, 1))?;
+    passing::push_eight(alloc, text, &mut Session::new(alloc, 8))
 }

@@ -6,9 +6,12 @@ use std::alloc::Global;
 
 /// Adds an alias whose target another look-up stores meanwhile: the target is a hit. The alias lives no longer than
 /// its CNAME.
-pub fn push_stored(alloc: Global, text: &mut String) -> Result<(), NetError> {
+pub fn push_stored(
+    alloc: Global,
+    text: &mut String,
+    session: &mut Session,
+) -> Result<(), NetError> {
     text.push_str("# the target of an alias is stored meanwhile\n")?;
-    let mut session = Session::new(alloc, 8);
     session.start(text, 1, "alias.", 100)?;
     session.start(text, 2, "target.", 100)?;
     session.resume(text, 2, address(alloc, "target.", 60, 1))?;
@@ -18,9 +21,8 @@ pub fn push_stored(alloc: Global, text: &mut String) -> Result<(), NetError> {
 }
 
 /// Adds an alias whose target was stored at a later moment than that of its look-up: the look-up's own moment counts.
-pub fn push_later(alloc: Global, text: &mut String) -> Result<(), NetError> {
+pub fn push_later(alloc: Global, text: &mut String, session: &mut Session) -> Result<(), NetError> {
     text.push_str("# the target of an alias is stored at a later moment\n")?;
-    let mut session = Session::new(alloc, 8);
     session.start(text, 1, "alias.", 100)?;
     session.start(text, 2, "target.", 150)?;
     session.resume(text, 2, address(alloc, "target.", 60, 1))?;
@@ -29,9 +31,12 @@ pub fn push_later(alloc: Global, text: &mut String) -> Result<(), NetError> {
 }
 
 /// Adds an alias whose target was current, and is evicted before the alias comes back: the target is asked.
-pub fn push_evicted(alloc: Global, text: &mut String) -> Result<(), NetError> {
+pub fn push_evicted(
+    alloc: Global,
+    text: &mut String,
+    session: &mut Session,
+) -> Result<(), NetError> {
     text.push_str("# the target of an alias is evicted meanwhile\n")?;
-    let mut session = Session::new(alloc, 1);
     session.start(text, 1, "target.", 100)?;
     session.resume(text, 1, address(alloc, "target.", 60, 1))?;
     session.start(text, 2, "alias.", 100)?;
@@ -42,9 +47,8 @@ pub fn push_evicted(alloc: Global, text: &mut String) -> Result<(), NetError> {
 }
 
 /// Adds eight aliases in a row, with another look-up between each two: the eighth question is the last.
-pub fn push_eight(alloc: Global, text: &mut String) -> Result<(), NetError> {
+pub fn push_eight(alloc: Global, text: &mut String, session: &mut Session) -> Result<(), NetError> {
     text.push_str("# eight aliases, with other look-ups in between\n")?;
-    let mut session = Session::new(alloc, 8);
     session.start(text, 1, "n0.", 100)?;
     for (owner, target) in [
         ("n0.", "n1."),

@@ -32,8 +32,8 @@ impl Session {
         name: &str,
         now: u64,
     ) -> Result<(), NetError> {
-        let query = Query::query(Name::from_ascii(self.alloc, name)?, RecordType::A);
         write!(text, "{number} at {now} {name}\n")?;
+        let query = Query::query(Name::from_ascii(self.alloc, name)?, RecordType::A);
         let progress = self.client.start(query, now);
         self.tell(text, number, progress)
     }
@@ -45,13 +45,12 @@ impl Session {
         number: u8,
         outcome: Outcome,
     ) -> Result<(), NetError> {
-        match self.waiting.remove(&number) {
-            Some(waiting) => {
-                let progress = self.client.resume(waiting, outcome);
-                self.tell(text, number, progress)
-            }
-            None => Ok(write!(text, "{number} does not wait\n")?),
-        }
+        let Some(waiting) = self.waiting.remove(&number) else {
+            drop(outcome);
+            return Ok(write!(text, "{number} does not wait\n")?);
+        };
+        let progress = self.client.resume(waiting, outcome);
+        self.tell(text, number, progress)
     }
 
     /// Lets go of a look-up.
@@ -68,24 +67,34 @@ impl Session {
 
     fn tell(&mut self, text: &mut String, number: u8, progress: Progress) -> Result<(), NetError> {
         match progress {
-            Progress::Waiting(waiting) => {
-                let question = waiting.question();
-                write!(text, "{number} asks {question}\n")?;
-                self.waiting.insert(number, waiting)?;
-                Ok(())
-            }
-            Progress::Done(result) => push_result(text, number, result),
+            Progress::Waiting(waiting) => self.wait(text, number, waiting),
+            Progress::Done(looked_up) => push_result(text, number, &looked_up),
         }
     }
+
+    fn wait(&mut self, text: &mut String, number: u8, waiting: Waiting) -> Result<(), NetError> {
+        let told = push_question(text, number, waiting.question());
+        let is_kept = self.waiting.insert(number, waiting).is_ok();
+        told?;
+        if is_kept {
+            Ok(())
+        } else {
+            Err(NetError::OutOfMemory)
+        }
+    }
+}
+
+fn push_question(text: &mut String, number: u8, question: &Query) -> Result<(), NetError> {
+    Ok(write!(text, "{number} asks {question}\n")?)
 }
 
 fn push_result(
     text: &mut String,
     number: u8,
-    looked_up: Result<Lookup, NetError>,
+    looked_up: &Result<Lookup, NetError>,
 ) -> Result<(), NetError> {
     match looked_up {
-        Ok(lookup) => push_lookup(text, number, &lookup),
+        Ok(lookup) => push_lookup(text, number, lookup),
         Err(error) => Ok(write!(text, "{number} {error}\n")?),
     }
 }
