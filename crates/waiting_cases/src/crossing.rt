@@ -47,7 +47,7 @@ pub fn push_dropped(
     session.start(text, 2, "www.", 100)
 }
 
-/// Adds that nothing came back for want of memory, and that there was no answer in time: neither is kept.
+/// Adds an upstream that ran out of memory, and one that did not answer in time: neither is kept.
 pub fn push_out_of_memory(
     alloc: Global,
     text: &mut String,
