@@ -1,10 +1,9 @@
 -- What was added one behind the other spells what is read one behind the other.
-use Rattle.std.proofs.lemmas.List.{append-nil}
-use Rattle.std.proofs.Common.{◌≡◌, ℕ, suc, ◌-◌, ◌+◌, ◌*◌, ◌/◌, ◌%◌, ◌≤◌, ◌<◌, List, [], ◌∷◌, ◌++◌, length, Result, Ok, Err, refl, sym, ap, subst, ◌∙◌, append_assoc, length-append, arith}
+use Rattle.std.proofs.Common.{◌≡◌, ℕ, ◌+◌, ◌*◌, ◌/◌, ◌%◌, List, ◌++◌, length, Result, Ok, refl, ap, subst, ◌∙◌, append_assoc, length-append, arith}
 use Rattle.hickory_proto_wire.specs.declared.wire_error.WireFault.{WireFault}
-use Rattle.hickory_proto_wire.specs.Octets.{◌>>=◌, octet_at, octets_at, u16_at, u32_at}
-use Rattle.hickory_proto_wire.specs.Writing.{Begins, Stands, Spells, Adds, u16_octets}
-use Rattle.hickory_proto_wire.proofs.Stands.{stands_front, stands_behind, stands_rest, octet_there, octets_there, u16_spelled}
+use Rattle.hickory_proto_wire.specs.Octets.{◌>>=◌, u16_at, u32_at}
+use Rattle.hickory_proto_wire.specs.Writing.{Adds, u16_octets}
+use Rattle.hickory_proto_wire.proofs.Stands.{stands_front, stands_behind, u16_spelled}
 
 abbrev pub Reader : Type 0 → Type 0
 Reader A = List ℕ → ℕ → Result (A × ℕ) WireFault
@@ -49,10 +48,6 @@ adds_then first second all known o0 o1 o2 x y eq a b = (
         end,
       ) refl,
 )
-
--- nothing added reads as a value that is at hand
-pub adds_none : {A : Type 0} (known o : List ℕ) (x : A) → Adds (λ bytes at. Ok (x, at)) known o o x
-adds_none {A} known o x = ([], sym (append-nil o), λ bytes at begins le s. ap (λ (n : ℕ). Ok (x, n)) (omega arith))
 
 pub u16_adds : (known old new : List ℕ) (n : ℕ) → new ≡ old ++ u16_octets n → Adds u16_at known old new n
 u16_adds known old new n e = (u16_octets n, e, u16_spelled n known)

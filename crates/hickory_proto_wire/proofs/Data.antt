@@ -1,15 +1,13 @@
 -- Record data that were added are read again, where the bytes end with them.
-use Rattle.std.proofs.Common.{◌≡◌, ℕ, zero, suc, ◌-◌, ◌+◌, ◌*◌, ◌≤◌, ◌<◌, Bool, true, false, cond, ltb, eqb, List, [], ◌∷◌, ◌++◌, length, take, drop, get_or, Result, Ok, Err, refl, sym, ap, subst, ◌∙◌, append_assoc, length-append, arith}
-use Rattle.std.proofs.lemmas.Bool.{le-ltb, lt-ltb, ne_eqb}
-use Rattle.std.proofs.lemmas.List.{append-nil}
+use Rattle.std.proofs.Common.{◌≡◌, ℕ, zero, suc, ◌-◌, ◌+◌, ◌≤◌, Bool, true, false, cond, eqb, List, [], ◌∷◌, ◌++◌, length, get_or, Ok, refl, ap, ◌∙◌, length-append, arith}
+use Rattle.std.proofs.lemmas.Bool.{le-ltb, lt-ltb}
 use Rattle.hickory_proto_names.specs.Name.{NameValue}
 use Rattle.hickory_proto_core.specs.Records.{DataValue, a_data, aaaa_data, cname_data, ns_data, ptr_data, soa_data, srv_data, mx_data, txt_data, unknown_data}
-use Rattle.hickory_proto_wire.specs.declared.wire_error.WireFault.{WireFault}
 use Rattle.hickory_proto_wire.specs.declared.wire_record_data.Times.{Times}
-use Rattle.hickory_proto_wire.specs.Octets.{◌>>=◌, octet_at, octets_at, u16_at, u32_at}
+use Rattle.hickory_proto_wire.specs.Octets.{◌>>=◌, u16_at, u32_at}
 use Rattle.hickory_proto_wire.specs.Names.{name_at}
 use Rattle.hickory_proto_wire.specs.RecordData.{a_at, half_at, aaaa_at, cname_at, ns_at, ptr_at, mx_at, srv_at, times_at, soa_at, string_at, strings_at, txt_at, unknown_at, data_at}
-use Rattle.hickory_proto_wire.specs.Writing.{Begins, Stands, Spells, Adds, SpellsData, AddsData, data_code, is_parsed, counted, run_of}
+use Rattle.hickory_proto_wire.specs.Writing.{Stands, Spells, Adds, AddsData, data_code, is_parsed, run_of}
 use Rattle.hickory_proto_wire.proofs.Stands.{stands_front, stands_behind, stands_rest, octet_there, octets_there}
 use Rattle.hickory_proto_wire.proofs.Adds.{Reader, adds_one, adds_both, adds_then}
 

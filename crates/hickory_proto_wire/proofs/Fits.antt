@@ -1,9 +1,8 @@
 -- The labels that are read are those of a name.
-use Rattle.std.proofs.Common.{◌≡◌, ℕ, zero, suc, ◌-◌, ◌+◌, ◌*◌, ◌≤◌, ◌<◌, Bool, true, false, cond, ltb, eqb, List, [], ◌∷◌, ◌++◌, length, take, drop, Option, Some, None, Result, Ok, Err, refl, sym, ap, subst, ◌∙◌, arith, ◌⊎◌, inl, inr}
+use Rattle.std.proofs.Common.{◌≡◌, ℕ, zero, suc, ◌-◌, ◌+◌, ◌*◌, ◌≤◌, ◌<◌, Bool, true, false, cond, ltb, eqb, List, [], ◌∷◌, ◌++◌, length, take, drop, None, Result, Ok, Err, refl, sym, ap, subst, ◌∙◌, arith, ◌⊎◌, inl, inr}
 use Rattle.std.specs.List.{list_any}
-use Rattle.std.specs.Prelude.{sum_by}
 use Rattle.std.proofs.lemmas.List.Sums.{sum_by-cons}
-use Rattle.std.proofs.lemmas.Bool.{le-ltb, lt-ltb, ne_eqb, or_from, ltb-false, ltb-true, eqb-false}
+use Rattle.std.proofs.lemmas.Bool.{le-ltb, ne_eqb, or_from, ltb-false, ltb-true, eqb-false}
 use Rattle.std.proofs.lemmas.List.{length-take, length-drop}
 use Rattle.hickory_proto_names.specs.Name.{label_fault, is_empty_label, is_long_label, wire_len}
 use Rattle.hickory_proto_wire.specs.declared.wire_error.WireFault.{WireFault}

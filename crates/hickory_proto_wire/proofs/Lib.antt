@@ -9,3 +9,10 @@ pub mod Written
 pub mod Sections
 pub mod Messages
 pub mod Opt
+pub mod Places
+pub mod Spelled
+pub mod Faults
+pub mod Whole
+pub mod Keeps
+pub mod Same
+pub mod Strings

@@ -1,26 +1,18 @@
 -- The parts of a message that follow one another are read as the message.
-use Rattle.std.proofs.Common.{◌≡◌, ℕ, zero, suc, ◌-◌, ◌+◌, ◌*◌, ◌/◌, ◌%◌, ◌≤◌, ◌<◌, Bool, true, false, cond, eqb, List, [], ◌∷◌, ◌++◌, length, take, drop, map, get_or, Option, None, Some, Result, Ok, Err, refl, sym, ap, subst, ◌∙◌, append_assoc, length-append, arith}
-use Rattle.std.specs.Option.{option_map}
-use Rattle.std.proofs.lemmas.Bool.{eq-eqb, ne_eqb}
-use Rattle.std.proofs.lemmas.List.{append-nil, take_all, map_more}
-use Rattle.hickory_proto_codes.specs.Codes.{op_code, op_of, response_code, response_of}
+use Rattle.std.proofs.Common.{◌≡◌, ℕ, zero, suc, ◌-◌, ◌+◌, List, [], ◌++◌, length, None, Ok, refl, sym, ap, ◌∙◌, arith}
+use Rattle.std.proofs.lemmas.Bool.{eq-eqb}
+use Rattle.std.proofs.lemmas.List.{append-nil}
 use Rattle.hickory_proto_core.specs.Records.{RecordValue}
 use Rattle.hickory_proto_core.specs.declared.query.Query.{Query}
-use Rattle.hickory_proto_wire.specs.declared.wire_error.WireFault.{WireFault}
-use Rattle.hickory_proto_wire.specs.declared.wire_error.WireFault.TheVariants as faults
 use Rattle.hickory_proto_wire.specs.declared.header.Header.{Header}
-use Rattle.hickory_proto_wire.specs.declared.wire_message.WireMessage.{WireMessage}
 use Rattle.hickory_proto_wire.specs.declared.wire_record.RecordHead.{RecordHead}
-use Rattle.hickory_proto_wire.specs.declared.wire_record.OptRecord.{OptRecord}
-use Rattle.hickory_proto_wire.specs.Edns.{EdnsValue}
 use Rattle.hickory_proto_wire.specs.Found.{Found}
-use Rattle.hickory_proto_wire.specs.Octets.{◌>>=◌, u16_at}
+use Rattle.hickory_proto_wire.specs.Octets.{◌>>=◌}
 use Rattle.hickory_proto_wire.specs.Records.{repeat_at, query_at, head_at, record_from, record_at, found_with, additionals_at, nothing_found}
-use Rattle.hickory_proto_wire.specs.Messages.{header_at, bit, extended_of, metadata_of, assembled, message_of}
-use Rattle.hickory_proto_wire.specs.Writing.{Begins, Stands, Spells, Adds, Follows, u16_octets, coded_at, weighed, flags_of, named_record, named_metadata, shown, opt_of}
+use Rattle.hickory_proto_wire.specs.Messages.{header_at, assembled, message_of}
+use Rattle.hickory_proto_wire.specs.Writing.{Begins, Stands, Follows, u16_octets, coded_at}
 use Rattle.hickory_proto_wire.proofs.Fits.{bind_ok, ok_is}
 use Rattle.hickory_proto_wire.proofs.Stands.{stands_front, stands_behind, begins_more, u16_spelled}
-use Rattle.hickory_proto_wire.proofs.Adds.{Reader}
 
 -- ---- the header
 
@@ -105,42 +97,6 @@ last_found (suc count) all bytes at found g more next head k first one with_it =
 abbrev pub only_records : List RecordValue → Found
 only_records records = record { records = records; opt = None }
 
-pub additional_next : (count : ℕ) (items : List RecordValue) (o0 o1 o2 : List ℕ) (item : RecordValue) (code : ℕ)
-    → (code ≡ 41 → ⊥) → count < length items → item ≡ get_or items count item
-    → Follows (λ bytes at. additionals_at count bytes at nothing_found) o0 o1 (only_records (map named_record (take count items)))
-    → Follows coded_at o1 o2 (code, named_record item)
-    → Follows (λ bytes at. additionals_at (count + 1) bytes at nothing_found) o0 o2
-    (only_records (map named_record (take (count + 1) items)))
-unfolding found_with
-additional_next count items o0 o1 o2 item code other lt is a b =
-    let old = map named_record (take count items) in
-    let same : old ++ named_record item ∷ [] ≡ map named_record (take (count + 1) items) =
-    ap (λ (y : RecordValue). old ++ named_record y ∷ []) is ∙ sym (map_more named_record items count item lt) in
-    subst (λ (xs : List RecordValue). Follows (λ bytes at. additionals_at (count + 1) bytes at nothing_found) o0 o2 (only_records xs)) same (
-      a.0 ++ b.0,
-      b.1 ∙ ap (λ (o : List ℕ). o ++ b.0) a.1 ∙ append_assoc o0 a.0 b.0,
-      λ bytes begins.
-          let c = coded_is bytes (length o1) code (named_record item) (length o2) (b.2 bytes begins) in
-          let not : eqb c.0.code 41 ≡ false = ne_eqb c.0.code 41 (λ z. other (sym c.3 ∙ z)) in
-          let with_it : found_with bytes c.0 (only_records old) ≡ Ok (only_records (old ++ named_record item ∷ [])) =
-          rw (not, c.2) refl in
-          last_found count (count + 1) bytes (length o0) nothing_found (only_records old) (only_records (old ++ named_record item ∷ [])) (length o1) c.0 refl
-          (a.2 bytes (begins_more o1 o2 b.0 bytes b.1 begins)) c.1 with_it
-          ∙ ap (λ (n : ℕ). Ok (only_records (old ++ named_record item ∷ []), n)) c.4,
-    )
-
-pub additional_none : (o : List ℕ) → Follows (λ bytes at. additionals_at 0 bytes at nothing_found) o o (only_records [])
-unfolding additionals_at
-additional_none o = ([], sym (append-nil o), λ bytes begins. refl)
-
-pub additional_all : (count : ℕ) (items : List RecordValue) (old new : List ℕ) → length items ≤ count → count ≤ length items
-    → Follows (λ bytes at. additionals_at count bytes at nothing_found) old new (only_records (map named_record (take count items)))
-    → Follows (λ bytes at. additionals_at (length items) bytes at nothing_found) old new (only_records (map named_record items))
-additional_all count items old new least most a =
-    let number : count ≡ length items = omega (arith, least, most) in
-    subst (λ (n : ℕ). Follows (λ bytes at. additionals_at n bytes at nothing_found) old new (only_records (map named_record items))) number
-    (subst (λ (xs : List RecordValue). Follows (λ bytes at. additionals_at count bytes at nothing_found) old new (only_records (map named_record xs))) (take_all count items least) a)
-
 -- ---- the whole
 
 pub whole_is : (header : Header) (v0 v1 v2 v3 v4 : List ℕ) (queries : List Query) (answers authorities : List RecordValue) (found : Found)
@@ -160,19 +116,3 @@ whole_is header v0 v1 v2 v3 v4 queries answers authorities found twelve h q a n 
     let first : repeat_at (query_at v4) header.queries 12 ≡ Ok (queries, length v1) =
     ap (λ (n : ℕ). repeat_at (query_at v4) header.queries n) (sym twelve) ∙ q.2 v4 b1 in
     rw (h v4 b0, first, a.2 v4 b2, n.2 v4 b3, r.2 v4 b4, eq-eqb (length v4) (length v4) refl) refl
-
-pub header_made : (o0 o1 o2 o3 o4 o5 o6 : List ℕ) (id flags q a n r : ℕ) → o0 ≡ [] → o1 ≡ o0 ++ u16_octets id
-    → o2 ≡ o1 ++ u16_octets flags → o3 ≡ o2 ++ u16_octets q → o4 ≡ o3 ++ u16_octets a → o5 ≡ o4 ++ u16_octets n
-    → o6 ≡ o5 ++ u16_octets r → (bytes : List ℕ) → Begins o6 bytes
-    → header_at bytes ≡ Ok (record { id = id; flags = flags; queries = q; answers = a; authorities = n; additionals = r })
-header_made o0 o1 o2 o3 o4 o5 o6 id flags q a n r e0 e1 e2 e3 e4 e5 e6 bytes b =
-    let p1 : o1 ≡ u16_octets id = e1 ∙ ap (λ (o : List ℕ). o ++ u16_octets id) e0 in
-    let p2 : o2 ≡ u16_octets id ++ u16_octets flags = e2 ∙ ap (λ (o : List ℕ). o ++ u16_octets flags) p1 in
-    let p3 : o3 ≡ u16_octets id ++ (u16_octets flags ++ u16_octets q) = e3 ∙ ap (λ (o : List ℕ). o ++ u16_octets q) p2 in
-    let p4 : o4 ≡ u16_octets id ++ (u16_octets flags ++ (u16_octets q ++ u16_octets a)) =
-    e4 ∙ ap (λ (o : List ℕ). o ++ u16_octets a) p3 in
-    let p5 : o5 ≡ u16_octets id ++ (u16_octets flags ++ (u16_octets q ++ (u16_octets a ++ u16_octets n))) =
-    e5 ∙ ap (λ (o : List ℕ). o ++ u16_octets n) p4 in
-    let p6 : o6 ≡ u16_octets id ++ (u16_octets flags ++ (u16_octets q ++ (u16_octets a ++ (u16_octets n ++ u16_octets r)))) =
-    e6 ∙ ap (λ (o : List ℕ). o ++ u16_octets r) p5 in
-    header_there id flags q a n r bytes (subst (λ (o : List ℕ). Begins o bytes) p6 b)

@@ -1,14 +1,12 @@
 -- The OPT record and the header of a message that was written.
-use Rattle.std.proofs.Common.{◌≡◌, ℕ, zero, suc, ◌-◌, ◌+◌, ◌*◌, ◌/◌, ◌%◌, ◌≤◌, ◌<◌, Bool, true, false, cond, ltb, eqb, List, [], ◌∷◌, ◌++◌, length, take, drop, map, Option, None, Some, Result, Ok, Err, refl, sym, ap, subst, ◌∙◌, append_assoc, length-append, arith}
+use Rattle.std.proofs.Common.{◌≡◌, ℕ, ◌-◌, ◌+◌, ◌*◌, ◌/◌, ◌%◌, ◌≤◌, ◌<◌, Bool, true, false, ltb, eqb, List, [], ◌∷◌, ◌++◌, length, take, drop, map, Option, None, Some, Ok, refl, sym, ap, subst, ◌∙◌, append_assoc, length-append, arith}
 use Rattle.std.specs.Prelude.{◌||◌, nat_lt}
 use Rattle.std.specs.Option.{option_map}
-use Rattle.std.proofs.lemmas.Bool.{le-ltb, eq-eqb}
+use Rattle.std.proofs.lemmas.Bool.{le-ltb}
 use Rattle.std.proofs.lemmas.List.{take_at, drop_at}
-use Rattle.hickory_proto_names.specs.Name.{NameValue}
-use Rattle.hickory_proto_codes.specs.Codes.{op_code, op_of, response_code, response_of}
+use Rattle.hickory_proto_codes.specs.Codes.{op_code, response_code}
 use Rattle.hickory_proto_core.specs.Records.{RecordValue}
 use Rattle.hickory_proto_core.specs.declared.query.Query.{Query}
-use Rattle.hickory_proto_wire.specs.declared.wire_error.WireFault.{WireFault}
 use Rattle.hickory_proto_wire.specs.declared.header.Header.{Header}
 use Rattle.hickory_proto_wire.specs.declared.wire_message.WireMessage.{WireMessage}
 use Rattle.hickory_proto_wire.specs.declared.wire_record.RecordHead.{RecordHead}
@@ -22,10 +20,8 @@ use Rattle.hickory_proto_wire.specs.Messages.{header_at, bit, extended_of, metad
 use Rattle.hickory_proto_wire.specs.Writing.{Begins, Stands, Spells, Adds, Follows, u16_octets, weighed, flags_of, named_query, named_record, shown, opt_of, opt_at, opt_count, IsHeader, record_count, cut}
 use Rattle.hickory_proto_wire.proofs.Fits.{bind_ok, ok_is}
 use Rattle.hickory_proto_wire.proofs.Stands.{stands_front, stands_behind, begins_more, u16_spelled}
-use Rattle.hickory_proto_wire.proofs.Adds.{u16_adds}
-use Rattle.hickory_proto_wire.proofs.Runs.{whole_spelled}
+use Rattle.hickory_proto_wire.proofs.Places.{name_spelled}
 use Rattle.hickory_proto_wire.proofs.Written.{stands_len, join}
-use Rattle.hickory_proto_wire.proofs.Sections.{follows}
 use Rattle.hickory_proto_wire.proofs.Messages.{last_found, only_records, whole_is}
 
 taken_there : (l bytes : List ℕ) (at count : ℕ) → count ≡ length l → Stands l bytes at → take count (drop at bytes) ≡ l
@@ -66,7 +62,7 @@ opt_spelled known b c e f d size ttl rb rc re rf bytes at begins le s =
       length-append f d,
     ) in
     let root : name_at bytes at ≡ Ok (record { labels = []; fqdn = true }, p1) =
-    whole_spelled known [] refl bytes at begins le (stands_front a (b ++ (c ++ (e ++ (f ++ d)))) bytes at s) in
+    name_spelled known [] [] tt refl bytes at begins le (stands_front a (b ++ (c ++ (e ++ (f ++ d)))) bytes at s) in
     rw (
       root,
       rb bytes p1 begins (omega (arith, le)) (stands_front b (c ++ (e ++ (f ++ d))) bytes p1 s1),

@@ -1,12 +1,9 @@
 -- What stands at a position is what is read there, and reading is not changed by what stands behind.
-use Rattle.std.proofs.Common.{◌≡◌, ℕ, zero, suc, ◌-◌, ◌+◌, ◌*◌, ◌/◌, ◌%◌, ◌≤◌, ◌<◌, Bool, true, false, cond, ltb, eqb, List, [], ◌∷◌, ◌++◌, length, take, drop, get_or, Result, Ok, Err, refl, sym, ap, subst, ◌∙◌, append_assoc, length-append, arith}
-use Rattle.std.proofs.lemmas.Bool.{le-ltb, lt-ltb, ltb-false, ltb-true}
-use Rattle.std.proofs.lemmas.List.{get_or_at, take_at, drop_at, take-append-le, drop-append-le, get_or_append_left, length-drop}
-use Rattle.hickory_proto_wire.specs.declared.wire_error.WireFault.{WireFault}
-use Rattle.hickory_proto_wire.specs.declared.wire_error.WireFault.TheVariants as faults
-use Rattle.hickory_proto_wire.specs.Octets.{◌>>=◌, octet_at, octets_at, u16_at, u32_at}
-use Rattle.hickory_proto_wire.specs.Writing.{Begins, Stands, Spells, Adds, u16_octets}
-use Rattle.hickory_proto_wire.proofs.Fits.{bind_ok, ok_is, guard_ok, test_ok}
+use Rattle.std.proofs.Common.{◌≡◌, ℕ, ◌+◌, ◌*◌, ◌/◌, ◌%◌, ◌≤◌, ◌<◌, List, [], ◌∷◌, ◌++◌, length, take, drop, get_or, Ok, refl, sym, ap, ◌∙◌, append_assoc, length-append, arith}
+use Rattle.std.proofs.lemmas.Bool.{le-ltb, lt-ltb}
+use Rattle.std.proofs.lemmas.List.{get_or_at, take_at, drop_at}
+use Rattle.hickory_proto_wire.specs.Octets.{octet_at, octets_at, u16_at}
+use Rattle.hickory_proto_wire.specs.Writing.{Begins, Stands, Spells, u16_octets}
 
 -- ---- the parts of what stands
 
@@ -55,32 +52,6 @@ octets_there l bytes at s =
     ∙ ap (λ (x : List ℕ). take (length l) x) (drop_at s.0 (l ++ s.1) at s.3)
     ∙ take_at l s.1 (length l) refl in
     rw (le-ltb (length bytes) (at + length l) long, value) refl
-
--- ---- what is read is read with anything behind
-
-pub octet_still : (known bytes : List ℕ) (at : ℕ) (x : ℕ × ℕ) → Begins known bytes → octet_at known at ≡ Ok x
-    → octet_at bytes at ≡ Ok x
-unfolding octet_at
-octet_still known bytes at x b e =
-    let g = test_ok (ltb at (length known)) faults.Short (Ok (get_or known at 0, at + 1)) x e in
-    let short : at < length known = ltb-true at (length known) g.0 in
-    let long : at < length bytes = omega (arith, short, ap length b.1, length-append known b.0) in
-    let value : get_or bytes at 0 ≡ get_or known at 0 =
-    ap (λ (y : List ℕ). get_or y at 0) b.1 ∙ get_or_append_left known b.0 0 at short in
-    rw (lt-ltb at (length bytes) long, value) g.1
-
-pub octets_still : (count : ℕ) (known bytes : List ℕ) (at : ℕ) (x : List ℕ × ℕ) → Begins known bytes
-    → octets_at count known at ≡ Ok x → octets_at count bytes at ≡ Ok x
-unfolding octets_at
-octets_still count known bytes at x b e =
-    let g = guard_ok (ltb (length known) (at + count)) faults.Short (Ok (take count (drop at known), at + count)) x e in
-    let short : at + count ≤ length known = ltb-false (length known) (at + count) g.0 in
-    let long : at + count ≤ length bytes = omega (arith, short, ap length b.1, length-append known b.0) in
-    let value : take count (drop at bytes) ≡ take count (drop at known) =
-    ap (λ (y : List ℕ). take count (drop at y)) b.1
-    ∙ ap (λ (y : List ℕ). take count y) (drop-append-le at known b.0 (omega (arith, short)))
-    ∙ take-append-le count (drop at known) b.0 (omega (arith, short, length-drop at known)) in
-    rw (le-ltb (length bytes) (at + count) long, value) g.1
 
 -- ---- numbers
 

@@ -1,11 +1,11 @@
 -- One step of a name: a label or a pointer.
-use Rattle.std.proofs.Common.{◌≡◌, ℕ, zero, suc, ◌-◌, ◌+◌, ◌≤◌, ◌<◌, List, [], ◌∷◌, ◌++◌, Result, Ok, Err, refl, sym, ap, ◌∙◌, append_assoc, arith}
+use Rattle.std.proofs.Common.{◌≡◌, ℕ, suc, ◌+◌, ◌≤◌, ◌<◌, List, [], ◌∷◌, ◌++◌, Result, Ok, Err, refl, ap, append_assoc}
 use Rattle.std.proofs.lemmas.Bool.{le-ltb, lt-ltb, ne_eqb}
 use Rattle.hickory_proto_wire.specs.declared.wire_error.WireFault.{WireFault}
 use Rattle.hickory_proto_wire.specs.declared.wire_error.WireError.{WireError}
 use Rattle.hickory_proto_wire.specs.declared.wire_error.WireError.TheVariants as errors
 use Rattle.hickory_proto_wire.specs.declared.wire_name.Piece.{Piece}
-use Rattle.hickory_proto_wire.specs.declared.wire_name.Piece.TheVariants.{Root, Label, Pointer}
+use Rattle.hickory_proto_wire.specs.declared.wire_name.Piece.TheVariants.{Label, Pointer}
 use Rattle.hickory_proto_wire.specs.declared.wire_name.Walk.{Walk}
 use Rattle.hickory_proto_wire.specs.Octets.{◌>>=◌, Fails, with_front, octets_at}
 use Rattle.hickory_proto_wire.specs.Names.{piece_at, labels_at, behind_label, at_target}

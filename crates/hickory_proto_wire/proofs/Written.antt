@@ -1,17 +1,19 @@
 -- Questions and records that were added are read again.
-use Rattle.std.proofs.Common.{◌≡◌, ℕ, zero, suc, ◌-◌, ◌+◌, ◌≤◌, ◌<◌, Bool, true, false, cond, ltb, eqb, List, [], ◌∷◌, ◌++◌, length, take, drop, Result, Ok, Err, refl, sym, ap, subst, ◌∙◌, append_assoc, length-append, arith}
+use Rattle.std.proofs.Common.{◌≡◌, ℕ, ◌+◌, ◌*◌, ◌/◌, ◌≤◌, false, ltb, List, [], ◌∷◌, ◌++◌, length, take, drop, Ok, refl, sym, ap, subst, ◌∙◌, append_assoc, length-append, arith}
+use Rattle.std.specs.List.{flat_map}
 use Rattle.std.proofs.lemmas.Bool.{le-ltb, eq-eqb}
 use Rattle.std.proofs.lemmas.List.{append-nil, take_at, take-take, take-append-drop, length-take-le}
 use Rattle.hickory_proto_names.specs.Name.{NameValue}
 use Rattle.hickory_proto_codes.specs.Codes.{type_of, class_of}
-use Rattle.hickory_proto_core.specs.Records.{DataValue, RecordValue}
+use Rattle.hickory_proto_core.specs.Records.{DataValue}
 use Rattle.hickory_proto_core.specs.declared.query.Query.{Query}
-use Rattle.hickory_proto_wire.specs.declared.wire_error.WireFault.{WireFault}
 use Rattle.hickory_proto_wire.specs.Octets.{◌>>=◌, u16_at, u32_at}
 use Rattle.hickory_proto_wire.specs.Names.{name_at}
 use Rattle.hickory_proto_wire.specs.RecordData.{data_at, record_data_at}
-use Rattle.hickory_proto_wire.specs.Records.{query_at, head_at, record_from, record_at}
-use Rattle.hickory_proto_wire.specs.Writing.{Begins, Stands, Spells, Adds, SpellsData, AddsData, data_code, coded_at}
+use Rattle.hickory_proto_wire.specs.Records.{query_at, head_at, record_from}
+use Rattle.hickory_proto_wire.specs.Writing.{Begins, Stands, Spells, Adds, SpellsData, AddsData, data_code, coded_at, u16_octets}
+use Rattle.hickory_proto_wire.specs.Written.{u32_octets, edns_octets}
+use Rattle.hickory_proto_wire.specs.Edns.{EdnsValue}
 use Rattle.hickory_proto_wire.proofs.Stands.{stands_front, stands_behind}
 use Rattle.hickory_proto_wire.proofs.Adds.{adds_one, adds_then}
 
@@ -124,3 +126,34 @@ record_adds known o0 o1 o2 o3 o4 o5 o6 d name value class ttl a b c e f last rd 
       (join o4 o5 o6 f.0 d f.1 last)))),
   record_spelled known a.0 b.0 c.0 e.0 f.0 d name value class ttl a.2 b.2 c.2 e.2 f.2 rd,
 )
+
+-- ---- octets that were added one behind the other
+
+pub eight_added : (o0 o1 o2 o3 o4 o5 o6 o7 o8 : List ℕ) (a b c d e f g h : ℕ) → o1 ≡ o0 ++ u16_octets a
+    → o2 ≡ o1 ++ u16_octets b → o3 ≡ o2 ++ u16_octets c → o4 ≡ o3 ++ u16_octets d → o5 ≡ o4 ++ u16_octets e
+    → o6 ≡ o5 ++ u16_octets f → o7 ≡ o6 ++ u16_octets g → o8 ≡ o7 ++ u16_octets h
+    → o8 ≡ o0 ++ flat_map u16_octets (a ∷ b ∷ c ∷ d ∷ e ∷ f ∷ g ∷ h ∷ [])
+eight_added o0 o1 o2 o3 o4 o5 o6 o7 o8 a b c d e f g h e1 e2 e3 e4 e5 e6 e7 e8 =
+    join o0 o1 o8 (u16_octets a) (flat_map u16_octets (b ∷ c ∷ d ∷ e ∷ f ∷ g ∷ h ∷ [])) e1
+    (join o1 o2 o8 (u16_octets b) (flat_map u16_octets (c ∷ d ∷ e ∷ f ∷ g ∷ h ∷ [])) e2
+    (join o2 o3 o8 (u16_octets c) (flat_map u16_octets (d ∷ e ∷ f ∷ g ∷ h ∷ [])) e3
+    (join o3 o4 o8 (u16_octets d) (flat_map u16_octets (e ∷ f ∷ g ∷ h ∷ [])) e4
+    (join o4 o5 o8 (u16_octets e) (flat_map u16_octets (f ∷ g ∷ h ∷ [])) e5
+    (join o5 o6 o8 (u16_octets f) (flat_map u16_octets (g ∷ h ∷ [])) e6
+    (join o6 o7 o8 (u16_octets g) (u16_octets h) e7 e8))))))
+
+pub edns_added : (o0 o1 o2 o3 o4 o5 o6 : List ℕ) (e : EdnsValue) (code ttl len : ℕ)
+    → ttl ≡ code / 16 * 16777216 + e.version * 65536 + e.flags → len ≡ length e.options → o1 ≡ o0 ++ 0 ∷ []
+    → o2 ≡ o1 ++ u16_octets 41 → o3 ≡ o2 ++ u16_octets e.size → o4 ≡ o3 ++ u32_octets ttl → o5 ≡ o4 ++ u16_octets len
+    → o6 ≡ o5 ++ e.options → o6 ≡ o0 ++ edns_octets e code
+edns_added o0 o1 o2 o3 o4 o5 o6 e code ttl len time count e1 e2 e3 e4 e5 e6 =
+    let t4 = e4 ∙ ap (λ (n : ℕ). o3 ++ u32_octets n) time in
+    let t5 = e5 ∙ ap (λ (n : ℕ). o4 ++ u16_octets n) count in
+    let d = e.options in
+    let u = u32_octets (code / 16 * 16777216 + e.version * 65536 + e.flags) in
+    let l = u16_octets (length d) in
+    join o0 o1 o6 (0 ∷ []) (u16_octets 41 ++ (u16_octets e.size ++ (u ++ (l ++ d)))) e1
+    (join o1 o2 o6 (u16_octets 41) (u16_octets e.size ++ (u ++ (l ++ d))) e2
+    (join o2 o3 o6 (u16_octets e.size) (u ++ (l ++ d)) e3
+    (join o3 o4 o6 u (l ++ d) t4
+    (join o4 o5 o6 l d t5 e6))))

@@ -6,3 +6,8 @@ pub mod Found
 pub mod Records
 pub mod Messages
 pub mod Writing
+pub mod Place
+pub mod Written
+pub mod Refused
+pub mod ToWire
+pub mod Made

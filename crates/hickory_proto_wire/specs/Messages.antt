@@ -1,5 +1,5 @@
 -- Messages on the wire (RFC 1035, section 4.1; RFC 4035, section 3.1.6 for AD and CD).
-use Rattle.std.specs.Prelude.{◌≡◌, ℕ, ◌+◌, ◌*◌, ◌/◌, ◌%◌, Bool, List, length, Option, None, Some, Result, Ok, Err, ◌==◌, if◌then◌else◌}
+use Rattle.std.specs.Prelude.{ℕ, ◌+◌, ◌*◌, ◌/◌, ◌%◌, Bool, List, length, Option, None, Some, Result, Ok, Err, ◌==◌, if◌then◌else◌}
 use Rattle.std.specs.Option.{option_map}
 use Rattle.hickory_proto_codes.specs.Codes.{op_of, response_of}
 use Rattle.hickory_proto_core.specs.Records.{RecordValue}

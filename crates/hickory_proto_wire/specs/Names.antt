@@ -1,5 +1,5 @@
 -- Names on the wire (RFC 1035, sections 3.1 and 4.1.4).
-use Rattle.std.specs.Prelude.{◌≡◌, ℕ, zero, suc, ◌+◌, ◌*◌, ◌-◌, List, [], ◌∷◌, ◌++◌, Result, Ok, Err, true, nat_lt, ◌==◌, if◌then◌else◌}
+use Rattle.std.specs.Prelude.{ℕ, zero, suc, ◌+◌, ◌*◌, ◌-◌, List, [], ◌∷◌, Result, Ok, Err, true, nat_lt, ◌==◌, if◌then◌else◌}
 use Rattle.hickory_proto_names.specs.Name.{NameValue}
 use Rattle.hickory_proto_wire.specs.declared.wire_error.WireFault.{WireFault}
 use Rattle.hickory_proto_wire.specs.declared.wire_error.WireFault.TheVariants.{BadLabel, NameTooLong, TooManyPointers, PointerNotBack}

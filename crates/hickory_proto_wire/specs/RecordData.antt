@@ -1,6 +1,6 @@
 -- The data of records on the wire (RFC 1035, sections 3.3 and 3.4.1; RFC 3596, section 2.2; RFC 2782). The bytes end
 -- with the data.
-use Rattle.std.specs.Prelude.{◌≡◌, ℕ, zero, suc, ◌-◌, List, [], ◌∷◌, ◌++◌, length, take, Result, Ok, Err, nat_lt, ◌==◌, if◌then◌else◌}
+use Rattle.std.specs.Prelude.{ℕ, zero, suc, ◌-◌, List, [], ◌∷◌, length, take, Result, Ok, Err, nat_lt, ◌==◌, if◌then◌else◌}
 use Rattle.hickory_proto_core.specs.Records.{DataValue, a_data, aaaa_data, cname_data, ns_data, ptr_data, soa_data, srv_data, mx_data, txt_data, unknown_data}
 use Rattle.hickory_proto_wire.specs.declared.wire_error.WireFault.{WireFault}
 use Rattle.hickory_proto_wire.specs.declared.wire_error.WireFault.TheVariants.{TrailingData}
@@ -71,7 +71,16 @@ times_at bytes at = do
   retry ← u32_at bytes refresh.1
   expire ← u32_at bytes retry.1
   minimum ← u32_at bytes expire.1
-  Ok (record { serial = serial.0; refresh = refresh.0; retry = retry.0; expire = expire.0; minimum = minimum.0 }, minimum.1)
+  Ok (
+    record {
+      serial = serial.0;
+      refresh = refresh.0;
+      retry = retry.0;
+      expire = expire.0;
+      minimum = minimum.0;
+    },
+    minimum.1,
+  )
 
 -- two names and these
 unfoldable pub soa_at : List ℕ → ℕ → Result (DataValue × ℕ) WireFault

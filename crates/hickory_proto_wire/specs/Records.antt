@@ -1,5 +1,5 @@
 -- Questions and records on the wire (RFC 1035, sections 4.1.2 and 4.1.3), and OPT (RFC 6891, section 6.1).
-use Rattle.std.specs.Prelude.{◌≡◌, ℕ, zero, suc, ◌+◌, ◌-◌, ◌/◌, ◌%◌, List, [], ◌∷◌, ◌++◌, length, take, drop, Option, None, Some, Result, Ok, Err, nat_lt, ◌==◌, if◌then◌else◌}
+use Rattle.std.specs.Prelude.{ℕ, zero, suc, ◌+◌, ◌-◌, ◌/◌, ◌%◌, List, [], ◌∷◌, ◌++◌, length, take, drop, None, Some, Result, Ok, Err, nat_lt, ◌==◌, if◌then◌else◌}
 use Rattle.std.specs.Option.{is_some}
 use Rattle.hickory_proto_codes.specs.Codes.{type_of, class_of}
 use Rattle.hickory_proto_core.specs.Records.{RecordValue}
@@ -9,7 +9,7 @@ use Rattle.hickory_proto_wire.specs.declared.wire_error.WireFault.TheVariants.{S
 use Rattle.hickory_proto_wire.specs.declared.wire_record.RecordHead.{RecordHead}
 use Rattle.hickory_proto_wire.specs.declared.wire_record.OptRecord.{OptRecord}
 use Rattle.hickory_proto_wire.specs.Found.{Found}
-use Rattle.hickory_proto_wire.specs.Octets.{◌>>=◌, octets_at, u16_at, u32_at}
+use Rattle.hickory_proto_wire.specs.Octets.{◌>>=◌, u16_at, u32_at}
 use Rattle.hickory_proto_wire.specs.Names.{name_at}
 use Rattle.hickory_proto_wire.specs.RecordData.{record_data_at}
 

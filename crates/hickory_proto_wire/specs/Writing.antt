@@ -1,21 +1,19 @@
--- What was written, by what the reader reads of it.
-use Rattle.std.specs.Prelude.{◌≡◌, ℕ, ◌+◌, ◌-◌, ◌*◌, ◌/◌, ◌%◌, ◌≤◌, ◌<◌, List, [], ◌∷◌, ◌++◌, length, take, drop, map, Option, None, Some, Result, Ok, Bool, true, false, ◌==◌, if◌then◌else◌, nat_lt, ◌||◌}
+-- Octets that stand in a message, by what the reader reads of them, and the parts of a message that is written.
+use Rattle.std.specs.Prelude.{◌≡◌, ℕ, ◌+◌, ◌-◌, ◌*◌, ◌/◌, ◌%◌, ◌≤◌, ◌<◌, List, [], ◌∷◌, ◌++◌, length, take, map, Option, None, Some, Result, Ok, Bool, true, false, ◌==◌, if◌then◌else◌, nat_lt, ◌||◌}
 use Rattle.std.specs.List.{flat_map}
 use Rattle.std.specs.Option.{option_map}
 use Rattle.hickory_proto_codes.specs.Codes.{type_code, type_of, class_code, class_of, op_code, op_of, response_code, response_of}
 use Rattle.hickory_proto_core.specs.declared.message.Metadata.{Metadata}
 use Rattle.hickory_proto_wire.specs.Edns.{EdnsValue}
 use Rattle.hickory_proto_wire.specs.declared.header.Header.{Header}
-use Rattle.hickory_proto_wire.specs.Messages.{extended_of, message_of}
+use Rattle.hickory_proto_wire.specs.Messages.{extended_of}
 use Rattle.hickory_proto_wire.specs.Records.{head_at, record_from, opt_from}
 use Rattle.hickory_proto_wire.specs.declared.wire_record.OptRecord.{OptRecord}
 use Rattle.hickory_proto_wire.specs.declared.wire_message.WireMessage.{WireMessage}
 use Rattle.hickory_proto_core.specs.declared.query.Query.{Query}
 use Rattle.hickory_proto_core.specs.Records.{RecordValue, DataValue, a_data, aaaa_data, cname_data, ns_data, ptr_data, soa_data, srv_data, mx_data, txt_data, unknown_data}
 use Rattle.hickory_proto_wire.specs.declared.wire_error.WireFault.{WireFault}
-use Rattle.hickory_proto_wire.specs.declared.wire_name.Walk.{Walk}
 use Rattle.hickory_proto_wire.specs.Octets.{◌>>=◌}
-use Rattle.hickory_proto_wire.specs.Names.{labels_at}
 use Rattle.hickory_proto_wire.specs.RecordData.{data_at}
 
 -- these octets are the first, and these stand at a position
@@ -41,7 +39,7 @@ u16_octets n = n / 256 ∷ n % 256 ∷ []
 
 -- a pointer to a position (RFC 1035, section 4.1.4)
 abbrev pub pointer_octets : ℕ → List ℕ
-pointer_octets target = (target / 256 + 192) ∷ target % 256 ∷ []
+pointer_octets target = (target / 256 % 64 + 192) ∷ target % 256 ∷ []
 
 -- a string behind its length, and labels so, one behind the other
 abbrev pub counted : List ℕ → List ℕ
@@ -49,23 +47,6 @@ counted octets = length octets ∷ octets
 
 abbrev pub run_of : List (List ℕ) → List ℕ
 run_of labels = flat_map counted labels
-
--- the labels alone
-abbrev pub labels_from : ℕ → List ℕ → Walk → Result (List (List ℕ)) WireFault
-labels_from steps bytes walk = labels_at steps bytes walk >>= λ x. Ok x.0
-
--- Behind so many of its labels the name goes on as what stands at an earlier position, where a pointer can lead: so
--- the reader has it, with what it allows for the rest of the name.
-pub record GoesOn (known : List ℕ) (labels : List (List ℕ)) (count target : ℕ) : Type 0 where
-  pub within : count ≤ length labels
-  pub small : target < 16384
-  pub before : target < length known
-  pub same : labels_from (255 - count) known (record {
-    start = target;
-    at = target;
-    left = 255 - length (run_of (take count labels));
-    jumps = 127;
-  }) ≡ Ok (drop count labels)
 
 -- the code of the type of data
 abbrev pub data_code : DataValue → ℕ
@@ -187,8 +168,8 @@ opt_count None = 0
 opt_count (Some edns) = 1
 
 -- the header of a message with so many records, and the upper bits of its response code
-pub record IsHeader (m : WireMessage) (truncated : Bool) (answer_count authority_count additional_count : ℕ) (header : Header)
-    (extended : ℕ) : Type 0 where
+pub record IsHeader (m : WireMessage) (truncated : Bool) (answer_count authority_count additional_count : ℕ)
+    (header : Header) (extended : ℕ) : Type 0 where
   pub id : header.id ≡ m.message.metadata.id
   pub op : op_code m.message.metadata.op_code < 16
   pub flags : header.flags
@@ -211,7 +192,3 @@ cut m kept =
     (take kept m.message.answers)
     (take (kept - length m.message.answers) m.message.authorities)
     (take (kept - length m.message.answers - length m.message.authorities) m.message.additionals)
-
--- what was written of a message is read as it, but for records that were left out, and is within the limit
-abbrev pub IsCut : WireMessage → ℕ → List ℕ → Type 0
-IsCut m limit octets = (kept : ℕ) × (message_of octets ≡ Ok (cut m kept)) × (length octets ≤ limit)

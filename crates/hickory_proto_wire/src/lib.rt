@@ -1,7 +1,7 @@
 //! Messages as bytes (RFC 1035, section 4.1).
 #![tactic(auto)]
 
-mod cut_writer;
+mod checks;
 mod data_writer;
 pub mod edns;
 mod header;
@@ -11,7 +11,7 @@ mod octet_writer;
 mod reader;
 mod record_writer;
 mod section_writer;
-mod to_wire_error;
+pub mod to_wire_error;
 pub mod wire_error;
 pub mod wire_message;
 mod wire_name;
@@ -19,5 +19,6 @@ mod wire_record;
 mod wire_record_data;
 
 pub use edns::Edns;
+pub use to_wire_error::ToWireError;
 pub use wire_error::{WireError, WireFault};
 pub use wire_message::WireMessage;

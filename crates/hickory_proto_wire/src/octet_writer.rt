@@ -1,7 +1,7 @@
 //! Numbers and strings as octets (RFC 1035, sections 2.3.2 and 3.3).
-ghost use Rattle.std.specs.Prelude.{◌≡◌, ◌++◌, ◌∷◌, [], ◌<◌, ◌/◌, ◌%◌, ℕ, List, length, OnOk};
-ghost use Rattle.hickory_proto_wire.specs.Octets.{u32_at};
-ghost use Rattle.hickory_proto_wire.specs.Writing.{Adds, counted, u16_octets};
+ghost use Rattle.std.specs.Prelude.{◌≡◌, ◌++◌, ◌∷◌, [], ◌<◌, ◌/◌, ◌%◌, length, OnOk};
+ghost use Rattle.hickory_proto_wire.specs.Writing.{counted, u16_octets};
+ghost use Rattle.hickory_proto_wire.specs.Written.{u32_octets};
 
 use std::alloc::AllocError;
 
@@ -16,7 +16,7 @@ pub(crate) fn put_u16(out: &mut Vec<u8>, number: u16) -> Result<(), AllocError>
 
 // A number of 32 bits.
 pub(crate) fn put_u32(out: &mut Vec<u8>, number: u32) -> Result<(), AllocError>
-    ensures { OnOk result ((known : List ℕ) → Adds u32_at known out.old.items out.new.items number) }
+    ensures { OnOk result (out.new.items ≡ out.old.items ++ u32_octets number) }
 {
     put_u16(out, (number / 65536) as u16)?;
     put_u16(out, (number % 65536) as u16)?;

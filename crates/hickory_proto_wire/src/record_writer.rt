@@ -1,33 +1,35 @@
 //! Questions and records as octets (RFC 1035, sections 4.1.2 and 4.1.3).
-ghost use Rattle.std.specs.Prelude.{◌≡◌, OnOk};
+ghost use Rattle.std.specs.Prelude.{◌≡◌, ◌++◌, None, length, IfOk, OnOk};
 ghost use Rattle.hickory_proto_core.specs.Records.{data_of};
-ghost use Rattle.hickory_proto_wire.specs.Records.{query_at};
-ghost use Rattle.hickory_proto_wire.specs.Writing.{Adds, coded_at, data_code, named_query, named_record};
+ghost use Rattle.hickory_proto_wire.specs.Writing.{data_code};
+ghost use Rattle.hickory_proto_wire.specs.Written.{whole_count, query_octets, record_octets};
+ghost use Rattle.hickory_proto_wire.specs.Refused.{data_fault};
+ghost use Rattle.hickory_proto_wire.specs.Made.{query_flaw, record_flaw};
 
 use crate::data_writer::put_data;
-use crate::name_writer::put_name;
+use crate::name_writer::{Place, put_name};
 use crate::octet_writer::{put_u16, put_u32};
-use crate::to_wire_error::ToWireError;
 use hickory_proto_core::{Query, RData, Record};
-use std::alloc::Global;
+use std::alloc::{AllocError, Global};
 
-// A question.
+// A question. Answers how many labels of its name stand there.
 pub(crate) fn put_query(
-    known: &[u8],
-    places: &[u16],
+    places: &[Place<'_>],
     out: &mut Vec<u8>,
     query: &Query,
-) -> Result<(), ToWireError>
-    ensures { OnOk result (Adds query_at known.now out.old.items out.new.items (named_query query.now)) }
+) -> Result<usize, AllocError>
+    ensures octets { OnOk result (out.new.items ≡ out.old.items ++ query_octets places.now query.now) }
+    ensures whole { IfOk result (λ n. n ≡ whole_count places.now query.now.name.labels) }
+    ensures valid { OnOk result (query_flaw query.now ≡ None) }
 {
-    put_name(known, places, out, &query.name)?;
+    let whole = put_name(places, out, &query.name)?;
     put_u16(out, query.query_type.code())?;
     put_u16(out, query.query_class.code())?;
-    Ok(())
+    Ok(whole)
 }
 
 // The code of the type of data.
-fn data_code(rdata: &RData) -> u16
+pub(crate) fn data_code(rdata: &RData) -> u16
     ensures { result ≡ data_code (data_of rdata.now) }
 {
     match rdata {
@@ -44,35 +46,26 @@ fn data_code(rdata: &RData) -> u16
     }
 }
 
-// The code of the type of a record.
-pub(crate) fn record_code(added: &Record) -> u16
-    ensures { result ≡ data_code added.now.rdata }
-{
-    data_code(&added.rdata)
-}
-
-// A record. Its data are made apart, since their length stands before them.
+// A record. Its data are made apart, since their length stands before them. Answers how many labels of its owner
+// stand there.
 pub(crate) fn put_record(
     alloc: Global,
-    known: &[u8],
-    places: &[u16],
+    places: &[Place<'_>],
     out: &mut Vec<u8>,
     added: &Record,
-) -> Result<(), ToWireError>
-    ensures { OnOk result (Adds coded_at known.now out.old.items out.new.items
-        (data_code added.now.rdata, named_record added.now)) }
+) -> Result<usize, AllocError>
+    requires { data_fault added.now.rdata ≡ None }
+    ensures octets { OnOk result (out.new.items ≡ out.old.items ++ record_octets places.now added.now) }
+    ensures whole { IfOk result (λ n. n ≡ whole_count places.now added.now.name.labels) }
+    ensures valid { OnOk result (record_flaw added.now ≡ None) }
 {
+    let whole = put_name(places, out, &added.name)?;
     let mut octets = Vec::new(alloc);
-    put_data(known, places, &mut octets, &added.rdata)?;
-    let len = octets.as_slice().len();
-    if 65535 < len {
-        return Err(ToWireError::DataTooLong);
-    }
-    put_name(known, places, out, &added.name)?;
+    put_data(places, &mut octets, &added.rdata)?;
     put_u16(out, data_code(&added.rdata))?;
     put_u16(out, added.dns_class.code())?;
     put_u32(out, added.ttl)?;
-    put_u16(out, len as u16)?;
+    put_u16(out, octets.as_slice().len() as u16)?;
     out.extend_from_slice(&octets)?;
-    Ok(())
+    Ok(whole)
 }

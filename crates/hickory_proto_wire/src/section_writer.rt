@@ -1,181 +1,153 @@
-//! The sections of a message, one behind the other (RFC 1035, section 4.1).
-ghost use Rattle.std.specs.Prelude.{◌≡◌, ◌≢◌, ◌<◌, ◌+◌, ◌*◌, None, map, length, OnOk};
-ghost use Rattle.hickory_proto_wire.specs.Records.{query_at, record_at, repeat_at, additionals_at, nothing_found};
-ghost use Rattle.hickory_proto_wire.specs.Writing.{Follows, coded_at, data_code, named_query, named_record, opt_at, opt_of, opt_count};
+//! The sections of a message, one behind the other (RFC 1035, section 4.1): what stands behind the header.
+ghost use Rattle.std.specs.Prelude.{◌≡◌, ◌≤◌, ◌<◌, ◌+◌, true, false, None, take, length, IfOk, OnOk};
+ghost use Rattle.std.specs.List.{fold};
+ghost use Rattle.hickory_proto_wire.specs.Written.{query_added, record_added, records_added, records_of};
+ghost use Rattle.hickory_proto_wire.specs.Refused.{first_fault, data_fault, record_data_fault};
+ghost use Rattle.hickory_proto_wire.specs.Made.{query_flaw, record_flaw};
+ghost use Rattle.hickory_proto_wire.specs.ToWire.{KeepsMost};
 
-use crate::edns::Edns;
-use crate::octet_writer::{put_u16, put_u32};
-use crate::record_writer::{put_query, put_record, record_code};
-use crate::to_wire_error::ToWireError;
+use crate::name_writer::{Place, note_name};
+use crate::record_writer::{put_query, put_record};
+use crate::wire_message::WireMessage;
 use hickory_proto_core::{Query, Record};
 use std::alloc::{AllocError, Global};
 
-// How many places of labels are kept to point to. Each is only a hint: what stands there is compared before it is
-// pointed to.
-const MOST_PLACES: usize = 64;
-
-// Keeps the places of the labels that stand from there on.
-fn note_name(places: &mut Vec<u16>, message: &[u8], start: usize) -> Result<(), AllocError> {
-    let mut at = start;
-    for _ in 0..127 {
-        if 16384 <= at || message.len() <= at || MOST_PLACES <= places.len() {
-            return Ok(());
-        }
-        let len = message[at];
-        if len == 0 || 63 < len {
-            return Ok(());
-        }
-        places.push(at as u16)?;
-        at += usize::from(len) + 1;
-    }
-    Ok(())
-}
+// The octets of the header.
+pub(crate) const HEADER: usize = 12;
 
 // Adds a question.
-fn add_query(
-    alloc: Global,
-    message: &mut Vec<u8>,
-    places: &mut Vec<u16>,
-    query: &Query,
-) -> Result<(), ToWireError>
-    ensures { OnOk result (Follows query_at message.old.items message.new.items (named_query query.now)) }
+fn add_query<'a>(
+    body: &mut Vec<u8>,
+    places: &mut Vec<Place<'a>>,
+    query: &'a Query,
+) -> Result<(), AllocError>
+    ensures added { OnOk result (record { octets = body.new.items; places = places.new.items }
+        ≡ query_added (record { octets = body.old.items; places = places.old.items }) query.now) }
+    ensures valid { OnOk result (query_flaw query.now ≡ None) }
 {
-    let mut octets = Vec::new(alloc);
-    put_query(message, places, &mut octets, query)?;
-    let start = message.len();
-    message.extend_from_slice(&octets)?;
-    note_name(places, message, start)?;
-    Ok(())
+    let start = body.len();
+    let whole = put_query(places, body, query)?;
+    note_name(places, whole, HEADER + start, &query.name)
 }
 
-// Adds a record.
-fn add_record(
+// Adds a record, unless the body is then past so many octets. Answers whether it is there.
+fn add_record<'a>(
     alloc: Global,
-    message: &mut Vec<u8>,
-    places: &mut Vec<u16>,
-    added: &Record,
-) -> Result<(), ToWireError>
-    ensures { OnOk result (Follows coded_at message.old.items message.new.items
-        (data_code added.now.rdata, named_record added.now)) }
+    body: &mut Vec<u8>,
+    places: &mut Vec<Place<'a>>,
+    added: &'a Record,
+    most: usize,
+) -> Result<bool, AllocError>
+    requires { data_fault added.now.rdata ≡ None }
+    ensures added { IfOk result (λ is. is ≡ true → (record { octets = body.new.items; places = places.new.items }
+        ≡ record_added (record { octets = body.old.items; places = places.old.items }) added.now)
+        × (length body.new.items ≤ most)) }
+    ensures past { IfOk result (λ is. is ≡ false → (body.new.items ≡ body.old.items) × (most
+        < length (record_added (record { octets = body.old.items; places = places.old.items }) added.now).octets)) }
+    ensures valid { OnOk result (record_flaw added.now ≡ None) }
 {
-    let mut octets = Vec::new(alloc);
-    put_record(alloc, message, places, &mut octets, added)?;
-    let start = message.len();
-    message.extend_from_slice(&octets)?;
-    note_name(places, message, start)?;
-    Ok(())
+    let start = body.len();
+    let whole = put_record(alloc, places, body, added)?;
+    if most < body.len() {
+        body.truncate(start);
+        return Ok(false);
+    }
+    note_name(places, whole, HEADER + start, &added.name)?;
+    Ok(true)
 }
 
 // Adds the questions.
-pub(crate) fn add_queries(
-    alloc: Global,
-    message: &mut Vec<u8>,
-    places: &mut Vec<u16>,
-    queries: &[Query],
-) -> Result<(), ToWireError>
-    ensures { OnOk result (Follows (λ bytes at. repeat_at (query_at bytes) (length queries.now) at)
-        message.old.items message.new.items (map named_query queries.now)) }
+pub(crate) fn add_queries<'a>(
+    body: &mut Vec<u8>,
+    places: &mut Vec<Place<'a>>,
+    queries: &'a [Query],
+) -> Result<(), AllocError>
+    ensures added { OnOk result (record { octets = body.new.items; places = places.new.items }
+        ≡ fold query_added (record { octets = body.old.items; places = places.old.items }) queries.now) }
+    ensures valid { OnOk result (first_fault query_flaw queries.now ≡ None) }
 {
     for i in 0..queries.len() {
-        add_query(alloc, message, places, &queries[i])?;
+        add_query(body, places, &queries[i])?;
     }
     Ok(())
 }
 
-// Adds the records of a section.
-pub(crate) fn add_records(
+// Adds the first of the records, as many as end within so many octets. Answers how many.
+fn add_records<'a>(
     alloc: Global,
-    message: &mut Vec<u8>,
-    places: &mut Vec<u16>,
-    records: &[Record],
-) -> Result<(), ToWireError>
-    ensures { OnOk result (Follows (λ bytes at. repeat_at (record_at bytes) (length records.now) at)
-        message.old.items message.new.items (map named_record records.now)) }
+    body: &mut Vec<u8>,
+    places: &mut Vec<Place<'a>>,
+    records: &'a [Record],
+    most: usize,
+) -> Result<usize, AllocError>
+    requires right { first_fault record_data_fault records.now ≡ None }
+    requires fits { length body.old.items ≤ most }
+    ensures kept { IfOk result (λ n. KeepsMost (record { octets = body.old.items; places = places.old.items })
+        records.now most n body.new.items) }
+    ensures all { IfOk result (λ n. n ≡ length records.now →
+        record { octets = body.new.items; places = places.new.items }
+        ≡ records_added (record { octets = body.old.items; places = places.old.items }) records.now) }
+    ensures valid { IfOk result (λ n. first_fault record_flaw (take n records.now) ≡ None) }
 {
     for i in 0..records.len() {
-        add_record(alloc, message, places, &records[i])?;
+        let is_there = add_record(alloc, body, places, &records[i], most)?;
+        if !is_there {
+            return Ok(i);
+        }
     }
-    Ok(())
+    Ok(records.len())
 }
 
-// Adds a record of the additional section, which is no OPT record.
-fn add_additional(
+// The same of the records of all sections, one behind the other.
+pub(crate) fn add_sections<'a>(
     alloc: Global,
-    message: &mut Vec<u8>,
-    places: &mut Vec<u16>,
-    added: &Record,
-) -> Result<(), ToWireError>
-    ensures read { OnOk result (Follows coded_at message.old.items message.new.items
-        (data_code added.now.rdata, named_record added.now)) }
-    ensures other { OnOk result (data_code added.now.rdata ≢ 41) }
+    body: &mut Vec<u8>,
+    places: &mut Vec<Place<'a>>,
+    message: &'a WireMessage,
+    most: usize,
+) -> Result<usize, AllocError>
+    requires answers { first_fault record_data_fault message.now.message.answers ≡ None }
+    requires authorities { first_fault record_data_fault message.now.message.authorities ≡ None }
+    requires additionals { first_fault record_data_fault message.now.message.additionals ≡ None }
+    requires fits { length body.old.items ≤ most }
+    ensures kept { IfOk result (λ n. KeepsMost (record { octets = body.old.items; places = places.old.items })
+        (records_of message.now) most n body.new.items) }
+    ensures valid { IfOk result (λ n. first_fault record_flaw (take n (records_of message.now)) ≡ None) }
 {
-    if record_code(added) == 41 {
-        return Err(ToWireError::KnownType);
+    let answers = answers_of(message);
+    let first = add_records(alloc, body, places, answers, most)?;
+    if first < answers.len() {
+        return Ok(first);
     }
-    add_record(alloc, message, places, added)?;
-    Ok(())
+    let authorities = authorities_of(message);
+    let second = add_records(alloc, body, places, authorities, most)?;
+    if second < authorities.len() {
+        return Ok(first + second);
+    }
+    let third = add_records(alloc, body, places, additionals_of(message), most)?;
+    Ok(first + second + third)
 }
 
-// The TTL of the OPT record (RFC 6891, section 6.1.3).
-fn opt_ttl(extended: u8, version: u8, flags: u16) -> u32
-    ensures value { result ≡ extended * 16777216 + version * 65536 + flags }
-    ensures version { version < 256 }
-    ensures flags { flags < 65536 }
+pub(crate) fn queries_of(source: &WireMessage) -> &[Query]
+    ensures { result.now ≡ source.now.message.queries }
 {
-    u32::from(extended) * 16777216 + u32::from(version) * 65536 + u32::from(flags)
+    &source.message.queries
 }
 
-// Adds the records of the additional section but for OPT.
-fn add_plain(
-    alloc: Global,
-    message: &mut Vec<u8>,
-    places: &mut Vec<u16>,
-    records: &[Record],
-) -> Result<(), ToWireError>
-    ensures { OnOk result (Follows (λ bytes at. additionals_at (length records.now) bytes at nothing_found)
-        message.old.items message.new.items (record { records = map named_record records.now; opt = None })) }
+pub(crate) fn answers_of(source: &WireMessage) -> &[Record]
+    ensures { result.now ≡ source.now.message.answers }
 {
-    for i in 0..records.len() {
-        add_additional(alloc, message, places, &records[i])?;
-    }
-    Ok(())
+    &source.message.answers
 }
 
-// Adds the OPT record.
-fn add_opt(message: &mut Vec<u8>, edns: &Edns, extended: u8) -> Result<(), ToWireError>
-    ensures { OnOk result (Follows opt_at message.old.items message.new.items
-        (41, record { extended = extended; edns = edns.now })) }
+pub(crate) fn authorities_of(source: &WireMessage) -> &[Record]
+    ensures { result.now ≡ source.now.message.authorities }
 {
-    let len = edns.options.as_slice().len();
-    if 65535 < len {
-        return Err(ToWireError::DataTooLong);
-    }
-    message.push(0)?;
-    put_u16(message, 41)?;
-    put_u16(message, edns.size)?;
-    put_u32(message, opt_ttl(extended, edns.version, edns.flags))?;
-    put_u16(message, len as u16)?;
-    message.extend_from_slice(&edns.options)?;
-    Ok(())
+    &source.message.authorities
 }
 
-// Adds the additional section, with OPT last.
-pub(crate) fn add_additionals(
-    alloc: Global,
-    message: &mut Vec<u8>,
-    places: &mut Vec<u16>,
-    records: &[Record],
-    edns: &Option<Edns>,
-    extended: u8,
-) -> Result<(), ToWireError>
-    ensures { OnOk result (Follows
-        (λ bytes at. additionals_at (length records.now + opt_count edns.now) bytes at nothing_found)
-        message.old.items message.new.items
-        (record { records = map named_record records.now; opt = opt_of edns.now extended })) }
+pub(crate) fn additionals_of(source: &WireMessage) -> &[Record]
+    ensures { result.now ≡ source.now.message.additionals }
 {
-    add_plain(alloc, message, places, records)?;
-    match edns {
-        None => Ok(()),
-        Some(edns) => Ok(add_opt(message, edns, extended)?),
-    }
+    &source.message.additionals
 }

@@ -1,10 +1,14 @@
 //! Messages and their bytes (RFC 1035, section 4.1).
-ghost use Rattle.std.specs.Prelude.{◌≡◌};
+ghost use Rattle.std.specs.Prelude.{◌≡◌, ℕ, List, IfOk};
 ghost use Rattle.hickory_proto_wire.specs.Octets.{Gives};
 ghost use Rattle.hickory_proto_wire.specs.Messages.{message_of, assembled};
+ghost use Rattle.hickory_proto_wire.specs.Refused.{Refuses, wire_fault};
+ghost use Rattle.hickory_proto_wire.specs.ToWire.{IsWritten};
 
 use crate::edns::Edns;
 use crate::header::{Header, bit, header_at, metadata_of};
+use crate::message_writer::octets_within;
+use crate::to_wire_error::ToWireError;
 use crate::wire_error::{WireError, WireFault};
 use crate::wire_record::{Additionals, additionals_at, queries_at, records_at};
 use hickory_proto_core::{Message, Query, Record};
@@ -34,6 +38,23 @@ impl WireMessage {
         ensures { Gives (λ m. m) result (message_of bytes.now) }
     {
         message_of(alloc, bytes)
+    }
+
+    /// The octets of the message, at most `limit` of them (RFC 1035, section 4.1): 512 or what OPT allows over UDP,
+    /// and 65,535 over TCP. A name ends with a pointer where the owner of an earlier record or question has the same
+    /// last labels, octet for octet; in data only where RFC 1035 has the type (RFC 3597, section 4). Where the octets
+    /// are more than the limit, records are left out from the end, whole, as few as can be, and the message says that
+    /// it is truncated. Header, questions and the OPT record stay (RFC 6891, section 7).
+    ///
+    /// # Errors
+    /// The first fault in the order of writing, over all records, also those that would be left out; then
+    /// `LimitTooSmall`.
+    pub fn to_wire(&self, alloc: Global, limit: usize) -> Result<Vec<u8>, ToWireError>
+        ensures refused { Refuses result (wire_fault self.now limit) }
+        ensures written { IfOk result (λ v. IsWritten self.now limit v.items) }
+        ensures unique { IfOk result (λ v. (other : List ℕ) → IsWritten self.now limit other → other ≡ v.items) }
+    {
+        octets_within(alloc, self, limit)
     }
 }
 

@@ -22,6 +22,7 @@ use Rattle.hickory_resolver_theorems.specs.InterleavedCalls.{PendingCallValue, D
 use Rattle.hickory_resolver_theorems.specs.ResumingCalls.{AttemptValue, WaitingCallValue, CallProgressValue, CallWaits, CallIsDone, with_result, at_next, FindsStatic, StartsSub, GoesOn, by_hosts, waits, at_once, stopped, next_name, no_name, StartsNames, StartsCall, RunsOutAtStart, GoesOnAfter}
 use Rattle.hickory_resolver_theorems.proofs.Interleavings.{interleaved}
 use Rattle.hickory_resolver_theorems.proofs.Lists.{all-weaker, all-append, all-front, all-back, contains-from_recursion, contains-to_recursion, has-left, has-right}
+use Rattle.hickory_resolver_theorems.proofs.RunEvents.{happen-append, received-append, ended-append}
 use Rattle.hickory_resolver_theorems.proofs.RestOfCall.{asks-append, by_client, static, rest_stopped, attempts_of, rest_next, rest_none, more_done}
 
 -- ---- lists that go on
@@ -41,16 +42,12 @@ front-trans xs ys zs (m, e) (n, k) = (m ++ n, k ∙ ap (λ l. l ++ n) e ∙ appe
 contains-front : {A : Type 0} (xs ys : List A) (x : A) → Contains xs x → IsFront xs ys → Contains ys x
 contains-front xs ys x has (more, e) = subst (λ l. Contains l x) (sym e) (contains-from_recursion (xs ++ more) x (has-left xs more x (contains-to_recursion xs x has)))
 
-received-append : (xs ys : List EventValue) → received_in (xs ++ ys) ≡ received_in xs ++ received_in ys
-received-append [] ys = refl
-received-append (x ∷ xs) ys = ap (λ l. received_by x ++ l) (received-append xs ys) ∙ sym (append_assoc (received_by x) (received_in xs) (received_in ys))
-
 happen-more : (preserve : Bool) (first : WorldValue) (events : List EventValue) (mid : WorldValue) (event : EventValue) (after : WorldValue) → Happen preserve first events mid → Happens preserve mid event after → Happen preserve first (events ++ event ∷ []) after
 happen-more preserve first [] mid event after e happens = (after, subst (λ w. Happens preserve w event after) e happens, refl)
 happen-more preserve first (one ∷ events) mid event after (next, is, rest) happens = (next, is, happen-more preserve next events mid event after rest happens)
 
 -- a look-up that waits on has the moment of its start
-now-stays : (s : LookupContext) (w : WaitingValue) (outcome : OutcomeValue) (sub : WaitingValue) (after : CacheValue) → Resumes s w outcome (Waits sub) after → sub.now ≡ s.now
+pub now-stays : (s : LookupContext) (w : WaitingValue) (outcome : OutcomeValue) (sub : WaitingValue) (after : CacheValue) → Resumes s w outcome (Waits sub) after → sub.now ≡ s.now
 now-stays s w outcome sub after (inl f) = elim f.goes_on [
   | inl comes ↦ ap (λ (v : WaitingValue). v.now) comes.1
   | inr out ↦ let clash = out.0 in cc
@@ -61,10 +58,6 @@ received-fed : (before : List EventValue) (event : EventValue) (after : List Eve
 received-fed before event after received own e k none =
     received-append (before ++ event ∷ []) after
     ∙ ap₂ (λ xs ys. xs ++ ys) (received-append before (event ∷ []) ∙ ap₂ (λ xs ys. xs ++ ys) e (append-nil (received_by event) ∙ k)) none ∙ append-nil (received ++ own)
-
-ended-append : (xs ys : List EventValue) → ended_in (xs ++ ys) ≡ ended_in xs ++ ended_in ys
-ended-append [] ys = refl
-ended-append (x ∷ xs) ys = ap (λ l. ended_by x ++ l) (ended-append xs ys) ∙ sym (append_assoc (ended_by x) (ended_in xs) (ended_in ys))
 
 among-later : (preserve : Bool) (empty : CacheValue) (xs ys : List EventValue) (d : DoneValue) → IsPromisedAmong preserve empty xs d → IsFront xs ys → IsPromisedAmong preserve empty ys d
 among-later preserve empty xs ys d is (more, e) = record {
@@ -644,10 +637,6 @@ module _ (s : Settings) (empty : CacheValue) (none : empty.entries ≡ []) where
   clears-each t [] cache pending = refl
   clears-each t (n ∷ ns) cache pending = (record { cache = without_query cache (question_of n t); pending = pending }, refl, clears-each t ns (without_query cache (question_of n t)) pending)
 
-  happen-append : (start : WorldValue) (xs : List EventValue) (mid : WorldValue) (ys : List EventValue) (after : WorldValue) → Happen preserve start xs mid → Happen preserve mid ys after → Happen preserve start (xs ++ ys) after
-  happen-append start [] mid ys after e more = subst (λ w. Happen preserve w ys after) e more
-  happen-append start (x ∷ xs) mid ys after (next, is, rest) more = (next, is, happen-append next xs mid ys after rest more)
-
   fed-good : (events : List CallEventValue) (tables : List (List Host)) (received : List Dated) (before : CallWorldValue) (good : Good events tables received before) (c : PendingCallValue) (outcome : OutcomeValue) (progress : CallProgressValue) (after : CallWorldValue) → CallHappens s before (CallFed c outcome progress) after
       → GoodStep (events ++ CallFed c outcome progress ∷ []) tables (received ++ dated_exchanges c.waiting.sub.now (exchange_with c outcome ∷ [])) (call_done c.call c.waiting.sub.now (c.asks ++ exchange_with c outcome ∷ []) progress) after
   fed-good events tables received before good c outcome progress after (front, back, calls, (sub, mid, resumes, more), hosts_is, calls_is) = by sub resumes more calls_is
@@ -682,7 +671,7 @@ module _ (s : Settings) (empty : CacheValue) (none : empty.entries ≡ []) where
       let ns = attempts s.search n in
       let first : WorldValue = record { cache = before.cache; pending = good.pending } in
       let second : WorldValue = record { cache = drop_each t ns before.cache; pending = good.pending } in
-      cleared-good events tables received before good after (NameCleared t (Ok n)) (drop_each t ns before.cache) e (clears t ns) (clears-nothing t ns) (clears-end-none t ns) (happen-append (world_of empty) good.lookups first (clears t ns) second good.happened (clears-each t ns before.cache good.pending))
+      cleared-good events tables received before good after (NameCleared t (Ok n)) (drop_each t ns before.cache) e (clears t ns) (clears-nothing t ns) (clears-end-none t ns) (happen-append preserve (world_of empty) first second good.lookups (clears t ns) good.happened (clears-each t ns before.cache good.pending))
   event-good events tables received before good (NameCleared t (Err fault)) after e =
       cleared-good events tables received before good after (NameCleared t (Err fault)) before.cache e [] refl refl
       (subst (λ ls. Happen preserve (world_of empty) ls (record { cache = before.cache; pending = good.pending })) (sym (append-nil good.lookups)) good.happened)

@@ -96,7 +96,7 @@ module _ (s : LookupContext) (last_hop : Hop) (last : ChainEnd) (result : Lookup
         );
       }
 
-whole_driven : (s : LookupContext) (question : Query) (asks : List Exchange) (result : LookupResult) (after : CacheValue) → IsWhole s question asks result after → IsStartedAndDriven s question asks result after
+pub whole_driven : (s : LookupContext) (question : Query) (asks : List Exchange) (result : LookupResult) (after : CacheValue) → IsWhole s question asks result after → IsStartedAndDriven s question asks result after
 whole_driven s question asks result after whole =
     let h = whole.hops in
     let from = from-hop s h.last_hop h.last result after [] h.passed (first_hop question) h.leads (omega (arith, h.short))

@@ -1,5 +1,5 @@
 -- Every reply of a run is the cacheless resolver's; and so the headline holds of every run.
-use Rattle.std.proofs.Common.{◌≡◌, ◌⊎◌, ℕ, Bool, true, false, not, ◌||◌, List, [], ◌∷◌, ◌++◌, cond, None, Some, Result, Ok, Err, append_assoc, refl, sym, ap, ◌∙◌, subst, inl, inr}
+use Rattle.std.proofs.Common.{◌≡◌, ◌⊎◌, ℕ, Bool, true, false, not, List, [], ◌∷◌, ◌++◌, None, Result, Ok, Err, refl, sym, ap, subst, inl, inr}
 use Rattle.std.specs.List.{AllByRecursion}
 use Rattle.hickory_proto_core.specs.Name.{NameValue}
 use Rattle.hickory_proto_core.specs.Table.{TableValue}
@@ -11,24 +11,21 @@ use Rattle.hickory_proto_core.specs.declared.net_error.NetError.TheVariants.{Out
 use Rattle.hickory_resolver_model.specs.Cache.{CacheValue, is_for, without_query}
 use Rattle.hickory_resolver_model.specs.Lookup.{LookupResult, question_of}
 use Rattle.hickory_resolver_model.specs.Hosts.{IsStatic}
-use Rattle.hickory_resolver_model.specs.Calls.{CallContext, Source, Static, Client, SubLookup, SubLookupRelation, IsAnsweredFrom, IsAnsweredFor, start_at, Plan, One, Both, Fallback, has_answers, is_out_of_memory, both_results, next_type, attempt_result, IsAttemptResult, AreSubLookups, results_of, IsAttempt, stops, CallPlan, Says, AreAttempts, asks_of_sub_lookups}
+use Rattle.hickory_resolver_model.specs.Calls.{CallContext, Source, Static, Client, SubLookup, IsAnsweredFrom, IsAnsweredFor, start_at, is_out_of_memory, asks_of_sub_lookups}
 use Rattle.hickory_resolver_model.specs.Attempts.{attempts}
-use Rattle.hickory_resolver_model.specs.Run.{Settings, call_context_at, RequestValue, Lookup, LookupIp, ClearLookup, Clear, StepReply, LookedUp, LookedUpIp, Cleared, ends_run, drop_each, after_clear, Call, AtOnce, Attempt, name_call, address_call, IsCall, IsServed, StepValue, Stage, IsStage, AreStages, exchanges_of, Run}
+use Rattle.hickory_resolver_model.specs.Run.{Settings, call_context_at, RequestValue, Lookup, LookupIp, ClearLookup, Clear, StepReply, LookedUp, LookedUpIp, Cleared, ends_run, drop_each, after_clear, Call, name_call, address_call, IsCall, IsServed, StepValue, Stage, IsStage, AreStages, exchanges_of, Run}
 use Rattle.hickory_resolver_theorems.specs.Cacheless.{IsTable, ResolvesTo, IsConsistentWith, AreConsistentWith}
 use Rattle.hickory_resolver_theorems.specs.Cores.{reply_core}
 use Rattle.hickory_resolver_theorems.specs.Statements.{IsWhatItResolvesTo, AreWhatTheyResolveTo, ResolvesWithinEight, CachelessSubLookup, IsCacheless, IsAsWithoutCache, AreAsWithoutCache, Headline}
-use Rattle.hickory_resolver_theorems.proofs.Lists.{all-front, all-back, all-filter}
+use Rattle.hickory_resolver_theorems.proofs.Lists.{all-front, all-back, all-both, all-filter}
 use Rattle.hickory_resolver_theorems.proofs.Transparent.{transparent}
 use Rattle.hickory_resolver_theorems.proofs.Runs.{first_clauses}
+use Rattle.hickory_resolver_theorems.proofs.UnlessOut.{call-unless}
 
 -- what a run is seen under: a table without equal questions, and the option off
 pub record Seen (table : TableValue) (t : CallContext) : Type 0 where
   pub apart : IsTable table
   pub off : t.preserve_intermediates ≡ false
-
-asks-append : (ps qs : List SubLookup) → asks_of_sub_lookups (ps ++ qs) ≡ asks_of_sub_lookups ps ++ asks_of_sub_lookups qs
-asks-append [] qs = refl
-asks-append (p ∷ ps) qs = ap (λ xs. p.asks ++ xs) (asks-append ps qs) ∙ sym (append_assoc p.asks (asks_of_sub_lookups ps) (asks_of_sub_lookups qs))
 
 -- ---- a part
 
@@ -66,134 +63,10 @@ part-alike table t looked c before q p after seen meant has tells (for, is) = by
               ),
             )
 
--- where it is not out of memory
-cacheless : (table : TableValue) (t : CallContext) (looked : Bool) (c : CacheValue) (q : Query) (p : SubLookup) → is_out_of_memory p.result ≡ false → (is_out_of_memory p.result ≡ true) ⊎ CachelessSubLookup table t looked c q p c → CachelessSubLookup table t looked c q p c
-cacheless table t looked c q p live (inl out) = let clash : false ≡ true = sym live ∙ out in cc
-cacheless table t looked c q p live (inr is) = is
-
--- ---- an attempt
-
--- whether the last of some sub-look-ups ran out of memory
-abbrev last_is_out : List SubLookup → Bool
-last_is_out [] = false
-last_is_out (p ∷ []) = is_out_of_memory p.result
-last_is_out (p ∷ q ∷ qs) = last_is_out (q ∷ qs)
-
-or_right-false : (a b : Bool) → (a || b) ≡ false → b ≡ false
-or_right-false true b h = cc
-or_right-false false b h = h
-
--- an attempt goes on only after a result that is not out of memory
-goes-on : (plan : Plan) (results : List LookupResult) (r : LookupResult) (u : RecordType) → next_type plan (results ++ r ∷ []) ≡ Some u → is_out_of_memory r ≡ false
-goes-on (One t) [] r u h = let clash : None ≡ Some u = h in cc
-goes-on (One t) (x ∷ xs) r u h = let clash : None ≡ Some u = h in cc
-goes-on (Both t v) [] r u h = by (is_out_of_memory r) refl h
-  where
-    by : (b : Bool) → is_out_of_memory r ≡ b → cond b None (Some v) ≡ Some u → is_out_of_memory r ≡ false
-    by true e k = let clash : None ≡ Some u = k in cc
-    by false e k = e
-goes-on (Both t v) (x ∷ []) r u h = let clash : None ≡ Some u = h in cc
-goes-on (Both t v) (x ∷ y ∷ ys) r u h = let clash : None ≡ Some u = h in cc
-goes-on (Fallback t v) [] r u h = by (has_answers r || is_out_of_memory r) refl h
-  where
-    by : (b : Bool) → (has_answers r || is_out_of_memory r) ≡ b → cond b None (Some v) ≡ Some u → is_out_of_memory r ≡ false
-    by true e k = let clash : None ≡ Some u = k in cc
-    by false e k = or_right-false (has_answers r) (is_out_of_memory r) e
-goes-on (Fallback t v) (x ∷ []) r u h = let clash : None ≡ Some u = h in cc
-goes-on (Fallback t v) (x ∷ y ∷ ys) r u h = let clash : None ≡ Some u = h in cc
-
--- the sub-look-ups of an attempt: the last one ran out of memory, or they are the cacheless resolver's
-subs-alike : (table : TableValue) (t : CallContext) (looked : Bool) (n : NameValue) (plan : Plan) (c before : CacheValue) (results : List LookupResult) (ps : List SubLookup) (after : CacheValue) → Seen table t → AreWhatTheyResolveTo table before
-    → AllByRecursion (ResolvesWithinEight table) ps → AreConsistentWith table (asks_of_sub_lookups ps) → AreSubLookups (IsAnsweredFor t) looked n plan before results ps after
-    → ((last_is_out ps ≡ true) ⊎ AreSubLookups (CachelessSubLookup table t) looked n plan c results ps c) × AreWhatTheyResolveTo table after
-subs-alike table t looked n plan c before results [] after seen meant has tells same = (inr refl, subst (AreWhatTheyResolveTo table) (sym same) meant)
-subs-alike table t looked n plan c before results (p ∷ []) after seen meant (each, none) tells (u, mid, next, is, same) = (by here.0, subst (AreWhatTheyResolveTo table) (sym same) here.1)
-  where
-    here : PartAlike table t looked c (question_of n u) p mid
-    here = part-alike table t looked c before (question_of n u) p mid seen meant each (all-front (IsConsistentWith table) p.asks [] tells) is
-
-    by : (is_out_of_memory p.result ≡ true) ⊎ CachelessSubLookup table t looked c (question_of n u) p c → (is_out_of_memory p.result ≡ true) ⊎ AreSubLookups (CachelessSubLookup table t) looked n plan c results (p ∷ []) c
-    by (inl out) = inl out
-    by (inr alike) = inr (u, c, next, alike, refl)
-subs-alike table t looked n plan c before results (p ∷ q ∷ qs) after seen meant (each, others) tells (u, mid, next, is, (v, m, on, second, rest)) =
-    let there = subs-alike table t looked n plan c mid (results ++ p.result ∷ []) (q ∷ qs) after seen here.1 others (all-back (IsConsistentWith table) p.asks (asks_of_sub_lookups (q ∷ qs)) told) (v, m, on, second, rest) in
-    (by there.0, there.1)
-  where
-    told : AreConsistentWith table (p.asks ++ asks_of_sub_lookups (q ∷ qs))
-    told = tells
-
-    here : PartAlike table t looked c (question_of n u) p mid
-    here = part-alike table t looked c before (question_of n u) p mid seen meant each (all-front (IsConsistentWith table) p.asks (asks_of_sub_lookups (q ∷ qs)) told) is
-
-    live : CachelessSubLookup table t looked c (question_of n u) p c
-    live = cacheless table t looked c (question_of n u) p (goes-on plan results p.result v on) here.0
-
-    by : (last_is_out (q ∷ qs) ≡ true) ⊎ AreSubLookups (CachelessSubLookup table t) looked n plan c (results ++ p.result ∷ []) (q ∷ qs) c
-        → (last_is_out (q ∷ qs) ≡ true) ⊎ AreSubLookups (CachelessSubLookup table t) looked n plan c results (p ∷ q ∷ qs) c
-    by (inl out) = inl out
-    by (inr alike) = inr (u, c, next, live, alike)
-
--- an attempt whose last sub-look-up ran out of memory did so too
-out-result : (Answers : SubLookupRelation) (looked : Bool) (n : NameValue) (plan : Plan) (before : CacheValue) (ps : List SubLookup) (after : CacheValue) → AreSubLookups Answers looked n plan before [] ps after → last_is_out ps ≡ true
-    → is_out_of_memory (attempt_result plan (results_of ps)) ≡ true
-out-result Answers looked n plan before [] after are out = let clash : false ≡ true = out in cc
-out-result Answers looked n plan before (p ∷ []) after are out = out
-out-result Answers looked n (One t) before (p ∷ q ∷ []) after are out = out
-out-result Answers looked n (Fallback t u) before (p ∷ q ∷ []) after are out = out
-out-result Answers looked n (Both t u) before (p ∷ q ∷ []) after are out = by (is_out_of_memory q.result) refl
-  where
-    by : (b : Bool) → is_out_of_memory q.result ≡ b → is_out_of_memory (cond b q.result (both_results p.result q.result)) ≡ true
-    by true e = e
-    by false e = let clash : false ≡ true = sym e ∙ out in cc
-out-result Answers looked n (One t) before (p ∷ q ∷ x ∷ xs) after (a, b, next, is, (v, m, on, second, (w, k, more, third, rest))) out = let clash : None ≡ Some w = more in cc
-out-result Answers looked n (Both t u) before (p ∷ q ∷ x ∷ xs) after (a, b, next, is, (v, m, on, second, (w, k, more, third, rest))) out = let clash : None ≡ Some w = more in cc
-out-result Answers looked n (Fallback t u) before (p ∷ q ∷ x ∷ xs) after (a, b, next, is, (v, m, on, second, (w, k, more, third, rest))) out = let clash : None ≡ Some w = more in cc
-
-attempt-alike : (table : TableValue) (t : CallContext) (looked : Bool) (c before : CacheValue) (n : NameValue) (plan : Plan) (parts : List SubLookup) (r : LookupResult) (after : CacheValue) → Seen table t → AreWhatTheyResolveTo table before → AllByRecursion (ResolvesWithinEight table) parts → AreConsistentWith table (asks_of_sub_lookups parts)
-    → IsAttempt (IsAnsweredFor t) looked before n plan parts r after → ((is_out_of_memory r ≡ true) ⊎ IsAttempt (CachelessSubLookup table t) looked c n plan parts r c) × AreWhatTheyResolveTo table after
-attempt-alike table t looked c before n plan parts r after seen meant has tells attempt = (by there.0 attempt.result_is, there.1)
-  where
-    there : ((last_is_out parts ≡ true) ⊎ AreSubLookups (CachelessSubLookup table t) looked n plan c [] parts c) × AreWhatTheyResolveTo table after
-    there = subs-alike table t looked n plan c before [] parts after seen meant has tells attempt.are
-
-    by : (last_is_out parts ≡ true) ⊎ AreSubLookups (CachelessSubLookup table t) looked n plan c [] parts c
-        → IsAttemptResult plan (results_of parts) r
-        → (is_out_of_memory r ≡ true) ⊎ IsAttempt (CachelessSubLookup table t) looked c n plan parts r c
-    by is (inr (takes, out)) = inl (ap is_out_of_memory out)
-    by (inl out) (inl (over, e)) = inl (ap is_out_of_memory e ∙ out-result (IsAnsweredFor t) looked n plan before parts after attempt.are out)
-    by (inr is) (inl (over, e)) = inr (record { are = is; result_is = inl (over, e) })
-
--- ---- attempts
-
-attempts-alike : (table : TableValue) (t : CallContext) (plan : CallPlan) (looked : Bool) (c before : CacheValue) (names : List NameValue) (last : LookupResult → Type 0) (parts : List SubLookup) (r : LookupResult) (after : CacheValue) → Seen table t → AreWhatTheyResolveTo table before
-    → AllByRecursion (ResolvesWithinEight table) parts → AreConsistentWith table (asks_of_sub_lookups parts) → AreAttempts (IsAnsweredFor t) plan looked before names last parts r after
-    → ((is_out_of_memory r ≡ true) ⊎ AreAttempts (CachelessSubLookup table t) plan looked c names last parts r c) × AreWhatTheyResolveTo table after
-attempts-alike table t plan looked c before [] last parts r after seen meant has tells (none, fallback, same) = (inr (none, fallback, refl), subst (AreWhatTheyResolveTo table) (sym same) meant)
-attempts-alike table t plan looked c before (n ∷ ns) last parts r after seen meant has tells (front, back, result, mid, are, attempt, goes) =
-    by first.0 goes (λ rest. attempts-alike table t plan plan.hosts_for_all c mid ns (λ x. x ≡ result) back r after seen first.1 (all-back (ResolvesWithinEight table) front back each) (all-back (IsConsistentWith table) (asks_of_sub_lookups front) (asks_of_sub_lookups back) told) rest)
-  where
-    each : AllByRecursion (ResolvesWithinEight table) (front ++ back)
-    each = subst (AllByRecursion (ResolvesWithinEight table)) are has
-
-    told : AreConsistentWith table (asks_of_sub_lookups front ++ asks_of_sub_lookups back)
-    told = subst (AreConsistentWith table) (asks-append front back) (subst (λ ps. AreConsistentWith table (asks_of_sub_lookups ps)) are tells)
-
-    first : ((is_out_of_memory result ≡ true) ⊎ IsAttempt (CachelessSubLookup table t) looked c n plan.types front result c) × AreWhatTheyResolveTo table mid
-    first = attempt-alike table t looked c before n plan.types front result mid seen meant (all-front (ResolvesWithinEight table) front back each) (all-front (IsConsistentWith table) (asks_of_sub_lookups front) (asks_of_sub_lookups back) told) attempt
-
-    on_with : IsAttempt (CachelessSubLookup table t) looked c n plan.types front result c → stops result ≡ false → (is_out_of_memory r ≡ true) ⊎ AreAttempts (CachelessSubLookup table t) plan plan.hosts_for_all c ns (λ x. x ≡ result) back r c
-        → (is_out_of_memory r ≡ true) ⊎ AreAttempts (CachelessSubLookup table t) plan looked c (n ∷ ns) last parts r c
-    on_with is live (inl out) = inl out
-    on_with is live (inr rest) = inr (front, back, result, c, are, is, inr (live, rest))
-
-    by : (is_out_of_memory result ≡ true) ⊎ IsAttempt (CachelessSubLookup table t) looked c n plan.types front result c
-        → ((stops result ≡ true) × (back ≡ []) × (r ≡ result) × (after ≡ mid)) ⊎ ((stops result ≡ false) × AreAttempts (IsAnsweredFor t) plan plan.hosts_for_all mid ns (λ x. x ≡ result) back r after)
-        → (AreAttempts (IsAnsweredFor t) plan plan.hosts_for_all mid ns (λ x. x ≡ result) back r after → ((is_out_of_memory r ≡ true) ⊎ AreAttempts (CachelessSubLookup table t) plan plan.hosts_for_all c ns (λ x. x ≡ result) back r c) × AreWhatTheyResolveTo table after)
-        → ((is_out_of_memory r ≡ true) ⊎ AreAttempts (CachelessSubLookup table t) plan looked c (n ∷ ns) last parts r c) × AreWhatTheyResolveTo table after
-    by (inl out) (inl (stopped, none, e, same)) rest = (inl (ap is_out_of_memory e ∙ out), subst (AreWhatTheyResolveTo table) (sym same) first.1)
-    by (inr is) (inl (stopped, none, e, same)) rest = (inr (front, back, result, c, are, is, inl (stopped, none, e, refl)), subst (AreWhatTheyResolveTo table) (sym same) first.1)
-    by (inl out) (inr (live, k)) rest = let clash : false ≡ true = sym (or_right-false (has_answers result) (is_out_of_memory result) live) ∙ out in cc
-    by (inr is) (inr (live, k)) rest = let more = rest k in (on_with is live more.0, more.1)
+-- what holds of the exchanges of a call holds of those of each part
+pub asks-all : (P : Exchange → Type 0) (ps : List SubLookup) → AllByRecursion P (asks_of_sub_lookups ps) → AllByRecursion (λ p. AllByRecursion P p.asks) ps
+asks-all P [] h = tt
+asks-all P (p ∷ ps) h = (all-front P p.asks (asks_of_sub_lookups ps) h, asks-all P ps (all-back P p.asks (asks_of_sub_lookups ps) h))
 
 -- ---- a request
 
@@ -204,9 +77,11 @@ ServedAlike table s c request reply after = ((ends_run reply ≡ true) ⊎ IsCac
 pub call-alike : (table : TableValue) (s : Settings) (c before : CacheValue) (now : ℕ) (call : Call) (parts : List SubLookup) (reply : LookupResult) (after : CacheValue) → Seen table (call_context_at s now) → AreWhatTheyResolveTo table before → AllByRecursion (ResolvesWithinEight table) parts → AreConsistentWith table (asks_of_sub_lookups parts)
     → IsCall (IsAnsweredFor (call_context_at s now)) s before call parts reply after
     → ((is_out_of_memory reply ≡ true) ⊎ IsCall (CachelessSubLookup table (call_context_at s now)) s c call parts reply c) × AreWhatTheyResolveTo table after
-call-alike table s c before now (AtOnce answer) parts reply after seen meant has tells (none, e, same) = (inr (none, e, refl), subst (AreWhatTheyResolveTo table) (sym same) meant)
-call-alike table s c before now (Attempt n plan) parts reply after seen meant has tells tries =
-    attempts-alike table (call_context_at s now) plan true c before (attempts s.search n) (Says plan.no_names) parts reply after seen meant has tells tries
+call-alike table s c before now call parts reply after seen meant has tells is =
+    let t = call_context_at s now in
+    call-unless (IsAnsweredFor t) (CachelessSubLookup table t) (AreWhatTheyResolveTo table) (λ p. ResolvesWithinEight table p × AreConsistentWith table p.asks) (λ x. c)
+    (λ looked mid q p next holds own answered. part-alike table t looked c mid q p next seen holds own.0 own.1 answered) s before call parts reply after meant
+    (all-both (ResolvesWithinEight table) (λ p. AreConsistentWith table p.asks) parts has (asks-all (IsConsistentWith table) parts tells)) is
 
 name-alike : (table : TableValue) (s : Settings) (c before : CacheValue) (text : List ℕ) (u : RecordType) (now : ℕ) (parts : List SubLookup) (reply : LookupResult) (after : CacheValue) → Seen table (call_context_at s now) → AreWhatTheyResolveTo table before → AllByRecursion (ResolvesWithinEight table) parts → AreConsistentWith table (asks_of_sub_lookups parts)
     → IsServed (λ at. IsAnsweredFor (call_context_at s at)) s before (Lookup text u now) parts (LookedUp reply) after → ServedAlike table s c (Lookup text u now) (LookedUp reply) after

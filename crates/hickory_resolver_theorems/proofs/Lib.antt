@@ -30,3 +30,8 @@ pub mod Weaker
 pub mod PromisesHold
 pub mod Interleavings
 pub mod CallInterleavings
+pub mod UnlessOut
+pub mod ConfigStays
+pub mod CallReplies
+pub mod DrivenCalls
+pub mod RunCalls

@@ -327,15 +327,15 @@ tries-once table t plan looked c d (n ∷ ns) first second ps qs r k e f known l
 
 -- ---- a request
 
-call-once : (table : TableValue) (s : Settings) (now : ℕ) (call : Call) (c d e f : CacheValue) (ps qs : List SubLookup) (r k : LookupResult) → is_out_of_memory r ≡ false → is_out_of_memory k ≡ false
-    → IsCall (CachelessSubLookup table (call_context_at s now)) s c call ps r e → IsCall (CachelessSubLookup table (call_context_at s now)) s d call qs k f → Same r k
-call-once table s now (AtOnce answer) c d e f ps qs r k live alive (none, is, same) (nothing, is_too, unchanged) = ap reply_core (is ∙ sym is_too)
-call-once table s now (Attempt n plan) c d e f ps qs r k live alive x y =
-    tries-once table (call_context_at s now) plan true c d (attempts s.search n) (Says plan.no_names) (Says plan.no_names) ps qs r k e f (λ none _ _. absurd (some_attempt s.search n none)) live alive x y
+pub call-once : (table : TableValue) (s : Settings) (t : CallContext) (call : Call) (c d e f : CacheValue) (ps qs : List SubLookup) (r k : LookupResult) → is_out_of_memory r ≡ false → is_out_of_memory k ≡ false
+    → IsCall (CachelessSubLookup table t) s c call ps r e → IsCall (CachelessSubLookup table t) s d call qs k f → Same r k
+call-once table s t (AtOnce answer) c d e f ps qs r k live alive (none, is, same) (nothing, is_too, unchanged) = ap reply_core (is ∙ sym is_too)
+call-once table s t (Attempt n plan) c d e f ps qs r k live alive x y =
+    tries-once table t plan true c d (attempts s.search n) (Says plan.no_names) (Says plan.no_names) ps qs r k e f (λ none _ _. absurd (some_attempt s.search n none)) live alive x y
 
 names-once : (table : TableValue) (s : Settings) (cache : CacheValue) (request : RequestValue) → IsOneCachelessBy LookedUp table s cache request
 names-once table s cache (Lookup text u now) ps qs r k (inl (m, read, is)) (inl (n, again, is_too)) live alive =
-    call-once table s now (name_call u m) cache cache cache cache ps qs r k live alive is
+    call-once table s (call_context_at s now) (name_call u m) cache cache cache cache ps qs r k live alive is
     (subst (λ x. IsCall (CachelessSubLookup table (call_context_at s now)) s cache (name_call u x) qs k cache) (same-name text n m again read) is_too)
 names-once table s cache (Lookup text u now) ps qs r k (inr (none, out, same)) other live alive = let clash : false ≡ true = sym live ∙ ap is_out_of_memory out in cc
 names-once table s cache (Lookup text u now) ps qs r k (inl one) (inr (none, out, same)) live alive = let clash : false ≡ true = sym alive ∙ ap is_out_of_memory out in cc
@@ -345,7 +345,7 @@ names-once table s cache (Clear now) ps qs r k is other live alive = absurd is
 
 addresses-once : (table : TableValue) (s : Settings) (cache : CacheValue) (request : RequestValue) → IsOneCachelessBy LookedUpIp table s cache request
 addresses-once table s cache (LookupIp text now) ps qs r k (inl (g, (a, m), is)) (inl (h, (b, n), is_too)) live alive =
-    call-once table s now (address_call s g.address g.name now) cache cache cache cache ps qs r k live alive is
+    call-once table s (call_context_at s now) (address_call s g.address g.name now) cache cache cache cache ps qs r k live alive is
     (subst (λ x. IsCall (CachelessSubLookup table (call_context_at s now)) s cache (address_call s x g.name now) qs k cache) (same-address text h.address g.address b a)
     (subst (λ x. IsCall (CachelessSubLookup table (call_context_at s now)) s cache (address_call s h.address x now) qs k cache) (same-name text h.name g.name n m) is_too))
 addresses-once table s cache (LookupIp text now) ps qs r k (inr (none, out, same)) other live alive = let clash : false ≡ true = sym live ∙ ap is_out_of_memory out in cc

@@ -1,5 +1,5 @@
 -- What is promised of a call of the resolver holds of those of the definition.
-use Rattle.std.proofs.Common.{◌≡◌, ◌⊎◌, ◌≤◌, ◌&&◌, not, ℕ, Bool, true, List, [], ◌∷◌, ◌++◌, length, map, filter, Option, Result, Ok, Err, IfSome, refl, sym, ap, ◌∙◌, subst, arith, inl, inr}
+use Rattle.std.proofs.Common.{◌≡◌, ◌⊎◌, ◌≤◌, ◌&&◌, not, ℕ, Bool, true, List, [], ◌++◌, length, map, filter, Option, Result, Ok, Err, IfSome, refl, sym, ap, ◌∙◌, subst, arith, inl, inr}
 use Rattle.std.proofs.lemmas.Bool.{and_parts, eq-eqb}
 use Rattle.std.specs.List.{AllByRecursion, Contains}
 use Rattle.std.specs.declared.net.IpAddr.{IpAddr}
@@ -17,7 +17,7 @@ use Rattle.hickory_resolver_model.specs.Cache.{CacheValue, Entry, IsCache, Outli
 use Rattle.hickory_resolver_model.specs.Lookup.{LookupResult}
 use Rattle.hickory_resolver_model.specs.Verdict.{Hop, Verdict, Accepted, Alias, NoMatch, first_hop, verdict}
 use Rattle.hickory_resolver_model.specs.Hops.{LookupContext, ChainEnd, Special, Hit, Asked, HopList, Store, IsReply, alias_limit, made_entry, stores_of_verdict, stores_when_asked, last_stores, earlier_store, earlier_stores, stores_of, result_of, after_stores}
-use Rattle.hickory_resolver_model.specs.Calls.{CallContext, start_at, Source, Static, Client, SubLookup, IsAnsweredFrom, IsAnsweredFor, is_out_of_memory, asks_of_sub_lookups}
+use Rattle.hickory_resolver_model.specs.Calls.{CallContext, start_at, Source, Static, Client, SubLookup, SubLookupRelation, IsAnsweredFrom, IsAnsweredFor, is_out_of_memory, asks_of_sub_lookups}
 use Rattle.hickory_resolver_model.specs.Attempts.{attempts}
 use Rattle.hickory_resolver_model.specs.Run.{Settings, call_context_at, Call, IsCall, after_clear, name_call, address_call}
 use Rattle.hickory_resolver_model.specs.Resolver.{ResolverValue, settings, AnswersCall, AnswersName, AnswersHost}
@@ -26,7 +26,7 @@ use Rattle.hickory_resolver_theorems.specs.Covered.{Dated, dated_exchanges}
 use Rattle.hickory_resolver_theorems.specs.Provenance.{is_source, dated_entry, stores_made}
 use Rattle.hickory_resolver_theorems.specs.Statements.{LeastTtlIsZero, IsFreshReply, IsFreshEntry, IsFreshSubLookup, IsWhatItResolvesTo, AreWhatTheyResolveTo, CachelessSubLookup}
 use Rattle.hickory_resolver_theorems.specs.CallFacts.{IsCallBy, IsOwnAnswer, AreFreshReplies, IsFreshForType, IsFreshlyStoredBy, FreshlyStoredSubLookup, call_sources, HasCallProvenance, IsFreshCall, IsTransparentCall, IsPromisedCall, PromisesName, PromisesHost, KeepsWhatIsKnown}
-use Rattle.hickory_resolver_theorems.proofs.Lists.{all-weaker, all-append, all-front, all-back, all-filter, all-has, has-all, has-left, has-map, has-filter, find-has, ContainsByRecursion, contains-from_recursion, contains-to_recursion}
+use Rattle.hickory_resolver_theorems.proofs.Lists.{all-weaker, all-append, all-front, all-both, all-filter, all-has, has-all, has-left, has-map, has-filter, find-has, ContainsByRecursion, contains-from_recursion, contains-to_recursion}
 use Rattle.hickory_resolver_theorems.proofs.OneCache.{hops-over}
 use Rattle.hickory_resolver_theorems.proofs.VerdictFacts.{KeepsType, leads-keep}
 use Rattle.hickory_resolver_theorems.proofs.Stores.{Makes, after_stores-all, earlier-all, makes-fresh, makes-some, StoresArrived}
@@ -37,7 +37,7 @@ use Rattle.hickory_resolver_theorems.proofs.Chains.{Chain, chain-all, chain-call
 use Rattle.hickory_resolver_theorems.proofs.Weaker.{call-weaker, call-along}
 use Rattle.hickory_resolver_theorems.proofs.Answered.{IsTold, told-call, told-unserved, has-fresh}
 use Rattle.hickory_resolver_theorems.proofs.Runs.{reply-config, good-chain, drop_each-fresh}
-use Rattle.hickory_resolver_theorems.proofs.Headlines.{call-alike, drop_each-meant}
+use Rattle.hickory_resolver_theorems.proofs.Headlines.{asks-all, call-alike, drop_each-meant}
 use Rattle.hickory_resolver_theorems.proofs.AliasLifetimes.{part_limited}
 
 -- ---- the stores of a look-up are under questions of its type
@@ -70,10 +70,6 @@ hops-typed s question asks h =
 
     leads : KeepsType code h.last_hop × AllByRecursion (λ x. type_code x.query.query_type ≡ code) h.passed
     leads = let over = hops-over s question asks h in leads-keep code s over.caches (first_hop question) h.passed h.last_hop (record { type_is = refl; others = tt }) over.leads
-
-all-both : {A : Type 0} (P Q : A → Type 0) (xs : List A) → AllByRecursion P xs → AllByRecursion Q xs → AllByRecursion (λ x. P x × Q x) xs
-all-both P Q [] h k = tt
-all-both P Q (x ∷ xs) (p, ps) (q, qs) = ((p, q), all-both P Q xs ps qs)
 
 -- ---- provenance
 
@@ -198,18 +194,14 @@ module _ (now : ℕ) (first : CacheValue) (cache : IsCache first.config first.ca
             ),
           )
 
--- what holds of the exchanges of a call holds of those of each part
-asks-all : (P : Exchange → Type 0) (ps : List SubLookup) → AllByRecursion P (asks_of_sub_lookups ps) → AllByRecursion (λ p. AllByRecursion P p.asks) ps
-asks-all P [] h = tt
-asks-all P (p ∷ ps) h = (all-front P p.asks (asks_of_sub_lookups ps) h, asks-all P ps (all-back P p.asks (asks_of_sub_lookups ps) h))
+-- a call whose questions are answered in some way, or for which memory ran out before
+pub told-by : (Answers : SubLookupRelation) (s : Settings) (before : CacheValue) (call : Call) (parts : List SubLookup) (reply : LookupResult) (after : CacheValue) → IsCallBy Answers s before call parts reply after → IsTold (IsOwnAnswer call) parts reply
+told-by Answers s before call parts reply after (inl is) = told-call Answers s before call parts reply after is
+told-by Answers s before call parts reply after (inr (none, e, same)) = told-unserved (IsOwnAnswer call) parts reply e
 
-told-by : (s : Settings) (now : ℕ) (before : CacheValue) (call : Call) (parts : List SubLookup) (reply : LookupResult) (after : CacheValue) → IsCallBy (IsAnsweredFor (call_context_at s now)) s before call parts reply after → IsTold (IsOwnAnswer call) parts reply
-told-by s now before call parts reply after (inl is) = told-call (IsAnsweredFor (call_context_at s now)) s before call parts reply after is
-told-by s now before call parts reply after (inr (none, e, same)) = told-unserved (IsOwnAnswer call) parts reply e
-
-chain-by : (s : Settings) (now : ℕ) (before : CacheValue) (call : Call) (parts : List SubLookup) (reply : LookupResult) (after : CacheValue) → IsCallBy (IsAnsweredFor (call_context_at s now)) s before call parts reply after → Chain (IsAnsweredFor (call_context_at s now)) before parts after
-chain-by s now before call parts reply after (inl is) = chain-call (IsAnsweredFor (call_context_at s now)) s before call parts reply after is
-chain-by s now before call parts reply after (inr (none, e, same)) = chain-none (IsAnsweredFor (call_context_at s now)) before parts after none same
+pub chain-by : (Answers : SubLookupRelation) (s : Settings) (before : CacheValue) (call : Call) (parts : List SubLookup) (reply : LookupResult) (after : CacheValue) → IsCallBy Answers s before call parts reply after → Chain Answers before parts after
+chain-by Answers s before call parts reply after (inl is) = chain-call Answers s before call parts reply after is
+chain-by Answers s before call parts reply after (inr (none, e, same)) = chain-none Answers before parts after none same
 
 provenance : (s : Settings) (now : ℕ) (before : CacheValue) (call : Call) (parts : List SubLookup) (reply : LookupResult) (after : CacheValue) → IsCache before.config before.capacity before.entries → IsCallBy (IsAnsweredFor (call_context_at s now)) s before call parts reply after
     → HasCallProvenance s now before call parts reply after
@@ -236,7 +228,7 @@ provenance s now before call parts reply after cache is = by is
     old = has-all (λ e. Contains before.entries e ⊎ IsFreshForType before.config sources e) before.entries (λ e h. inl (contains-from_recursion before.entries e h))
 
     replies : AllByRecursion (IsFreshSubLookup before.config sources now) parts → AreFreshReplies before.config sources now call parts reply
-    replies all = record { parts_are = all; answers_are = has-fresh (IsOwnAnswer call) before.config sources now parts reply all (told-by s now before call parts reply after is) }
+    replies all = record { parts_are = all; answers_are = has-fresh (IsOwnAnswer call) before.config sources now parts reply all (told-by (IsAnsweredFor (call_context_at s now)) s before call parts reply after is) }
 
     by : IsCallBy (IsAnsweredFor (call_context_at s now)) s before call parts reply after → HasCallProvenance s now before call parts reply after
     by (inl is) =
@@ -258,9 +250,9 @@ provenance s now before call parts reply after cache is = by is
 
 fresh_call : (s : Settings) (now : ℕ) (before : CacheValue) (call : Call) (parts : List SubLookup) (reply : LookupResult) (after : CacheValue) → IsCallBy (IsAnsweredFor (call_context_at s now)) s before call parts reply after → IsFreshCall now before call parts reply after
 fresh_call s now before call parts reply after is earlier entries =
-    let good = good-chain (call_context_at s now) before earlier parts after entries (chain-by s now before call parts reply after is) in
+    let good = good-chain (call_context_at s now) before earlier parts after entries (chain-by (IsAnsweredFor (call_context_at s now)) s before call parts reply after is) in
     let received = earlier ++ dated_exchanges now (asks_of_sub_lookups parts) in (
-      record { parts_are = good.fresh; answers_are = has-fresh (IsOwnAnswer call) before.config (λ code. received) now parts reply good.fresh (told-by s now before call parts reply after is) },
+      record { parts_are = good.fresh; answers_are = has-fresh (IsOwnAnswer call) before.config (λ code. received) now parts reply good.fresh (told-by (IsAnsweredFor (call_context_at s now)) s before call parts reply after is) },
       good.entries,
     )
 
@@ -274,7 +266,7 @@ part-few t looked before q p after (for, is) = by p.source is
     by Client part = few (start_at t before) p.question p.asks p.result after part.reply
 
 pub few_call : (s : Settings) (now : ℕ) (before : CacheValue) (call : Call) (parts : List SubLookup) (reply : LookupResult) (after : CacheValue) → IsCallBy (IsAnsweredFor (call_context_at s now)) s before call parts reply after → AllByRecursion (λ p. length p.asks ≤ 8) parts
-few_call s now before call parts reply after is = chain-all (IsAnsweredFor (call_context_at s now)) (λ p. length p.asks ≤ 8) (part-few (call_context_at s now)) before parts after (chain-by s now before call parts reply after is)
+few_call s now before call parts reply after is = chain-all (IsAnsweredFor (call_context_at s now)) (λ p. length p.asks ≤ 8) (part-few (call_context_at s now)) before parts after (chain-by (IsAnsweredFor (call_context_at s now)) s before call parts reply after is)
 
 -- ---- no alias outlives its CNAMEs
 
@@ -284,7 +276,7 @@ limited_call s now before call parts reply after (inr unserved) = inr unserved
 
 -- ---- transparency
 
-out-is : (r : LookupResult) → is_out_of_memory r ≡ true → r ≡ Err OutOfMemory
+pub out-is : (r : LookupResult) → is_out_of_memory r ≡ true → r ≡ Err OutOfMemory
 out-is (Ok l) e = cc
 out-is (Err (Message text)) e = cc
 out-is (Err Timeout) e = cc

@@ -40,7 +40,7 @@ reply-config s question asks result after reply = reply-config-over s question a
 
 -- ---- a part
 
-reply-more : (config : ConfigValue) (xs ys : List Dated) (code now : ℕ) (reply : LookupResult) → IsFreshReply config xs code now reply → IsFreshReply config (xs ++ ys) code now reply
+pub reply-more : (config : ConfigValue) (xs ys : List Dated) (code now : ℕ) (reply : LookupResult) → IsFreshReply config xs code now reply → IsFreshReply config (xs ++ ys) code now reply
 reply-more config xs ys code now (Ok l) fresh = all-weaker (IsFreshRecord config xs code now l.valid_until) (IsFreshRecord config (xs ++ ys) code now l.valid_until) (λ r h same. more r (h same)) l.message.answers fresh
   where
     more : (r : RecordValue) → IsLoopback r ⊎ (IsCovered config xs now r × (r.ttl ≤ greatest_ttl config code) × (l.valid_until ≤ now + r.ttl)) → IsLoopback r ⊎ (IsCovered config (xs ++ ys) now r × (r.ttl ≤ greatest_ttl config code) × (l.valid_until ≤ now + r.ttl))

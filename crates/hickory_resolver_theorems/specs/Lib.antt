@@ -1,6 +1,7 @@
 pub mod Aliases
 pub mod AttemptLaws
 pub mod CallFacts
+pub mod CallReplies
 pub mod CallsAlone
 pub mod Cacheless
 pub mod Cores
@@ -13,6 +14,7 @@ pub mod Resumed
 pub mod Interleaved
 pub mod InterleavedCalls
 pub mod OneAtATime
+pub mod OneCallAtATime
 pub mod WalkLaws
 pub mod Worked
 pub mod WorkedServices

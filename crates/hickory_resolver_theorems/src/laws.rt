@@ -24,7 +24,9 @@ ghost use Rattle.hickory_resolver_theorems.specs.Provenance.{HasProvenance};
 ghost use Rattle.hickory_resolver_theorems.specs.Aliases.{NoAliasOutlives};
 ghost use Rattle.hickory_resolver_theorems.specs.Interleaved.{IsPromisedInterleaving};
 ghost use Rattle.hickory_resolver_theorems.specs.InterleavedCalls.{IsPromisedCallInterleaving};
+ghost use Rattle.hickory_resolver_theorems.specs.CallReplies.{ArePromisedCallReplies, IsOneCachelessCall};
 ghost use Rattle.hickory_resolver_theorems.specs.OneAtATime.{IsOneAtATime};
+ghost use Rattle.hickory_resolver_theorems.specs.OneCallAtATime.{IsOneCallAtATime};
 ghost use Rattle.hickory_resolver_theorems.specs.Resumed.{IsOverOneCache, IsDrivenAlike, IsPromisedOver};
 ghost use Rattle.hickory_resolver_theorems.specs.CallFacts.{IsPromisedCall, KeepsWhatIsKnown};
 ghost use Rattle.hickory_resolver_theorems.specs.WalkLaws.{IsOneWalk};
@@ -132,6 +134,21 @@ pub fn interleaved_calls_keep_the_promises()
     ensures { (s : Settings) (empty : CacheValue) (first : List Host) → IsPromisedCallInterleaving s empty first }
 {}
 
+/// What each of these calls answers, both families as one, after all its attempts: each sub-look-up sends eight questions
+/// at most; where the asked type's least TTL is zero, no answer outlives what was received, for this call or another; and
+/// where equal questions got equal outcomes, no chain needed a ninth question and intermediate records are not preserved,
+/// it is what the call comes to without a cache, or out of memory.
+pub fn interleaved_replies_keep_the_promises()
+    ensures { (s : Settings) (empty : CacheValue) (first : List Host) → ArePromisedCallReplies s empty first }
+{}
+
+/// Every run, as long as memory does not run out, is a list of events of such calls, with one call in flight at a time.
+pub fn a_run_is_one_call_at_a_time()
+    ensures { (s : Settings) (before : CacheValue) (requests : List RequestValue) (steps : List StepValue)
+        (exchanges : List Exchange) (after : CacheValue) (run : Run s before requests steps exchanges after)
+        → IsOneCallAtATime s before requests steps exchanges after run }
+{}
+
 /// A look-up that is what the hops say over the exchanges that were answered is so over those that a
 /// recording handle kept: an exchange that was answered out of memory, where another outcome or none was
 /// kept, can only be the last.
@@ -154,6 +171,12 @@ pub fn a_record_keeps_the_request()
 pub fn one_cacheless_reply()
     ensures { (table : TableValue) (s : Settings) (cache : CacheValue) (request : RequestValue)
         → IsOneCacheless table s cache request }
+{}
+
+/// A call over one table of hosts, which is never replaced, has one cacheless reply, times and out of memory aside.
+pub fn one_cacheless_call()
+    ensures { (table : TableValue) (s : Settings) (empty : CacheValue) (hosts : List Host) (now : ℕ) (call : Call)
+        → IsOneCachelessCall table s empty hosts now call }
 {}
 
 /// The headline holds of every run, whatever the requests and whatever came back.

@@ -25,8 +25,8 @@ pub fn make(rt: &impl Print, alloc: Global, case: &str) -> Result<bool, NetError
     }
 }
 
-// A cache of two entries at most, with an answer for each name: for ten seconds, for twenty ..
-fn cache_of(alloc: Global, labels: &[&str]) -> Result<ResponseCache, NetError> {
+/// A cache of two entries at most, with an answer for each name: for ten seconds, for twenty ..
+pub fn cache_of(alloc: Global, labels: &[&str]) -> Result<ResponseCache, NetError> {
     let mut cache = ResponseCache::new(alloc, 2, TtlConfig::default(alloc));
     fill(alloc, &mut cache, labels)?;
     Ok(cache)

@@ -45,7 +45,9 @@ pub fn make(rt: &impl Print, alloc: Global, case: &str) -> Result<bool, NetError
         "LookupFuture::lookup" | "LookupFuture::lookup_with_hosts" | "LookupIpFuture::lookup" => {
             done(in_turn(rt, alloc, case))
         }
-        "Resolver::lookup" | "Resolver::lookup_ip" => done(resolve(rt, alloc, case)),
+        "Resolver::lookup" | "Resolver::lookup_ip" | "Resolver::lookup_ip of an address" => {
+            done(resolve(rt, alloc, case))
+        }
         "Resolver::clear_lookup_cache" => done(clear(rt, alloc, case)),
         "the look-ups of one type each" => done(look_up_each(rt, alloc, case)),
         "a handle without memory, behind an alias" => done(no_memory_behind(rt, alloc, case)),
@@ -65,6 +67,16 @@ fn show_state(
     labels: &[&str],
 ) -> Result<(), NetError> {
     show_exchanges(rt, exchanges);
+    show_kept(rt, alloc, cache, labels)
+}
+
+/// How many entries a cache has, and which of these names have one.
+pub fn show_kept(
+    rt: &impl Print,
+    alloc: Global,
+    cache: &ResponseCache,
+    labels: &[&str],
+) -> Result<(), NetError> {
     let _ = rt.print("  kept ");
     let _ = rt.print(cache.len());
     for label in labels {
@@ -85,8 +97,8 @@ fn say_if_kept(rt: &impl Print, cache: &ResponseCache, label: &str, query: &Quer
     }
 }
 
-// The upstream answers for `a.`, has no answer in time for `b.`, and says that `c.` is an alias of `a.`.
-fn upstream(alloc: Global) -> Result<Upstream, NetError> {
+/// The upstream answers for `a.`, has no answer in time for `b.`, and says that `c.` is an alias of `a.`.
+pub fn upstream(alloc: Global) -> Result<Upstream, NetError> {
     Ok(Recorded::new(alloc, TableHandle::new(three_outcomes(alloc)?)?))
 }
 
@@ -100,7 +112,8 @@ fn push_alias(alloc: Global, outcomes: &mut Vec<(Query, Outcome)>) -> Result<(),
     push(outcomes, query(alloc, "c")?, alias_outcome(alloc, "c", "a"))
 }
 
-fn client(alloc: Global) -> Result<CachingClient<Upstream>, NetError> {
+/// A client over that.
+pub fn client(alloc: Global) -> Result<CachingClient<Upstream>, NetError> {
     Ok(CachingClient::new(alloc, 8, upstream(alloc)?, false))
 }
 
@@ -209,7 +222,8 @@ fn lookup_of(answer: Result<LookupIp, NetError>) -> Result<Lookup, NetError> {
     Ok(Lookup::from(answer?))
 }
 
-fn resolver(alloc: Global) -> Result<Resolver<Upstream>, NetError> {
+/// A resolver over that, with a search domain.
+pub fn resolver(alloc: Global) -> Result<Resolver<Upstream>, NetError> {
     resolver_over(alloc, upstream(alloc)?)
 }
 
@@ -218,7 +232,8 @@ fn resolver_over<H: DnsHandle + Drop>(alloc: Global, handle: H) -> Result<Resolv
     Resolver::builder_with_config(with_search(alloc)?, handle).build()
 }
 
-fn with_search(alloc: Global) -> Result<ResolverConfig, NetError> {
+/// A configuration with a search domain.
+pub fn with_search(alloc: Global) -> Result<ResolverConfig, NetError> {
     let mut config = ResolverConfig::default(alloc);
     config.add_search(name(alloc, "x")?)?;
     Ok(config)
@@ -235,7 +250,8 @@ fn resolve(rt: &impl Print, alloc: Global, case: &str) -> Result<(), NetError> {
 fn resolve_by(case: &str, resolver: &mut Resolver<Upstream>) -> Result<Lookup, NetError> {
     match case {
         "Resolver::lookup" => resolver.lookup("a", RecordType::A, 0),
-        _ => lookup_of(resolver.lookup_ip("a.", 0)),
+        "Resolver::lookup_ip" => lookup_of(resolver.lookup_ip("a.", 0)),
+        _ => lookup_of(resolver.lookup_ip("127.0.0.1", 0)),
     }
 }
 

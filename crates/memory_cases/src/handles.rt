@@ -1,16 +1,19 @@
 //! Handles: a table that is made and asked, and one that records what it is asked.
 use crate::marks::done;
 use crate::sample::{outcome, query};
-use crate::shown::{say, show_exchanges};
+use crate::shown::{say, show_answer, show_exchanges};
 use hickory_proto_core::{
     DnsHandle, DnsRequest, DnsRequestOptions, NetError, Outcome, Query, Recorded, TableHandle,
 };
 use std::alloc::Global;
+use std::hash::BuildHasherDefault;
 
 /// Makes the call of a case, and says whether there is such a case.
 pub fn make(rt: &impl Print, alloc: Global, case: &str) -> Result<bool, NetError> {
     match case {
-        "TableHandle::new" => done(new_table(rt, alloc, case, outcomes(alloc))),
+        "TableHandle::new" | "TableHandle::with_hasher" => {
+            done(new_table(rt, alloc, case, outcomes(alloc)))
+        }
         "TableHandle::send" => done(send(rt, alloc, case, table(alloc))),
         "Recorded::send" => done(send_recorded(rt, alloc, case, recorded(alloc))),
         _ => Ok(false),
@@ -52,11 +55,8 @@ pub fn request(alloc: Global, label: &str) -> Result<DnsRequest, NetError> {
     Ok(DnsRequest { query, options })
 }
 
-fn show_answer(rt: &impl Print, outcome: Outcome) {
-    match &outcome {
-        Ok(_) => say(rt, &"an answer"),
-        Err(error) => say(rt, error),
-    }
+fn show_sent(rt: &impl Print, outcome: Outcome) {
+    show_answer(rt, &outcome);
     // `drop` costs the prover less than the end of the block.
     drop(outcome);
 }
@@ -69,10 +69,17 @@ fn new_table(
     outcomes: Result<Vec<(Query, Outcome)>, NetError>,
 ) -> Result<(), NetError> {
     let outcomes = outcomes?;
-    let mut made = call!(rt, case, TableHandle::new(outcomes));
+    let mut made = call!(rt, case, table_by(case, outcomes));
     let asked = ask_made(rt, alloc, &mut made);
     drop(made);
     asked
+}
+
+fn table_by(case: &str, outcomes: Vec<(Query, Outcome)>) -> Result<TableHandle, NetError> {
+    match case {
+        "TableHandle::new" => TableHandle::new(outcomes),
+        _ => TableHandle::with_hasher(outcomes, BuildHasherDefault::new()),
+    }
 }
 
 fn ask_made(
@@ -95,7 +102,7 @@ fn ask(rt: &impl Print, alloc: Global, table: &mut TableHandle) -> Result<(), Ne
     say(rt, &"a table");
     for label in ["a", "b", "c"] {
         let _ = rt.print("  ");
-        show_answer(rt, table.send(&request(alloc, label)?));
+        show_sent(rt, table.send(&request(alloc, label)?));
     }
     Ok(())
 }
@@ -120,8 +127,8 @@ fn send_twice(
     table: &mut TableHandle,
 ) -> Result<(), NetError> {
     let request = request(alloc, "a")?;
-    show_answer(rt, call!(rt, case, table.send(&request)));
-    show_answer(rt, table.send(&request));
+    show_sent(rt, call!(rt, case, table.send(&request)));
+    show_sent(rt, table.send(&request));
     Ok(())
 }
 
@@ -145,7 +152,7 @@ fn send_once(
     handle: &mut Recorded<TableHandle>,
 ) -> Result<(), NetError> {
     let request = request(alloc, "a")?;
-    show_answer(rt, call!(rt, case, handle.send(&request)));
+    show_sent(rt, call!(rt, case, handle.send(&request)));
     show_exchanges(rt, handle.exchanges());
     Ok(())
 }

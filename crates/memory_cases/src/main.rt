@@ -14,6 +14,7 @@ macro_rules! call {
 }
 
 mod caches;
+mod calls;
 mod clients;
 mod configs;
 mod copies;
@@ -24,8 +25,11 @@ mod messages;
 mod names;
 mod runs;
 mod sample;
+mod scripts;
 mod shown;
 mod tables;
+mod waits;
+mod wire;
 mod without;
 
 use hickory_proto_core::NetError;
@@ -63,6 +67,10 @@ fn is_made(rt: &impl Print, alloc: Global, case: &str) -> Result<bool, NetError>
             || tables::make(rt, alloc, case)?
             || clients::make(rt, alloc, case)?
             || runs::make(rt, alloc, case)?
+            || waits::make(rt, alloc, case)?
+            || calls::make(rt, alloc, case)?
+            || wire::make(rt, alloc, case)?
+            || scripts::make(rt, alloc, case)?
             || without::make(rt, alloc, case)?,
     )
 }

@@ -1,10 +1,11 @@
 //! Names, and what makes them.
 use crate::marks::done;
-use crate::sample::{IP, name, www};
+use crate::sample::{IP, name, text, www};
 use crate::shown::show;
 use hickory_proto_core::{IntoName, Name, NameError, NetError, ip_text};
+use hickory_proto_names::ip::printed_text;
 use std::alloc::Global;
-use std::net::Ipv6Addr;
+use std::net::{Ipv4Addr, Ipv6Addr};
 
 const WWW: &str = "www.example.com.";
 
@@ -15,12 +16,19 @@ pub fn make(rt: &impl Print, alloc: Global, case: &str) -> Result<bool, NetError
         | "Name::from_str"
         | "Name::from_ip"
         | "IntoName of a text"
-        | "IntoName of an address" => {
+        | "IntoName of an address"
+        | "IntoName of an IPv4 address"
+        | "IntoName of an address of either family" => {
             show(rt, call!(rt, case, made(alloc, case)));
             Ok(true)
         }
+        "IntoName of a text that is owned" => done(of_text(rt, alloc, case)),
         "ip_text" => {
             show(rt, call!(rt, case, ip_text(alloc, IP)));
+            Ok(true)
+        }
+        "printed_text" => {
+            show(rt, call!(rt, case, printed_text(alloc, IP)));
             Ok(true)
         }
         "Name::append_domain" => done(append_domain(rt, alloc, case)),
@@ -36,8 +44,16 @@ fn made(alloc: Global, case: &str) -> Result<Name, NameError> {
         "Name::from_str" => Name::from_str(alloc, WWW),
         "Name::from_ip" => Name::from_ip(alloc, IP),
         "IntoName of a text" => WWW.into_name(alloc),
-        _ => Ipv6Addr::LOCALHOST.into_name(alloc),
+        "IntoName of an address" => Ipv6Addr::LOCALHOST.into_name(alloc),
+        "IntoName of an IPv4 address" => Ipv4Addr::LOCALHOST.into_name(alloc),
+        _ => IP.into_name(alloc),
     }
+}
+
+fn of_text(rt: &impl Print, alloc: Global, case: &str) -> Result<(), NetError> {
+    let text = text(alloc, WWW)?;
+    show(rt, call!(rt, case, text.into_name(alloc)));
+    Ok(())
 }
 
 fn append_domain(rt: &impl Print, alloc: Global, case: &str) -> Result<(), NetError> {

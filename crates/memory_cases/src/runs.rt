@@ -2,18 +2,18 @@
 use crate::clients::{Scripted, Upstream, push_behind, show_client, show_scripted};
 use crate::handles::push;
 use crate::marks::done;
-use crate::sample::{alias_outcome, name, no_such_name, outcome, query, text};
+use crate::sample::{alias_outcome, ipv6_query, negative_outcome, outcome, query, text};
 use crate::shown::say;
 use hickory_proto_core::{
-    DnsHandle, DnsResponse, NetError, Outcome, Query, RecordType, Recorded, ScriptHandle,
-    TableHandle,
+    DnsHandle, Exchange, NetError, Outcome, Query, RecordType, Recorded, ScriptHandle, TableHandle,
 };
 use hickory_resolver::{
-    Hosts, LookupIpStrategy, Reply, Request, Resolver, ResolverConfig, ResolverOpts, Step,
-    Transcript, run,
+    Heard, Hosts, Listener, LookupIpStrategy, Reply, Request, Resolver, ResolverConfig,
+    ResolverOpts, Step, Transcript, run, run_told, run_with_hasher,
 };
-use std::alloc::Global;
+use std::alloc::{AllocError, Global};
 use std::fmt::Display;
+use std::hash::{BuildHasherDefault, FoldHasher};
 
 // Each name is an alias of the next.
 const CHAIN: [&str; 9] = ["n0", "n1", "n2", "n3", "n4", "n5", "n6", "n7", "n8"];
@@ -21,7 +21,8 @@ const CHAIN: [&str; 9] = ["n0", "n1", "n2", "n3", "n4", "n5", "n6", "n7", "n8"];
 /// Makes the call of a case, and says whether there is such a case.
 pub fn make(rt: &impl Print, alloc: Global, case: &str) -> Result<bool, NetError> {
     match case {
-        "run: an alias" => done(run_alias(rt, alloc, case)),
+        "run: an alias" | "run_with_hasher" => done(run_alias(rt, alloc, case)),
+        "run_told" => done(run_to_listener(rt, alloc, case)),
         "run: eight hops" => done(run_chain(rt, alloc, case)),
         "run: a table" => done(run_table(rt, alloc, case)),
         "run: a handle without memory, and a later request" => {
@@ -45,6 +46,27 @@ fn lookup(
     })
 }
 
+// Keeps the steps that it hears of.
+#[derive(Drop)]
+struct Keeper {
+    steps: Vec<Step>,
+}
+
+impl Listener for Keeper {
+    ghost hears = { λ _ _ _ _ _. Unit {0} };
+
+    fn hear(
+        &mut self,
+        _request: &Request,
+        _sent: &[Exchange],
+        step: Step,
+    ) -> Result<(), AllocError> {
+        Ok(self.steps.push(step)?)
+    }
+}
+
+type Told = Heard<Recorded<TableHandle>, BuildHasherDefault<FoldHasher>, Keeper>;
+
 fn push_request(
     requests: &mut Vec<Request>,
     request: Result<Request, NetError>,
@@ -64,7 +86,8 @@ fn push_two(alloc: Global, requests: &mut Vec<Request>) -> Result<(), NetError> 
     push_request(requests, lookup(alloc, "b.", RecordType::A, 4))
 }
 
-fn options(alloc: Global, preserves: bool) -> ResolverOpts {
+/// Options of a run, which asks for both families.
+pub fn options(alloc: Global, preserves: bool) -> ResolverOpts {
     let mut options = ResolverOpts::default(alloc);
     options.preserve_intermediates = preserves;
     options.ip_strategy = LookupIpStrategy::Ipv4AndIpv6;
@@ -177,8 +200,38 @@ fn resolver_of<H: DnsHandle + Drop>(
 fn run_alias(rt: &impl Print, alloc: Global, case: &str) -> Result<(), NetError> {
     let requests = two_lookups(alloc)?;
     let (handle, options) = (aliased(alloc)?, options(alloc, true));
-    let answer = call!(rt, case, run_over(alloc, options, handle, &requests));
+    let answer = call!(rt, case, run_by(alloc, case, options, handle, &requests));
     show_run(rt, alloc, answer, &["a", "b"])
+}
+
+fn run_by(
+    alloc: Global,
+    case: &str,
+    options: ResolverOpts,
+    handle: TableHandle,
+    requests: &[Request],
+) -> Result<Transcript<TableHandle>, NetError> {
+    match case {
+        "run: an alias" => run_over(alloc, options, handle, requests),
+        _ => run_hashed(alloc, options, handle, requests),
+    }
+}
+
+fn run_hashed(
+    alloc: Global,
+    options: ResolverOpts,
+    handle: TableHandle,
+    requests: &[Request],
+) -> Result<Transcript<TableHandle>, NetError> {
+    let (config, hosts) = (ResolverConfig::default(alloc), Hosts::default(alloc));
+    run_with_hasher(
+        config,
+        options,
+        hosts,
+        handle,
+        requests,
+        BuildHasherDefault::new(),
+    )
 }
 
 fn aliased(alloc: Global) -> Result<TableHandle, NetError> {
@@ -231,17 +284,12 @@ fn table(alloc: Global) -> Result<TableHandle, NetError> {
 
 fn push_hosts(alloc: Global, outcomes: &mut Vec<(Query, Outcome)>) -> Result<(), NetError> {
     push(outcomes, query(alloc, "h")?, outcome(alloc, "h"))?;
-    push(outcomes, other_family(alloc)?, lacks_family(alloc))?;
+    push(outcomes, ipv6_query(alloc, "h")?, lacks_family(alloc))?;
     push(outcomes, query(alloc, "t")?, Err(NetError::Timeout))
 }
 
-fn other_family(alloc: Global) -> Result<Query, NetError> {
-    Ok(Query::query(name(alloc, "h")?, RecordType::AAAA))
-}
-
 fn lacks_family(alloc: Global) -> Outcome {
-    let message = no_such_name(alloc, other_family(alloc)?)?;
-    Ok(DnsResponse::from_message(message))
+    negative_outcome(alloc, ipv6_query(alloc, "h")?)
 }
 
 // The addresses of the host; that it lacks a family, out of the cache; its address, cleared and asked again; the name
@@ -293,4 +341,56 @@ fn run_to_its_end(rt: &impl Print, alloc: Global, case: &str) -> Result<(), NetE
     let (handle, options) = (script(alloc)?, options(alloc, false));
     let answer = call!(rt, case, run_over(alloc, options, handle, &requests));
     show_scripted_run(rt, alloc, answer, &["a", "b"])
+}
+
+// The same requests, of whose steps a listener hears. Where it has no room for one, there is no run.
+fn run_to_listener(rt: &impl Print, alloc: Global, case: &str) -> Result<(), NetError> {
+    let requests = two_lookups(alloc)?;
+    let (handle, options) = (aliased(alloc)?, options(alloc, true));
+    let told = call!(rt, case, tell(alloc, options, handle, &requests));
+    let shown = show_told(rt, alloc, &told);
+    drop(told);
+    shown
+}
+
+fn tell(
+    alloc: Global,
+    options: ResolverOpts,
+    handle: TableHandle,
+    requests: &[Request],
+) -> Result<Told, NetError> {
+    let (config, hosts) = (ResolverConfig::default(alloc), Hosts::default(alloc));
+    let keeper = Keeper {
+        steps: Vec::new(alloc),
+    };
+    run_told(
+        config,
+        options,
+        hosts,
+        handle,
+        requests,
+        BuildHasherDefault::new(),
+        keeper,
+    )
+}
+
+fn show_told(
+    rt: &impl Print,
+    alloc: Global,
+    told: &Result<Told, NetError>,
+) -> Result<(), NetError> {
+    match told {
+        Ok(told) => show_heard(rt, alloc, told),
+        Err(error) => say_no_run(rt, error),
+    }
+}
+
+fn show_heard(rt: &impl Print, alloc: Global, told: &Told) -> Result<(), NetError> {
+    show_steps(rt, &told.listener.steps);
+    show_client(rt, alloc, told.resolver.client(), &["a", "b"])
+}
+
+fn say_no_run(rt: &impl Print, error: &NetError) -> Result<(), NetError> {
+    say(rt, error);
+    Ok(())
 }

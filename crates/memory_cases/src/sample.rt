@@ -5,7 +5,7 @@ use hickory_proto_core::{
 };
 use hickory_resolver::{Lookup, NameServerConfig, ServerGroup};
 use std::alloc::Global;
-use std::net::{IpAddr, Ipv4Addr};
+use std::net::{IpAddr, Ipv4Addr, Ipv6Addr};
 
 pub const IP: IpAddr = IpAddr::V4(Ipv4Addr::LOCALHOST);
 
@@ -165,6 +165,27 @@ pub fn alias_outcome(alloc: Global, asked: &str, target: &str) -> Outcome {
 fn alias(alloc: Global, owner: &str, target: &str) -> Result<Record, NetError> {
     let owner = name(alloc, owner)?;
     Ok(Record::from_rdata(owner, 300, RData::CNAME(name(alloc, target)?)))
+}
+
+/// The outcome that there is no such name.
+pub fn negative_outcome(alloc: Global, asked: Query) -> Outcome {
+    Ok(DnsResponse::from_message(no_such_name(alloc, asked)?))
+}
+
+/// A question for the IPv6 addresses of a name.
+pub fn ipv6_query(alloc: Global, label: &str) -> Result<Query, NetError> {
+    Ok(Query::query(name(alloc, label)?, RecordType::AAAA))
+}
+
+/// The outcome with one IPv6 address for a minute.
+pub fn ipv6_outcome(alloc: Global, asked: &str) -> Outcome {
+    let message = with_answer(empty(alloc, ipv6_query(alloc, asked)?)?, ipv6(alloc, asked))?;
+    Ok(DnsResponse::from_message(message))
+}
+
+fn ipv6(alloc: Global, owner: &str) -> Result<Record, NetError> {
+    let owner = name(alloc, owner)?;
+    Ok(Record::from_rdata(owner, 60, RData::AAAA(Ipv6Addr::LOCALHOST)))
 }
 
 /// A look-up of one address.

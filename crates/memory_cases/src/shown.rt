@@ -1,6 +1,6 @@
 //! The texts of answers. A line that is not written is missed by whoever reads the text.
 use hickory_proto_core::{
-    DnsError, Exchange, ForwardNSData, Message, Name, NetError, NoRecords, Record,
+    DnsError, Exchange, ForwardNSData, Message, Name, NetError, NoRecords, Outcome, Query, Record,
 };
 use hickory_resolver::Lookup;
 use std::alloc::{AllocError, Global};
@@ -107,11 +107,29 @@ pub fn show_message(rt: &impl Print, message: &Message) {
 
 /// A look-up, or its error.
 pub fn show_lookup(rt: &impl Print, answer: Result<Lookup, NetError>) {
-    match &answer {
+    show_reply(rt, &answer);
+    drop(answer);
+}
+
+/// The same, of a reply that is kept.
+pub fn show_reply(rt: &impl Print, reply: &Result<Lookup, NetError>) {
+    match reply {
         Ok(lookup) => show_parts(rt, lookup),
         Err(error) => say(rt, error),
     }
-    drop(answer);
+}
+
+/// The question that a look-up or a call waits for.
+pub fn say_waits(rt: &impl Print, question: &Query) {
+    let _ = println!(rt; "waits for {question}");
+}
+
+/// Whether there is an answer, or why not.
+pub fn show_answer(rt: &impl Print, outcome: &Outcome) {
+    match outcome {
+        Ok(_) => say(rt, &"an answer"),
+        Err(error) => say(rt, error),
+    }
 }
 
 /// Up to which moment a look-up may be used, and its message.
@@ -128,7 +146,8 @@ pub fn show_outcome(rt: &impl Print, outcome: &Result<Message, NetError>) {
     }
 }
 
-fn say_message(rt: &impl Print, message: &Message) {
+/// A message.
+pub fn say_message(rt: &impl Print, message: &Message) {
     say(rt, &"a message");
     show_message(rt, message);
 }
@@ -168,17 +187,18 @@ fn show_server(rt: &impl Print, server: &ForwardNSData) {
 /// The questions that were asked, and whether each was answered or why not.
 pub fn show_exchanges(rt: &impl Print, exchanges: &[Exchange]) {
     for exchange in exchanges {
-        show_exchange(rt, exchange);
+        show_answered(rt, "asked", &exchange.query, &exchange.outcome);
     }
 }
 
-fn show_exchange(rt: &impl Print, exchange: &Exchange) {
-    match &exchange.outcome {
-        Ok(_) => say_asked(rt, exchange, &"answered"),
-        Err(error) => say_asked(rt, exchange, error),
+/// A question, and whether it is answered or why not.
+pub fn show_answered(rt: &impl Print, what: &str, query: &Query, outcome: &Outcome) {
+    match outcome {
+        Ok(_) => say_answered(rt, what, query, &"answered"),
+        Err(error) => say_answered(rt, what, query, error),
     }
 }
 
-fn say_asked(rt: &impl Print, exchange: &Exchange, how: &impl Display) {
-    let _ = println!(rt; "  asked {}: {how}", exchange.query);
+fn say_answered(rt: &impl Print, what: &str, query: &Query, how: &impl Display) {
+    let _ = println!(rt; "  {what} {query}: {how}");
 }

@@ -1,7 +1,8 @@
 //! Calls that take no memory.
+use crate::clients::with_search;
 use crate::handles::request;
 use crate::marks::done;
-use crate::sample::{glue, name, one, outcome, query, www};
+use crate::sample::{glue, one, outcome, query, www};
 use crate::shown::{say, show};
 use hickory_proto_core::{
     DnsHandle, DnsRequest, DnsRequestOptions, Glue, Name, NetError, Outcome, Query, RecordType,
@@ -257,12 +258,6 @@ fn clear_both(client: &mut CachingClient<ScriptHandle>, query: &Query) -> (usize
     let one = client.cache().len();
     client.clear_cache();
     (before, one, client.cache().len())
-}
-
-fn with_search(alloc: Global) -> Result<ResolverConfig, NetError> {
-    let mut config = ResolverConfig::default(alloc);
-    config.add_search(name(alloc, "x")?)?;
-    Ok(config)
 }
 
 fn build(

@@ -2,12 +2,13 @@
 ghost use Rattle.std.specs.Prelude.{◌≡◌, ◌++◌, OnOk, codes, map, string_bytes};
 ghost use Rattle.std.specs.List.{flat_map};
 ghost use Rattle.hickory_proto_core.specs.Records.{data_of};
+ghost use Rattle.hickory_proto_core.specs.Texts.{question_text};
 ghost use Rattle.hickory_resolver.specs.Replies.{reply_of};
 ghost use Rattle.hickory_resolver.specs.Requests.{request_of};
-ghost use Rattle.replay.specs.Output.{address_text, addresses_text, asked_text, error_text, line_text, lookup_text, name_error_text, reply_text, request_text, section_text, sent_text, step_text};
+ghost use Rattle.replay.specs.Output.{address_text, addresses_text, asked_text, error_text, line_text, lookup_text, name_error_text, reply_text, request_text, result_text, section_text, sent_text, step_text};
 
 use hickory_proto_core::{
-    DnsError, Exchange, NameError, NetError, NoRecords, RData, Record, RecordType,
+    DnsError, Exchange, NameError, NetError, NoRecords, Query, RData, Record, RecordType,
 };
 use hickory_resolver::{Listener, Lookup, Reply, Request, Step};
 use std::alloc::AllocError;
@@ -50,7 +51,8 @@ fn push_step(
     push_reply(text, request, reply)
 }
 
-fn push_request(text: &mut String, request: &Request) -> Result<(), AllocError>
+/// Adds a request as a line of a script has it.
+pub fn push_request(text: &mut String, request: &Request) -> Result<(), AllocError>
     ensures { OnOk result (string_bytes text.new
         ≡ string_bytes text.old ++ request_text (request_of request.now)) }
 {
@@ -88,10 +90,17 @@ fn push_sent(text: &mut String, exchanges: &[Exchange]) -> Result<(), AllocError
         ≡ string_bytes text.old ++ sent_text (map (λ x. x.query) exchanges.now)) }
 {
     for exchange in exchanges {
-        let question = &exchange.query;
-        write!(text, "  sent {question}\n")?;
+        push_question(text, &exchange.query)?;
     }
     Ok(())
+}
+
+/// Adds the line of a question that was sent.
+pub fn push_question(text: &mut String, question: &Query) -> Result<(), AllocError>
+    ensures { OnOk result (string_bytes text.new
+        ≡ string_bytes text.old ++ line_text (codes "sent") (question_text question.now)) }
+{
+    write!(text, "  sent {question}\n")
 }
 
 fn push_reply(text: &mut String, request: &Request, reply: &Reply) -> Result<(), AllocError>
@@ -99,13 +108,33 @@ fn push_reply(text: &mut String, request: &Request, reply: &Reply) -> Result<(),
         ≡ string_bytes text.old ++ reply_text (request_of request.now) (reply_of reply.now)) }
 {
     match reply {
-        Reply::Lookup(Ok(lookup)) => push_lookup(text, request, lookup),
+        Reply::Lookup(result) => push_result(text, request, result),
         Reply::LookupIp(Ok(lookup)) => push_lookup(text, request, lookup.as_lookup()),
-        Reply::Cleared(Ok(())) => text.push_str("  cleared\n"),
-        Reply::Lookup(Err(error)) | Reply::LookupIp(Err(error)) | Reply::Cleared(Err(error)) => {
-            push_error(text, error)
-        }
+        Reply::Cleared(Ok(())) => push_cleared(text),
+        Reply::LookupIp(Err(error)) | Reply::Cleared(Err(error)) => push_error(text, error),
     }
+}
+
+/// Adds what a look-up that was requested came to.
+pub fn push_result(
+    text: &mut String,
+    request: &Request,
+    found: &Result<Lookup, NetError>,
+) -> Result<(), AllocError>
+    ensures { OnOk result (string_bytes text.new
+        ≡ string_bytes text.old ++ result_text (request_of request.now) found.now) }
+{
+    match found {
+        Ok(lookup) => push_lookup(text, request, lookup),
+        Err(error) => push_error(text, error),
+    }
+}
+
+/// Adds that a clear was done.
+pub fn push_cleared(text: &mut String) -> Result<(), AllocError>
+    ensures { OnOk result (string_bytes text.new ≡ string_bytes text.old ++ codes "  cleared\n") }
+{
+    text.push_str("  cleared\n")
 }
 
 fn push_lookup(text: &mut String, request: &Request, lookup: &Lookup) -> Result<(), AllocError>

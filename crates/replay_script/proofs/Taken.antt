@@ -6,6 +6,7 @@ use Rattle.hickory_proto_core.specs.Records.{RecordValue}
 use Rattle.hickory_resolver_lookup.specs.Requests.{request_of}
 use Rattle.hickory_resolver_lookup.specs.declared.request.Request.{Request as AskedRequest}
 use Rattle.hickory_resolver_model.specs.Run.{moment_of}
+use Rattle.replay_script.specs.Faults.{out_of_memory}
 use Rattle.replay_script.specs.Line.{IsRead, is_record}
 use Rattle.replay_script.specs.ReplyLine.{opened_response}
 use Rattle.replay_script.specs.Script.{has_reply, latest_from}
@@ -24,7 +25,7 @@ use Rattle.replay_script.proofs.Said.{keeps-configuration, keeps-failure, keeps-
 
 -- what was read
 pub read_as : (b : Bool) (reader : ReaderValue) (said : List Line) (line : List ℕ) (l more : Line) → b ≡ is_some reader.open_reply → Keeps reader said → l ≡ more
-    → IsRead b line (Ok l) ⊎ (Ok l ≡ Err OutOfMemory) → IsRead (has_reply said) line (Ok more)
+    → IsRead b line (Ok l) ⊎ (Ok l ≡ Err out_of_memory) → IsRead (has_reply said) line (Ok more)
 read_as b reader said line l more b_is k l_is (inl read) =
     let P : Bool → Type 0 = λ b. IsRead b line (Ok more) in
     let Q : Line → Type 0 = λ l. IsRead b line (Ok l) in

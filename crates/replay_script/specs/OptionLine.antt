@@ -5,8 +5,8 @@ use Rattle.hickory_proto_core.specs.Codes.{is_text}
 use Rattle.hickory_resolver_config.specs.ResolverConfig.{OptionsValue}
 use Rattle.hickory_resolver_config.specs.declared.strategies.LookupIpStrategy.{LookupIpStrategy}
 use Rattle.hickory_resolver_config.specs.declared.strategies.LookupIpStrategy.TheVariants as strategy
+use Rattle.replay_script.specs.Faults.{LineFaultValue, wrong_field, wrong_line}
 use Rattle.replay_script.specs.Words.{◌>>=◌, number_field}
-use Rattle.replay_script.specs.declared.fault.ScriptFault.{ScriptFault}
 use Rattle.replay_script.specs.declared.fault.ScriptFault.TheVariants.{FieldCount, UnknownWord}
 use Rattle.replay_script.specs.declared.option_line.OptionKey.{OptionKey}
 use Rattle.replay_script.specs.declared.option_line.OptionKey.TheVariants as key
@@ -26,22 +26,23 @@ key_named word =
     if is_text (codes "preserve_intermediates") word then Some key.PreserveIntermediates else None)))))))
 
 -- the strategy of a word
-abbrev pub strategy_field : List ℕ → Result LookupIpStrategy ScriptFault
+abbrev pub strategy_field : List ℕ → Result LookupIpStrategy LineFaultValue
 strategy_field word =
     if is_text (codes "Ipv4Only") word then Ok strategy.Ipv4Only else (
     if is_text (codes "Ipv6Only") word then Ok strategy.Ipv6Only else (
     if is_text (codes "Ipv4AndIpv6") word then Ok strategy.Ipv4AndIpv6 else (
     if is_text (codes "Ipv6AndIpv4") word then Ok strategy.Ipv6AndIpv4 else (
     if is_text (codes "Ipv6thenIpv4") word then Ok strategy.Ipv6thenIpv4 else (
-    if is_text (codes "Ipv4thenIpv6") word then Ok strategy.Ipv4thenIpv6 else Err UnknownWord)))))
+    if is_text (codes "Ipv4thenIpv6") word then Ok strategy.Ipv4thenIpv6
+    else Err (wrong_field UnknownWord word))))))
 
-abbrev pub truth_field : List ℕ → Result Bool ScriptFault
+abbrev pub truth_field : List ℕ → Result Bool LineFaultValue
 truth_field word =
     if is_text (codes "true") word then Ok true else (
-    if is_text (codes "false") word then Ok false else Err UnknownWord)
+    if is_text (codes "false") word then Ok false else Err (wrong_field UnknownWord word))
 
 -- what the value of an option writes: a number of 64 bits, a strategy, or whether it is wanted
-abbrev pub value_of : OptionKey → List ℕ → Result OptionLine ScriptFault
+abbrev pub value_of : OptionKey → List ℕ → Result OptionLine LineFaultValue
 value_of key.Ndots text = number_field 64 text >>= (λ n. Ok (Ndots n))
 value_of key.CacheSize text = number_field 64 text >>= (λ n. Ok (CacheSize n))
 value_of key.PositiveMinTtl text = number_field 64 text >>= (λ n. Ok (PositiveMinTtl n))
@@ -52,11 +53,11 @@ value_of key.IpStrategy text = strategy_field text >>= (λ s. Ok (IpStrategy s))
 value_of key.PreserveIntermediates text = truth_field text >>= (λ t. Ok (PreserveIntermediates t))
 
 -- KEY VALUE
-abbrev pub option_of : List (List ℕ) → Result OptionLine ScriptFault
+abbrev pub option_of : List (List ℕ) → Result OptionLine LineFaultValue
 option_of (key ∷ value ∷ []) = do
-  k ← ok_or (key_named key) UnknownWord
+  k ← ok_or (key_named key) (wrong_field UnknownWord key)
   value_of k value
-option_of fields = Err FieldCount
+option_of fields = Err (wrong_line FieldCount)
 
 -- the options with this one set, and all others as they were
 abbrev pub with_option : OptionLine → OptionsValue → OptionsValue

@@ -8,6 +8,7 @@ use Rattle.hickory_resolver_model.specs.Bounds.{bounds_fault}
 use Rattle.hickory_resolver_model.specs.Options.{bounds_of}
 use Rattle.hickory_resolver_model.specs.Run.{RequestValue}
 use Rattle.replay_script.specs.FailLine.{error_of}
+use Rattle.replay_script.specs.Faults.{LineFaultValue}
 use Rattle.replay_script.specs.RecordLine.{with_record}
 use Rattle.replay_script.specs.Line.{IsRead}
 use Rattle.replay_script.specs.Script.{ScriptValue, has_reply, in_order, latest_from, outcomes_of, requests_of, settings_of}
@@ -63,7 +64,7 @@ IsTaken said line result after =
     (λ _. (more : Line) × IsRead (has_reply said) line (Ok more)
     × (in_order (latest_from 0 said) (Ok more) ≡ Ok more) × Keeps after (said ++ more ∷ []))
     (λ fault. (fault ≡ OutOfMemory)
-    ⊎ ((read : Result Line ScriptFault) × IsRead (has_reply said) line read
+    ⊎ ((read : Result Line LineFaultValue) × IsRead (has_reply said) line read
     × (in_order (latest_from 0 said) read ≡ Err fault)))
 
 -- the script of these outcomes, and of what else is kept

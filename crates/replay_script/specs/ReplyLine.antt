@@ -2,13 +2,14 @@
 -- are wanted.
 use Rattle.std.specs.Prelude.{ℕ, Bool, true, false, nat_lt, List, [], ◌∷◌, length, codes, Option, None, Some, Result, Ok, Err, if◌then◌else◌}
 use Rattle.std.specs.Option.{ok_or}
-use Rattle.hickory_proto_core.specs.Codes.{class_named, is_text, response_named, type_named}
+use Rattle.hickory_proto_core.specs.Codes.{class_named, is_text, response_named}
 use Rattle.hickory_proto_core.specs.Messages.{MessageValue, response_metadata}
 use Rattle.hickory_proto_core.specs.codes.dns_class.DNSClass.{DNSClass}
 use Rattle.hickory_proto_core.specs.codes.dns_class.DNSClass.TheVariants as class
 use Rattle.hickory_proto_core.specs.codes.op_code.OpCode.TheVariants as op
-use Rattle.replay_script.specs.Words.{◌>>=◌, name_field}
-use Rattle.replay_script.specs.declared.fault.ScriptFault.{ScriptFault}
+use Rattle.hickory_proto_core.specs.codes.response_code.ResponseCode.{ResponseCode}
+use Rattle.replay_script.specs.Faults.{LineFaultValue, wrong_field, wrong_line}
+use Rattle.replay_script.specs.Words.{◌>>=◌, name_field, type_field}
 use Rattle.replay_script.specs.declared.fault.ScriptFault.TheVariants.{FieldCount, UnknownWord}
 use Rattle.replay_script.specs.declared.reply_line.ReplyHead.{ReplyHead}
 
@@ -27,12 +28,12 @@ flag_first flag [] = (false, [])
 flag_first flag (word ∷ words) = if is_text flag word then (true, words) else (false, word ∷ words)
 
 -- no word is left
-abbrev pub no_more : List (List ℕ) → Result (Unit {0}) ScriptFault
+abbrev pub no_more : List (List ℕ) → Result (Unit {0}) LineFaultValue
 no_more [] = Ok tt
-no_more (word ∷ words) = Err UnknownWord
+no_more (word ∷ words) = Err (wrong_field UnknownWord word)
 
 -- the words behind a type: a class, `tc` and `noq`, in this order, where they are wanted
-abbrev pub with_words : ReplyHead → List (List ℕ) → Result ReplyHead ScriptFault
+abbrev pub with_words : ReplyHead → List (List ℕ) → Result ReplyHead LineFaultValue
 with_words head words =
     let c = class_first words in
     let t = flag_first (codes "tc") c.1 in
@@ -43,12 +44,16 @@ with_words head words =
       without_question = q.0;
     })))
 
+-- the response code that a word names
+abbrev pub code_field : List ℕ → Result ResponseCode LineFaultValue
+code_field word = ok_or (response_named word) (wrong_field UnknownWord word)
+
 -- CODE NAME TYPE
-abbrev pub plain_head : List ℕ → List ℕ → List ℕ → Result ReplyHead ScriptFault
+abbrev pub plain_head : List ℕ → List ℕ → List ℕ → Result ReplyHead LineFaultValue
 plain_head code name type = do
-  c ← ok_or (response_named code) UnknownWord
+  c ← code_field code
   n ← name_field name
-  t ← ok_or (type_named type) UnknownWord
+  t ← type_field type
   Ok (record {
     query = record { name = n; query_type = t; query_class = class.IN };
     code = c;
@@ -57,11 +62,11 @@ plain_head code name type = do
   })
 
 -- at most three words stand behind the type
-abbrev pub reply_of : List (List ℕ) → Result ReplyHead ScriptFault
+abbrev pub reply_of : List (List ℕ) → Result ReplyHead LineFaultValue
 reply_of (code ∷ name ∷ type ∷ words) =
-    if nat_lt 3 (length words) then Err FieldCount
+    if nat_lt 3 (length words) then Err (wrong_line FieldCount)
     else (plain_head code name type >>= (λ head. with_words head words))
-reply_of fields = Err FieldCount
+reply_of fields = Err (wrong_line FieldCount)
 
 -- the response as it is opened, with no records
 abbrev pub opened_response : ReplyHead → MessageValue

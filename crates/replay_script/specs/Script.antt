@@ -12,6 +12,7 @@ use Rattle.hickory_resolver_model.specs.Options.{bounds_of}
 use Rattle.hickory_resolver_lookup.specs.Requests.{request_of}
 use Rattle.hickory_resolver_model.specs.Run.{RequestValue, moment_of}
 use Rattle.replay_script.specs.FailLine.{error_of}
+use Rattle.replay_script.specs.Faults.{LineFaultValue}
 use Rattle.replay_script.specs.Line.{IsRead}
 use Rattle.replay_script.specs.RecordLine.{with_record}
 use Rattle.replay_script.specs.ReplyLine.{opened_response}
@@ -120,7 +121,7 @@ latest_from moment (Request request ∷ said) = latest_from (moment_of (request_
 latest_from moment (Configuration setting ∷ said) = latest_from moment said
 
 -- a request is refused that is earlier than the one before it
-abbrev pub in_order : ℕ → Result Line ScriptFault → Result Line ScriptFault
+abbrev pub in_order : ℕ → Result Line LineFaultValue → Result Line ScriptFault
 in_order moment (Ok Blank) = Ok Blank
 in_order moment (Ok (Reply head)) = Ok (Reply head)
 in_order moment (Ok (Fail failure)) = Ok (Fail failure)
@@ -128,13 +129,13 @@ in_order moment (Ok (Record section found)) = Ok (Record section found)
 in_order moment (Ok (Request request)) =
     if nat_lt (moment_of (request_of request)) moment then Err MomentBack else Ok (Request request)
 in_order moment (Ok (Configuration setting)) = Ok (Configuration setting)
-in_order moment (Err fault) = Err fault
+in_order moment (Err fault) = Err fault.fault
 
 -- the lines behind those that said this: what all of them say, or the first fault and the number of its line
 abbrev pub AreRead : List Line → List (List ℕ) → Result (List Line) ScriptError → Type 0
 AreRead said [] result = result ≡ Ok said
 AreRead said (line ∷ others) result =
-    (read : Result Line ScriptFault) × IsRead (has_reply said) line read
+    (read : Result Line LineFaultValue) × IsRead (has_reply said) line read
     × MatchResult (in_order (latest_from 0 said) read)
     (λ more. AreRead (said ++ more ∷ []) others result)
     (λ fault. result ≡ Err (record { line = length said + 1; fault = fault }))

@@ -1,5 +1,5 @@
 //! What the lines of a script set.
-ghost use Rattle.std.specs.Prelude.{◌≡◌, [], None, MatchResult, OnOk, IsOkUnless, IsSome};
+ghost use Rattle.std.specs.Prelude.{◌≡◌, [], None, MatchResult, OnErr, OnOk, IsOkUnless, IsSome};
 ghost use Rattle.hickory_resolver_model.specs.Bounds.{bounds_fault};
 ghost use Rattle.hickory_resolver_model.specs.Options.{bounds_of};
 ghost use Rattle.replay_script.specs.Configuration.{configured, with_setting};
@@ -12,9 +12,9 @@ use hickory_resolver_lookup::TtlConfig;
 use std::alloc::Global;
 use std::marker::Model;
 
-// The options, the domain, the search list, and whether the outcomes are a table.
+/// The options, the domain, the search list, and whether the outcomes are a table.
 #[derive(Drop)]
-pub(crate) struct Configuration {
+pub struct Configuration {
     pub options: ResolverOpts,
     pub domain: Option<Name>,
     pub search: Vec<Name>,
@@ -35,7 +35,7 @@ impl Model for Configuration {
 }
 
 impl Configuration {
-    // Nothing is set.
+    /// Nothing is set.
     pub fn default(alloc: Global) -> Configuration
         ensures { result ≡ configured [] }
     {
@@ -47,8 +47,11 @@ impl Configuration {
         }
     }
 
+    /// Sets this in place of what was set before; a domain of the search list comes behind those before it. Out of
+    /// memory changes nothing.
     pub fn set(&mut self, setting: Setting) -> Result<(), ScriptFault>
         ensures ok { OnOk result (self.new ≡ with_setting setting self.old) }
+        ensures unchanged { OnErr result (self.new ≡ self.old) }
         ensures err { IsOkUnless result ScriptFault.OutOfMemory }
     {
         match setting {
@@ -60,7 +63,7 @@ impl Configuration {
         Ok(())
     }
 
-    // Refuses bounds on times to live whose least is above their greatest.
+    /// Refuses bounds on times to live whose least is above their greatest.
     pub fn check_bounds(&self, alloc: Global) -> Result<(), ScriptFault>
         ensures { MatchResult result (λ _. bounds_fault (bounds_of self.now.options) ≡ None)
             (λ fault. (fault ≡ ScriptFault.ReversedBounds)

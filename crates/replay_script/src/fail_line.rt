@@ -1,11 +1,12 @@
 //! Lines that are failures of an upstream.
 ghost use Rattle.std.specs.Prelude.{◌≡◌, ◌⊎◌, Err};
 ghost use Rattle.replay_script.specs.FailLine.{IsFailure, failed, failure_of, kind_field};
+ghost use Rattle.replay_script.specs.Faults.{out_of_memory};
 ghost use Rattle.replay_script.specs.Words.{texts};
 
-use crate::fault::ScriptFault;
-use crate::words::read_name;
-use hickory_proto_core::{DNSClass, NetError, Query, RecordType};
+use crate::fault::{LineFault, ScriptFault};
+use crate::words::{read_class, read_name, read_type};
+use hickory_proto_core::{NetError, Query};
 use std::alloc::Global;
 
 /// What an upstream answers in place of a response.
@@ -40,44 +41,44 @@ impl FailureKind {
 }
 
 // KIND NAME TYPE [CLASS]
-pub fn read_failure(alloc: Global, fields: &[&str]) -> Result<Failure, ScriptFault>
-    ensures { IsFailure (texts fields.now) result ⊎ (result ≡ Err ScriptFault.OutOfMemory) }
+pub fn read_failure<'a>(alloc: Global, fields: &[&'a str]) -> Result<Failure, LineFault<'a>>
+    ensures { IsFailure (texts fields.now) result ⊎ (result ≡ Err out_of_memory) }
 {
     read_fields(alloc, "upstream failed", fields)
 }
 
 // Where no class is given it is that of the Internet.
-fn read_fields(
+fn read_fields<'a>(
     alloc: Global,
     message: &'static str,
-    fields: &[&str],
-) -> Result<Failure, ScriptFault>
-    ensures { (result ≡ failure_of message.entry (texts fields.now)) ⊎ (result ≡ Err ScriptFault.OutOfMemory) }
+    fields: &[&'a str],
+) -> Result<Failure, LineFault<'a>>
+    ensures { (result ≡ failure_of message.entry (texts fields.now)) ⊎ (result ≡ Err out_of_memory) }
 {
     match fields {
         [kind, name, record_type] => { read_failed(alloc, message, kind, name, record_type, "IN") }
         [kind, name, record_type, class] => {
             read_failed(alloc, message, kind, name, record_type, class)
         }
-        _ => Err(ScriptFault::FieldCount),
+        _ => Err(LineFault::wrong_line(ScriptFault::FieldCount)),
     }
 }
 
-fn read_failed(
+fn read_failed<'a>(
     alloc: Global,
     message: &'static str,
-    kind: &str,
-    name: &str,
-    record_type: &str,
-    class: &str,
-) -> Result<Failure, ScriptFault>
+    kind: &'a str,
+    name: &'a str,
+    record_type: &'a str,
+    class: &'a str,
+) -> Result<Failure, LineFault<'a>>
     ensures { (result ≡ failed message.entry kind.now name.now record_type.now class.now)
-        ⊎ (result ≡ Err ScriptFault.OutOfMemory) }
+        ⊎ (result ≡ Err out_of_memory) }
 {
     let kind = read_kind(message, kind)?;
     let name = read_name(alloc, name)?;
-    let query_type = RecordType::from_word(record_type).ok_or(ScriptFault::UnknownWord)?;
-    let query_class = DNSClass::from_word(class).ok_or(ScriptFault::UnknownWord)?;
+    let query_type = read_type(record_type)?;
+    let query_class = read_class(class)?;
     let query = Query {
         name,
         query_type,
@@ -87,12 +88,12 @@ fn read_failed(
 }
 
 // The kind of a word, with the text that a fault has.
-fn read_kind(message: &'static str, word: &str) -> Result<FailureKind, ScriptFault>
+fn read_kind<'a>(message: &'static str, word: &'a str) -> Result<FailureKind, LineFault<'a>>
     ensures { result ≡ kind_field message.entry word.now }
 {
     match word {
         "timeout" => Ok(FailureKind::Timeout),
         "message" => Ok(FailureKind::Message(message)),
-        _ => Err(ScriptFault::UnknownWord),
+        _ => Err(LineFault::wrong_field(ScriptFault::UnknownWord, word)),
     }
 }

@@ -4,6 +4,7 @@ ghost use Rattle.std.specs.Prelude.{◌≡◌};
 use hickory_proto_core::NameError;
 use std::alloc::{AllocError, AllocFailed};
 use std::fmt;
+use std::marker::Model;
 use thiserror::Error;
 
 /// Why a line is refused.
@@ -46,6 +47,70 @@ pub enum ScriptFault {
     #[error("out of memory")]
     OutOfMemory,
 }
+
+/// The first fault of a line, and the field that it is about.
+#[derive(Debug, Drop)]
+pub struct LineFault<'a> {
+    pub fault: ScriptFault,
+    /// The text of the field that is no directive, number, name, address, word or hex digits of its place; none
+    /// where the fault is about no single field.
+    pub field: Option<&'a str>,
+}
+
+impl<'a> Model for LineFault<'a> {
+    ghost use Rattle.std.specs.Option.{option_map};
+    ghost use Rattle.replay_script.specs.Faults.{LineFaultValue};
+
+    ghost Value = { LineFaultValue };
+
+    ghost view = { λ f. record {
+      fault = f.fault;
+      field = option_map (λ text. text.now) f.field;
+    } };
+}
+
+impl<'a> LineFault<'a> {
+    ghost use Rattle.replay_script.specs.Faults.{name_fault, wrong_field, wrong_line};
+
+    /// A fault of this field.
+    pub fn wrong_field(fault: ScriptFault, field: &'a str) -> LineFault<'a>
+        ensures { result ≡ wrong_field fault field.now }
+    {
+        LineFault {
+            fault,
+            field: Some(field),
+        }
+    }
+
+    /// A fault that is about no single field.
+    pub fn wrong_line(fault: ScriptFault) -> LineFault<'a>
+        ensures { result ≡ wrong_line fault }
+    {
+        LineFault { fault, field: None }
+    }
+
+    // The fault of a field that is to be a name.
+    pub(crate) fn from_name(field: &'a str, error: NameError) -> LineFault<'a>
+        ensures { result ≡ name_fault field.now error }
+    {
+        match error {
+            NameError::OutOfMemory => LineFault::wrong_line(ScriptFault::OutOfMemory),
+            _ => LineFault::wrong_field(ScriptFault::BadName, field),
+        }
+    }
+}
+
+impl<'a> fmt::Display for LineFault<'a> {
+    fn fmt<W: fmt::Write>(&self, f: &mut fmt::Formatter<W>) -> fmt::Result {
+        let fault = self.fault;
+        match self.field {
+            Some(field) => write!(f, "{fault}: {field}"),
+            None => write!(f, "{fault}"),
+        }
+    }
+}
+
+impl<'a> std::error::Error for LineFault<'a> {}
 
 /// The first fault of a script, and the number of its line, counted from 1. Out of memory has no line, nor
 /// have bounds that are reversed once every line is read: their number is 0.
@@ -101,16 +166,34 @@ impl From<AllocError> for ScriptFault {
     }
 }
 
-impl From<NameError> for ScriptFault {
+impl<'a> From<LineFault<'a>> for ScriptFault {
     ghost use Rattle.std.specs.Prelude.{◌≡◌};
-    ghost use Rattle.replay_script.specs.Faults.{name_fault};
 
-    ghost from_gives = { λ error fault. fault ≡ name_fault error };
+    ghost from_gives = { λ error fault. fault ≡ error.fault };
 
-    fn from(error: NameError) -> ScriptFault {
-        match error {
-            NameError::OutOfMemory => ScriptFault::OutOfMemory,
-            _ => ScriptFault::BadName,
-        }
+    fn from(error: LineFault<'a>) -> ScriptFault {
+        error.fault
+    }
+}
+
+impl<'a, T: Drop> From<AllocFailed<T>> for LineFault<'a> {
+    ghost use Rattle.std.specs.Prelude.{◌≡◌};
+    ghost use Rattle.replay_script.specs.Faults.{out_of_memory};
+
+    ghost from_gives = { λ _ fault. fault ≡ out_of_memory };
+
+    fn from(_: AllocFailed<T>) -> LineFault<'a> {
+        LineFault::wrong_line(ScriptFault::OutOfMemory)
+    }
+}
+
+impl<'a> From<AllocError> for LineFault<'a> {
+    ghost use Rattle.std.specs.Prelude.{◌≡◌};
+    ghost use Rattle.replay_script.specs.Faults.{out_of_memory};
+
+    ghost from_gives = { λ _ fault. fault ≡ out_of_memory };
+
+    fn from(_: AllocError) -> LineFault<'a> {
+        LineFault::wrong_line(ScriptFault::OutOfMemory)
     }
 }

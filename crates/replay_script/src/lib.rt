@@ -17,13 +17,14 @@ pub mod script;
 pub mod setting;
 pub mod words;
 
+pub use configuration::Configuration;
 pub use fail_line::{Failure, FailureKind};
-pub use fault::{ScriptError, ScriptFault};
-pub use fields::ScriptLines;
+pub use fault::{LineFault, ScriptError, ScriptFault};
+pub use fields::{Fields, ScriptLines, is_skipped};
 pub use hickory_resolver_lookup::Request;
-pub use line::{Line, read_line};
+pub use line::{Line, read_fields, read_line, read_text, split};
 pub use option_line::OptionLine;
 pub use record_line::Section;
 pub use reply_line::ReplyHead;
-pub use script::{Script, read_script};
+pub use script::{OpenReply, Script, read_script};
 pub use setting::Setting;

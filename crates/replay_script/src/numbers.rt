@@ -1,15 +1,8 @@
-//! Numbers of a script: decimal digits, leading zeros allowed, within the range of their type.
+//! Numbers of a script: decimal digits, leading zeros allowed, within a range below that of 64 bits.
 ghost use Rattle.std.specs.Prelude.{◌≡◌, ◌^◌};
 ghost use Rattle.hickory_proto_core.specs.Codes.{decimal_below};
 
 use hickory_proto_core::read_decimal;
-
-/// A number of 64 bits.
-pub fn read_u64(digits: &str) -> Option<u64>
-    ensures { result ≡ decimal_below (2 ^ 64) digits.now }
-{
-    read_decimal(digits)
-}
 
 /// A number of 32 bits.
 pub fn read_u32(digits: &str) -> Option<u32>

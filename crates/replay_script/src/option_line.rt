@@ -3,7 +3,7 @@ ghost use Rattle.std.specs.Prelude.{◌≡◌};
 ghost use Rattle.replay_script.specs.OptionLine.{key_named, option_of, strategy_field, truth_field, value_of};
 ghost use Rattle.replay_script.specs.Words.{texts};
 
-use crate::fault::ScriptFault;
+use crate::fault::{LineFault, ScriptFault};
 use crate::words::number64;
 use hickory_resolver_config::{LookupIpStrategy, ResolverOpts};
 
@@ -73,17 +73,20 @@ impl OptionKey {
 }
 
 // KEY VALUE
-pub fn read_option(fields: &[&str]) -> Result<OptionLine, ScriptFault>
+pub fn read_option<'a>(fields: &[&'a str]) -> Result<OptionLine, LineFault<'a>>
     ensures { result ≡ option_of (texts fields.now) }
 {
     let [key, value] = fields else {
-        return Err(ScriptFault::FieldCount);
+        return Err(LineFault::wrong_line(ScriptFault::FieldCount));
     };
-    let key = OptionKey::from_word(key).ok_or(ScriptFault::UnknownWord)?;
-    read_value(key, value)
+    let option = OptionKey::from_word(key).ok_or(LineFault::wrong_field(
+        ScriptFault::UnknownWord,
+        key,
+    ))?;
+    read_value(option, value)
 }
 
-fn read_value(key: OptionKey, value: &str) -> Result<OptionLine, ScriptFault>
+fn read_value(key: OptionKey, value: &str) -> Result<OptionLine, LineFault<'_>>
     ensures { result ≡ value_of key value.now }
 {
     Ok(match key {
@@ -99,7 +102,7 @@ fn read_value(key: OptionKey, value: &str) -> Result<OptionLine, ScriptFault>
 }
 
 // The strategy of a word.
-fn read_strategy(word: &str) -> Result<LookupIpStrategy, ScriptFault>
+fn read_strategy(word: &str) -> Result<LookupIpStrategy, LineFault<'_>>
     ensures { result ≡ strategy_field word.now }
 {
     match word {
@@ -109,16 +112,16 @@ fn read_strategy(word: &str) -> Result<LookupIpStrategy, ScriptFault>
         "Ipv6AndIpv4" => Ok(LookupIpStrategy::Ipv6AndIpv4),
         "Ipv6thenIpv4" => Ok(LookupIpStrategy::Ipv6thenIpv4),
         "Ipv4thenIpv6" => Ok(LookupIpStrategy::Ipv4thenIpv6),
-        _ => Err(ScriptFault::UnknownWord),
+        _ => Err(LineFault::wrong_field(ScriptFault::UnknownWord, word)),
     }
 }
 
-fn read_truth(word: &str) -> Result<bool, ScriptFault>
+fn read_truth(word: &str) -> Result<bool, LineFault<'_>>
     ensures { result ≡ truth_field word.now }
 {
     match word {
         "true" => Ok(true),
         "false" => Ok(false),
-        _ => Err(ScriptFault::UnknownWord),
+        _ => Err(LineFault::wrong_field(ScriptFault::UnknownWord, word)),
     }
 }

@@ -1,11 +1,12 @@
 //! Lines that are records.
 ghost use Rattle.std.specs.Prelude.{◌≡◌, ◌⊎◌, Err, IfOk};
+ghost use Rattle.replay_script.specs.Faults.{out_of_memory};
 ghost use Rattle.replay_script.specs.RecordLine.{IsRecord, head_of};
 ghost use Rattle.replay_script.specs.Words.{texts};
 
 use crate::data_fields::read_data;
-use crate::fault::ScriptFault;
-use crate::words::{number32, read_name};
+use crate::fault::{LineFault, ScriptFault};
+use crate::words::{number32, read_class, read_name, read_type};
 use hickory_proto_core::{DNSClass, Name, Record, RecordType};
 use std::alloc::Global;
 
@@ -27,11 +28,11 @@ struct RecordHead {
 }
 
 // NAME TTL CLASS TYPE DATA
-pub fn read_record(alloc: Global, fields: &[&str]) -> Result<Record, ScriptFault>
-    ensures { IsRecord (texts fields.now) result ⊎ (result ≡ Err ScriptFault.OutOfMemory) }
+pub fn read_record<'a>(alloc: Global, fields: &[&'a str]) -> Result<Record, LineFault<'a>>
+    ensures { IsRecord (texts fields.now) result ⊎ (result ≡ Err out_of_memory) }
 {
     let [name, ttl, class, record_type, fields @ ..] = fields else {
-        return Err(ScriptFault::FieldCount);
+        return Err(LineFault::wrong_line(ScriptFault::FieldCount));
     };
     let head = read_head(alloc, name, ttl, class, record_type)?;
     let rdata = read_data(alloc, head.record_type, fields)?;
@@ -43,20 +44,20 @@ pub fn read_record(alloc: Global, fields: &[&str]) -> Result<Record, ScriptFault
     })
 }
 
-fn read_head(
+fn read_head<'a>(
     alloc: Global,
-    name: &str,
-    ttl: &str,
-    class: &str,
-    record_type: &str,
-) -> Result<RecordHead, ScriptFault>
+    name: &'a str,
+    ttl: &'a str,
+    class: &'a str,
+    record_type: &'a str,
+) -> Result<RecordHead, LineFault<'a>>
     ensures { (result ≡ head_of name.now ttl.now class.now record_type.now)
-        ⊎ (result ≡ Err ScriptFault.OutOfMemory) }
+        ⊎ (result ≡ Err out_of_memory) }
 {
     let name = read_name(alloc, name)?;
     let ttl = number32(ttl)?;
-    let dns_class = DNSClass::from_word(class).ok_or(ScriptFault::UnknownWord)?;
-    let record_type = RecordType::from_word(record_type).ok_or(ScriptFault::UnknownWord)?;
+    let dns_class = read_class(class)?;
+    let record_type = read_type(record_type)?;
     Ok(RecordHead {
         name,
         ttl,

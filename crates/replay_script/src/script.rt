@@ -81,17 +81,32 @@ pub fn read_script(alloc: Global, script: &[u8]) -> Result<Script, ScriptError>
     }
 }
 
-// A reply that may still get records.
+/// A reply that may still get records.
 #[derive(Drop)]
-struct OpenReply {
-    query: Query,
-    message: Message,
+pub struct OpenReply {
+    /// The question of its first line.
+    pub query: Query,
+    pub message: Message,
 }
 
 impl OpenReply {
     ghost use Rattle.replay_script.specs.Reader.{answered};
+    ghost use Rattle.replay_script.specs.ReplyLine.{opened_response};
 
-    fn add(&mut self, section: Section, found: Record) -> Result<(), ScriptFault>
+    /// The reply that a line opens, with no records.
+    pub fn open(alloc: Global, head: ReplyHead) -> Result<OpenReply, ScriptFault>
+        ensures ok { IfOk result (λ r. r ≡ record { query = head.query; message = opened_response head }) }
+        ensures err { IsOkUnless result ScriptFault.OutOfMemory }
+    {
+        let message = response_of(alloc, &head)?;
+        Ok(OpenReply {
+            query: head.query,
+            message,
+        })
+    }
+
+    /// One more record at the end of a section.
+    pub fn add(&mut self, section: Section, found: Record) -> Result<(), ScriptFault>
         ensures ok { OnOk result (self.new ≡ answered section found self.old) }
         ensures err { IsOkUnless result ScriptFault.OutOfMemory }
     {
@@ -173,12 +188,9 @@ impl Reader {
             }) }
         ensures err { IsOkUnless result ScriptFault.OutOfMemory }
     {
-        let message = response_of(self.alloc, &head)?;
+        let reply = OpenReply::open(self.alloc, head)?;
         self.close()?;
-        self.open_reply = Some(OpenReply {
-            query: head.query,
-            message,
-        });
+        self.open_reply = Some(reply);
         Ok(())
     }
 

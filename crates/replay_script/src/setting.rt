@@ -1,9 +1,10 @@
 //! Lines that set a part of the configuration.
 ghost use Rattle.std.specs.Prelude.{◌≡◌, ◌⊎◌, Err};
+ghost use Rattle.replay_script.specs.Faults.{out_of_memory};
 ghost use Rattle.replay_script.specs.Setting.{mode_named, mode_of, setting_of};
 ghost use Rattle.replay_script.specs.Words.{texts};
 
-use crate::fault::ScriptFault;
+use crate::fault::{LineFault, ScriptFault};
 use crate::option_line::{OptionLine, read_option};
 use crate::words::read_only_name;
 use hickory_proto_core::Name;
@@ -35,12 +36,12 @@ pub(crate) enum SettingKind {
 }
 
 // Reads the fields behind such a directive.
-pub(crate) fn read_setting(
+pub(crate) fn read_setting<'a>(
     alloc: Global,
     kind: SettingKind,
-    fields: &[&str],
-) -> Result<Setting, ScriptFault>
-    ensures { (result ≡ setting_of kind (texts fields.now)) ⊎ (result ≡ Err ScriptFault.OutOfMemory) }
+    fields: &[&'a str],
+) -> Result<Setting, LineFault<'a>>
+    ensures { (result ≡ setting_of kind (texts fields.now)) ⊎ (result ≡ Err out_of_memory) }
 {
     match kind {
         SettingKind::Option => Ok(Setting::Option(read_option(fields)?)),
@@ -53,21 +54,21 @@ pub(crate) fn read_setting(
 }
 
 // MODE: whether the outcomes are a table.
-fn read_mode(fields: &[&str]) -> Result<bool, ScriptFault>
+fn read_mode<'a>(fields: &[&'a str]) -> Result<bool, LineFault<'a>>
     ensures { result ≡ mode_of (texts fields.now) }
 {
     let [mode] = fields else {
-        return Err(ScriptFault::FieldCount);
+        return Err(LineFault::wrong_line(ScriptFault::FieldCount));
     };
     mode_named(mode)
 }
 
-fn mode_named(word: &str) -> Result<bool, ScriptFault>
+fn mode_named(word: &str) -> Result<bool, LineFault<'_>>
     ensures { result ≡ mode_named word.now }
 {
     match word {
         "script" => Ok(false),
         "table" => Ok(true),
-        _ => Err(ScriptFault::UnknownWord),
+        _ => Err(LineFault::wrong_field(ScriptFault::UnknownWord, word)),
     }
 }

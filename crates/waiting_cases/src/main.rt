@@ -5,6 +5,7 @@
 mod crossing;
 mod outcomes;
 mod passing;
+mod playing;
 mod session;
 
 use hickory_proto_core::NetError;
@@ -27,5 +28,6 @@ fn push_all(alloc: Global, text: &mut String) -> Result<(), NetError> {
     passing::push_stored(alloc, text, &mut Session::new(alloc, 8))?;
     passing::push_later(alloc, text, &mut Session::new(alloc, 8))?;
     passing::push_evicted(alloc, text, &mut Session::new(alloc, 1))?;
-    passing::push_eight(alloc, text, &mut Session::new(alloc, 8))
+    passing::push_eight(alloc, text, &mut Session::new(alloc, 8))?;
+    playing::push_played(alloc, text)
 }

@@ -1,12 +1,24 @@
-use Rattle.std.proofs.Common.{◌≡◌, subst}
-use Rattle.hickory_proto_names.specs.Name.{NameValue}
-use Rattle.hickory_proto_wire.specs.Names.{name_at}
-use Rattle.hickory_proto_wire.specs.Writing.{Adds}
-use Rattle.hickory_proto_wire.proofs.Runs.{name_is}
+use Rattle.std.proofs.Common.{ℕ, List, ap, ◌∙◌, length, length-append, arith}
+use Rattle.hickory_proto_names.specs.Name.{label_bytes, label_fault}
+use Rattle.hickory_proto_wire.specs.Written.{name_octets}
+use Rattle.hickory_proto_wire.proofs.Runs.{are_labels}
+use Rattle.hickory_proto_wire.proofs.Places.{name_short}
 use Rattle.hickory_proto_wire.proofs.name_writer.put_name.Goals as goal
 
-pub returns-in_ok-put_whole-in-None : goal.returns-in_ok-put_whole-in-None
-returns-in_ok-put_whole-in-None c =
-    subst (λ (n : NameValue). Adds name_at c.args.known.now c.args.out.now.items c.put_whole.new.out.items n)
-    (name_is c.args.name.now _ c.labels-labels.ensures.labels (cc (c.is_fqdn.ensures, c.if-not-is_fqdn.false)))
-    (c.in_ok-put_whole-in-None.ensures c.args.known.now)
+pub put_labels-requires : goal.put_labels-requires
+put_labels-requires c =
+    (are_labels (label_bytes c.labels.result.now)
+    (ap (λ (ls : List (List ℕ)). label_fault ls) c.labels.ensures.labels ∙ c.labels.ensures.valid)).short
+
+pub returns-clause-small : goal.returns-clause-small
+returns-clause-small c =
+    let labels = label_bytes c.labels.result.now in
+    let fits =
+    are_labels labels (ap (λ (ls : List (List ℕ)). label_fault ls) c.labels.ensures.labels ∙ c.labels.ensures.valid) in
+    omega (
+      arith,
+      ap length c.in_ok-whole.ensures.octets,
+      length-append c.args.out.now.items (name_octets c.args.places.now labels),
+      name_short c.args.places.now labels,
+      fits.fits,
+    )

@@ -1,17 +1,16 @@
-use Rattle.hickory_proto_wire.specs.Records.{query_at}
-use Rattle.hickory_proto_wire.specs.Writing.{named_query}
-use Rattle.hickory_proto_wire.proofs.Sections.{follows_next, follows_none, follows_all}
+use Rattle.std.proofs.Common.{ap, sym, ◌∙◌}
+use Rattle.hickory_proto_wire.specs.Written.{Body, query_added}
+use Rattle.hickory_proto_wire.specs.Made.{query_flaw}
+use Rattle.hickory_proto_wire.proofs.Faults.{more_none}
+use Rattle.hickory_proto_wire.proofs.Keeps.{fold_more}
 use Rattle.hickory_proto_wire.proofs.section_writer.add_queries.Goals as goal
-
-pub loop-i-init : goal.loop-i-init
-loop-i-init c = follows_none query_at c.args.message.now.items
 
 pub loop-i-preserved : goal.loop-i-preserved
 loop-i-preserved c =
-    follows_next named_query query_at c.loop-i.i c.args.queries.now _ _ _ c.index-queries-i.result c.loop-i-test.true
-    c.index-queries-i.is c.loop-i.invariant c.in_ok-add_query.ensures
-
-pub returns : goal.returns
-returns c =
-    follows_all named_query query_at c.loop-i.i c.args.queries.now _ _ c.loop-i-test.false c.loop-i.auto.i-end
-    c.loop-i.invariant
+    let start : Body = record { octets = c.args.body.now.items; places = c.args.places.now.items } in
+    let q = c.index-queries-i.result in (
+      c.in_ok-add_query.ensures.added ∙ ap (λ (b : Body). query_added b q) c.loop-i.invariant.0
+          ∙ sym (fold_more query_added start c.args.queries.now c.loop-i.i q c.loop-i-test.true c.index-queries-i.is),
+      more_none query_flaw c.args.queries.now c.loop-i.i q c.loop-i-test.true c.index-queries-i.is c.loop-i.invariant.1
+          c.in_ok-add_query.ensures.valid,
+    )

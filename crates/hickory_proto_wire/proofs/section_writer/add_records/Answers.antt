@@ -1,18 +1,24 @@
-use Rattle.hickory_proto_wire.specs.Records.{record_at}
-use Rattle.hickory_proto_wire.specs.Writing.{named_record}
-use Rattle.hickory_proto_wire.proofs.Messages.{coded_record}
-use Rattle.hickory_proto_wire.proofs.Sections.{follows_next, follows_none, follows_all}
+use Rattle.std.proofs.Common.{ap, sym, ◌∙◌}
+use Rattle.hickory_proto_wire.specs.Written.{Body, record_added}
+use Rattle.hickory_proto_wire.specs.Refused.{record_data_fault}
+use Rattle.hickory_proto_wire.specs.Made.{record_flaw}
+use Rattle.hickory_proto_wire.proofs.Faults.{one_none, more_none}
+use Rattle.hickory_proto_wire.proofs.Keeps.{fold_more}
 use Rattle.hickory_proto_wire.proofs.section_writer.add_records.Goals as goal
 
-pub loop-i-init : goal.loop-i-init
-loop-i-init c = follows_none record_at c.args.message.now.items
+pub add_record-requires : goal.add_record-requires
+add_record-requires c =
+    one_none record_data_fault c.args.records.now c.loop-i.i c.index-records-i.result c.requires.right c.loop-i-test.true
+    c.index-records-i.is
 
 pub loop-i-preserved : goal.loop-i-preserved
 loop-i-preserved c =
-    follows_next named_record record_at c.loop-i.i c.args.records.now _ _ _ c.index-records-i.result c.loop-i-test.true
-    c.index-records-i.is c.loop-i.invariant (coded_record _ _ _ _ c.in_ok-add_record.ensures)
-
-pub returns : goal.returns
-returns c =
-    follows_all named_record record_at c.loop-i.i c.args.records.now _ _ c.loop-i-test.false c.loop-i.auto.i-end
-    c.loop-i.invariant
+    let start : Body = record { octets = c.args.body.now.items; places = c.args.places.now.items } in
+    let r = c.index-records-i.result in
+    let there = c.in_ok-is_there.ensures.added c.if-not-is_there.false in (
+      there.0 ∙ ap (λ (b : Body). record_added b r) c.loop-i.invariant.0
+          ∙ sym (fold_more record_added start c.args.records.now c.loop-i.i r c.loop-i-test.true c.index-records-i.is),
+      there.1,
+      more_none record_flaw c.args.records.now c.loop-i.i r c.loop-i-test.true c.index-records-i.is c.loop-i.invariant.2
+          c.in_ok-is_there.ensures.valid,
+    )

@@ -1,9 +1,12 @@
-use Rattle.std.proofs.Common.{map, take}
-use Rattle.hickory_proto_wire.specs.Records.{record_at, repeat_at}
-use Rattle.hickory_proto_wire.specs.Writing.{Follows, named_record}
+use Rattle.std.proofs.Common.{◌≡◌, ◌≤◌, take, length}
+use Rattle.std.specs.Prelude.{None}
+use Rattle.hickory_proto_wire.specs.Written.{Body, records_added}
+use Rattle.hickory_proto_wire.specs.Refused.{first_fault}
+use Rattle.hickory_proto_wire.specs.Made.{record_flaw}
 use Rattle.hickory_proto_wire.proofs.section_writer.add_records.Given as goal
 
 abbrev pub invariant-loop-i : goal.invariant-loop-i
 invariant-loop-i l =
-    Follows (λ bytes at. repeat_at (record_at bytes) l.i at) l.fn.message.items l.message.items
-    (map named_record (take l.i l.records))
+    let now : Body = record { octets = l.body.items; places = l.places.items } in
+    (now ≡ records_added (record { octets = l.fn.body.items; places = l.fn.places.items }) (take l.i l.records))
+    × (length l.body.items ≤ l.most) × (first_fault record_flaw (take l.i l.records) ≡ None)

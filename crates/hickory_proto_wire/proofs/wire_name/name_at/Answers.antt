@@ -1,4 +1,4 @@
-use Rattle.std.proofs.Common.{◌≡◌, ap, None, Some}
+use Rattle.std.proofs.Common.{ap}
 use Rattle.hickory_proto_names.specs.Name.{label_bytes}
 use Rattle.hickory_proto_wire.proofs.Fits.{no_fault}
 use Rattle.hickory_proto_wire.proofs.wire_name.name_at.Goals as goal

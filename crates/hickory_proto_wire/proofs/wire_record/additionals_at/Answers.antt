@@ -1,4 +1,3 @@
-use Rattle.std.proofs.Common.{◌≡◌}
 use Rattle.std.proofs.lemmas.Result.{err_from_is_err_and}
 use Rattle.hickory_proto_wire.specs.Records.{additionals_at, nothing_found}
 use Rattle.hickory_proto_wire.proofs.Loops.{found_goes_on, head_ends, found_ends, found_done}

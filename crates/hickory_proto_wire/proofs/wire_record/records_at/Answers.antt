@@ -1,4 +1,3 @@
-use Rattle.std.proofs.Common.{◌≡◌, ◌++◌, ◌∷◌, []}
 use Rattle.std.proofs.lemmas.Result.{err_from_is_err_and}
 use Rattle.hickory_proto_wire.specs.Records.{repeat_at, record_at}
 use Rattle.hickory_proto_wire.proofs.Loops.{goes_on, ends, is_done}

@@ -1,5 +1,4 @@
-use Rattle.std.proofs.Common.{refl}
 use Rattle.replay_script.proofs.data_fields.read_ipv6.Goals as goal
 
 pub returns-in-Err : goal.returns-in-Err
-returns-in-Err c = (refl, λ d h. c.in-Err.ensures.value h.0 h.1)
+returns-in-Err c = (c.wrong_field.ensures, λ d h. c.in-Err.ensures.value h.0 h.1)

@@ -10,4 +10,4 @@ returns-in_default c =
     elim c.in_default.branch [ in_default-via-then-fields-lt3 w ↦ λ n. grind (arith, nat_tests) | in_default-via-else-fields-lt3+else-fields-lt4+else-fields-lt5 w ↦ λ n. grind (arith, nat_tests) ] in
     let not4 : length c.args.fields.now ≢ 4 =
     elim c.in_default.branch [ in_default-via-then-fields-lt3 w ↦ λ n. grind (arith, nat_tests) | in_default-via-else-fields-lt3+else-fields-lt4+else-fields-lt5 w ↦ λ n. grind (arith, nat_tests) ] in
-    inl (failure_other c.args.message c.args.fields.now not3 not4)
+    rw c.wrong_line.ensures (inl (failure_other c.args.message c.args.fields.now not3 not4))

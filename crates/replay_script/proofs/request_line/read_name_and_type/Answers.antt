@@ -8,4 +8,4 @@ pub returns-in_default : goal.returns-in_default
 returns-in_default c =
     let other : length c.args.fields.now ≢ 2 =
     elim c.in_default.branch [ in_default-via-then-fields-lt2 w ↦ λ two. grind (arith, nat_tests) | in_default-via-else-fields-lt2+else-fields-lt3 w ↦ λ two. grind (arith, nat_tests) ] in
-    inl (name_and_type_other c.args.fields.now other)
+    rw c.wrong_line.ensures (inl (name_and_type_other c.args.fields.now other))

@@ -1,0 +1,274 @@
+-- What a line that is answered does.
+use Rattle.std.proofs.Common.{◌≡◌, ◌∙◌, ◌⊎◌, ℕ, Bool, true, false, cond, List, [], ◌∷◌, ◌++◌, codes, Option, None, Some, Result, Ok, Err, MatchBool, MatchOption, MatchResult, refl, sym, ap, subst, inl, inr}
+use Rattle.std.specs.List.{list_all}
+use Rattle.std.specs.Option.{is_some, option_map}
+use Rattle.hickory_proto_core.specs.Codes.{is_text}
+use Rattle.hickory_proto_core.specs.Records.{RecordValue}
+use Rattle.hickory_proto_core.specs.ResponseKind.{is_empty}
+use Rattle.hickory_resolver_model.specs.Cache.{CacheValue}
+use Rattle.hickory_resolver_model.specs.Run.{RequestValue, Settings, moment_of}
+use Rattle.replay_script.specs.Configuration.{ConfigurationValue, with_setting}
+use Rattle.replay_script.specs.FailLine.{error_of}
+use Rattle.replay_script.specs.Fields.{fields, is_allowed, is_skipped}
+use Rattle.replay_script.specs.Line.{IsSaid}
+use Rattle.replay_script.specs.Reader.{answered}
+use Rattle.replay_script.specs.ReplyLine.{opened_response}
+use Rattle.replay_script.specs.Words.{◌>>=◌}
+use Rattle.replay_script.specs.declared.fail_line.Failure.{Failure}
+use Rattle.replay_script.specs.Faults.{LineFaultValue}
+use Rattle.replay_script.specs.declared.fault.ScriptFault.TheVariants as script
+use Rattle.replay_script.specs.declared.line.Line.{Line}
+use Rattle.replay_script.specs.declared.line.Line.TheVariants as line
+use Rattle.replay_script.specs.declared.record_line.Section.{Section}
+use Rattle.replay_script.specs.declared.reply_line.ReplyHead.{ReplyHead}
+use Rattle.replay_script.specs.declared.script.OpenReply.{OpenReply}
+use Rattle.replay_script.specs.declared.setting.Setting.{Setting as OneSetting}
+use Rattle.replay_script.specs.declared.setting.Setting.TheVariants as setting
+use Rattle.conversation.specs.Answers.{Answer, AnswersDone, AnswersFields, AnswersFirstLine, AnswersFor, AnswersLine, AnswersMarked, AnswersOutcome, AnswersRequest, AnswersSetting, AnswersVerb, AnswersWord, Begins, Feeds, FeedsReply, IsOpened, Serves, Takes, adds_hosts, cancels, ends, keeps, nothing, refused, sets, with_hosts, with_line}
+use Rattle.conversation.specs.Hearing.{Answers}
+use Rattle.conversation.specs.Journal.{moment_asked, moment_at, moment_behind}
+use Rattle.conversation.specs.Lines.{IsAsked, IsScriptLine, mark_by, mark_in, mark_of, said_of, verb_named, word_named}
+use Rattle.conversation.specs.State.{ConversationValue, InFlightValue, Setting, Serving, Stage, request_at}
+use Rattle.conversation.specs.Texts.{fields_text}
+use Rattle.conversation.specs.declared.fault.ConversationFault.{ConversationFault}
+use Rattle.conversation.specs.declared.fault.ConversationFault.TheVariants as fault
+use Rattle.conversation.specs.declared.reading.Verb.{Verb}
+use Rattle.conversation.specs.declared.reading.Verb.TheVariants as verb
+use Rattle.conversation.specs.declared.reading.Word.{Word}
+use Rattle.conversation.specs.declared.reading.Word.TheVariants as word
+use Rattle.conversation.proofs.JournalTexts.{AreFields, fields-are}
+use Rattle.conversation.proofs.JournalSaid.{word-is}
+
+-- no mode of the upstream
+abbrev pub IsNoMode : OneSetting → Type 0
+IsNoMode (setting.Option x) = Unit {0}
+IsNoMode (setting.Domain x) = Unit {0}
+IsNoMode (setting.Search x) = Unit {0}
+IsNoMode (setting.Upstream x) = ⊥
+
+pub data Happens (c : ConversationValue) (mark : List ℕ) (moment : Option ℕ) (answer : Answer) : Type 0 where
+  unchanged : answer.journal ≡ [] → answer.stage ≡ c.stage → answer.held ≡ request_at mark c.requests → Happens c mark moment answer
+  more_hosts : (configuration : ConfigurationValue) (lines more : List ℕ) → c.stage ≡ Setting configuration lines → answer.stage ≡ Setting configuration more → answer.journal ≡ [] → answer.held ≡ request_at mark c.requests → Happens c mark moment answer
+  set : (configuration : ConfigurationValue) (lines : List ℕ) (given : List (List ℕ)) (one : OneSetting) → c.stage ≡ Setting configuration lines → AreFields given → IsSaid false given (Ok (line.Configuration one)) → IsNoMode one
+      → answer.stage ≡ Setting (with_setting one configuration) lines → answer.journal ≡ fields_text given → answer.text ≡ [] → answer.held ≡ request_at mark c.requests → Happens c mark moment answer
+  begun : (given : List (List ℕ)) (q : RequestValue) (s : Settings) (cache : CacheValue) → request_at mark c.requests ≡ None → AreFields given → IsAsked given (Ok q) → moment ≡ moment_at given
+      → IsOpened c.stage (moment_of q) (Ok (s, cache)) → Serves mark q s cache answer → Happens c mark moment answer
+  cancelled : (r : InFlightValue) → request_at mark c.requests ≡ Some r → answer.journal ≡ [] → answer.held ≡ None → Happens c mark moment answer
+  opened : (r : InFlightValue) (given : List (List ℕ)) (head : ReplyHead) → request_at mark c.requests ≡ Some r → r.reply ≡ None → AreFields given → ((b : Bool) → IsSaid b given (Ok (line.Reply head)))
+      → answer ≡ keeps c mark (record { begun = with_line r.begun given; waiting = r.waiting; reply = Some (record { query = head.query; message = opened_response head }) }) → Happens c mark moment answer
+  recorded : (r : InFlightValue) (given : List (List ℕ)) (section : Section) (found : RecordValue) (reply : OpenReply) → request_at mark c.requests ≡ Some r → r.reply ≡ Some reply → AreFields given → IsSaid (is_some r.reply) given (Ok (line.Record section found))
+      → answer ≡ keeps c mark (record { begun = with_line r.begun given; waiting = r.waiting; reply = option_map (answered section found) r.reply }) → Happens c mark moment answer
+  done : (r : InFlightValue) (reply : OpenReply) → request_at mark c.requests ≡ Some r → r.reply ≡ Some reply → Feeds mark c.stage r.begun r.waiting (Ok reply.message) answer → Happens c mark moment answer
+  failed : (r : InFlightValue) (given : List (List ℕ)) (failure : Failure) → request_at mark c.requests ≡ Some r → r.reply ≡ None → AreFields given → ((b : Bool) → IsSaid b given (Ok (line.Fail failure)))
+      → Feeds mark c.stage (with_line r.begun given) r.waiting (Err (error_of failure.kind)) answer → Happens c mark moment answer
+
+-- what was made of a value is of its kind
+made : {A : Type 0} (make : A → Line) (r : Result A LineFaultValue) (said : Line) → Ok said ≡ (r >>= (λ x. Ok (make x))) → (x : A) × (said ≡ make x)
+made make (Ok x) said is = let same : said ≡ make x = cc in (x, same)
+made make (Err f) said is = absurd (let e = is in cc)
+
+two_made : {A : Type 0} (make : A → OneSetting) → ((x : A) → IsNoMode (make x)) → (r : Result A LineFaultValue) (said : Line) → Ok said ≡ ((r >>= (λ x. Ok (make x))) >>= (λ x. Ok (line.Configuration x))) → (one : OneSetting) × (said ≡ line.Configuration one) × IsNoMode one
+two_made make kind (Ok x) said is = let same : said ≡ line.Configuration (make x) = cc in (make x, same, kind x)
+two_made make kind (Err f) said is = absurd (let e = is in cc)
+
+-- a choice
+pick : {X : Type 0} {G : Type 0} (P : X → Type 0) (b : Bool) (x y : X) → P (cond b x y) → (b ≡ true → P x → G) → (b ≡ false → P y → G) → G
+pick P true x y p f g = f refl p
+pick P false x y p f g = g refl p
+
+module _ (c : ConversationValue) (mark : List ℕ) (moment : Option ℕ) (answer : Answer) where
+  refuses : (f : ConversationFault) → answer ≡ refused c mark f → Happens c mark moment answer
+  refuses f e = unchanged (ap (λ a. a.journal) e) (ap (λ a. a.stage) e) (ap (λ a. a.held) e)
+
+  -- ---- settings
+
+  hosts_by : (stage : Stage) (behind : List (List ℕ)) → c.stage ≡ stage → answer ≡ adds_hosts c mark stage behind → Happens c mark moment answer
+  hosts_by (Setting configuration lines) behind at e = more_hosts configuration lines (with_hosts lines behind) at (ap (λ a. a.stage) e) (ap (λ a. a.journal) e) (ap (λ a. a.held) e)
+  hosts_by (Serving s cache) behind at e = refuses fault.SettingAfterRequest e
+
+  ends_by : (b : Bool) → answer ≡ cond b (record (nothing c mark) { is_last = true }) (refused c mark (fault.Script script.FieldCount)) → Happens c mark moment answer
+  ends_by true e = unchanged (ap (λ a. a.journal) e) (ap (λ a. a.stage) e) (ap (λ a. a.held) e)
+  ends_by false e = refuses (fault.Script script.FieldCount) e
+
+  -- what a line of a setting says
+  setting_kind : (text : List ℕ) (behind : List (List ℕ)) (said : Line) → word_named text ≡ word.Setting → IsSaid false (text ∷ behind) (Ok said) → (one : OneSetting) × (said ≡ line.Configuration one) × IsNoMode one
+  setting_kind text behind said named is =
+      pick (λ w. w ≡ word.Setting) (is_text (codes "end") text) word.End _ named (λ h e. absurd (let x = e in cc)) (λ h0 named.
+      pick (λ w. w ≡ word.Setting) (is_text (codes "hosts") text) word.Hosts _ named (λ h e. absurd (let x = e in cc)) (λ h1 named.
+      pick (λ w. w ≡ word.Setting) (is_text (codes "option") text) word.Setting _ named (λ h e. of_option (word-is (codes "option") text h)) (λ h2 named.
+      pick (λ w. w ≡ word.Setting) (is_text (codes "domain") text) word.Setting _ named (λ h e. of_domain (word-is (codes "domain") text h)) (λ h3 named.
+      pick (λ w. w ≡ word.Setting) (is_text (codes "search") text) word.Setting _ named (λ h e. of_search (word-is (codes "search") text h)) (λ h4 named.
+      pick (λ w. w ≡ word.Setting) (is_text (codes "-") text) word.Unused word.Mark named (λ h e. absurd (let x = e in cc)) (λ h e. absurd (let x = e in cc)))))))
+    where
+      at_word : (w : List ℕ) → text ≡ w → IsSaid false (w ∷ behind) (Ok said)
+      at_word w e = subst (λ x. IsSaid false (x ∷ behind) (Ok said)) e is
+
+      of_option : text ≡ codes "option" → (one : OneSetting) × (said ≡ line.Configuration one) × IsNoMode one
+      of_option e = two_made (λ x. setting.Option x) (λ x. tt) _ said (at_word (codes "option") e)
+
+      of_domain : text ≡ codes "domain" → (one : OneSetting) × (said ≡ line.Configuration one) × IsNoMode one
+      of_domain e = two_made (λ x. setting.Domain x) (λ x. tt) _ said (at_word (codes "domain") e)
+
+      of_search : text ≡ codes "search" → (one : OneSetting) × (said ≡ line.Configuration one) × IsNoMode one
+      of_search e = two_made (λ x. setting.Search x) (λ x. tt) _ said (at_word (codes "search") e)
+
+  set_by : (configuration : ConfigurationValue) (lines : List ℕ) (text : List ℕ) (behind : List (List ℕ)) → c.stage ≡ Setting configuration lines → word_named text ≡ word.Setting → AreFields (text ∷ behind)
+      → (result : Result Line LineFaultValue) → IsSaid false (text ∷ behind) result → answer ≡ sets c mark configuration lines (text ∷ behind) (said_of result) → Happens c mark moment answer
+  set_by configuration lines text behind at named own (Ok said) is e =
+      let kind = setting_kind text behind said named is in
+      let P : Line → Type 0 = λ l. IsSaid false (text ∷ behind) (Ok l) in
+      let made : answer ≡ sets c mark configuration lines (text ∷ behind) (Ok (line.Configuration kind.0)) = e ∙ ap (λ l. sets c mark configuration lines (text ∷ behind) (Ok l)) kind.1 in
+      set configuration lines (text ∷ behind) kind.0 at own (subst P kind.1 is) kind.2 (ap (λ a. a.stage) made) (ap (λ a. a.journal) made) (ap (λ a. a.text) made) (ap (λ a. a.held) made)
+  set_by configuration lines text behind at named own (Err f) is e = refuses (fault.Script f.fault) e
+
+  setting_by : (stage : Stage) (text : List ℕ) (behind : List (List ℕ)) → c.stage ≡ stage → word_named text ≡ word.Setting → AreFields (text ∷ behind) → AnswersSetting c mark stage (text ∷ behind) answer → Happens c mark moment answer
+  setting_by (Setting configuration lines) text behind at named own (said, (result, is, e), answer_is) =
+      set_by configuration lines text behind at named own result is (answer_is ∙ ap (λ r. sets c mark configuration lines (text ∷ behind) r) e)
+  setting_by (Serving s cache) text behind at named own e = refuses fault.SettingAfterRequest e
+
+  -- ---- requests
+
+  begins_by : (given : List (List ℕ)) (q : RequestValue) → request_at mark c.requests ≡ None → AreFields given → IsAsked given (Ok q) → moment ≡ moment_at given → (over : Result (Settings × CacheValue) ConversationFault) → IsOpened c.stage (moment_of q) over
+      → MatchResult over (λ o. Serves mark q o.0 o.1 answer) (λ f. answer ≡ refused c mark f) → Happens c mark moment answer
+  begins_by given q none own asked at (Ok o) is serves = begun given q o.0 o.1 none own asked at is serves
+  begins_by given q none own asked at (Err f) is e = refuses f e
+
+  asked_by : (given : List (List ℕ)) → request_at mark c.requests ≡ None → AreFields given → moment ≡ moment_at given → (asked : Result RequestValue ConversationFault) → IsAsked given asked → MatchResult asked (λ q. Begins c mark q answer) (λ f. answer ≡ refused c mark f) → Happens c mark moment answer
+  asked_by given none own at (Ok q) is (over, opens, serves) = begins_by given q none own is at over opens serves
+  asked_by given none own at (Err f) is e = refuses f e
+
+  request_by : (given : List (List ℕ)) → AreFields given → moment ≡ moment_at given → (o : Option InFlightValue) → request_at mark c.requests ≡ o
+      → MatchOption o ((asked : Result RequestValue ConversationFault) × IsAsked given asked × MatchResult asked (λ q. Begins c mark q answer) (λ f. answer ≡ refused c mark f)) (λ r. answer ≡ refused c mark fault.MarkInUse)
+      → Happens c mark moment answer
+  request_by given own at None none (asked, is, rest) = asked_by given none own at asked is rest
+  request_by given own at (Some r) some e = refuses fault.MarkInUse e
+
+  -- ---- outcomes
+
+  cancels_by : (r : InFlightValue) (b : Bool) → request_at mark c.requests ≡ Some r → answer ≡ cond b (cancels c mark []) (refused c mark (fault.Script script.FieldCount)) → Happens c mark moment answer
+  cancels_by r true at e = cancelled r at (ap (λ a. a.journal) e) (ap (λ a. a.held) e)
+  cancels_by r false at e = refuses (fault.Script script.FieldCount) e
+
+  done_by : (r : InFlightValue) (behind : List (List ℕ)) (b d : Bool) → request_at mark c.requests ≡ Some r
+      → MatchBool b (MatchBool d (FeedsReply mark c.stage r answer) (answer ≡ refused c mark (fault.Script script.FieldCount))) (answer ≡ refused c mark (fault.Script script.NoReply)) → Happens c mark moment answer
+  done_by r behind true true at (reply, is_open, feeds) = done r reply at is_open feeds
+  done_by r behind true false at e = refuses (fault.Script script.FieldCount) e
+  done_by r behind false d at e = refuses (fault.Script script.NoReply) e
+
+  none_open : (o : Option OpenReply) → is_some o ≡ false → o ≡ None
+  none_open None e = refl
+  none_open (Some x) e = absurd (let h = e in cc)
+
+  some_open : (o : Option OpenReply) → is_some o ≡ true → (x : OpenReply) × (o ≡ Some x)
+  some_open None e = absurd (let h = e in cc)
+  some_open (Some x) e = (x, refl)
+
+  first_by : (r : InFlightValue) (given : List (List ℕ)) → (AnswersLine c mark r given answer → is_some r.reply ≡ false → Happens c mark moment answer) → (b : Bool) → is_some r.reply ≡ b → MatchBool b (answer ≡ refused c mark fault.ReplyNotDone) (AnswersLine c mark r given answer) → Happens c mark moment answer
+  first_by r given go true is_open e = refuses fault.ReplyNotDone e
+  first_by r given go false none is = go is none
+
+  line_by : (r : InFlightValue) (given : List (List ℕ)) (result : Result Line LineFaultValue) → ((said : Line) → IsSaid (is_some r.reply) given (Ok said) → Takes c mark r given (Ok said) answer → Happens c mark moment answer)
+      → IsSaid (is_some r.reply) given result → Takes c mark r given (said_of result) answer → Happens c mark moment answer
+  line_by r given (Ok said) go is takes = go said is takes
+  line_by r given (Err f) go is e = refuses (fault.Script f.fault) e
+
+  a_line : (r : InFlightValue) (given : List (List ℕ)) → ((said : Line) → IsSaid (is_some r.reply) given (Ok said) → Takes c mark r given (Ok said) answer → Happens c mark moment answer) → AnswersLine c mark r given answer → Happens c mark moment answer
+  a_line r given go (said, (result, is, e), takes) = line_by r given result go is (subst (λ x. Takes c mark r given x answer) e takes)
+
+  reply_by : (r : InFlightValue) (behind : List (List ℕ)) → request_at mark c.requests ≡ Some r → AreFields (codes "reply" ∷ behind) → AnswersFirstLine c mark r (codes "reply" ∷ behind) answer → Happens c mark moment answer
+  reply_by r behind at own is = first_by r (codes "reply" ∷ behind) (λ a none. a_line r (codes "reply" ∷ behind) (λ said is takes.
+      let m = made (λ head. line.Reply head) _ said is in
+      opened r (codes "reply" ∷ behind) m.0 at (none_open r.reply none) own (λ b. subst (λ l. IsSaid b (codes "reply" ∷ behind) (Ok l)) m.1 is) (subst (λ l. Takes c mark r (codes "reply" ∷ behind) (Ok l) answer) m.1 takes)) a) (is_some r.reply) refl is
+
+  fail_by : (r : InFlightValue) (behind : List (List ℕ)) → request_at mark c.requests ≡ Some r → AreFields (codes "fail" ∷ behind) → AnswersFirstLine c mark r (codes "fail" ∷ behind) answer → Happens c mark moment answer
+  fail_by r behind at own is = first_by r (codes "fail" ∷ behind) (λ a none. a_line r (codes "fail" ∷ behind) (λ said is takes.
+      let m = made (λ x. line.Fail x) is.0 said is.2 in
+      failed r (codes "fail" ∷ behind) m.0 at (none_open r.reply none) own (λ b. subst (λ l. IsSaid b (codes "fail" ∷ behind) (Ok l)) m.1 is) (subst (λ l. Takes c mark r (codes "fail" ∷ behind) (Ok l) answer) m.1 takes)) a) (is_some r.reply) refl is
+
+  recorded_by : (r : InFlightValue) (w : List ℕ) (behind : List (List ℕ)) (section : Section) → request_at mark c.requests ≡ Some r → AreFields (w ∷ behind) → ((said : Line) → IsSaid true (w ∷ behind) (Ok said) → (found : RecordValue) × (said ≡ line.Record section found))
+      → ((said : Line) → IsSaid false (w ∷ behind) (Ok said) → ⊥) → AnswersLine c mark r (w ∷ behind) answer → Happens c mark moment answer
+  recorded_by r w behind section at own kind none = a_line r (w ∷ behind) (λ said is takes. by (is_some r.reply) refl said is takes)
+    where
+      by : (b : Bool) → is_some r.reply ≡ b → (said : Line) → IsSaid (is_some r.reply) (w ∷ behind) (Ok said) → Takes c mark r (w ∷ behind) (Ok said) answer → Happens c mark moment answer
+      by true e said is takes =
+          let is_open = some_open r.reply e in
+          let k = kind said (subst (λ b. IsSaid b (w ∷ behind) (Ok said)) e is) in
+          recorded r (w ∷ behind) section k.0 is_open.0 at is_open.1 own (subst (λ l. IsSaid (is_some r.reply) (w ∷ behind) (Ok l)) k.1 is) (subst (λ l. Takes c mark r (w ∷ behind) (Ok l) answer) k.1 takes)
+      by false e said is takes = absurd (none said (subst (λ b. IsSaid b (w ∷ behind) (Ok said)) e is))
+
+  answer_by : (r : InFlightValue) (behind : List (List ℕ)) → request_at mark c.requests ≡ Some r → AreFields (codes "answer" ∷ behind) → AnswersLine c mark r (codes "answer" ∷ behind) answer → Happens c mark moment answer
+  answer_by r behind at own is = recorded_by r (codes "answer") behind _ at own (λ said is. made (λ x. line.Record _ x) is.0 said is.2) (λ said e. let h = e in cc) is
+
+  authority_by : (r : InFlightValue) (behind : List (List ℕ)) → request_at mark c.requests ≡ Some r → AreFields (codes "authority" ∷ behind) → AnswersLine c mark r (codes "authority" ∷ behind) answer → Happens c mark moment answer
+  authority_by r behind at own is = recorded_by r (codes "authority") behind _ at own (λ said is. made (λ x. line.Record _ x) is.0 said is.2) (λ said e. let h = e in cc) is
+
+  additional_by : (r : InFlightValue) (behind : List (List ℕ)) → request_at mark c.requests ≡ Some r → AreFields (codes "additional" ∷ behind) → AnswersLine c mark r (codes "additional" ∷ behind) answer → Happens c mark moment answer
+  additional_by r behind at own is = recorded_by r (codes "additional") behind _ at own (λ said is. made (λ x. line.Record _ x) is.0 said is.2) (λ said e. let h = e in cc) is
+
+  -- ---- verbs
+
+  by_first : (D w : List ℕ) (behind : List (List ℕ)) (r : InFlightValue) → is_text D w ≡ true → (AreFields (D ∷ behind) → AnswersFirstLine c mark r (D ∷ behind) answer → Happens c mark moment answer) → AreFields (w ∷ behind) → AnswersFirstLine c mark r (w ∷ behind) answer → Happens c mark moment answer
+  by_first D w behind r h go = subst (λ x. AreFields (x ∷ behind) → AnswersFirstLine c mark r (x ∷ behind) answer → Happens c mark moment answer) (sym (word-is D w h)) go
+
+  by_line : (D w : List ℕ) (behind : List (List ℕ)) (r : InFlightValue) → is_text D w ≡ true → (AreFields (D ∷ behind) → AnswersLine c mark r (D ∷ behind) answer → Happens c mark moment answer) → AreFields (w ∷ behind) → AnswersLine c mark r (w ∷ behind) answer → Happens c mark moment answer
+  by_line D w behind r h go = subst (λ x. AreFields (x ∷ behind) → AnswersLine c mark r (x ∷ behind) answer → Happens c mark moment answer) (sym (word-is D w h)) go
+
+  flight_by : (v : Verb) (w : List ℕ) (behind : List (List ℕ)) → ((r : InFlightValue) → request_at mark c.requests ≡ Some r → AnswersFor c mark r v behind (w ∷ behind) answer → Happens c mark moment answer)
+      → (o : Option InFlightValue) → request_at mark c.requests ≡ o → MatchOption o (answer ≡ refused c mark fault.NoSuchRequest) (λ r. AnswersFor c mark r v behind (w ∷ behind) answer) → Happens c mark moment answer
+  flight_by v w behind go None at e = refuses fault.NoSuchRequest e
+  flight_by v w behind go (Some r) at is = go r at is
+
+  verb_by : (w : List ℕ) (behind : List (List ℕ)) → AreFields (w ∷ behind) → (is_text (codes "explain") w ≡ true → moment ≡ moment_at behind) → (is_text (codes "explain") w ≡ false → moment ≡ moment_at (w ∷ behind)) → AnswersVerb c mark (verb_named w) behind (w ∷ behind) answer → Happens c mark moment answer
+  verb_by w behind own explained plain is =
+      let P : Option Verb → Type 0 = λ v. AnswersVerb c mark v behind (w ∷ behind) answer in
+      pick P (is_text (codes "explain") w) (Some verb.Explain) _ is (λ h a. request_by behind own.1 (explained h) (request_at mark c.requests) refl a) (λ h0 is.
+      pick P (is_text (codes "at") w) (Some verb.At) _ is (λ h a. request_by (w ∷ behind) own (plain h0) (request_at mark c.requests) refl a) (λ h1 is.
+      pick P (is_text (codes "reply") w) (Some verb.Reply) _ is (λ h a. flight verb.Reply (λ r at x. by_first (codes "reply") w behind r h (reply_by r behind at) own x) a) (λ h2 is.
+      pick P (is_text (codes "answer") w) (Some verb.Record) _ is (λ h a. flight verb.Record (λ r at x. by_line (codes "answer") w behind r h (answer_by r behind at) own x) a) (λ h3 is.
+      pick P (is_text (codes "authority") w) (Some verb.Record) _ is (λ h a. flight verb.Record (λ r at x. by_line (codes "authority") w behind r h (authority_by r behind at) own x) a) (λ h4 is.
+      pick P (is_text (codes "additional") w) (Some verb.Record) _ is (λ h a. flight verb.Record (λ r at x. by_line (codes "additional") w behind r h (additional_by r behind at) own x) a) (λ h5 is.
+      pick P (is_text (codes "done") w) (Some verb.Done) _ is (λ h a. flight verb.Done (λ r at x. done_by r behind (is_some r.reply) (is_empty behind) at x) a) (λ h6 is.
+      pick P (is_text (codes "fail") w) (Some verb.Fail) _ is (λ h a. flight verb.Fail (λ r at x. by_first (codes "fail") w behind r h (fail_by r behind at) own x) a) (λ h7 is.
+      pick P (is_text (codes "cancel") w) (Some verb.Cancel) None is (λ h a. flight verb.Cancel (λ r at x. cancels_by r (is_empty behind) at x) a) (λ h8 e. refuses (fault.Script script.UnknownDirective) e)))))))))
+    where
+      flight : (v : Verb) → ((r : InFlightValue) → request_at mark c.requests ≡ Some r → AnswersFor c mark r v behind (w ∷ behind) answer → Happens c mark moment answer) → AnswersOutcome c mark v behind (w ∷ behind) answer → Happens c mark moment answer
+      flight v go a = flight_by v w behind go (request_at mark c.requests) refl a
+
+  -- ---- words
+
+  marked_by : (behind : List (List ℕ)) → AreFields behind → moment ≡ moment_behind behind → AnswersMarked c mark behind answer → Happens c mark moment answer
+  marked_by [] own at e = refuses (fault.Script script.UnknownDirective) e
+  marked_by (w ∷ behind) own at is =
+      let pick_at : (b : Bool) → Option ℕ = λ b. cond b (moment_at behind) (moment_at (w ∷ behind)) in
+      verb_by w behind own (λ h. at ∙ ap pick_at h) (λ h. at ∙ ap pick_at h) is
+
+-- whatever the first word is
+word_by : (c : ConversationValue) (t : List ℕ) (answer : Answer) (w : List ℕ) (behind : List (List ℕ)) → mark_of t ≡ mark_by (word_named w) w → AreFields (w ∷ behind)
+    → AnswersWord c (mark_by (word_named w) w) (word_named w) behind (w ∷ behind) answer → Happens c (mark_of t) (moment_behind behind) answer
+word_by c t answer w behind mark_is own is = subst (λ m. Happens c m (moment_behind behind) answer) (sym mark_is) (by (word_named w) refl is)
+  where
+    by : (x : Word) → word_named w ≡ x → AnswersWord c (mark_by x w) x behind (w ∷ behind) answer → Happens c (mark_by (word_named w) w) (moment_behind behind) answer
+    by word.End e is = subst (λ x. Happens c (mark_by x w) (moment_behind behind) answer) (sym e) (ends_by c (codes "-") (moment_behind behind) answer (is_empty behind) is)
+    by word.Hosts e is = subst (λ x. Happens c (mark_by x w) (moment_behind behind) answer) (sym e) (hosts_by c (codes "-") (moment_behind behind) answer c.stage behind refl is)
+    by word.Setting e is = subst (λ x. Happens c (mark_by x w) (moment_behind behind) answer) (sym e) (setting_by c (codes "-") (moment_behind behind) answer c.stage w behind refl e own is)
+    by word.Unused e is = subst (λ x. Happens c (mark_by x w) (moment_behind behind) answer) (sym e) (refuses c (codes "-") (moment_behind behind) answer (fault.Script script.UnknownDirective) is)
+    by word.Mark e is = subst (λ x. Happens c (mark_by x w) (moment_behind behind) answer) (sym e) (marked_by c w (moment_behind behind) answer behind own.1 refl is)
+
+nothing_heard : (c : ConversationValue) (mark : List ℕ) (moment : Option ℕ) (answer : Answer) → answer ≡ nothing c mark → Happens c mark moment answer
+nothing_heard c mark moment answer e = unchanged (ap (λ a. a.journal) e) (ap (λ a. a.stage) e) (ap (λ a. a.held) e)
+
+fields_by : (c : ConversationValue) (t : List ℕ) (answer : Answer) (given : List (List ℕ)) → mark_of t ≡ mark_in given → AreFields given → AnswersFields c given answer → Happens c (mark_of t) (moment_asked given) answer
+fields_by c t answer [] mark_is own e = subst (λ m. Happens c m None answer) (sym mark_is) (nothing_heard c (codes "-") None answer e)
+fields_by c t answer (w ∷ behind) mark_is own is = word_by c t answer w behind mark_is own is
+
+-- each answer does one of these
+pub happens : (c : ConversationValue) (t : List ℕ) (answer : Answer) → Answers c t answer → Happens c (mark_of t) (moment_asked (fields t)) answer
+happens c t answer is = skipped (is_skipped t) refl is
+  where
+    allowed : (b : Bool) → list_all is_allowed t ≡ b → is_skipped t ≡ false → MatchBool b (AnswersFields c (fields t) answer) (answer ≡ refused c (codes "-") (fault.Script script.BadByte)) → Happens c (mark_of t) (moment_asked (fields t)) answer
+    allowed true e h is = fields_by c t answer (fields t) (rw (h, e) refl) (fields-are t e) is
+    allowed false e h is = subst (λ m. Happens c m (moment_asked (fields t)) answer) (sym (rw (h, e) refl)) (refuses c (codes "-") (moment_asked (fields t)) answer (fault.Script script.BadByte) is)
+
+    skipped : (b : Bool) → is_skipped t ≡ b → MatchBool b (answer ≡ nothing c (codes "-")) (MatchBool (list_all is_allowed t) (AnswersFields c (fields t) answer) (answer ≡ refused c (codes "-") (fault.Script script.BadByte))) → Happens c (mark_of t) (moment_asked (fields t)) answer
+    skipped true h is = subst (λ m. Happens c m (moment_asked (fields t)) answer) (sym (rw h refl)) (nothing_heard c (codes "-") (moment_asked (fields t)) answer is)
+    skipped false h is = allowed (list_all is_allowed t) refl h is

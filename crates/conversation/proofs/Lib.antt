@@ -1,0 +1,11 @@
+pub mod JournalTexts
+pub mod JournalRequests
+pub mod JournalReverse
+pub mod JournalSaid
+pub mod JournalRuns
+pub mod JournalScript
+pub mod JournalHappens
+pub mod JournalCalls
+pub mod JournalStands
+pub mod JournalSteps
+pub mod Journal

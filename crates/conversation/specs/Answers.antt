@@ -1,0 +1,314 @@
+-- What a line is answered, and what stands after it.
+use Rattle.std.specs.Prelude.{◌≡◌, ◌≢◌, ◌⊎◌, ℕ, Bool, true, false, List, [], ◌∷◌, ◌++◌, codes, Option, None, Some, Result, Ok, Err, MatchBool, MatchOption, MatchResult, if◌then◌else◌}
+use Rattle.std.specs.Option.{is_some, option_map}
+use Rattle.std.specs.List.{list_all}
+use Rattle.hickory_proto_core.specs.Handles.{OutcomeValue}
+use Rattle.hickory_proto_core.specs.Name.{NameValue}
+use Rattle.hickory_proto_core.specs.ResponseKind.{is_empty}
+use Rattle.hickory_proto_core.specs.NameGiven.{IsReadName, IsReadAddress}
+use Rattle.hickory_proto_core.specs.names.name_error.NameError.{NameError}
+use Rattle.hickory_proto_core.specs.names.name_error.NameError.TheVariants as name_error
+use Rattle.std.specs.declared.net.IpAddr.{IpAddr}
+use Rattle.hickory_resolver_model.specs.Bounds.{bounds_fault}
+use Rattle.hickory_resolver_model.specs.Cache.{CacheValue}
+use Rattle.hickory_resolver_model.specs.Calls.{is_out_of_memory}
+use Rattle.hickory_resolver_model.specs.Hosts.{Host}
+use Rattle.hickory_resolver_model.specs.Lookup.{LookupResult}
+use Rattle.hickory_resolver_model.specs.Options.{bounds_of}
+use Rattle.hickory_resolver_model.specs.Run.{RequestValue, Lookup, LookupIp, ClearLookup, Clear, Settings, settings_of, first_cache, moment_of, call_context_at, name_call, address_call, after_clear}
+use Rattle.hickory_resolver_theorems.specs.ResumingCalls.{WaitingCallValue, CallProgressValue, CallWaits, CallIsDone, StartsCall, RunsOutAtStart, ResumesCall}
+use Rattle.hickory_resolver.specs.Reading.{IsBytesRead}
+use Rattle.hickory_resolver.specs.hosts.hosts_error.HostsError.{HostsError}
+use Rattle.hickory_resolver.specs.hosts.hosts_error.HostsError.TheVariants as hosts
+use Rattle.hickory_resolver_config.specs.ResolverConfig.{ResolverConfigValue}
+use Rattle.replay.specs.Output.{request_text}
+use Rattle.replay_script.specs.Configuration.{ConfigurationValue, with_setting}
+use Rattle.replay_script.specs.FailLine.{error_of}
+use Rattle.replay_script.specs.Reader.{answered}
+use Rattle.replay_script.specs.ReplyLine.{opened_response}
+use Rattle.replay_script.specs.declared.fault.ScriptFault.TheVariants as script
+use Rattle.replay_script.specs.declared.line.Line.{Line}
+use Rattle.replay_script.specs.declared.line.Line.TheVariants as line
+use Rattle.replay_script.specs.declared.reply_line.ReplyHead.{ReplyHead}
+use Rattle.replay_script.specs.declared.script.OpenReply.{OpenReply}
+use Rattle.conversation.specs.Faults.{hosts_fault}
+use Rattle.conversation.specs.Lines.{IsAsked, IsScriptLine, mark_or_none, verb_named, word_named}
+use Rattle.conversation.specs.State.{BegunValue, ConversationValue, InFlightValue, Setting, Serving, Stage, request_at}
+use Rattle.conversation.specs.Texts.{cancelled_text, clear_text, fault_text, fields_text, looked_up_text, send_text}
+use Rattle.conversation.specs.declared.fault.ConversationFault.{ConversationFault}
+use Rattle.conversation.specs.declared.fault.ConversationFault.TheVariants as fault
+use Rattle.conversation.specs.declared.reading.Verb.{Verb}
+use Rattle.conversation.specs.declared.reading.Verb.TheVariants as verb
+use Rattle.conversation.specs.declared.reading.Word.{Word}
+use Rattle.conversation.specs.declared.reading.Word.TheVariants as word
+
+-- what a line is answered: the lines that go out and those for the journal, whether it is the last; and what stands
+-- after it: what is set, or the resolver, and the request of the line's mark, where there is one
+pub record Answer : Type 0 where
+  pub text : List ℕ
+  pub journal : List ℕ
+  pub is_last : Bool
+  pub stage : Stage
+  pub held : Option InFlightValue
+
+-- nothing is said, and nothing changes
+abbrev pub nothing : ConversationValue → List ℕ → Answer
+nothing c mark = record {
+  text = [];
+  journal = [];
+  is_last = false;
+  stage = c.stage;
+  held = request_at mark c.requests;
+}
+
+-- a fault is told, and changes nothing
+abbrev pub refused : ConversationValue → List ℕ → ConversationFault → Answer
+refused c mark f = record (nothing c mark) { text = fault_text mark c.lines f }
+
+-- ---- settings
+
+-- the lines of the hosts with one more
+abbrev pub with_hosts : List ℕ → List (List ℕ) → List ℕ
+with_hosts hosts given = hosts ++ codes "\n" ++ fields_text given
+
+abbrev pub adds_hosts : ConversationValue → List ℕ → Stage → List (List ℕ) → Answer
+adds_hosts c mark (Setting configuration hosts) given =
+    record (nothing c mark) { stage = Setting configuration (with_hosts hosts given) }
+adds_hosts c mark (Serving s cache) given = refused c mark fault.SettingAfterRequest
+
+-- a setting is kept, and the journal has its line
+abbrev pub sets : ConversationValue → List ℕ → ConfigurationValue → List ℕ → List (List ℕ)
+    → Result Line ConversationFault → Answer
+sets c mark configuration hosts given (Ok (line.Configuration setting)) = record (nothing c mark) {
+  journal = fields_text given;
+  stage = Setting (with_setting setting configuration) hosts;
+}
+sets c mark configuration hosts given (Err f) = refused c mark f
+sets c mark configuration hosts given (Ok other) = refused c mark (fault.Script script.UnknownDirective)
+
+abbrev pub AnswersSetting : ConversationValue → List ℕ → Stage → List (List ℕ) → Answer → Type 0
+AnswersSetting c mark (Setting configuration hosts) given answer =
+    (said : Result Line ConversationFault) × IsScriptLine false given said
+    × (answer ≡ sets c mark configuration hosts given said)
+AnswersSetting c mark (Serving s cache) given answer = answer ≡ refused c mark fault.SettingAfterRequest
+
+-- `end`
+abbrev pub ends : ConversationValue → List ℕ → List (List ℕ) → Answer
+ends c mark behind =
+    if is_empty behind then record (nothing c mark) { is_last = true }
+    else refused c mark (fault.Script script.FieldCount)
+
+-- ---- the first request
+
+-- what is configured
+abbrev pub config_of : ConfigurationValue → ResolverConfigValue
+config_of c = record { domain = c.domain; search = c.search; name_servers = [] }
+
+-- the settings of a resolver and its cache, at the moment of a request: at the first one it is new, over a table that is
+-- read then; bounds on times to live that are reversed, or hosts that cannot be read, are a fault
+abbrev pub AreHosts : ConfigurationValue → Result (Unit {0}) HostsError → List Host
+    → Result (Settings × CacheValue) ConversationFault → Type 0
+AreHosts configuration (Ok done) table result =
+    let s = settings_of (config_of configuration) configuration.options table in result ≡ Ok (s, first_cache s)
+AreHosts configuration (Err error) table result = result ≡ Err (hosts_fault error)
+
+abbrev pub IsFirst : ConfigurationValue → List ℕ → ℕ → Result (Settings × CacheValue) ConversationFault → Type 0
+IsFirst configuration hosts now result =
+    MatchOption (bounds_fault (bounds_of configuration.options))
+    ((read : Result (Unit {0}) HostsError) × (table : List Host) × IsBytesRead now hosts [] read table
+    × AreHosts configuration read table result)
+    (λ reversed. result ≡ Err (fault.Script script.ReversedBounds))
+
+abbrev pub IsOpened : Stage → ℕ → Result (Settings × CacheValue) ConversationFault → Type 0
+IsOpened (Setting configuration hosts) now result = IsFirst configuration hosts now result
+IsOpened (Serving s cache) now result = result ≡ Ok (s, cache)
+
+-- ---- requests
+
+-- how far a request came: a look-up waits or is done, or a clear was done
+pub data Came : Type 0 where
+  Looks : CallProgressValue → Came
+  Clears : Came
+
+-- a request is begun
+abbrev pub ComesTo : Settings → RequestValue → CacheValue → Came → CacheValue → Type 0
+ComesTo s (Lookup text t now) before (Looks progress) after =
+    (name : Result NameValue NameError) × IsReadName text name
+    × (StartsCall (call_context_at s now) s (name_call t name) before progress after
+    ⊎ RunsOutAtStart before progress after)
+ComesTo s (LookupIp text now) before (Looks progress) after =
+    (address : Option IpAddr) × IsReadAddress text address × (name : Result NameValue NameError)
+    × IsReadName text name
+    × (((name ≢ Err name_error.OutOfMemory)
+    × StartsCall (call_context_at s now) s (address_call s address name now) before progress after)
+    ⊎ RunsOutAtStart before progress after)
+ComesTo s (ClearLookup text t now) before Clears after =
+    (name : Result NameValue NameError) × IsReadName text name × (name ≢ Err name_error.OutOfMemory)
+    × (after ≡ after_clear s t name before)
+ComesTo s (Clear now) before Clears after = after ≡ record before { entries = [] }
+ComesTo s request before came after = ⊥
+
+-- the request, with one more question that was sent for it
+abbrev pub asking : BegunValue → WaitingCallValue → InFlightValue
+asking begun w = record {
+  begun = record begun { sent = begun.sent ++ w.sub.hop.query ∷ [] };
+  waiting = w;
+  reply = None;
+}
+
+-- a question is to be sent; or the request is over, and the journal has the lines of its outcomes before its own; where
+-- memory ran out, there is no answer
+abbrev pub Tells : List ℕ → Settings → BegunValue → Came → CacheValue → Answer → Type 0
+Tells mark s begun (Looks (CallWaits w)) cache answer = answer ≡ record {
+  text = send_text mark w.sub.hop.query s.request_options;
+  journal = [];
+  is_last = false;
+  stage = Serving s cache;
+  held = Some (asking begun w);
+}
+Tells mark s begun (Looks (CallIsDone result)) cache answer =
+    (is_out_of_memory result ≡ false) × (answer ≡ record {
+      text = looked_up_text mark begun result;
+      journal = begun.told ++ request_text begun.request;
+      is_last = false;
+      stage = Serving s cache;
+      held = None;
+    })
+Tells mark s begun Clears cache answer = answer ≡ record {
+  text = clear_text mark begun.request;
+  journal = begun.told ++ request_text begun.request;
+  is_last = false;
+  stage = Serving s cache;
+  held = None;
+}
+
+-- a request for which nothing was sent
+abbrev pub just_begun : RequestValue → BegunValue
+just_begun request = record { request = request; sent = []; told = [] }
+
+abbrev pub Serves : List ℕ → RequestValue → Settings → CacheValue → Answer → Type 0
+Serves mark request s cache answer =
+    (came : Came) × (after : CacheValue) × ComesTo s request cache came after
+    × Tells mark s (just_begun request) came after answer
+
+abbrev pub Begins : ConversationValue → List ℕ → RequestValue → Answer → Type 0
+Begins c mark request answer =
+    (opened : Result (Settings × CacheValue) ConversationFault) × IsOpened c.stage (moment_of request) opened
+    × MatchResult opened (λ over. Serves mark request over.0 over.1 answer) (λ f. answer ≡ refused c mark f)
+
+-- a mark that is in use is refused; else the request is read
+abbrev pub AnswersRequest : ConversationValue → List ℕ → List (List ℕ) → Answer → Type 0
+AnswersRequest c mark given answer =
+    MatchOption (request_at mark c.requests)
+    ((asked : Result RequestValue ConversationFault) × IsAsked given asked
+    × MatchResult asked (λ request. Begins c mark request answer) (λ f. answer ≡ refused c mark f))
+    (λ r. answer ≡ refused c mark fault.MarkInUse)
+
+-- ---- outcomes
+
+-- one more line of what came back
+abbrev pub with_line : BegunValue → List (List ℕ) → BegunValue
+with_line begun given = record begun { told = begun.told ++ fields_text given }
+
+-- the request goes on with what came back to its question
+abbrev pub Feeds : List ℕ → Stage → BegunValue → WaitingCallValue → OutcomeValue → Answer → Type 0
+Feeds mark (Setting configuration hosts) begun w outcome answer = ⊥
+Feeds mark (Serving s cache) begun w outcome answer =
+    (progress : CallProgressValue) × (after : CacheValue)
+    × ResumesCall (call_context_at s w.sub.now) w outcome cache progress after
+    × Tells mark s begun (Looks progress) after answer
+
+-- the open reply is whole, and fed
+abbrev pub FeedsReply : List ℕ → Stage → InFlightValue → Answer → Type 0
+FeedsReply mark stage r answer =
+    (reply : OpenReply) × (r.reply ≡ Some reply) × Feeds mark stage r.begun r.waiting (Ok reply.message) answer
+
+abbrev pub AnswersDone : ConversationValue → List ℕ → InFlightValue → List (List ℕ) → Answer → Type 0
+AnswersDone c mark r behind answer =
+    MatchBool (is_some r.reply)
+    (MatchBool (is_empty behind) (FeedsReply mark c.stage r answer)
+    (answer ≡ refused c mark (fault.Script script.FieldCount)))
+    (answer ≡ refused c mark (fault.Script script.NoReply))
+
+-- the request is forgotten
+abbrev pub cancels : ConversationValue → List ℕ → List (List ℕ) → Answer
+cancels c mark behind =
+    if is_empty behind then record (nothing c mark) { text = cancelled_text mark; held = None }
+    else refused c mark (fault.Script script.FieldCount)
+
+-- a request is kept, and nothing is said
+abbrev pub keeps : ConversationValue → List ℕ → InFlightValue → Answer
+keeps c mark r = record (nothing c mark) { held = Some r }
+
+-- a reply is opened, gets one more record, or the question fails
+abbrev pub Takes : ConversationValue → List ℕ → InFlightValue → List (List ℕ) → Result Line ConversationFault → Answer
+    → Type 0
+Takes c mark r given (Ok (line.Reply head)) answer =
+    answer ≡ keeps c mark (record {
+      begun = with_line r.begun given;
+      waiting = r.waiting;
+      reply = Some (record { query = head.query; message = opened_response head });
+    })
+Takes c mark r given (Ok (line.Record section found)) answer =
+    answer ≡ keeps c mark (record {
+      begun = with_line r.begun given;
+      waiting = r.waiting;
+      reply = option_map (answered section found) r.reply;
+    })
+Takes c mark r given (Ok (line.Fail failure)) answer =
+    Feeds mark c.stage (with_line r.begun given) r.waiting (Err (error_of failure.kind)) answer
+Takes c mark r given (Ok other) answer = answer ≡ refused c mark (fault.Script script.UnknownDirective)
+Takes c mark r given (Err f) answer = answer ≡ refused c mark f
+
+abbrev pub AnswersLine : ConversationValue → List ℕ → InFlightValue → List (List ℕ) → Answer → Type 0
+AnswersLine c mark r given answer =
+    (said : Result Line ConversationFault) × IsScriptLine (is_some r.reply) given said
+    × Takes c mark r given said answer
+
+-- an outcome can begin only where no reply is open
+abbrev pub AnswersFirstLine : ConversationValue → List ℕ → InFlightValue → List (List ℕ) → Answer → Type 0
+AnswersFirstLine c mark r given answer =
+    MatchBool (is_some r.reply) (answer ≡ refused c mark fault.ReplyNotDone) (AnswersLine c mark r given answer)
+
+-- ---- lines with a mark
+
+-- for a request in flight; given are all fields behind the mark
+abbrev pub AnswersFor : ConversationValue → List ℕ → InFlightValue → Verb → List (List ℕ) → List (List ℕ) → Answer
+    → Type 0
+AnswersFor c mark r verb.Cancel behind given answer = answer ≡ cancels c mark behind
+AnswersFor c mark r verb.Done behind given answer = AnswersDone c mark r behind answer
+AnswersFor c mark r verb.Record behind given answer = AnswersLine c mark r given answer
+AnswersFor c mark r verb.Reply behind given answer = AnswersFirstLine c mark r given answer
+AnswersFor c mark r verb.Fail behind given answer = AnswersFirstLine c mark r given answer
+AnswersFor c mark r verb.At behind given answer = ⊥
+AnswersFor c mark r verb.Explain behind given answer = ⊥
+
+abbrev pub AnswersOutcome : ConversationValue → List ℕ → Verb → List (List ℕ) → List (List ℕ) → Answer → Type 0
+AnswersOutcome c mark v behind given answer =
+    MatchOption (request_at mark c.requests) (answer ≡ refused c mark fault.NoSuchRequest)
+    (λ r. AnswersFor c mark r v behind given answer)
+
+abbrev pub AnswersVerb : ConversationValue → List ℕ → Option Verb → List (List ℕ) → List (List ℕ) → Answer → Type 0
+AnswersVerb c mark None behind given answer = answer ≡ refused c mark (fault.Script script.UnknownDirective)
+AnswersVerb c mark (Some verb.At) behind given answer = AnswersRequest c mark given answer
+AnswersVerb c mark (Some verb.Explain) behind given answer = AnswersRequest c mark behind answer
+AnswersVerb c mark (Some v) behind given answer = AnswersOutcome c mark v behind given answer
+
+abbrev pub AnswersMarked : ConversationValue → List ℕ → List (List ℕ) → Answer → Type 0
+AnswersMarked c mark [] answer = answer ≡ refused c mark (fault.Script script.UnknownDirective)
+AnswersMarked c mark (text ∷ behind) answer =
+    AnswersVerb c mark (verb_named text) behind (text ∷ behind) answer
+
+-- ---- lines
+
+abbrev pub AnswersWord : ConversationValue → List ℕ → Word → List (List ℕ) → List (List ℕ) → Answer → Type 0
+AnswersWord c mark word.End behind given answer = answer ≡ ends c mark behind
+AnswersWord c mark word.Hosts behind given answer = answer ≡ adds_hosts c mark c.stage behind
+AnswersWord c mark word.Setting behind given answer = AnswersSetting c mark c.stage given answer
+AnswersWord c mark word.Unused behind given answer = answer ≡ refused c mark (fault.Script script.UnknownDirective)
+AnswersWord c mark word.Mark behind given answer = AnswersMarked c mark behind answer
+
+abbrev pub AnswersFields : ConversationValue → List (List ℕ) → Answer → Type 0
+AnswersFields c [] answer = answer ≡ nothing c (codes "-")
+AnswersFields c (text ∷ behind) answer =
+    AnswersWord c (mark_or_none text) (word_named text) behind (text ∷ behind) answer

@@ -1,0 +1,126 @@
+-- What a line is about: its first word, its verb, and the request that it asks.
+use Rattle.std.specs.Prelude.{◌≡◌, ◌&&◌, ℕ, Bool, true, false, List, [], ◌∷◌, codes, Option, Some, None, if◌then◌else◌, Result, Ok, Err, MatchBool, MatchResult, MatchOption}
+use Rattle.std.specs.List.{list_all}
+use Rattle.std.specs.declared.net.IpAddr.{IpAddr}
+use Rattle.hickory_proto_core.specs.Codes.{is_text}
+use Rattle.hickory_proto_core.specs.Name.{NameValue}
+use Rattle.hickory_proto_core.specs.NameGiven.{IsReadAddress}
+use Rattle.hickory_proto_core.specs.NameText.{name_text}
+use Rattle.hickory_proto_core.specs.Arpa.{arpa_name, whole_net}
+use Rattle.hickory_proto_core.specs.codes.record_type.RecordType.TheVariants as type
+use Rattle.hickory_resolver_model.specs.Run.{RequestValue, Lookup}
+use Rattle.hickory_resolver.specs.Requests.{request_of}
+use Rattle.replay_script.specs.Fields.{fields, is_skipped, is_allowed}
+use Rattle.replay_script.specs.Line.{IsSaid}
+use Rattle.replay_script.specs.Words.{number_field}
+use Rattle.replay_script.specs.Faults.{LineFaultValue}
+use Rattle.replay_script.specs.declared.fault.ScriptFault.TheVariants.{BadAddress, FieldCount, UnknownDirective}
+use Rattle.replay_script.specs.declared.line.Line.{Line}
+use Rattle.replay_script.specs.declared.line.Line.TheVariants as line
+use Rattle.conversation.specs.declared.fault.ConversationFault.{ConversationFault}
+use Rattle.conversation.specs.declared.fault.ConversationFault.TheVariants as fault
+use Rattle.conversation.specs.declared.reading.Word.{Word}
+use Rattle.conversation.specs.declared.reading.Word.TheVariants as word
+use Rattle.conversation.specs.declared.reading.Verb.{Verb}
+use Rattle.conversation.specs.declared.reading.Verb.TheVariants as verb
+
+-- ---- words
+
+-- what the first word says; every other one is a mark
+abbrev pub word_named : List ℕ → Word
+word_named text =
+    if is_text (codes "end") text then word.End else (
+    if is_text (codes "hosts") text then word.Hosts else (
+    if is_text (codes "option") text then word.Setting else (
+    if is_text (codes "domain") text then word.Setting else (
+    if is_text (codes "search") text then word.Setting else (
+    if is_text (codes "-") text then word.Unused else word.Mark)))))
+
+-- what the word behind a mark says
+abbrev pub verb_named : List ℕ → Option Verb
+verb_named text =
+    if is_text (codes "explain") text then Some verb.Explain else (
+    if is_text (codes "at") text then Some verb.At else (
+    if is_text (codes "reply") text then Some verb.Reply else (
+    if is_text (codes "answer") text then Some verb.Record else (
+    if is_text (codes "authority") text then Some verb.Record else (
+    if is_text (codes "additional") text then Some verb.Record else (
+    if is_text (codes "done") text then Some verb.Done else (
+    if is_text (codes "fail") text then Some verb.Fail else (
+    if is_text (codes "cancel") text then Some verb.Cancel else None))))))))
+
+-- ---- marks
+
+-- the mark that a first word is, and `-` where it is none
+abbrev pub mark_by : Word → List ℕ → List ℕ
+mark_by word.End text = codes "-"
+mark_by word.Hosts text = codes "-"
+mark_by word.Setting text = codes "-"
+mark_by word.Unused text = codes "-"
+mark_by word.Mark text = text
+
+abbrev pub mark_or_none : List ℕ → List ℕ
+mark_or_none text = mark_by (word_named text) text
+
+abbrev pub mark_in : List (List ℕ) → List ℕ
+mark_in [] = codes "-"
+mark_in (text ∷ behind) = mark_or_none text
+
+-- a comment has no mark, nor has a line with a byte that may not stand in it
+abbrev pub mark_of : List ℕ → List ℕ
+mark_of text =
+    if is_skipped text then codes "-" else (
+    if list_all is_allowed text then mark_in (fields text) else codes "-")
+
+-- ---- lines of a script
+
+-- what a line of a script says, or its fault
+abbrev pub said_of : Result Line LineFaultValue → Result Line ConversationFault
+said_of (Ok said) = Ok said
+said_of (Err f) = Err (fault.Script f.fault)
+
+abbrev pub IsScriptLine : Bool → List (List ℕ) → Result Line ConversationFault → Type 0
+IsScriptLine has_reply given result =
+    (said : Result Line LineFaultValue) × IsSaid has_reply given said × (result ≡ said_of said)
+
+-- ---- requests
+
+abbrev pub request_in : Result Line ConversationFault → Result RequestValue ConversationFault
+request_in (Ok (line.Request request)) = Ok (request_of request)
+request_in (Ok line.Blank) = Err (fault.Script UnknownDirective)
+request_in (Ok (line.Reply head)) = Err (fault.Script UnknownDirective)
+request_in (Ok (line.Fail failure)) = Err (fault.Script UnknownDirective)
+request_in (Ok (line.Record section found)) = Err (fault.Script UnknownDirective)
+request_in (Ok (line.Configuration setting)) = Err (fault.Script UnknownDirective)
+request_in (Err f) = Err f
+
+-- as a script has it
+abbrev pub IsScriptRequest : List (List ℕ) → Result RequestValue ConversationFault → Type 0
+IsScriptRequest given result =
+    (said : Result Line ConversationFault) × IsScriptLine false given said × (result ≡ request_in said)
+
+-- `reverse` ADDRESS is a look-up of the names of the address
+abbrev pub pointer_of : ℕ → Option IpAddr → Result RequestValue ConversationFault
+pointer_of now None = Err (fault.Script BadAddress)
+pointer_of now (Some address) = Ok (Lookup (name_text (arpa_name (whole_net address))) type.PTR now)
+
+abbrev pub IsPointer : ℕ → List (List ℕ) → Result RequestValue ConversationFault → Type 0
+IsPointer now (address ∷ []) result =
+    (found : Option IpAddr) × IsReadAddress address found × (result ≡ pointer_of now found)
+IsPointer now given result = result ≡ Err (fault.Script FieldCount)
+
+abbrev pub IsReverse : List ℕ → List (List ℕ) → Result RequestValue ConversationFault → Type 0
+IsReverse moment given result =
+    MatchResult (number_field 64 moment) (λ now. IsPointer now given result) (λ f. result ≡ Err (fault.Script f.fault))
+
+-- whether the fields begin with `at` MOMENT `reverse`
+abbrev pub is_reverse : List (List ℕ) → Bool
+is_reverse (at ∷ moment ∷ asked ∷ behind) = is_text (codes "at") at && is_text (codes "reverse") asked
+is_reverse given = false
+
+-- the request that the fields behind a mark ask, or their fault
+abbrev pub IsAsked : List (List ℕ) → Result RequestValue ConversationFault → Type 0
+IsAsked (at ∷ moment ∷ asked ∷ behind) result =
+    MatchBool (is_reverse (at ∷ moment ∷ asked ∷ behind)) (IsReverse moment behind result)
+    (IsScriptRequest (at ∷ moment ∷ asked ∷ behind) result)
+IsAsked given result = IsScriptRequest given result

@@ -1,0 +1,133 @@
+-- What the parts of the code say of each other: what is told of a request, and what stands.
+use Rattle.std.specs.Prelude.{◌≡◌, ◌⊎◌, Bool, true, false, List, [], ℕ, ◌++◌, string_bytes, Option, None, Some, Result, Ok, Err}
+use Rattle.std.specs.Option.{is_some, option_map}
+use Rattle.std.specs.declared.alloc.AllocError.{AllocError}
+use Rattle.hickory_proto_core.specs.Handles.{OutcomeValue}
+use Rattle.hickory_proto_core.specs.ResponseKind.{is_empty}
+use Rattle.hickory_resolver.specs.CallProgress.{call_progress_of}
+use Rattle.hickory_resolver_model.specs.Calls.{is_out_of_memory}
+use Rattle.hickory_resolver_model.specs.Lookup.{LookupResult}
+use Rattle.hickory_resolver_model.specs.Run.{RequestValue, Settings}
+use Rattle.hickory_resolver_model.specs.Cache.{CacheValue}
+use Rattle.hickory_resolver_theorems.specs.ResumingCalls.{WaitingCallValue}
+use Rattle.hickory_resolver.specs.Requests.{request_of}
+use Rattle.hickory_resolver_lookup.specs.declared.request.Request.{Request}
+use Rattle.replay.specs.Output.{request_text}
+use Rattle.conversation.specs.Answers as answers
+use Rattle.conversation.specs.Answers.{Answer, Feeds, IsOpened, keeps, refused}
+use Rattle.conversation.specs.Faults.{out_of_memory}
+use Rattle.conversation.specs.Hearing.{IsFedOut, IsLeft, Says, Stands}
+use Rattle.conversation.specs.State.{BegunValue, ConversationValue, InFlightValue, Puts, Requests, Serving, request_at}
+use Rattle.conversation.specs.Texts.{clear_text, looked_up_text}
+use Rattle.conversation.specs.declared.heard.Heard.{Heard}
+use Rattle.conversation.specs.declared.fault.ConversationFault.{ConversationFault}
+use Rattle.conversation.specs.declared.fault.ConversationFault.TheVariants as faults
+use Rattle.conversation.specs.declared.reading.Verb.{Verb}
+use Rattle.conversation.specs.declared.reading.Verb.TheVariants as verb
+use Rattle.replay_script.specs.declared.fault.ScriptFault.TheVariants as script
+use Rattle.conversation.specs.declared.requests.Came.{Came}
+use Rattle.conversation.specs.declared.requests.Came.TheVariants as came
+
+abbrev pub came_of : Came → answers.Came
+came_of (came.Looks progress) = answers.Looks (call_progress_of progress)
+came_of came.Clears = answers.Clears
+
+-- whatever stands under this mark, the requests under others stay
+abbrev pub PutsSome : List ℕ → Requests → Requests → Type 0
+PutsSome mark before after = (held : Option InFlightValue) × Puts mark held before after
+
+-- the lines that go out, and those for the journal
+pub record IsBlock (mark : List ℕ) (begun : BegunValue) (found : LookupResult) (heard : Heard) : Type 0 where
+  pub remembered : is_out_of_memory found ≡ false
+  pub text_is : string_bytes heard.text ≡ looked_up_text mark begun found
+  pub journal_is : string_bytes heard.journal ≡ begun.told ++ request_text begun.request
+  pub last_is : heard.is_last ≡ false
+
+pub record IsClearBlock (mark : List ℕ) (begun : BegunValue) (heard : Heard) : Type 0 where
+  pub text_is : string_bytes heard.text ≡ clear_text mark begun.request
+  pub journal_is : string_bytes heard.journal ≡ begun.told ++ request_text begun.request
+  pub last_is : heard.is_last ≡ false
+
+-- an answer of this kind is told of the request of a mark; or memory ran out
+abbrev pub IsTold : {E : Type 0} → List ℕ → (Answer → Type 0) → Result Heard E → Requests → Requests → Type 0
+IsTold mark Kind (Ok heard) before after =
+    (answer : Answer) × Kind answer × Says answer heard × Puts mark answer.held before after
+IsTold mark Kind (Err error) before after = PutsSome mark before after
+
+-- memory ran out under way
+pub record RanOut (mark : List ℕ) (before after : ConversationValue) : Type 0 where
+  pub lines_are : after.lines ≡ before.lines
+  pub stage_is : IsLeft before mark after.stage
+  pub requests_are : PutsSome mark before.requests after.requests
+
+-- an answer of this kind is given; a fault is, and nothing changed; or memory ran out
+abbrev pub IsTaken : ConversationValue → List ℕ → (Answer → Type 0) → Result Heard ConversationFault
+    → ConversationValue → Type 0
+IsTaken before mark Kind (Ok heard) after =
+    (answer : Answer) × Kind answer × Says answer heard × Stands mark answer before after
+IsTaken before mark Kind (Err fault) after =
+    (Kind (refused before mark fault) × (after ≡ before)) ⊎ ((fault ≡ out_of_memory) × RanOut mark before after)
+
+-- a request that is what was asked, or its fault; or memory ran out
+abbrev pub IsAskedOr : (Result RequestValue ConversationFault → Type 0) → Result Request ConversationFault → Type 0
+IsAskedOr Asks (Ok request) = Asks (Ok (request_of request))
+IsAskedOr Asks (Err fault) = Asks (Err fault) ⊎ (fault ≡ out_of_memory)
+
+-- ---- requests in flight
+
+-- whether a reply is open for the request of a mark
+abbrev pub HasReply : ConversationValue → List ℕ → Bool → Type 0
+HasReply c mark has_reply = option_map (λ r. is_some r.reply) (request_at mark c.requests) ≡ Some has_reply
+
+-- an answer of a kind that depends on the request of a mark
+abbrev pub OfRequest : ConversationValue → List ℕ → (InFlightValue → Answer → Type 0) → Answer → Type 0
+OfRequest c mark Kind answer = (r : InFlightValue) → request_at mark c.requests ≡ Some r → Kind r answer
+
+-- a verb for a request in flight
+abbrev pub IsOfOutcome : Verb → Type 0
+IsOfOutcome verb.At = ⊥
+IsOfOutcome verb.Explain = ⊥
+IsOfOutcome other = Unit {0}
+
+-- a request that was taken out goes on; where memory runs out, what is left is of it
+abbrev pub IsFed : ConversationValue → List ℕ → BegunValue → WaitingCallValue → OutcomeValue
+    → Result Heard ConversationFault → ConversationValue → Type 0
+IsFed before mark begun w outcome (Ok heard) after =
+    (answer : Answer) × Feeds mark before.stage begun w outcome answer × Says answer heard
+    × Stands mark answer before after
+IsFed before mark begun w outcome (Err fault) after =
+    (fault ≡ out_of_memory) × (after.lines ≡ before.lines)
+    × ((after.stage ≡ before.stage) ⊎ IsFedOut before.stage w outcome after.stage)
+    × PutsSome mark before.requests after.requests
+
+-- a request is kept under its mark, and nothing is said
+abbrev pub IsKept : ConversationValue → List ℕ → InFlightValue → Result Heard ConversationFault → ConversationValue
+    → Type 0
+IsKept before mark r (Ok heard) after =
+    Says (keeps before mark r) heard × Stands mark (keeps before mark r) before after
+IsKept before mark r (Err fault) after = (fault ≡ out_of_memory) × (after ≡ before)
+
+-- ---- the first request
+
+-- the resolver is there: it was, or is made; or a fault, and nothing changed
+abbrev pub IsOpening : ConversationValue → ℕ → Result (Unit {0}) ConversationFault → ConversationValue → Type 0
+IsOpening before now (Ok done) after =
+    (s : Settings) × (cache : CacheValue) × IsOpened before.stage now (Ok (s, cache))
+    × (after ≡ record before { stage = Serving s cache })
+IsOpening before now (Err fault) after =
+    (IsOpened before.stage now (Err fault) ⊎ (fault ≡ out_of_memory)) × (after ≡ before)
+
+-- ---- ends
+
+abbrev pub IsEnding : List (List ℕ) → Result Heard ConversationFault → Type 0
+IsEnding behind (Ok heard) =
+    (is_empty behind ≡ true) × (string_bytes heard.text ≡ []) × (string_bytes heard.journal ≡ [])
+    × (heard.is_last ≡ true)
+IsEnding behind (Err fault) = (is_empty behind ≡ false) × (fault ≡ faults.Script script.FieldCount)
+
+-- an answer of this kind, also one that tells a fault; or memory ran out
+abbrev pub IsAnswered : ConversationValue → List ℕ → (Answer → Type 0) → Result Heard AllocError → ConversationValue
+    → Type 0
+IsAnswered before mark Kind (Ok heard) after =
+    (answer : Answer) × Kind answer × Says answer heard × Stands mark answer before after
+IsAnswered before mark Kind (Err error) after = RanOut mark before after

@@ -1,0 +1,64 @@
+//! Requests in flight.
+ghost use Rattle.std.specs.Prelude.{◌≡◌, ◌++◌, ◌∷◌, [], OnOk, Ok};
+ghost use Rattle.hickory_resolver.specs.Requests.{request_of};
+ghost use Rattle.replay_script.specs.Words.{texts};
+ghost use Rattle.conversation.specs.Answers.{just_begun, with_line};
+ghost use Rattle.conversation.specs.State.{begun_of};
+
+use crate::writing::push_fields;
+use hickory_proto_core::{DnsResponse, Outcome, Query};
+use hickory_resolver::{Request, WaitingCall};
+use replay_script::OpenReply;
+use std::alloc::{AllocError, Global};
+
+/// A request, the questions that were sent for it, and the lines of what came back, as a script has them.
+#[derive(Drop)]
+pub struct Begun {
+    pub request: Request,
+    pub sent: Vec<Query>,
+    pub told: String,
+}
+
+/// A request that waits for what comes back to a question, and the reply so far.
+#[derive(Drop)]
+pub struct InFlight {
+    pub begun: Begun,
+    pub waiting: WaitingCall,
+    pub reply: Option<OpenReply>,
+}
+
+impl Begun {
+    /// A request for which nothing was sent.
+    pub fn new(alloc: Global, request: Request) -> Begun
+        ensures { begun_of result ≡ just_begun (request_of request) }
+    {
+        Begun {
+            request,
+            sent: Vec::new(alloc),
+            told: String::new(alloc),
+        }
+    }
+
+    /// One more question was sent.
+    pub fn add_question(&mut self, question: &Query) -> Result<(), AllocError>
+        ensures { OnOk result (begun_of self.new
+            ≡ record (begun_of self.old) { sent = (begun_of self.old).sent ++ question.now ∷ [] }) }
+    {
+        self.sent.push(Clone::clone(question)?)?;
+        Ok(())
+    }
+
+    /// One more line of what came back.
+    pub fn add_line(&mut self, fields: &[&str]) -> Result<(), AllocError>
+        ensures { OnOk result (begun_of self.new ≡ with_line (begun_of self.old) (texts fields.now)) }
+    {
+        push_fields(&mut self.told, fields)
+    }
+}
+
+/// The outcome that a reply is.
+pub fn outcome_of(reply: OpenReply) -> Outcome
+    ensures { result ≡ Ok reply.message }
+{
+    Ok(DnsResponse::from_message(reply.message))
+}

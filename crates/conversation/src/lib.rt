@@ -1,0 +1,19 @@
+//! A conversation with a resolver, line by line: requests go in, questions to be sent and answers come out. It does no
+//! I/O: whoever writes the lines sends the questions, and writes back what came.
+#![tactic(auto)]
+
+pub mod conversation;
+pub mod fault;
+pub mod heard;
+mod in_flight;
+pub mod laws;
+mod reading;
+mod requests;
+mod state;
+mod writing;
+
+pub use conversation::Conversation;
+pub use fault::ConversationFault;
+pub use heard::Heard;
+pub use hickory_resolver::Hosts;
+pub use reading::mark_of;

@@ -1,0 +1,225 @@
+"""Cases of `dig2script` and `pcap2script`: what they make is replayed, and prints a text that was written by hand."""
+import socket
+import struct
+
+import dns.message
+import dns.rrset
+
+from . import tools
+
+DIG = """
+; <<>> DiG 9.18.24 <<>> www.example.test alias.example.test nowhere.example.test example.test TXT +multiline
+;; global options: +cmd
+;; Got answer:
+;; ->>HEADER<<- opcode: QUERY, status: NOERROR, id: 29010
+;; flags: qr rd ra; QUERY: 1, ANSWER: 1, AUTHORITY: 0, ADDITIONAL: 1
+
+;; OPT PSEUDOSECTION:
+; EDNS: version: 0, flags:; udp: 1232
+;; QUESTION SECTION:
+;www.example.test.\t\tIN A
+
+;; ANSWER SECTION:
+www.example.test.\t60 IN\tA 192.0.2.1
+
+;; Query time: 4 msec
+;; SERVER: 127.0.0.1#53(127.0.0.1) (UDP)
+;; WHEN: Fri Nov 27 04:00:00 UTC 2026
+;; MSG SIZE  rcvd: 61
+
+;; Got answer:
+;; ->>HEADER<<- opcode: QUERY, status: NOERROR, id: 29011
+;; flags: qr rd ra; QUERY: 1, ANSWER: 1, AUTHORITY: 0, ADDITIONAL: 0
+
+;; QUESTION SECTION:
+;alias.example.test.\tIN A
+
+;; ANSWER SECTION:
+alias.example.test.\t30 IN\tCNAME www.example.test.
+
+;; WHEN: Fri Nov 27 04:00:10 UTC 2026
+
+;; Got answer:
+;; ->>HEADER<<- opcode: QUERY, status: NXDOMAIN, id: 29012
+;; flags: qr rd ra; QUERY: 1, ANSWER: 0, AUTHORITY: 1, ADDITIONAL: 0
+
+;; QUESTION SECTION:
+;nowhere.example.test.\tIN A
+
+;; AUTHORITY SECTION:
+example.test.\t\t30 IN\tSOA ns.example.test. admin.example.test. (
+\t\t\t\t1          ; serial
+\t\t\t\t7200       ; refresh (2 hours)
+\t\t\t\t900        ; retry (15 minutes)
+\t\t\t\t1209600    ; expire (2 weeks)
+\t\t\t\t40         ; minimum (40 seconds)
+\t\t\t\t)
+
+;; WHEN: Fri Nov 27 04:00:10 UTC 2026
+
+;; Got answer:
+;; ->>HEADER<<- opcode: QUERY, status: NOERROR, id: 29013
+;; flags: qr tc rd ra; QUERY: 1, ANSWER: 2, AUTHORITY: 0, ADDITIONAL: 0
+
+;; QUESTION SECTION:
+;example.test.\t\tIN TXT
+
+;; ANSWER SECTION:
+example.test.\t\t60 IN\tTXT "v=spf1 (a) \\"b\\"; c" ""
+
+;; WHEN: Fri Nov 27 04:00:11 UTC 2026
+
+; <<>> DiG 9.18.24 <<>> @127.0.0.1 -p 5300 mail.example.test MX
+;; global options: +cmd
+;; no servers could be reached
+"""
+# The second answer may be used for as long as the alias that led to it, which has a TTL of 30.
+DIG_REPLAYED = """at 1795752000 lookup www.example.test. A
+  sent www.example.test. IN A
+  ok www.example.test. IN A until 1795752060
+  answer www.example.test. 60 IN A 192.0.2.1
+at 1795752010 lookup alias.example.test. A
+  sent alias.example.test. IN A
+  ok www.example.test. IN A until 1795752040
+  answer www.example.test. 50 IN A 192.0.2.1
+at 1795752010 lookup nowhere.example.test. A
+  sent nowhere.example.test. IN A
+  err norecords NXDOMAIN 30 nowhere.example.test. IN A
+at 1795752011 lookup example.test. TXT
+  sent example.test. IN TXT
+  ok example.test. IN TXT until 1795752071
+  answer example.test. 60 IN TXT 763d7370663120286129202262223b2063 -
+at 1795752011 lookup mail.example.test. MX
+  sent mail.example.test. IN MX
+  err timeout
+"""
+
+CLIENT, SERVER = (4, "192.0.2.10", 40000), (4, "192.0.2.53", 53)
+CLIENT_6, SERVER_6 = (6, "2001:db8::10", 40000), (6, "2001:db8::53", 53)
+PCAP_REPLAYED = """at 100 lookup alias.example.test. A
+  sent alias.example.test. IN A
+  sent www.example.test. IN A
+  ok www.example.test. IN A until 160
+  answer alias.example.test. 60 IN CNAME www.example.test.
+  answer www.example.test. 60 IN A 192.0.2.1
+at 103 lookup example.test. MX
+  sent example.test. IN MX
+  ok example.test. IN MX until 163
+  answer example.test. 60 IN MX 10 mail.example.test.
+at 104 lookup mail.example.test. AAAA
+  sent mail.example.test. IN AAAA
+  err timeout
+"""
+PCAP_NOTES = """# Packets of TCP, which are not read, so that a truncated reply stands as it is: 1
+# Packets that are no whole message of DNS by UDP, and are left out: 2
+# Replies without a question before them, which are left out: 1
+"""
+
+
+def run(cases, programs, folder):
+    with cases.guard("dig2script"):
+        told = make(folder, "dig", DIG.encode("ascii"))
+        script = folder / "dig.script"
+        script.write_text(tools.run("dig2script", told)[1])
+        cases.equal("dig2script", tools.replayed(programs.replay, script), DIG_REPLAYED)
+        cases.equal("dig2script, of nothing", tools.run("dig2script", "/dev/null")[:2], (1, ""))
+    for link, frame in LINKS.items():
+        with cases.guard(f"pcap2script, link type {link}"):
+            captured(cases, programs, folder, link, frame)
+    with cases.guard("pcap2script, another file"):
+        other = make(folder, "none", bytes(64))
+        cases.equal("pcap2script, of another file", tools.run("pcap2script", other)[:2], (1, ""))
+
+
+def captured(cases, programs, folder, link, frame):
+    status, text, said = tools.run("pcap2script", make(folder, "capture", capture(link, frame)))
+    cases.equal(f"pcap2script, link type {link}", (status, said), (0, ""))
+    script = make(folder, "capture.script", text.encode("ascii"))
+    cases.equal(f"pcap2script, link type {link}: replayed", tools.replayed(programs.replay, script), PCAP_REPLAYED)
+    cases.tell(f"pcap2script, link type {link}: notes", PCAP_NOTES in text, text)
+
+
+def make(folder, name, data):
+    path = folder / name
+    path.write_bytes(data)
+    return path
+
+
+def capture(link, frame):
+    """A capture of the same packets over this type of link."""
+    head = struct.pack("<IHHiIII", 0xA1B2C3D4, 2, 4, 0, 0, 65535, link)
+    parts = [head]
+    for second, version, packet in seen():
+        data = frame(version, packet)
+        parts.append(struct.pack("<4I", second, 0, len(data), len(data)) + data)
+    return b"".join(parts)
+
+
+def seen():
+    """The second, the version of IP and the packet of all that was seen on the wire."""
+    alias = message(1, "alias.example.test.", "A", "alias.example.test. 60 IN CNAME www.example.test.")
+    target = message(2, "www.example.test.", "A", "www.example.test. 60 IN A 192.0.2.1")
+    mail = message(3, "example.test.", "MX", "example.test. 60 IN MX 10 mail.example.test.")
+    lost = message(4, "mail.example.test.", "AAAA")
+    # Sent again before the reply.
+    yield 100, 4, datagram(CLIENT, SERVER, message(1, "alias.example.test.", "A"))
+    yield 101, 4, datagram(CLIENT, SERVER, message(1, "alias.example.test.", "A"))
+    # A reply of another id, then the right one.
+    other = message(9, "alias.example.test.", "A", "alias.example.test. 60 IN A 203.0.113.66")
+    yield 101, 4, datagram(SERVER, CLIENT, other)
+    yield 101, 4, datagram(SERVER, CLIENT, alias)
+    yield 102, 4, datagram(CLIENT, SERVER, message(2, "www.example.test.", "A"))
+    yield 102, 4, datagram(SERVER, CLIENT, target)
+    yield 103, 6, datagram(CLIENT_6, SERVER_6, message(3, "example.test.", "MX"))
+    yield 103, 6, datagram(SERVER_6, CLIENT_6, mail)
+    yield 104, 4, datagram(CLIENT, SERVER, lost)
+    # Of another port, of TCP, no message, and a fragment.
+    yield 104, 4, datagram(CLIENT, (4, "192.0.2.53", 123), b"time")
+    yield 105, 4, packet_4(CLIENT, SERVER, 6, bytes(20))
+    yield 105, 4, datagram(SERVER, CLIENT, b"\0\1\x81\x80\0\1")
+    yield 105, 4, packet_4(SERVER, CLIENT, 17, bytes(20), fragment=0x2000)
+
+
+def message(ident, name, rdtype, *answers):
+    query = dns.message.make_query(name, rdtype, id=ident)
+    if not answers:
+        return query.to_wire()
+    response = dns.message.make_response(query)
+    for answer in answers:
+        name, ttl, rdclass, rdtype, data = answer.split(None, 4)
+        response.answer.append(dns.rrset.from_text(name, int(ttl), rdclass, rdtype, data))
+    return response.to_wire()
+
+
+def datagram(source, target, payload):
+    udp = struct.pack(">4H", source[2], target[2], 8 + len(payload), 0) + payload
+    return (packet_4 if source[0] == 4 else packet_6)(source, target, 17, udp)
+
+
+def packet_4(source, target, protocol, data, fragment=0):
+    head = struct.pack(">BBHHHBBH", 0x45, 0, 20 + len(data), 0, fragment, 64, protocol, 0)
+    return head + address(source) + address(target) + data
+
+
+def packet_6(source, target, protocol, data):
+    return struct.pack(">IHBB", 6 << 28, len(data), protocol, 64) + address(source) + address(target) + data
+
+
+def address(end):
+    return socket.inet_pton(socket.AF_INET if end[0] == 4 else socket.AF_INET6, end[1])
+
+
+def ether_type(version):
+    return b"\x08\x00" if version == 4 else b"\x86\xdd"
+
+
+LINKS = {
+    # BSD's loopback: the family of addresses, in the order of bytes of the machine.
+    0: lambda version, packet: struct.pack("<I", 2 if version == 4 else 10) + packet,
+    # Ethernet with a tag of a VLAN.
+    1: lambda version, packet: bytes(12) + b"\x81\x00\0\1" + ether_type(version) + packet,
+    101: lambda version, packet: packet,
+    # Linux's cooked captures.
+    113: lambda version, packet: bytes(14) + ether_type(version) + packet,
+    276: lambda version, packet: ether_type(version) + bytes(18) + packet,
+}

@@ -1,0 +1,42 @@
+"""Runs the tools."""
+import os
+import subprocess
+from contextlib import contextmanager
+from pathlib import Path
+
+from .packages import PYTHON
+
+TOOLS = Path(__file__).resolve().parents[2] / "tools"
+SECONDS = 30
+ENVIRONMENT = {**os.environ, "PYTHONDONTWRITEBYTECODE": "1"}
+
+
+def run(tool, *words):
+    """The status, standard output and standard error of a tool."""
+    words = [PYTHON, str(TOOLS / tool), *map(str, words)]
+    how = {"stdin": subprocess.DEVNULL, "capture_output": True, "text": True, "env": ENVIRONMENT}
+    done = subprocess.run(words, timeout=SECONDS, **how)
+    return done.returncode, done.stdout, done.stderr
+
+
+def replayed(program, *files):
+    """What a replay prints."""
+    done = subprocess.run([program, *files], stdin=subprocess.DEVNULL, capture_output=True, timeout=SECONDS, text=True)
+    return done.stdout if done.returncode == 0 else f"status {done.returncode}: {done.stderr}"
+
+
+@contextmanager
+def forwarding(programs, server, port, *words):
+    """A forwarder to this server, once it listens."""
+    words = ["--listen", f"127.0.0.1:{port}", "--server", server, "--serve", str(programs.serve), *words]
+    words = [PYTHON, str(TOOLS / "forward"), *words]
+    process = subprocess.Popen(words, stdin=subprocess.DEVNULL, stderr=subprocess.PIPE, text=True, env=ENVIRONMENT)
+    try:
+        said = process.stderr.readline()
+        if not said.startswith("forwarding on "):
+            raise RuntimeError(said + process.stderr.read())
+        yield process
+    finally:
+        process.terminate()
+        process.stderr.close()
+        process.wait(SECONDS)

@@ -1,0 +1,90 @@
+"""Reads a capture of packets: the classic form of pcap, with UDP over IPv4 and IPv6."""
+import ipaddress
+import struct
+from dataclasses import dataclass
+
+MAGICS = {b"\xd4\xc3\xb2\xa1": "<", b"\xa1\xb2\xc3\xd4": ">", b"\x4d\x3c\xb2\xa1": "<", b"\xa1\xb2\x3c\x4d": ">"}
+ETHERNET = 1
+# The bytes before the packet of IP, by the type of the link: loopback of BSD, raw IP, and Linux's cooked captures.
+LINK_BYTES = {0: 4, 108: 4, 12: 0, 14: 0, 101: 0, 228: 0, 229: 0, 113: 16, 276: 20}
+VLAN_TAGS = (0x8100, 0x88A8)
+IP_TYPES = (0x0800, 0x86DD)
+TCP, UDP = 6, 17
+# Headers of IPv6 that may stand before that of UDP: hop-by-hop, routing, destination options.
+IPV6_OPTIONS = (0, 43, 60)
+
+
+class NoCapture(ValueError):
+    """The file is none that is read here."""
+
+
+class OtherPacket(Exception):
+    """A packet without a whole datagram. `is_stream` says whether it is of TCP."""
+
+    def __init__(self, is_stream=False):
+        super().__init__()
+        self.is_stream = is_stream
+
+
+@dataclass(frozen=True)
+class Datagram:
+    second: int
+    source: tuple
+    target: tuple
+    payload: bytes
+
+
+def packets(data):
+    """The second, the type of the link and the bytes of each packet of a capture."""
+    order = MAGICS.get(data[:4])
+    if order is None or len(data) < 24:
+        raise NoCapture("no pcap file; one of pcapng is made into one by: editcap -F pcap IN OUT")
+    link = struct.unpack_from(order + "I", data, 20)[0] & 0xFFFF
+    if link != ETHERNET and link not in LINK_BYTES:
+        raise NoCapture(f"packets of link type {link} are not read")
+    at = 24
+    while at + 16 <= len(data):
+        second, _, length, _ = struct.unpack_from(order + "4I", data, at)
+        yield second, link, data[at + 16:at + 16 + length]
+        at += 16 + length
+
+
+def without_link(link, packet):
+    if link != ETHERNET:
+        return packet[LINK_BYTES[link]:]
+    at = 12
+    while int.from_bytes(packet[at:at + 2], "big") in VLAN_TAGS:
+        at += 4
+    if int.from_bytes(packet[at:at + 2], "big") not in IP_TYPES:
+        raise OtherPacket
+    return packet[at + 2:]
+
+
+def read_datagram(second, packet):
+    """The datagram that a packet of IP holds."""
+    if not packet:
+        raise OtherPacket
+    protocol, source, target, rest = (read_ipv4 if packet[0] >> 4 == 4 else read_ipv6)(packet)
+    if protocol != UDP:
+        raise OtherPacket(is_stream=protocol == TCP)
+    source_port, target_port, length = struct.unpack_from(">3H", rest)
+    return Datagram(second, (str(source), source_port), (str(target), target_port), rest[8:length])
+
+
+def read_ipv4(packet):
+    length, fragment = struct.unpack_from(">2xH2xH", packet)
+    # A fragment has an offset, or more fragments behind it.
+    if fragment & 0x3FFF:
+        raise OtherPacket
+    # A capture of a machine's own packets may lack their length.
+    rest = packet[(packet[0] & 15) * 4:length or None]
+    return packet[9], ipaddress.IPv4Address(packet[12:16]), ipaddress.IPv4Address(packet[16:20]), rest
+
+
+def read_ipv6(packet):
+    if packet[0] >> 4 != 6:
+        raise OtherPacket
+    following, rest = packet[6], packet[40:]
+    while following in IPV6_OPTIONS:
+        following, rest = rest[0], rest[(rest[1] + 1) * 8:]
+    return following, ipaddress.IPv6Address(packet[8:24]), ipaddress.IPv6Address(packet[24:40]), rest
