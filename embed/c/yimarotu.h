@@ -1,20 +1,23 @@
 /* Yimarotu, a stub resolver's core, for C.
  *
- * The library does no input or output, knows no clock and keeps nothing between calls.
+ * The library does no input or output and knows no clock. A program opens a session, starts look-ups in it, sends their
+ * questions and feeds what comes back, and reads the answers. Questions, outcomes and answers are DNS messages (RFC 1035,
+ * section 4.1).
  *
  * Bytes cross as a pointer and a length; the library reads or writes so many bytes there, keeps no pointer to them, and
  * frees none. No pointer may be null, not even where its length is 0. A length is at most PTRDIFF_MAX. A room overlaps
- * nothing else that the call is given.
+ * nothing else that the call is given. A moment is in seconds, from whatever start the program takes.
  *
  * A call never ends the program; where memory runs out it says so. The library takes memory by the malloc and realloc of
- * the program, and has given all of it back when the call returns.
+ * the program. What a session holds is given back when it is closed; all other memory when the call returns.
  *
- * Calls may be made from several threads at once. None may come from a signal handler, or from a child of fork() in a
- * program with threads.
+ * Calls may be made from several threads at once, but of one session only one at a time. None may come from a signal
+ * handler, or from a child of fork() in a program with threads.
  */
 #ifndef YIMAROTU_H
 #define YIMAROTU_H
 
+#include <stdbool.h>
 #include <stddef.h>
 #include <stdint.h>
 
@@ -22,14 +25,169 @@
 extern "C" {
 #endif
 
-/* How a call ended. A number that is not here is never given. */
+/* How a call ended: a status. A number that is not here is never given. */
 enum {
     YIMAROTU_OK = 0,
-    YIMAROTU_SCRIPT = 1,    /* a line of the script has a fault */
-    YIMAROTU_NO_MEMORY = 3, /* no memory was left */
-    YIMAROTU_HOSTS = 4,     /* a line of the hosts is not UTF-8 */
-    YIMAROTU_ROOM = 5       /* the room is too small: nothing was written, and the length says how much is wanted */
+    YIMAROTU_SCRIPT = 1,     /* a line of the script, or of the settings, has a fault */
+    YIMAROTU_NO_MEMORY = 3,  /* no memory was left */
+    YIMAROTU_HOSTS = 4,      /* a line of the hosts is not UTF-8 */
+    YIMAROTU_ROOM = 5,       /* the room is too small: nothing was written, and the length says how much is wanted */
+    YIMAROTU_MESSAGE = 6,    /* the bytes are no DNS message; the fault says why */
+    YIMAROTU_UNWRITABLE = 7, /* the message cannot be written; the fault says why */
+    YIMAROTU_CLOSED = 8,     /* the session is not open */
+    YIMAROTU_IS_OPEN = 9,    /* the session is open already */
+    YIMAROTU_IN_USE = 10,    /* another look-up has this number */
+    YIMAROTU_NO_LOOKUP = 11, /* no look-up has this number */
+    YIMAROTU_WAITS = 12,     /* the look-up waits for an outcome, and has no answer yet */
+    YIMAROTU_DONE = 13,      /* the look-up is done, and has no question any more */
+    YIMAROTU_TEXT = 14,      /* the name is not UTF-8 */
+    YIMAROTU_KIND = 15       /* no failure has this number */
 };
+
+/* Why bytes are no message, or a message cannot be written: a fault; 0 where there is none. */
+enum {
+    YIMAROTU_SHORT = 1,              /* the bytes, or a record's data, end within a field */
+    YIMAROTU_BAD_LABEL = 2,          /* a name goes on with neither a label nor a pointer */
+    YIMAROTU_NAME_TOO_LONG = 3,      /* a name of more than 255 octets */
+    YIMAROTU_TOO_MANY_POINTERS = 4,  /* a name with more than 128 pointers */
+    YIMAROTU_POINTER_NOT_BACK = 5,   /* a pointer that leads to no earlier place than where its labels began */
+    YIMAROTU_TRAILING_DATA = 6,      /* octets behind the data of a record, within its length */
+    YIMAROTU_OPT_NAME = 7,           /* an OPT record whose owner is not the root */
+    YIMAROTU_SECOND_OPT = 8,         /* a second OPT record */
+    YIMAROTU_TRAILING_BYTES = 9,     /* bytes behind the message */
+    YIMAROTU_RELATIVE_NAME = 17,     /* a name that is relative */
+    YIMAROTU_STRING_TOO_LONG = 18,   /* a string of TXT data of more than 255 octets */
+    YIMAROTU_KNOWN_TYPE = 19,        /* unknown data under the code of a type that is parsed */
+    YIMAROTU_OP_CODE_TOO_LARGE = 20, /* a kind of message past 15 */
+    YIMAROTU_CODE_TOO_LARGE = 21,    /* a response code past 15 without OPT, or past 4095 with it */
+    YIMAROTU_TOO_MANY_RECORDS = 22,  /* a section of more than 65,535 entries */
+    YIMAROTU_LIMIT_TOO_SMALL = 23,   /* the limit is below what is always written */
+    YIMAROTU_DATA_TOO_LONG = 24      /* data of a record of more than 65,535 octets */
+};
+
+/* What a look-up came to. */
+enum {
+    YIMAROTU_FOUND = 0,         /* records */
+    YIMAROTU_NO_RECORDS = 1,    /* a negative answer; its code is NOERROR (0) or NXDOMAIN (3) */
+    YIMAROTU_RESPONSE_CODE = 2, /* a response with another code */
+    YIMAROTU_TIMED_OUT = 3,     /* the upstream did not answer in time */
+    YIMAROTU_UPSTREAM = 4,      /* the upstream failed otherwise */
+    YIMAROTU_BAD_NAME = 5,      /* the text is no name */
+    YIMAROTU_NO_OUTCOME = 6,    /* of replays alone */
+    YIMAROTU_BOUNDS = 7,        /* of replays alone */
+    YIMAROTU_RAN_OUT = 8        /* no memory was left within the look-up */
+};
+
+/* How a question fails. */
+enum {
+    YIMAROTU_FAIL_TIMEOUT = 1,  /* nothing came back in time */
+    YIMAROTU_FAIL_REFUSED = 2,  /* the upstream cannot be reached */
+    YIMAROTU_FAIL_UPSTREAM = 3, /* the upstream failed otherwise */
+    YIMAROTU_FAIL_MEMORY = 4    /* no memory was left for what came back */
+};
+
+/* ---- messages */
+
+typedef struct yimarotu_written {
+    uint8_t status;
+    uint8_t fault;
+    size_t length; /* of the message: where it was written, and where the room is too small for it; else 0 */
+} yimarotu_written;
+
+/* Reads a DNS message, all of the bytes, and writes it at the front of the room, in at most `limit` bytes: where it is
+ * longer, records are left out from the end, whole, and the message says that it is truncated. What is behind the message
+ * stays, and where the status is not YIMAROTU_OK all of the room does. */
+yimarotu_written yimarotu_rewrite(const uint8_t *message, size_t message_length, size_t limit, uint8_t *room,
+                                  size_t room_length);
+
+/* ---- sessions */
+
+/* A session: a resolver with its table of hosts and its cache, and the look-ups in flight and done, each under a number
+ * that the program chose. The fields are the library's: a program neither reads nor changes them, and makes no copy of an
+ * open session. Before it is opened it is closed: `yimarotu_session session = YIMAROTU_SESSION;`. */
+typedef struct yimarotu_session {
+    bool is_open;
+    void *inside;
+} yimarotu_session;
+
+#define YIMAROTU_SESSION { false, NULL }
+
+typedef struct yimarotu_opened {
+    uint8_t status;
+    size_t line; /* of the fault of the settings, from 1; 0 where no one line has it */
+} yimarotu_opened;
+
+/* Opens a session with these settings, as the lines of a script that set something, over what a file of hosts says, read
+ * at this moment. Where the status is not YIMAROTU_OK the session stays as it was. */
+yimarotu_opened yimarotu_open(yimarotu_session *session, const uint8_t *settings, size_t settings_length,
+                              const uint8_t *hosts, size_t hosts_length, uint64_t moment);
+
+/* Closes the session, with all its look-ups, and gives its memory back. Of a session that is closed nothing changes. */
+void yimarotu_close(yimarotu_session *session);
+
+/* ---- look-ups */
+
+typedef struct yimarotu_came {
+    uint8_t status;
+    uint8_t fault;
+    bool waits; /* where the status is YIMAROTU_OK: there is a question to send; else there is an answer */
+} yimarotu_came;
+
+/* Starts a look-up of records of a type (RFC 1035, section 3.2.2) for a name, UTF-8, at this moment, under a number that
+ * no other look-up of the session has. Where the status is not YIMAROTU_OK there is no such look-up. */
+yimarotu_came yimarotu_start(yimarotu_session *session, uint64_t number, const uint8_t *name, size_t name_length,
+                             uint16_t record_type, uint64_t moment);
+
+/* The same of the addresses of a host, in the families that the settings say. */
+yimarotu_came yimarotu_start_ip(yimarotu_session *session, uint64_t number, const uint8_t *host, size_t host_length,
+                                uint64_t moment);
+
+typedef struct yimarotu_asked {
+    uint8_t status;
+    uint8_t fault;
+    bool mixed;    /* where the status is YIMAROTU_OK: the settings want the case of the name varied */
+    size_t length; /* of the message: where it was written, and where the room is too small for it; else 0 */
+} yimarotu_asked;
+
+/* Writes the question that the look-up waits for at the front of the room, as a DNS message to send: its id is 0, and the
+ * program puts its own in the first two bytes. What is behind it stays, and where the status is not YIMAROTU_OK all of
+ * the room does. A message takes at most 512 bytes. */
+yimarotu_asked yimarotu_question(const yimarotu_session *session, uint64_t number, uint8_t *room, size_t room_length);
+
+/* Goes on with the look-up by a DNS message that came back to its question. That it is the one, by its id, its question
+ * and whom it comes from, and is not truncated, is for the program to see. Where the status is YIMAROTU_MESSAGE the
+ * look-up waits on as before; where it is YIMAROTU_NO_MEMORY it waits on, or is forgotten. */
+yimarotu_came yimarotu_feed(yimarotu_session *session, uint64_t number, const uint8_t *message, size_t message_length);
+
+/* Goes on with the look-up by a failure of its question, by number. */
+yimarotu_came yimarotu_fail(yimarotu_session *session, uint64_t number, uint8_t failure);
+
+typedef struct yimarotu_answered {
+    uint8_t status;
+    uint8_t error;  /* what the look-up came to; 0 where the status is none of OK, ROOM, UNWRITABLE and NO_MEMORY */
+    uint8_t fault;
+    bool has_ttl;   /* of a negative answer: whether it may be kept for a time that is known */
+    uint16_t code;  /* the response code; 0 where there is none */
+    uint32_t ttl;   /* of a negative answer: for how many seconds it may be kept; else 0 */
+    uint64_t until; /* of records: the last moment at which they may be used; else 0 */
+    size_t length;  /* of the message: where it was written, and where the room is too small for it; else 0 */
+} yimarotu_answered;
+
+/* Writes what a look-up came to at the front of the room, as a DNS message of at most `limit` bytes, truncated as
+ * yimarotu_rewrite does it. Records and negative answers have one, other errors none: then the length is 0. Its id is for
+ * the program to set. What is behind it stays, and where the status is not YIMAROTU_OK all of the room does. The look-up
+ * stays until it is cancelled: it may be read again. */
+yimarotu_answered yimarotu_answer(const yimarotu_session *session, uint64_t number, size_t limit, uint8_t *room,
+                                  size_t room_length);
+
+/* Forgets the look-up of a number, whether it waits or is done, and the number is free. What was kept of its questions
+ * stays in the cache. Gives a status. */
+uint8_t yimarotu_cancel(yimarotu_session *session, uint64_t number);
+
+/* Empties the cache; the look-ups stay. Gives a status. */
+uint8_t yimarotu_clear(yimarotu_session *session);
+
+/* ---- replays */
 
 typedef struct yimarotu_replayed {
     uint8_t status;
