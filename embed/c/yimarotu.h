@@ -152,7 +152,7 @@ typedef struct yimarotu_asked {
 /* Writes the question that the look-up waits for at the front of the room, as a DNS message to send: its id is 0, and the
  * program puts its own in the first two bytes. What is behind it stays, and where the status is not YIMAROTU_OK all of
  * the room does. A message takes at most 512 bytes. */
-yimarotu_asked yimarotu_question(const yimarotu_session *session, uint64_t number, uint8_t *room, size_t room_length);
+yimarotu_asked yimarotu_question(yimarotu_session *session, uint64_t number, uint8_t *room, size_t room_length);
 
 /* Goes on with the look-up by a DNS message that came back to its question. That it is the one, by its id, its question
  * and whom it comes from, and is not truncated, is for the program to see. Where the status is YIMAROTU_MESSAGE the
@@ -177,7 +177,7 @@ typedef struct yimarotu_answered {
  * yimarotu_rewrite does it. Records and negative answers have one, other errors none: then the length is 0. Its id is for
  * the program to set. What is behind it stays, and where the status is not YIMAROTU_OK all of the room does. The look-up
  * stays until it is cancelled: it may be read again. */
-yimarotu_answered yimarotu_answer(const yimarotu_session *session, uint64_t number, size_t limit, uint8_t *room,
+yimarotu_answered yimarotu_answer(yimarotu_session *session, uint64_t number, size_t limit, uint8_t *room,
                                   size_t room_length);
 
 /* Forgets the look-up of a number, whether it waits or is done, and the number is free. What was kept of its questions
