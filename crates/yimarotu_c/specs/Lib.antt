@@ -1,5 +1,11 @@
+pub mod Answering
+pub mod Asking
+pub mod Failures
 pub mod Faults
+pub mod Insides
+pub mod LookingUp
 pub mod Messages
+pub mod Openings
 pub mod Replays
 pub mod Rooms
 pub mod Statuses

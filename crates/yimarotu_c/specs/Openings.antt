@@ -1,0 +1,40 @@
+-- How sessions are opened.
+use Rattle.std.specs.Prelude.{◌≡◌, ◌⊎◌, ℕ, List, Option, None, Some, Result, Ok, Err, MatchOption}
+use Rattle.yimarotu_c.specs.Statuses.{number_of}
+use Rattle.yimarotu_c.specs.declared.sessions.YimarotuOpened.{YimarotuOpened}
+use Rattle.yimarotu_c.specs.declared.status.Status.{Status}
+use Rattle.yimarotu_c.specs.declared.status.Status.TheVariants as status
+use Rattle.yimarotu_session.specs.Opening.{IsOpened}
+use Rattle.yimarotu_session.specs.Sessions.{SessionValue}
+use Rattle.yimarotu_session.specs.declared.opening.OpenError.{OpenError}
+use Rattle.yimarotu_session.specs.declared.opening.OpenError.TheVariants.{Script, NotSettings, Hosts, OutOfMemory}
+
+abbrev pub open_end : Status → ℕ → YimarotuOpened
+open_end status line = record { status = number_of status; line = line }
+
+-- how it ends where a session cannot be opened
+abbrev pub open_error : OpenError → YimarotuOpened
+open_error (Script error) = open_end status.Script error.line
+open_error NotSettings = open_end status.Script 0
+open_error (Hosts error) = open_end status.Hosts 0
+open_error OutOfMemory = open_end status.NoMemory 0
+
+-- a session is kept, unless no memory is left for it
+abbrev pub IsKept : SessionValue → YimarotuOpened → Option SessionValue → Type 0
+IsKept session ended after =
+    ((ended ≡ open_end status.Ok 0) × (after ≡ Some session))
+    ⊎ ((ended ≡ open_end status.NoMemory 0) × (after ≡ None))
+
+abbrev pub IsTold : Result SessionValue OpenError → YimarotuOpened → Option SessionValue → Type 0
+IsTold (Ok session) ended after = IsKept session ended after
+IsTold (Err error) ended after = (ended ≡ open_error error) × (after ≡ None)
+
+-- a session is opened where there is none
+abbrev pub OpensClosed : List ℕ → List ℕ → ℕ → YimarotuOpened → Option SessionValue → Type 0
+OpensClosed settings hosts moment ended after =
+    (opened : Result SessionValue OpenError) × IsOpened settings hosts moment opened × IsTold opened ended after
+
+abbrev pub Opens : List ℕ → List ℕ → ℕ → Option SessionValue → YimarotuOpened → Option SessionValue → Type 0
+Opens settings hosts moment before ended after =
+    MatchOption before (OpensClosed settings hosts moment ended after)
+    (λ session. (ended ≡ open_end status.IsOpen 0) × (after ≡ before))

@@ -1,0 +1,254 @@
+//! Look-ups of a session: they are started, fed and forgotten.
+ghost use Rattle.std.specs.Prelude.{◌≡◌, None, Some};
+ghost use Rattle.yimarotu_c.specs.Failures.{IsFailure};
+ghost use Rattle.yimarotu_c.specs.LookingUp.{Cancelled, Fails, Fed, OnOpen, Started, StartedHost, came_end, came_of, came_unread, cancel_status, status_of};
+ghost use Rattle.yimarotu_c.specs.Statuses.{number_of};
+ghost use Rattle.yimarotu_c.specs.declared.status.Status.TheVariants as status;
+ghost use Rattle.yimarotu_session.specs.Calls.{cleared};
+
+use crate::faults::reading_number;
+use crate::sessions::{YimarotuSession, put, take};
+use crate::status::Status;
+use hickory_proto_core::{DnsResponse, NetError, RecordType};
+use hickory_proto_wire::{WireError, WireMessage};
+use std::alloc::Global;
+use std::str;
+use yimarotu_session::{Session, SessionError};
+
+/// How far a look-up came.
+#[repr(C)]
+#[derive(Drop)]
+pub struct YimarotuCame {
+    /// The number of a status.
+    pub status: u8,
+    /// The number of a fault; else 0.
+    pub fault: u8,
+    /// Whether it waits for what comes back to a question; else it is done.
+    pub waits: bool,
+}
+
+/// Starts a look-up of records of a type for a name, at a moment (seconds), under a number.
+#[unsafe(no_mangle)]
+pub extern "C" fn yimarotu_start(
+    alloc: Global,
+    session: &mut YimarotuSession,
+    number: u64,
+    name: &[u8],
+    record_type: u16,
+    moment: u64,
+) -> YimarotuCame
+    ensures { OnOpen (Started number name.now record_type moment) (came_end status.Closed) session.old.inside.value
+        result session.new.inside.value }
+{
+    let Some(mut inside) = take(alloc, session) else {
+        return ended(Status::Closed);
+    };
+    let came = start(&mut inside, number, name, record_type, moment);
+    put(session, inside);
+    came
+}
+
+fn start(
+    session: &mut Session,
+    number: u64,
+    name: &[u8],
+    record_type: u16,
+    moment: u64,
+) -> YimarotuCame
+    ensures { Started number name.now record_type moment session.old result session.new }
+{
+    match str::from_utf8(name) {
+        Ok(name) => told(session.start(number, name, RecordType::from_code(record_type), moment)),
+        Err(_) => ended(Status::Text),
+    }
+}
+
+/// Starts a look-up of the addresses of a host, at a moment (seconds), under a number.
+#[unsafe(no_mangle)]
+pub extern "C" fn yimarotu_start_ip(
+    alloc: Global,
+    session: &mut YimarotuSession,
+    number: u64,
+    host: &[u8],
+    moment: u64,
+) -> YimarotuCame
+    ensures { OnOpen (StartedHost number host.now moment) (came_end status.Closed) session.old.inside.value result
+        session.new.inside.value }
+{
+    let Some(mut inside) = take(alloc, session) else {
+        return ended(Status::Closed);
+    };
+    let came = start_ip(&mut inside, number, host, moment);
+    put(session, inside);
+    came
+}
+
+fn start_ip(session: &mut Session, number: u64, host: &[u8], moment: u64) -> YimarotuCame
+    ensures { StartedHost number host.now moment session.old result session.new }
+{
+    match str::from_utf8(host) {
+        Ok(host) => told(session.start_ip(number, host, moment)),
+        Err(_) => ended(Status::Text),
+    }
+}
+
+/// Goes on with the look-up of a number by a message that came back to its question.
+#[unsafe(no_mangle)]
+pub extern "C" fn yimarotu_feed(
+    alloc: Global,
+    session: &mut YimarotuSession,
+    number: u64,
+    message: &[u8],
+) -> YimarotuCame
+    ensures { OnOpen (Fed number message.now) (came_end status.Closed) session.old.inside.value result
+        session.new.inside.value }
+{
+    let Some(mut inside) = take(alloc, session) else {
+        return ended(Status::Closed);
+    };
+    let came = feed(alloc, &mut inside, number, message);
+    put(session, inside);
+    came
+}
+
+fn feed(alloc: Global, session: &mut Session, number: u64, message: &[u8]) -> YimarotuCame
+    ensures { Fed number message.now session.old result session.new }
+{
+    match WireMessage::from_wire(alloc, message) {
+        Ok(found) => {
+            let response = DnsResponse::from_message(found.message);
+            told(session.feed(number, Ok(response)))
+        }
+        Err(error) => unread(error),
+    }
+}
+
+/// Goes on with the look-up of a number by a failure of its question.
+#[unsafe(no_mangle)]
+pub extern "C" fn yimarotu_fail(
+    alloc: Global,
+    session: &mut YimarotuSession,
+    number: u64,
+    failure: u8,
+) -> YimarotuCame
+    ensures { OnOpen (Fails number failure) (came_end status.Closed) session.old.inside.value result
+        session.new.inside.value }
+{
+    let Some(mut inside) = take(alloc, session) else {
+        return ended(Status::Closed);
+    };
+    let came = fail(&mut inside, number, failure);
+    put(session, inside);
+    came
+}
+
+fn fail(session: &mut Session, number: u64, failure: u8) -> YimarotuCame
+    ensures { Fails number failure session.old result session.new }
+{
+    match failure_of(failure) {
+        Some(error) => told(session.feed(number, Err(error))),
+        None => ended(Status::Kind),
+    }
+}
+
+// The failure of a number.
+fn failure_of(number: u8) -> Option<NetError>
+    ensures { IsFailure number result }
+{
+    match number {
+        1 => Some(NetError::Timeout),
+        2 => Some(NetError::Message("upstream not reached")),
+        3 => Some(NetError::Message("upstream failed")),
+        4 => Some(NetError::OutOfMemory),
+        _ => None,
+    }
+}
+
+/// Forgets the look-up of a number.
+#[unsafe(no_mangle)]
+pub extern "C" fn yimarotu_cancel(alloc: Global, session: &mut YimarotuSession, number: u64) -> u8
+    ensures { OnOpen (Cancelled number) (number_of status.Closed) session.old.inside.value result
+        session.new.inside.value }
+{
+    let Some(mut inside) = take(alloc, session) else {
+        return Status::Closed.number();
+    };
+    let was_there = inside.cancel(number);
+    put(session, inside);
+    cancel_status(was_there).number()
+}
+
+fn cancel_status(was_there: bool) -> Status
+    ensures { result ≡ cancel_status was_there }
+{
+    if was_there {
+        Status::Ok
+    } else {
+        Status::NoLookup
+    }
+}
+
+/// Empties the cache. The look-ups stay.
+#[unsafe(no_mangle)]
+pub extern "C" fn yimarotu_clear(alloc: Global, session: &mut YimarotuSession) -> u8
+    ensures { OnOpen (λ before ended after. (ended ≡ number_of status.Ok) × (after ≡ cleared before))
+        (number_of status.Closed) session.old.inside.value result session.new.inside.value }
+{
+    let Some(mut inside) = take(alloc, session) else {
+        return Status::Closed.number();
+    };
+    inside.clear();
+    put(session, inside);
+    Status::Ok.number()
+}
+
+// What a call of a session told.
+fn told(came: Result<bool, SessionError>) -> YimarotuCame
+    ensures { result ≡ came_of came }
+{
+    match came {
+        Ok(waits) => YimarotuCame {
+            status: Status::Ok.number(),
+            fault: 0,
+            waits,
+        },
+        Err(error) => ended(status_of(error)),
+    }
+}
+
+// The status of an error.
+pub(crate) fn status_of(error: SessionError) -> Status
+    ensures { result ≡ status_of error }
+{
+    match error {
+        SessionError::OutOfMemory => Status::NoMemory,
+        SessionError::InUse => Status::InUse,
+        SessionError::NoLookup => Status::NoLookup,
+        SessionError::Waits => Status::Waits,
+        SessionError::IsDone => Status::Done,
+    }
+}
+
+// Bytes were no message, or memory ran out.
+fn unread(error: WireError) -> YimarotuCame
+    ensures { result ≡ came_unread error }
+{
+    match error {
+        WireError::OutOfMemory => ended(Status::NoMemory),
+        WireError::Fault(fault) => YimarotuCame {
+            status: Status::Message.number(),
+            fault: reading_number(fault),
+            waits: false,
+        },
+    }
+}
+
+fn ended(status: Status) -> YimarotuCame
+    ensures { result ≡ came_end status }
+{
+    YimarotuCame {
+        status: status.number(),
+        fault: 0,
+        waits: false,
+    }
+}
