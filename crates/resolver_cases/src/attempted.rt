@@ -1,56 +1,70 @@
 //! The names that are attempted for a name. A line of a file of cases is `ndots`, the domain or `-`, and the search
 //! domains, and behind a tab the name.
-use hickory_proto_core::{Name, NameError};
+use crate::shown::say;
+use hickory_proto_core::{Name, NameError, NetError};
 use hickory_resolver::attempts;
 use std::alloc::Global;
 
-/// Adds each line with the names behind it.
-pub fn push_attempts(alloc: Global, text: &mut String, cases: &str) -> Result<(), NameError> {
-    text.push_str("# attempts\n")?;
+/// Each line with the names behind it.
+pub fn show_attempts(rt: &impl Print, alloc: Global, cases: &str) -> Result<(), NetError> {
+    say(rt, &"# attempts");
     for line in cases.lines() {
-        push_line(alloc, text, line)?;
+        show_line(rt, alloc, line)?;
     }
     Ok(())
 }
 
-fn push_line(alloc: Global, text: &mut String, line: &str) -> Result<(), NameError> {
+fn show_line(rt: &impl Print, alloc: Global, line: &str) -> Result<(), NameError> {
+    let _ = rt.print(line);
+    let _ = rt.print("\t");
     let (settings, name) = line.split_once('\t').unwrap_or((line, ""));
-    let names = attempted(alloc, settings, name)?;
-    write!(text, "{line}\t{names}\n")?;
-    Ok(())
+    let words: Vec<&str> = settings.split_whitespace().collect(alloc)?;
+    show_attempted(rt, alloc, &words, name)
 }
 
-fn attempted(alloc: Global, settings: &str, name: &str) -> Result<String, NameError> {
-    let words: Vec<&str> = settings.split_whitespace().collect(alloc)?;
-    match words.as_slice() {
+fn show_attempted(
+    rt: &impl Print,
+    alloc: Global,
+    settings: &[&str],
+    name: &str,
+) -> Result<(), NameError> {
+    match settings {
         [ndots, domain, search @ ..] => {
-            let ndots = ndots.parse().unwrap_or(0);
-            found(alloc, ndots, domain, search, name)
+            let search = names(alloc, search)?;
+            show_found(rt, alloc, ndots.parse().unwrap_or(0), domain, &search, name)
         }
-        _ => Ok(String::from_str(alloc, "no settings")?),
+        _ => {
+            say(rt, &"no settings");
+            Ok(())
+        }
     }
 }
 
-fn found(
+fn show_found(
+    rt: &impl Print,
     alloc: Global,
     ndots: usize,
     domain: &str,
-    search: &[&str],
+    search: &[Name],
     name: &str,
-) -> Result<String, NameError> {
-    let search = names(alloc, search)?;
+) -> Result<(), NameError> {
     let domain = domain_of(alloc, domain)?;
     let name = Name::from_ascii(alloc, name)?;
-    let names = attempts(alloc, name, ndots, domain.as_ref(), &search)?;
-    joined(alloc, &names)
+    show_names(rt, &attempts(alloc, name, ndots, domain.as_ref(), search)?);
+    Ok(())
 }
 
 fn names(alloc: Global, texts: &[&str]) -> Result<Vec<Name>, NameError> {
     let mut names = Vec::new(alloc);
+    push_names(alloc, &mut names, texts)?;
+    Ok(names)
+}
+
+fn push_names(alloc: Global, names: &mut Vec<Name>, texts: &[&str]) -> Result<(), NameError> {
     for text in texts {
         names.push(Name::from_ascii(alloc, text)?)?;
     }
-    Ok(names)
+    Ok(())
 }
 
 fn domain_of(alloc: Global, text: &str) -> Result<Option<Name>, NameError> {
@@ -60,13 +74,13 @@ fn domain_of(alloc: Global, text: &str) -> Result<Option<Name>, NameError> {
     }
 }
 
-fn joined(alloc: Global, names: &[Name]) -> Result<String, NameError> {
-    let mut text = String::new(alloc);
+// The names with a blank between each two.
+fn show_names(rt: &impl Print, names: &[Name]) {
+    let mut lead = "";
     for name in names {
-        if !text.is_empty() {
-            text.push(' ')?;
-        }
-        write!(text, "{name}")?;
+        let _ = rt.print(lead);
+        let _ = rt.print(name);
+        lead = " ";
     }
-    Ok(text)
+    say(rt, &"");
 }

@@ -1,59 +1,58 @@
 //! A resolver where every key of its cache has one hash, and whose cache is cleared.
 use crate::own_handle::OneAddress;
+use crate::shown::say;
 use case_hashers::OneHash;
 use hickory_proto_core::{Name, NetError, RecordType};
 use hickory_resolver::{Resolver, ResolverConfig};
-use std::alloc::{AllocError, Global};
+use std::alloc::Global;
 
 // Every question is answered with one address.
 type OneHashResolver = Resolver<OneAddress, OneHash>;
 
-/// Adds how many questions it has sent after each call, and how many entries it keeps.
-pub fn push_clears(alloc: Global, text: &mut String) -> Result<(), NetError> {
-    text.push_str("# every key has one hash\n")?;
+/// How many questions it has sent after each call, and how many entries it keeps.
+pub fn show_clears(rt: &impl Print, alloc: Global) -> Result<(), NetError> {
+    say(rt, &"# every key has one hash");
     let mut resolver = resolver_of(alloc)?;
-    let pushed = push_calls(text, &mut resolver);
+    show_calls(rt, &mut resolver);
     drop(resolver);
-    Ok(pushed?)
-}
-
-fn resolver_of(alloc: Global) -> Result<OneHashResolver, NetError> {
-    let mut config = ResolverConfig::default(alloc);
-    config.add_search(Name::from_ascii(alloc, "x.")?)?;
-    let builder = Resolver::builder_with_config(config, OneAddress::new(alloc));
-    builder.with_hasher(OneHash, OneHash).build()
-}
-
-fn push_calls(text: &mut String, resolver: &mut OneHashResolver) -> Result<(), AllocError> {
-    push_asked(text, resolver, &["www", "www.", "a."])?;
-    for name in ["www", "a..b"] {
-        drop(resolver.clear_lookup_cache(name, RecordType::A));
-        push_counts(text, resolver, "clear", name)?;
-    }
-    push_asked(text, resolver, &["a."])?;
-    resolver.clear_cache();
-    push_counts(text, resolver, "clear", "all")
-}
-
-fn push_asked(
-    text: &mut String,
-    resolver: &mut OneHashResolver,
-    names: &[&str],
-) -> Result<(), AllocError> {
-    for name in names {
-        drop(resolver.lookup(*name, RecordType::A, 7));
-        push_counts(text, resolver, "lookup", name)?;
-    }
     Ok(())
 }
 
-fn push_counts(
-    text: &mut String,
-    resolver: &OneHashResolver,
-    call: &str,
-    name: &str,
-) -> Result<(), AllocError> {
+fn resolver_of(alloc: Global) -> Result<OneHashResolver, NetError> {
+    let builder = Resolver::builder_with_config(config_of(alloc)?, OneAddress::new(alloc));
+    builder.with_hasher(OneHash, OneHash).build()
+}
+
+fn config_of(alloc: Global) -> Result<ResolverConfig, NetError> {
+    let mut config = ResolverConfig::default(alloc);
+    config.add_search(Name::from_ascii(alloc, "x.")?)?;
+    Ok(config)
+}
+
+fn show_calls(rt: &impl Print, resolver: &mut OneHashResolver) {
+    show_asked(rt, resolver, &["www", "www.", "a."]);
+    show_cleared(rt, resolver, &["www", "a..b"]);
+    show_asked(rt, resolver, &["a."]);
+    resolver.clear_cache();
+    show_counts(rt, resolver, "clear", "all");
+}
+
+fn show_asked(rt: &impl Print, resolver: &mut OneHashResolver, names: &[&str]) {
+    for name in names {
+        drop(resolver.lookup(*name, RecordType::A, 7));
+        show_counts(rt, resolver, "lookup", name);
+    }
+}
+
+fn show_cleared(rt: &impl Print, resolver: &mut OneHashResolver, names: &[&str]) {
+    for name in names {
+        drop(resolver.clear_lookup_cache(*name, RecordType::A));
+        show_counts(rt, resolver, "clear", name);
+    }
+}
+
+fn show_counts(rt: &impl Print, resolver: &OneHashResolver, call: &str, name: &str) {
     let asked = resolver.client().handle().asked;
     let kept = resolver.client().cache().len();
-    write!(text, "{call} {name}: asked {asked}, kept {kept}\n")
+    let _ = println!(rt; "{call} {name}: asked {asked}, kept {kept}");
 }

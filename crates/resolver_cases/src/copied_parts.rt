@@ -1,5 +1,6 @@
 //! What `Debug` prints of a copy of each part of a configuration, of a look-up, and of the addresses of one.
 use crate::outcomes::query_of;
+use crate::shown::{say, say_value};
 use hickory_proto_core::{NetError, RData};
 use hickory_resolver::{
     ConnectionConfig, Lookup, LookupIp, NameServerConfig, OpportunisticEncryption,
@@ -9,93 +10,93 @@ use std::alloc::{AllocError, Global};
 use std::fmt::Debug;
 use std::net::{IpAddr, Ipv4Addr, Ipv6Addr};
 
-/// Adds them.
-pub fn push_copies(alloc: Global, text: &mut String) -> Result<(), NetError> {
-    text.push_str("# copies\n")?;
-    push_of_connection(alloc, text)?;
-    push_of_server(alloc, text)?;
-    push_of_group(alloc, text)?;
-    push_of_options(alloc, text)?;
-    push_of_encryption(text)?;
-    push_of_lookup(alloc, text)
+/// The copies.
+pub fn show_copies(rt: &impl Print, alloc: Global) -> Result<(), NetError> {
+    say(rt, &"# copies");
+    show_copy(rt, connection(alloc)?)?;
+    show_copy(rt, protocol(alloc)?)?;
+    show_copy(
+        rt,
+        NameServerConfig::opportunistic_encryption(alloc, server())?,
+    )?;
+    show_of_group(rt, alloc)?;
+    show_copy(rt, options(alloc))?;
+    show_of_encryption(rt)?;
+    show_of_lookup(rt, lookup(alloc)?);
+    Ok(())
 }
 
 // The text of a copy that outlives its source.
-fn push_copy<T: Clone + Debug + Drop>(text: &mut String, source: T) -> Result<(), AllocError> {
+fn show_copy<T: Clone + Debug + Drop>(rt: &impl Print, source: T) -> Result<(), AllocError> {
     let copy: Result<T, AllocError> = source.clone();
     drop(source);
-    let copy = copy?;
-    let pushed = write!(text, "{copy:?}\n");
-    drop(copy);
-    pushed
-}
-
-// A connection, and a protocol alone.
-fn push_of_connection(alloc: Global, text: &mut String) -> Result<(), NetError> {
-    let server_name = String::from_str(alloc, "dns.example")?;
-    push_copy(text, ConnectionConfig::h3(server_name, None)?)?;
-    let server_name = String::from_str(alloc, "dns.example")?;
-    push_copy(text, ProtocolConfig::Quic { server_name })?;
+    say_value(rt, &copy?);
     Ok(())
 }
 
-fn push_of_server(alloc: Global, text: &mut String) -> Result<(), NetError> {
-    let ip = IpAddr::V4(Ipv4Addr::new(192, 0, 2, 53));
-    let server = NameServerConfig::opportunistic_encryption(alloc, ip)?;
-    push_copy(text, server)?;
-    Ok(())
+fn server() -> IpAddr {
+    IpAddr::V4(Ipv4Addr::new(192, 0, 2, 53))
+}
+
+fn connection(alloc: Global) -> Result<ConnectionConfig, NetError> {
+    ConnectionConfig::h3(String::from_str(alloc, "dns.example")?, None)
+}
+
+fn protocol(alloc: Global) -> Result<ProtocolConfig, NetError> {
+    let server_name = String::from_str(alloc, "dns.example")?;
+    Ok(ProtocolConfig::Quic { server_name })
 }
 
 // A group of servers, and configurations of such a group.
-fn push_of_group(alloc: Global, text: &mut String) -> Result<(), NetError> {
-    push_copy(text, group_of(alloc)?)?;
-    let group = group_of(alloc)?;
-    let pushed = push_configs(text, &group);
-    drop(group);
-    pushed
+fn show_of_group(rt: &impl Print, alloc: Global) -> Result<(), NetError> {
+    show_copy(rt, group_of(alloc)?)?;
+    show_configs(rt, &group_of(alloc)?)
 }
 
-fn push_configs(text: &mut String, group: &ServerGroup<'_>) -> Result<(), NetError> {
-    push_copy(text, ResolverConfig::quic(group)?)?;
-    push_copy(text, ResolverConfig::h3(group)?)?;
+fn show_configs(rt: &impl Print, group: &ServerGroup<'_>) -> Result<(), NetError> {
+    show_copy(rt, ResolverConfig::quic(group)?)?;
+    show_copy(rt, ResolverConfig::h3(group)?)?;
     Ok(())
 }
 
 fn group_of(alloc: Global) -> Result<ServerGroup<'static>, NetError> {
-    let mut ips = Vec::new(alloc);
-    ips.push(IpAddr::V4(Ipv4Addr::new(192, 0, 2, 53)))?;
-    ips.push(IpAddr::V6(Ipv6Addr::new(0x2001, 0xdb8, 0, 0, 0, 0, 0, 0x53)))?;
+    let second = IpAddr::V6(Ipv6Addr::new(0x2001, 0xdb8, 0, 0, 0, 0, 0, 0x53));
+    let ips = vec![in alloc; server(), second]?;
+    let (server_name, path) = ("dns.example", "/query");
     Ok(ServerGroup {
         ips,
-        server_name: "dns.example",
-        path: "/query",
+        server_name,
+        path,
     })
 }
 
 // Options of which some are not the default.
-fn push_of_options(alloc: Global, text: &mut String) -> Result<(), NetError> {
+fn options(alloc: Global) -> ResolverOpts {
     let mut options = ResolverOpts::default(alloc);
     options.ndots = 3;
     options.positive_max_ttl = Some(60);
     options.preserve_intermediates = false;
-    push_copy(text, options)?;
-    Ok(())
+    options
 }
 
-fn push_of_encryption(text: &mut String) -> Result<(), AllocError> {
+fn show_of_encryption(rt: &impl Print) -> Result<(), AllocError> {
     let config = OpportunisticEncryptionConfig::default();
-    push_copy(text, OpportunisticEncryption::Enabled { config })?;
-    push_copy(text, OpportunisticEncryption::default())
+    show_copy(rt, OpportunisticEncryption::Enabled { config })?;
+    show_copy(rt, OpportunisticEncryption::default())
 }
 
-// A look-up that is made for an address, and its addresses.
-fn push_of_lookup(alloc: Global, text: &mut String) -> Result<(), NetError> {
-    let rdata = RData::A(Ipv4Addr::LOCALHOST);
-    let lookup = Lookup::from_rdata(alloc, query_of(alloc, "a.")?, rdata, 7)?;
-    let pushed = write!(text, "{lookup:?}\n");
-    let found = LookupIp::from(lookup);
-    pushed?;
-    let pushed = write!(text, "{found:?}\n");
-    drop(found);
-    Ok(pushed?)
+// A look-up that is made for an address.
+fn lookup(alloc: Global) -> Result<Lookup, NetError> {
+    Lookup::from_rdata(
+        alloc,
+        query_of(alloc, "a.")?,
+        RData::A(Ipv4Addr::LOCALHOST),
+        7,
+    )
+}
+
+// A look-up, and its addresses.
+fn show_of_lookup(rt: &impl Print, lookup: Lookup) {
+    say_value(rt, &lookup);
+    say_value(rt, &LookupIp::from(lookup));
 }

@@ -1,49 +1,42 @@
 //! Look-ups of all that may be given for a name, texts aside.
-use crate::shown::push_reply;
+use crate::shown::{say, show_reply};
 use crate::upstream::{Upstream, builder_of};
 use hickory_proto_core::{IntoName, Name, NetError, RecordType};
 use hickory_resolver::Resolver;
-use std::alloc::{AllocError, Global};
+use std::alloc::Global;
 use std::net::{IpAddr, Ipv4Addr, Ipv6Addr};
 
-/// Adds what each of them sends, and the replies.
-pub fn push_given(alloc: Global, text: &mut String) -> Result<(), NetError> {
-    text.push_str("# what may be given for a name\n")?;
+/// What each of them sends, and the replies.
+pub fn show_given(rt: &impl Print, alloc: Global) -> Result<(), NetError> {
+    say(rt, &"# what may be given for a name");
+    let (string, name) = (
+        String::from_str(alloc, "a.b")?,
+        Name::from_ascii(alloc, "192.0.2.7")?,
+    );
     let mut resolver = builder_of(alloc)?.build()?;
-    let pushed = push_all(alloc, text, &mut resolver);
+    show_asked(rt, &mut resolver, string, RecordType::A);
+    show_asked(rt, &mut resolver, name, RecordType::A);
+    show_addresses(rt, &mut resolver);
     drop(resolver);
-    pushed
-}
-
-fn push_all(
-    alloc: Global,
-    text: &mut String,
-    resolver: &mut Resolver<Upstream>,
-) -> Result<(), NetError> {
-    let string = String::from_str(alloc, "a.b")?;
-    push_asked(text, resolver, string, RecordType::A)?;
-    let name = Name::from_ascii(alloc, "192.0.2.7")?;
-    push_asked(text, resolver, name, RecordType::A)?;
-    push_addresses(text, resolver)?;
     Ok(())
 }
 
-fn push_addresses(text: &mut String, resolver: &mut Resolver<Upstream>) -> Result<(), AllocError> {
+fn show_addresses(rt: &impl Print, resolver: &mut Resolver<Upstream>) {
     let address = IpAddr::V4(Ipv4Addr::new(192, 0, 2, 1));
-    push_asked(text, resolver, address, RecordType::PTR)?;
+    show_asked(rt, resolver, address, RecordType::PTR);
     let address = Ipv6Addr::new(0x2001, 0xdb8, 0, 0, 0, 0, 0, 1);
-    push_asked(text, resolver, address, RecordType::PTR)?;
-    push_asked(text, resolver, Ipv4Addr::LOCALHOST, RecordType::PTR)
+    show_asked(rt, resolver, address, RecordType::PTR);
+    show_asked(rt, resolver, Ipv4Addr::LOCALHOST, RecordType::PTR);
 }
 
-fn push_asked<N: IntoName + Drop>(
-    text: &mut String,
+fn show_asked<N: IntoName + Drop>(
+    rt: &impl Print,
     resolver: &mut Resolver<Upstream>,
     name: N,
     record_type: RecordType,
-) -> Result<(), AllocError> {
+) {
     let before = resolver.client().handle().exchanges().len();
     let reply = resolver.lookup(name, record_type, 7);
     let exchanges = resolver.client().handle().exchanges();
-    push_reply(text, exchanges.get(before..).unwrap_or(&[]), reply)
+    show_reply(rt, exchanges.get(before..).unwrap_or(&[]), reply);
 }

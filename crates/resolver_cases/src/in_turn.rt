@@ -1,45 +1,44 @@
 //! Look-ups of several names, one after another.
-use crate::shown::push_reply;
+use crate::shown::{say, show_reply};
 use crate::upstream::{Upstream, client_over, hosts_of};
 use hickory_proto_core::{DnsRequestOptions, Name, NameError, NetError, RecordType};
 use hickory_resolver::{CachingClient, Lookup, LookupFuture};
 use std::alloc::Global;
 
-/// Adds what they send, and the replies.
-pub fn push_in_turn(alloc: Global, text: &mut String) -> Result<(), NetError> {
-    text.push_str("# names in turn\n")?;
-    push_names(alloc, text, "c. b. a.", &["c.", "b.", "a."], "")?;
-    push_names(alloc, text, "no names", &[], "")?;
-    let names = ["b.", "a."];
-    push_names(
+/// What they send, and the replies.
+pub fn show_in_turn(rt: &impl Print, alloc: Global) -> Result<(), NetError> {
+    say(rt, &"# names in turn");
+    show_names(rt, alloc, "c. b. a.", &["c.", "b.", "a."], "")?;
+    show_names(rt, alloc, "no names", &[], "")?;
+    show_names(
+        rt,
         alloc,
-        text,
         "b. a. where b is a host",
-        &names,
+        &["b.", "a."],
         "10.0.0.2 b\n",
     )?;
-    push_names(
+    show_names(
+        rt,
         alloc,
-        text,
         "b. a. where a is a host",
-        &names,
+        &["b.", "a."],
         "10.0.0.1 a\n",
     )
 }
 
-fn push_names(
+fn show_names(
+    rt: &impl Print,
     alloc: Global,
-    text: &mut String,
     what: &str,
     names: &[&str],
     hosts: &str,
 ) -> Result<(), NetError> {
-    write!(text, "{what}\n")?;
+    say(rt, &what);
     let mut client = client_over(alloc, Vec::new(alloc))?;
     let reply = looked_up(alloc, &mut client, names, hosts);
-    let pushed = push_reply(text, client.handle().exchanges(), reply);
+    show_reply(rt, client.handle().exchanges(), reply);
     drop(client);
-    Ok(pushed?)
+    Ok(())
 }
 
 // A look-up with hosts, where there are any.
@@ -73,8 +72,13 @@ fn with_hosts(
 
 fn names_of(alloc: Global, texts: &[&str]) -> Result<Vec<Name>, NameError> {
     let mut names = Vec::new(alloc);
+    push_names(alloc, &mut names, texts)?;
+    Ok(names)
+}
+
+fn push_names(alloc: Global, names: &mut Vec<Name>, texts: &[&str]) -> Result<(), NameError> {
     for text in texts {
         names.push(Name::from_ascii(alloc, text)?)?;
     }
-    Ok(names)
+    Ok(())
 }

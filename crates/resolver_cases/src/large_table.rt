@@ -1,32 +1,25 @@
 //! A client over a table of many outcomes, as a test rig hands them in: the last outcome of a question counts,
 //! whatever the case of its name.
 use crate::outcomes::{add_address, add_late, query_of};
-use crate::shown::push_reply;
+use crate::shown::{say, show_reply};
 use crate::upstream::{Upstream, client_over};
-use hickory_proto_core::dns_handle::Outcome;
-use hickory_proto_core::{DnsRequestOptions, NetError, Query};
+use hickory_proto_core::{DnsRequestOptions, NetError, Outcome, Query};
 use hickory_resolver::{CachingClient, Lookup};
-use std::alloc::{AllocError, Global};
-use std::net::Ipv4Addr;
+use std::alloc::Global;
 
-/// Adds the replies for a name that has an outcome, one that has none, and one that has two.
-pub fn push_table(alloc: Global, text: &mut String) -> Result<(), NetError> {
-    text.push_str("# a table of a hundred thousand names\n")?;
-    let mut client = client_of(alloc)?;
-    let pushed = push_replies(alloc, text, &mut client);
+/// The replies for a name that has an outcome, one that has none, and one that has two.
+pub fn show_table(rt: &impl Print, alloc: Global) -> Result<(), NetError> {
+    say(rt, &"# a table of a hundred thousand names");
+    let mut client = client_over(alloc, outcomes(alloc)?)?;
+    show_replies(rt, alloc, &mut client);
     drop(client);
-    Ok(pushed?)
+    Ok(())
 }
 
-fn push_replies(
-    alloc: Global,
-    text: &mut String,
-    client: &mut CachingClient<Upstream>,
-) -> Result<(), AllocError> {
+fn show_replies(rt: &impl Print, alloc: Global, client: &mut CachingClient<Upstream>) {
     for name in ["n99999.", "n100000.", "n7."] {
-        push_reply(text, &[], ask(alloc, client, name))?;
+        show_reply(rt, &[], ask(alloc, client, name));
     }
-    Ok(())
 }
 
 fn ask(
@@ -38,22 +31,25 @@ fn ask(
     client.lookup(query, DnsRequestOptions::default(), 0)
 }
 
-fn client_of(alloc: Global) -> Result<CachingClient<Upstream>, NetError> {
+fn outcomes(alloc: Global) -> Result<Vec<(Query, Outcome)>, NetError> {
     let mut outcomes = Vec::new(alloc);
-    match fill(alloc, &mut outcomes) {
-        Ok(()) => client_over(alloc, outcomes),
-        Err(error) => {
-            drop(outcomes);
-            Err(error)
-        }
-    }
+    fill(alloc, &mut outcomes)?;
+    Ok(outcomes)
 }
 
 // No answer in time for each of a hundred thousand names, and then an address for one of them.
 fn fill(alloc: Global, outcomes: &mut Vec<(Query, Outcome)>) -> Result<(), NetError> {
     for number in 0..100_000_u32 {
-        let name = format!(in alloc; "n{number}.")?;
-        add_late(alloc, outcomes, name.as_str())?;
+        add_number(alloc, outcomes, number)?;
     }
-    add_address(alloc, outcomes, "N7.", Ipv4Addr::new(192, 0, 2, 1))
+    add_address(alloc, outcomes, "N7.", 1)
+}
+
+fn add_number(
+    alloc: Global,
+    outcomes: &mut Vec<(Query, Outcome)>,
+    number: u32,
+) -> Result<(), NetError> {
+    let name = format!(in alloc; "n{number}.")?;
+    add_late(alloc, outcomes, name.as_str())
 }

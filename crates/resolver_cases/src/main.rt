@@ -31,44 +31,40 @@ use std::fs;
 
 fn main(rt: HostRuntime) -> anyhow::Result<()> {
     let cases = fs::read_to_string(&rt, "attempts.cases")?;
-    rt.print(text_of(rt.alloc(), &cases)?)?;
+    show_all(&rt, rt.alloc(), &cases)?;
     Ok(())
 }
 
-fn text_of(alloc: Global, cases: &str) -> Result<String, NetError> {
-    let mut text = String::new(alloc);
-    match push_all(alloc, &mut text, cases) {
-        Ok(()) => Ok(text),
-        Err(error) => Err(error),
-    }
+fn show_all(rt: &impl Print, alloc: Global, cases: &str) -> Result<(), NetError> {
+    show_clients(rt, alloc)?;
+    show_resolvers(rt, alloc)?;
+    show_parts(rt, alloc)?;
+    table_run::show_run(rt, alloc)?;
+    attempted::show_attempts(rt, alloc, cases)
 }
 
-fn push_all(alloc: Global, text: &mut String, cases: &str) -> Result<(), NetError> {
-    push_clients(alloc, text)?;
-    push_resolvers(alloc, text)?;
-    servers::push_configuration(alloc, text)?;
-    copied_parts::push_copies(alloc, text)?;
-    replaced::push_replaced(alloc, text)?;
-    table_run::push_run(alloc, text)?;
-    attempted::push_attempts(alloc, text, cases)?;
+fn show_clients(rt: &impl Print, alloc: Global) -> Result<(), NetError> {
+    large_table::show_table(rt, alloc)?;
+    options::show_of_clients(rt, alloc)?;
+    own_handle::show_own_handle(rt, alloc);
+    negative_replies::show_negative(rt, alloc);
+    kinds::show_kinds(rt, alloc)?;
+    in_turn::show_in_turn(rt, alloc)?;
+    no_names::show_no_names(rt, alloc);
     Ok(())
 }
 
-fn push_clients(alloc: Global, text: &mut String) -> Result<(), NetError> {
-    large_table::push_table(alloc, text)?;
-    options::push_of_clients(alloc, text)?;
-    own_handle::push_own_handle(alloc, text)?;
-    negative_replies::push_negative(alloc, text)?;
-    kinds::push_kinds(alloc, text)?;
-    in_turn::push_in_turn(alloc, text)?;
-    no_names::push_no_names(alloc, text)
+fn show_resolvers(rt: &impl Print, alloc: Global) -> Result<(), NetError> {
+    types::show_types(rt, alloc)?;
+    given_names::show_given(rt, alloc)?;
+    bounds::show_bounds(rt, alloc)?;
+    options::show_of_resolvers(rt, alloc)?;
+    hashers::show_hashers(rt, alloc)?;
+    clears::show_clears(rt, alloc)
 }
 
-fn push_resolvers(alloc: Global, text: &mut String) -> Result<(), NetError> {
-    types::push_types(alloc, text)?;
-    given_names::push_given(alloc, text)?;
-    bounds::push_bounds(alloc, text)?;
-    options::push_of_resolvers(alloc, text)?;
-    hashers::push_hashers(alloc, text)?;
-    clears::push_clears(alloc, text)
+fn show_parts(rt: &impl Print, alloc: Global) -> Result<(), NetError> {
+    servers::show_configuration(rt, alloc)?;
+    copied_parts::show_copies(rt, alloc)?;
+    replaced::show_replaced(rt, alloc)
 }

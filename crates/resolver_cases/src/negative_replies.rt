@@ -1,11 +1,12 @@
 //! A client over a handle that knows no name: the SOA record of its replies, which a script's text leaves out.
 use crate::outcomes::{query_of, soa_of};
+use crate::shown::say;
 use hickory_proto_core::{
     DnsError, DnsHandle, DnsRequest, DnsRequestOptions, DnsResponse, Message, Name, NetError,
     OpCode, ResponseCode,
 };
 use hickory_resolver::{CachingClient, Lookup};
-use std::alloc::{AllocError, Global};
+use std::alloc::Global;
 
 // An upstream that knows no name, which may be kept for a minute.
 #[derive(Drop)]
@@ -23,33 +24,26 @@ impl DnsHandle for NoName {
     }
 }
 
-/// Adds the TTL of the SOA record of its replies at some moments (seconds).
-pub fn push_negative(alloc: Global, text: &mut String) -> Result<(), NetError> {
-    text.push_str("# the SOA record of a negative answer\n")?;
+/// The TTL of the SOA record of its replies at some moments (seconds).
+pub fn show_negative(rt: &impl Print, alloc: Global) {
+    say(rt, &"# the SOA record of a negative answer");
     let mut client = CachingClient::new(alloc, 8, NoName { alloc }, false);
-    let pushed = push_moments(alloc, text, &mut client);
-    drop(client);
-    Ok(pushed?)
-}
-
-fn push_moments(
-    alloc: Global,
-    text: &mut String,
-    client: &mut CachingClient<NoName>,
-) -> Result<(), AllocError> {
     for now in [0, 45, 60, 61] {
-        let reply = ask(alloc, client, now);
-        let ttl = soa_ttl(&reply).unwrap_or(0);
-        // Its proof is far shorter than that of a drop at the end of the scope.
-        drop(reply);
-        write!(text, "at {now} TTL {ttl}\n")?;
+        show_ttl(rt, now, ask(alloc, &mut client, now));
     }
-    Ok(())
+    drop(client);
 }
 
 fn ask(alloc: Global, client: &mut CachingClient<NoName>, now: u64) -> Result<Lookup, NetError> {
     let query = query_of(alloc, "a.")?;
     client.lookup(query, DnsRequestOptions::default(), now)
+}
+
+fn show_ttl(rt: &impl Print, now: u64, reply: Result<Lookup, NetError>) {
+    let ttl = soa_ttl(&reply).unwrap_or(0);
+    // `drop` costs the prover less than the end of the block.
+    drop(reply);
+    let _ = println!(rt; "at {now} TTL {ttl}");
 }
 
 fn soa_ttl(reply: &Result<Lookup, NetError>) -> Option<u32> {

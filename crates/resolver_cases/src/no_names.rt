@@ -1,17 +1,19 @@
 //! Look-ups of the addresses of no names.
+use crate::shown::{say, say_part};
 use crate::upstream::client_over;
 use hickory_proto_core::{DnsRequestOptions, NetError, RData};
 use hickory_resolver::{Hosts, LookupIp, LookupIpFuture, LookupIpStrategy};
-use std::alloc::{AllocError, Global};
+use std::alloc::Global;
 use std::net::Ipv4Addr;
 
-/// Adds the replies, without a last resort and with one.
-pub fn push_no_names(alloc: Global, text: &mut String) -> Result<(), NetError> {
-    text.push_str("# addresses of no names\n")?;
-    push_reply(text, looked_up(alloc, None))?;
-    let address = RData::A(Ipv4Addr::new(192, 0, 2, 7));
-    push_reply(text, looked_up(alloc, Some(address)))?;
-    Ok(())
+/// The replies, without a last resort and with one.
+pub fn show_no_names(rt: &impl Print, alloc: Global) {
+    say(rt, &"# addresses of no names");
+    show_reply(rt, looked_up(alloc, None));
+    show_reply(
+        rt,
+        looked_up(alloc, Some(RData::A(Ipv4Addr::new(192, 0, 2, 7)))),
+    );
 }
 
 fn looked_up(alloc: Global, finally_ip_addr: Option<RData>) -> Result<LookupIp, NetError> {
@@ -32,18 +34,19 @@ fn looked_up(alloc: Global, finally_ip_addr: Option<RData>) -> Result<LookupIp, 
     reply
 }
 
-fn push_reply(text: &mut String, reply: Result<LookupIp, NetError>) -> Result<(), AllocError> {
+fn show_reply(rt: &impl Print, reply: Result<LookupIp, NetError>) {
     match reply {
-        Ok(found) => {
-            for address in found {
-                write!(text, "  address {address}\n")?;
-            }
-            Ok(())
-        }
+        Ok(found) => show_addresses(rt, found),
         Err(error) => {
-            let pushed = write!(text, "  {error}\n");
+            say_part(rt, &error);
             drop(error);
-            pushed
         }
+    }
+}
+
+/// The addresses of a look-up.
+pub fn show_addresses(rt: &impl Print, found: LookupIp) {
+    for address in found {
+        let _ = println!(rt; "  address {address}");
     }
 }

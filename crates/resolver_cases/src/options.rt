@@ -1,8 +1,17 @@
 //! A client and resolvers whose upstream keeps the options that it was asked with.
 use crate::outcomes::query_of;
+use crate::shown::{say, say_value};
 use hickory_proto_core::{DnsHandle, DnsRequest, DnsRequestOptions, DnsResponse, NetError};
 use hickory_resolver::{CachingClient, Resolver, ResolverConfig, ResolverOpts};
 use std::alloc::Global;
+
+// Other options than the default.
+const OTHER: DnsRequestOptions = DnsRequestOptions {
+    recursion_desired: false,
+    use_edns: true,
+    edns_payload_len: 4096,
+    case_randomization: true,
+};
 
 // An upstream that has no outcome.
 #[derive(Drop)]
@@ -17,43 +26,32 @@ impl DnsHandle for KeepsOptions {
     }
 }
 
-/// Adds the options that a client hands on: of other options than the default, and of the default.
-pub fn push_of_clients(alloc: Global, text: &mut String) -> Result<(), NetError> {
-    text.push_str("# options are handed on by clients\n")?;
-    let options = DnsRequestOptions {
-        recursion_desired: false,
-        use_edns: true,
-        edns_payload_len: 4096,
-        case_randomization: true,
-    };
-    for given in [options, DnsRequestOptions::default()] {
-        let kept = kept_by_client(alloc, given)?;
-        write!(text, "{kept:?}\n")?;
-    }
-    Ok(())
+/// The options that a client hands on: of other options than the default, and of the default.
+pub fn show_of_clients(rt: &impl Print, alloc: Global) -> Result<(), NetError> {
+    say(rt, &"# options are handed on by clients");
+    show_of_client(rt, alloc, OTHER)?;
+    show_of_client(rt, alloc, DnsRequestOptions::default())
 }
 
-/// Adds the options that resolvers hand on: of other options than the default, and of the default.
-pub fn push_of_resolvers(alloc: Global, text: &mut String) -> Result<(), NetError> {
-    text.push_str("# options are handed on by resolvers\n")?;
-    let kept = kept_by_resolver(alloc, other_options(alloc))?;
-    write!(text, "{kept:?}\n")?;
-    let kept = kept_by_resolver(alloc, ResolverOpts::default(alloc))?;
-    write!(text, "{kept:?}\n")?;
-    Ok(())
+/// The options that resolvers hand on: of other options than the default, and of the default.
+pub fn show_of_resolvers(rt: &impl Print, alloc: Global) -> Result<(), NetError> {
+    say(rt, &"# options are handed on by resolvers");
+    show_of_resolver(rt, alloc, other_options(alloc))?;
+    show_of_resolver(rt, alloc, ResolverOpts::default(alloc))
 }
 
 // What the upstream keeps of a client's look-up.
-fn kept_by_client(
+fn show_of_client(
+    rt: &impl Print,
     alloc: Global,
     options: DnsRequestOptions,
-) -> Result<Option<DnsRequestOptions>, NetError> {
+) -> Result<(), NetError> {
     let query = query_of(alloc, ".")?;
     let mut client = CachingClient::new(alloc, 8, KeepsOptions { options: None }, false);
     drop(client.lookup(query, options, 0));
-    let kept = client.handle().options;
+    say_value(rt, &client.handle().options);
     drop(client);
-    Ok(kept)
+    Ok(())
 }
 
 fn other_options(alloc: Global) -> ResolverOpts {
@@ -66,15 +64,16 @@ fn other_options(alloc: Global) -> ResolverOpts {
 }
 
 // What the upstream keeps of a resolver's look-up.
-fn kept_by_resolver(
-    alloc: Global,
-    options: ResolverOpts,
-) -> Result<Option<DnsRequestOptions>, NetError> {
+fn show_of_resolver(rt: &impl Print, alloc: Global, options: ResolverOpts) -> Result<(), NetError> {
+    let mut resolver = resolver_with(alloc, options)?;
+    drop(resolver.ipv4_lookup("a.", 0));
+    say_value(rt, &resolver.client().handle().options);
+    drop(resolver);
+    Ok(())
+}
+
+fn resolver_with(alloc: Global, options: ResolverOpts) -> Result<Resolver<KeepsOptions>, NetError> {
     let handle = KeepsOptions { options: None };
     let builder = Resolver::builder_with_config(ResolverConfig::default(alloc), handle);
-    let mut resolver = builder.with_options(options).build()?;
-    drop(resolver.ipv4_lookup("a.", 0));
-    let kept = resolver.client().handle().options;
-    drop(resolver);
-    Ok(kept)
+    builder.with_options(options).build()
 }

@@ -1,14 +1,27 @@
 //! What tables of outcomes hold.
-use hickory_proto_core::dns_handle::Outcome;
 use hickory_proto_core::{
-    DnsResponse, Message, Name, NetError, OpCode, Query, RData, Record, RecordType, ResponseCode,
+    DnsResponse, Message, Name, NetError, OpCode, Outcome, Query, RData, Record, RecordType,
+    ResponseCode,
 };
 use std::alloc::Global;
 use std::net::Ipv4Addr;
 
+/// A name.
+pub fn name(alloc: Global, text: &str) -> Result<Name, NetError> {
+    Ok(Name::from_ascii(alloc, text)?)
+}
+
 /// A question for the A records of a name.
-pub fn query_of(alloc: Global, name: &str) -> Result<Query, NetError> {
-    Ok(Query::query(Name::from_ascii(alloc, name)?, RecordType::A))
+pub fn query_of(alloc: Global, text: &str) -> Result<Query, NetError> {
+    Ok(Query::query(name(alloc, text)?, RecordType::A))
+}
+
+fn add(
+    outcomes: &mut Vec<(Query, Outcome)>,
+    query: Query,
+    outcome: Outcome,
+) -> Result<(), NetError> {
+    Ok(outcomes.push((query, outcome))?)
 }
 
 /// Adds that there is no answer in time for a name.
@@ -17,22 +30,47 @@ pub fn add_late(
     outcomes: &mut Vec<(Query, Outcome)>,
     name: &str,
 ) -> Result<(), NetError> {
-    let query = query_of(alloc, name)?;
-    outcomes.push((query, Err(NetError::Timeout)))?;
-    Ok(())
+    add(outcomes, query_of(alloc, name)?, Err(NetError::Timeout))
 }
 
-/// Adds that a name has this address for twenty seconds.
+/// Adds that a name has an address for twenty seconds, 192.0.2.1 or that with another last part.
 pub fn add_address(
     alloc: Global,
     outcomes: &mut Vec<(Query, Outcome)>,
     name: &str,
-    address: Ipv4Addr,
+    last: u8,
+) -> Result<(), NetError> {
+    add_answer_of(
+        alloc,
+        outcomes,
+        name,
+        RData::A(Ipv4Addr::new(192, 0, 2, last)),
+    )
+}
+
+/// Adds that the answer for a name are these data for twenty seconds.
+pub fn add_answer_of(
+    alloc: Global,
+    outcomes: &mut Vec<(Query, Outcome)>,
+    name: &str,
+    rdata: RData,
 ) -> Result<(), NetError> {
     let query = query_of(alloc, name)?;
-    let outcome = answer_to(alloc, &query, address);
-    outcomes.push((query, outcome))?;
-    Ok(())
+    add(outcomes, query, answer(alloc, name, rdata))
+}
+
+fn answer(alloc: Global, owner: &str, rdata: RData) -> Outcome {
+    let added = Record::from_rdata(name(alloc, owner)?, 20, rdata);
+    let mut message = response(alloc, query_of(alloc, owner)?)?;
+    message.add_answer(added)?;
+    Ok(DnsResponse::from_message(message))
+}
+
+// A response to a question, without records.
+fn response(alloc: Global, query: Query) -> Result<Message, NetError> {
+    let mut message = Message::response(alloc, 0, OpCode::Query);
+    message.add_query(query)?;
+    Ok(message)
 }
 
 /// Adds that there is no such name, which may be kept for forty seconds.
@@ -41,22 +79,20 @@ pub fn add_no_name(
     outcomes: &mut Vec<(Query, Outcome)>,
     query: Query,
 ) -> Result<(), NetError> {
-    let outcome = no_name(alloc, &query);
-    outcomes.push((query, outcome))?;
-    Ok(())
+    let question = query.clone()?;
+    add(outcomes, query, no_name(alloc, question))
 }
 
-fn no_name(alloc: Global, query: &Query) -> Outcome {
-    let (mname, rname) = (
-        Name::from_ascii(alloc, "m.")?,
-        Name::from_ascii(alloc, "r.")?,
-    );
-    let (question, soa) = (query.clone()?, soa_of(alloc, mname, rname, 50, 40));
-    let mut message = Message::response(alloc, 0, OpCode::Query);
+fn no_name(alloc: Global, query: Query) -> Outcome {
+    let mut message = response(alloc, query)?;
     message.metadata.response_code = ResponseCode::NXDomain;
-    message.add_query(question)?;
-    message.add_authority(soa)?;
+    message.add_authority(soa(alloc)?)?;
     Ok(DnsResponse::from_message(message))
+}
+
+fn soa(alloc: Global) -> Result<Record, NetError> {
+    let mname = name(alloc, "m.")?;
+    Ok(soa_of(alloc, mname, name(alloc, "r.")?, 50, 40))
 }
 
 /// The SOA record of the root, with these names, this TTL and this minimum (seconds).
@@ -71,12 +107,4 @@ pub fn soa_of(alloc: Global, mname: Name, rname: Name, ttl: u32, minimum: u32) -
         minimum,
     };
     Record::from_rdata(Name::root(alloc), ttl, rdata)
-}
-
-fn answer_to(alloc: Global, query: &Query, address: Ipv4Addr) -> Outcome {
-    let (owner, question) = (query.name.clone()?, query.clone()?);
-    let mut message = Message::response(alloc, 0, OpCode::Query);
-    message.add_query(question)?;
-    message.add_answer(Record::from_rdata(owner, 20, RData::A(address)))?;
-    Ok(DnsResponse::from_message(message))
 }

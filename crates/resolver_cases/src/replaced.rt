@@ -1,73 +1,70 @@
 //! Parts of configurations and resolvers that take the place of others.
-use crate::shown::push_reply;
+use crate::no_names::show_addresses;
+use crate::outcomes::name;
+use crate::shown::{say, show_reply};
 use crate::upstream::{Upstream, builder_of, hosts_of};
 use hickory_proto_core::{Name, NetError};
 use hickory_resolver::{
-    LookupIp, NameServerConfig, OpportunisticEncryption, OpportunisticEncryptionConfig, Resolver,
+    NameServerConfig, OpportunisticEncryption, OpportunisticEncryptionConfig, Resolver,
     ResolverConfig,
 };
-use std::alloc::{AllocError, Global};
+use std::alloc::Global;
+use std::fmt::Display;
 use std::net::{IpAddr, Ipv4Addr};
 
-/// Adds the parts of a configuration that got a further server, and what a resolver answers before and after it
-/// got another table of hosts.
-pub fn push_replaced(alloc: Global, text: &mut String) -> Result<(), NetError> {
-    text.push_str("# parts of a configuration\n")?;
-    push_parts(alloc, text)?;
-    text.push_str("# tables of hosts in turn\n")?;
+/// The parts of a configuration that got a further server, and what a resolver answers before and after it got
+/// another table of hosts.
+pub fn show_replaced(rt: &impl Print, alloc: Global) -> Result<(), NetError> {
+    say(rt, &"# parts of a configuration");
+    show_parts(rt, config(alloc)?);
+    say(rt, &"# tables of hosts in turn");
     let mut resolver = encrypting(alloc)?;
-    let pushed = push_in_turn(alloc, text, &mut resolver);
+    let shown = show_in_turn(rt, alloc, &mut resolver);
     drop(resolver);
-    pushed
+    shown
 }
 
-fn push_parts(alloc: Global, text: &mut String) -> Result<(), NetError> {
+fn config(alloc: Global) -> Result<ResolverConfig, NetError> {
     let mut config = ResolverConfig::default(alloc);
-    match fill(alloc, &mut config) {
-        Ok(()) => Ok(push_of(text, config)?),
-        Err(error) => {
-            drop(config);
-            Err(error)
-        }
-    }
+    fill(alloc, &mut config)?;
+    Ok(config)
 }
 
 fn fill(alloc: Global, config: &mut ResolverConfig) -> Result<(), NetError> {
-    config.set_domain(Name::from_ascii(alloc, "d.")?)?;
-    config.add_search(Name::from_ascii(alloc, "s.")?)?;
+    config.set_domain(name(alloc, "d.")?)?;
+    config.add_search(name(alloc, "s.")?)?;
     for last in [53, 54] {
-        let ip = IpAddr::V4(Ipv4Addr::new(192, 0, 2, last));
-        config.add_name_server(NameServerConfig::udp(alloc, ip)?)?;
+        config.add_name_server(server(alloc, last)?)?;
     }
     Ok(())
 }
 
-fn push_of(text: &mut String, config: ResolverConfig) -> Result<(), AllocError> {
+fn server(alloc: Global, last: u8) -> Result<NameServerConfig, NetError> {
+    NameServerConfig::udp(alloc, IpAddr::V4(Ipv4Addr::new(192, 0, 2, last)))
+}
+
+fn show_parts(rt: &impl Print, config: ResolverConfig) {
     let (domain, search, servers) = config.into_parts();
-    let pushed = push_each(text, &domain, &search, &servers);
+    if let Some(domain) = &domain {
+        say_of(rt, "domain", domain);
+    }
+    show_each(rt, &search, &servers);
     drop(domain);
     drop(search);
     drop(servers);
-    pushed
 }
 
-fn push_each(
-    text: &mut String,
-    domain: &Option<Name>,
-    search: &[Name],
-    servers: &[NameServerConfig],
-) -> Result<(), AllocError> {
-    if let Some(domain) = domain {
-        write!(text, "domain {domain}\n")?;
-    }
+fn show_each(rt: &impl Print, search: &[Name], servers: &[NameServerConfig]) {
     for name in search {
-        write!(text, "search {name}\n")?;
+        say_of(rt, "search", name);
     }
     for server in servers {
-        let ip = server.ip;
-        write!(text, "server {ip}\n")?;
+        say_of(rt, "server", &server.ip);
     }
-    Ok(())
+}
+
+fn say_of(rt: &impl Print, what: &str, part: &impl Display) {
+    let _ = println!(rt; "{what} {part}");
 }
 
 // A resolver that would encrypt where it could, over an upstream without outcomes.
@@ -79,37 +76,39 @@ fn encrypting(alloc: Global) -> Result<Resolver<Upstream>, NetError> {
 }
 
 // Without hosts, with one, and with another.
-fn push_in_turn(
+fn show_in_turn(
+    rt: &impl Print,
     alloc: Global,
-    text: &mut String,
     resolver: &mut Resolver<Upstream>,
 ) -> Result<(), NetError> {
-    push_asked(text, resolver)?;
-    resolver.set_hosts(hosts_of(alloc, "192.0.2.1 h\n192.0.2.2 h\n")?);
-    push_asked(text, resolver)?;
-    push_copy(text, resolver)?;
-    resolver.set_hosts(hosts_of(alloc, "192.0.2.3 h\n")?);
-    push_asked(text, resolver)?;
+    show_asked(rt, resolver);
+    show_over(rt, alloc, resolver, "192.0.2.1 h\n192.0.2.2 h\n")?;
+    show_copy(rt, resolver)?;
+    show_over(rt, alloc, resolver, "192.0.2.3 h\n")
+}
+
+fn show_over(
+    rt: &impl Print,
+    alloc: Global,
+    resolver: &mut Resolver<Upstream>,
+    file: &str,
+) -> Result<(), NetError> {
+    resolver.set_hosts(hosts_of(alloc, file)?);
+    show_asked(rt, resolver);
     Ok(())
 }
 
 // The questions that were sent since it was built, and the reply.
-fn push_asked(text: &mut String, resolver: &mut Resolver<Upstream>) -> Result<(), AllocError> {
+fn show_asked(rt: &impl Print, resolver: &mut Resolver<Upstream>) {
     let reply = resolver.ipv4_lookup("h.", 0);
-    push_reply(text, resolver.client().handle().exchanges(), reply)
+    show_reply(rt, resolver.client().handle().exchanges(), reply);
 }
 
 // The addresses of a copy.
-fn push_copy(text: &mut String, resolver: &mut Resolver<Upstream>) -> Result<(), NetError> {
+fn show_copy(rt: &impl Print, resolver: &mut Resolver<Upstream>) -> Result<(), NetError> {
     let found = resolver.lookup_ip("h.", 0)?;
     let copy = found.clone();
     drop(found);
-    Ok(push_addresses(text, copy?)?)
-}
-
-fn push_addresses(text: &mut String, found: LookupIp) -> Result<(), AllocError> {
-    for address in found {
-        write!(text, "  address {address}\n")?;
-    }
+    show_addresses(rt, copy?);
     Ok(())
 }

@@ -1,94 +1,114 @@
 //! Configurations of known servers, and search lists.
+use crate::outcomes::name;
+use crate::shown::say;
 use hickory_proto_core::{Name, NetError, Protocol};
 use hickory_resolver::{
     ConnectionConfig, NameServerConfig, ProtocolConfig, ResolverConfig, ServerGroup, cloudflare,
     google, quad9,
 };
-use std::alloc::{AllocError, Global};
+use std::alloc::Global;
 
-/// Adds the servers of each group, and what a search list comes to.
-pub fn push_configuration(alloc: Global, text: &mut String) -> Result<(), NetError> {
-    text.push_str("# configuration\ndns.google\n")?;
-    push_config(text, config_of(google(alloc)?, Protocol::Tls))?;
-    text.push_str("cloudflare-dns.com\n")?;
-    push_config(text, config_of(cloudflare(alloc)?, Protocol::Https))?;
-    text.push_str("dns.quad9.net\n")?;
-    push_config(text, config_of(quad9(alloc)?, Protocol::Udp))?;
-    push_searches(alloc, text)
+/// The servers of each group, and what a search list comes to.
+pub fn show_configuration(rt: &impl Print, alloc: Global) -> Result<(), NetError> {
+    say(rt, &"# configuration");
+    show_group(rt, "dns.google", google(alloc)?, Protocol::Tls)?;
+    show_group(
+        rt,
+        "cloudflare-dns.com",
+        cloudflare(alloc)?,
+        Protocol::Https,
+    )?;
+    show_group(rt, "dns.quad9.net", quad9(alloc)?, Protocol::Udp)?;
+    show_searches(rt, alloc)
+}
+
+fn show_group(
+    rt: &impl Print,
+    server_name: &str,
+    group: ServerGroup,
+    over: Protocol,
+) -> Result<(), NetError> {
+    say(rt, &server_name);
+    let config = config_of(&group, over);
+    drop(group);
+    show_servers(rt, config?.name_servers());
+    Ok(())
 }
 
 // The servers of a group over TLS or HTTPS, else over UDP and TCP.
-fn config_of(group: ServerGroup, over: Protocol) -> Result<ResolverConfig, NetError> {
-    let config = match over {
-        Protocol::Tls => ResolverConfig::tls(&group),
-        Protocol::Https => ResolverConfig::https(&group),
-        _ => ResolverConfig::udp_and_tcp(&group),
-    };
-    drop(group);
-    config
+fn config_of(group: &ServerGroup<'_>, over: Protocol) -> Result<ResolverConfig, NetError> {
+    match over {
+        Protocol::Tls => ResolverConfig::tls(group),
+        Protocol::Https => ResolverConfig::https(group),
+        _ => ResolverConfig::udp_and_tcp(group),
+    }
 }
 
-fn push_config(
-    text: &mut String,
-    config: Result<ResolverConfig, NetError>,
-) -> Result<(), NetError> {
-    let config = config?;
-    let pushed = push_servers(text, config.name_servers());
-    drop(config);
-    Ok(pushed?)
-}
-
-fn push_servers(text: &mut String, servers: &[NameServerConfig]) -> Result<(), AllocError> {
+fn show_servers(rt: &impl Print, servers: &[NameServerConfig]) {
     for server in servers {
-        let ip = server.ip;
-        write!(text, "  {ip}")?;
-        push_connections(text, &server.connections)?;
+        let _ = rt.print("  ");
+        let _ = rt.print(server.ip);
+        show_connections(rt, &server.connections);
     }
-    Ok(())
 }
 
-fn push_connections(text: &mut String, connections: &[ConnectionConfig]) -> Result<(), AllocError> {
+fn show_connections(rt: &impl Print, connections: &[ConnectionConfig]) {
     for connection in connections {
-        let (port, protocol) = (connection.port, connection.protocol.to_protocol());
-        write!(text, " port {port} {protocol:?}")?;
-        push_names(text, &connection.protocol)?;
+        show_connection(rt, connection);
     }
-    text.push_str("\n")
+    say(rt, &"");
 }
 
-// The name of the server, and the path.
-fn push_names(text: &mut String, protocol: &ProtocolConfig) -> Result<(), AllocError> {
-    match protocol {
-        ProtocolConfig::Tls { server_name } => write!(text, " {server_name}"),
-        ProtocolConfig::Https { server_name, path } => write!(text, " {server_name} {path}"),
-        _ => Ok(()),
+fn show_connection(rt: &impl Print, connection: &ConnectionConfig) {
+    let protocol = connection.protocol.to_protocol();
+    let _ = rt.print(format_args!(" port {} {protocol:?}", connection.port));
+    match &connection.protocol {
+        ProtocolConfig::Tls { server_name } => say_behind(rt, server_name),
+        ProtocolConfig::Https { server_name, path } => {
+            say_behind(rt, server_name);
+            say_behind(rt, path);
+        }
+        _ => {}
     }
+}
+
+// The name of a server, or a path.
+fn say_behind(rt: &impl Print, text: &str) {
+    let _ = rt.print(" ");
+    let _ = rt.print(text);
 }
 
 // A search list, and what a domain makes of it.
-fn push_searches(alloc: Global, text: &mut String) -> Result<(), NetError> {
+fn show_searches(rt: &impl Print, alloc: Global) -> Result<(), NetError> {
     let mut config = ResolverConfig::default(alloc);
-    let pushed = push_set(alloc, text, &mut config);
+    let shown = show_set(rt, alloc, &mut config);
     drop(config);
-    pushed
+    shown
 }
 
-fn push_set(alloc: Global, text: &mut String, config: &mut ResolverConfig) -> Result<(), NetError> {
-    config.add_search(Name::from_ascii(alloc, "b.")?)?;
-    config.add_search(Name::from_ascii(alloc, "c.")?)?;
-    push_search(text, config)?;
-    config.set_domain(Name::from_ascii(alloc, "d.")?)?;
-    push_search(text, config)?;
+fn show_set(rt: &impl Print, alloc: Global, config: &mut ResolverConfig) -> Result<(), NetError> {
+    config.add_search(name(alloc, "b.")?)?;
+    config.add_search(name(alloc, "c.")?)?;
+    show_search(rt, config.domain(), config.search());
+    config.set_domain(name(alloc, "d.")?)?;
+    show_search(rt, config.domain(), config.search());
     Ok(())
 }
 
-fn push_search(text: &mut String, config: &ResolverConfig) -> Result<(), AllocError> {
-    if let Some(domain) = config.domain() {
-        write!(text, "domain {domain} ")?;
+fn show_search(rt: &impl Print, domain: Option<&Name>, search: &[Name]) {
+    if let Some(domain) = domain {
+        say_domain(rt, domain);
     }
-    text.push_str("search")?;
-    for name in config.search() {
-        write!(text, " {name}")?;
+    let _ = rt.print("search");
+    for name in search {
+        let _ = rt.print(" ");
+        let _ = rt.print(name);
     }
-    text.push_str("\n")
+    say(rt, &"");
+}
+
+fn say_domain(rt: &impl Print, domain: &Name) {
+    let _ = rt.print("domain ");
+    let _ = rt.print(domain);
+    let _ = rt.print(" ");
 }

@@ -1,54 +1,61 @@
-//! The texts of what is sent and of what is answered.
+//! The texts of what is sent and of what is answered. A line that is not written is missed by whoever reads the text.
 use hickory_proto_core::{Exchange, NetError, RData, Record};
 use hickory_resolver::Lookup;
-use std::alloc::AllocError;
+use std::fmt::{Debug, Display};
 
-/// Adds the questions that were sent, and the reply.
-pub fn push_reply(
-    text: &mut String,
-    sent: &[Exchange],
-    reply: Result<Lookup, NetError>,
-) -> Result<(), AllocError> {
-    push_sent(text, "  sent ", sent)?;
-    let pushed = push_outcome(text, &reply);
-    // Its proof is far shorter than that of a drop at the end of the scope.
+/// A line.
+pub fn say(rt: &impl Print, line: &impl Display) {
+    let _ = rt.println(line);
+}
+
+/// A line of a part of an answer.
+pub fn say_part(rt: &impl Print, part: &impl Display) {
+    let _ = println!(rt; "  {part}");
+}
+
+/// A value, as `Debug` prints it.
+pub fn say_value(rt: &impl Print, value: &impl Debug) {
+    let _ = println!(rt; "{value:?}");
+}
+
+/// The questions that were sent, and the reply.
+pub fn show_reply(rt: &impl Print, sent: &[Exchange], reply: Result<Lookup, NetError>) {
+    show_sent(rt, "  sent ", sent);
+    show_outcome(rt, &reply);
+    // `drop` costs the prover less than the end of the block.
     drop(reply);
-    pushed
 }
 
-/// Adds what a look-up came to.
-fn push_outcome(text: &mut String, reply: &Result<Lookup, NetError>) -> Result<(), AllocError> {
+// What a look-up came to.
+fn show_outcome(rt: &impl Print, reply: &Result<Lookup, NetError>) {
     match reply {
-        Ok(lookup) => push_answers(text, lookup.answers()),
-        Err(error) => write!(text, "  {error}\n"),
+        Ok(lookup) => show_answers(rt, lookup.answers()),
+        Err(error) => say_part(rt, error),
     }
 }
 
-/// Adds a line for each question that was sent.
-pub fn push_sent(text: &mut String, lead: &str, sent: &[Exchange]) -> Result<(), AllocError> {
+/// A line for each question that was sent.
+pub fn show_sent(rt: &impl Print, lead: &str, sent: &[Exchange]) {
     for exchange in sent {
-        let query = &exchange.query;
-        let (name, class, record_type) = (&query.name, query.query_class, query.query_type);
-        write!(text, "{lead}{name} {class} {record_type}\n")?;
+        let _ = println!(rt; "{lead}{}", exchange.query);
     }
-    Ok(())
 }
 
-/// Adds a line for each answer.
-pub fn push_answers(text: &mut String, answers: &[Record]) -> Result<(), AllocError> {
+/// A line for each answer.
+pub fn show_answers(rt: &impl Print, answers: &[Record]) {
     for answer in answers {
-        let (owner, record_type) = (&answer.name, answer.record_type());
-        write!(text, "  answer {owner} {record_type}")?;
-        push_data(text, &answer.rdata)?;
+        show_answer(rt, answer);
     }
-    Ok(())
 }
 
-// The address or the name that a record gives.
-fn push_data(text: &mut String, rdata: &RData) -> Result<(), AllocError> {
-    match rdata {
-        RData::A(address) => write!(text, " {address}\n"),
-        RData::PTR(target) => write!(text, " {target}\n"),
-        _ => text.push_str(" data\n"),
+fn show_answer(rt: &impl Print, answer: &Record) {
+    match &answer.rdata {
+        RData::A(address) => say_answer(rt, answer, address),
+        RData::PTR(target) => say_answer(rt, answer, target),
+        _ => say_answer(rt, answer, &"data"),
     }
+}
+
+fn say_answer(rt: &impl Print, answer: &Record, data: &impl Display) {
+    let _ = println!(rt; "  answer {} {} {data}", answer.name, answer.record_type());
 }

@@ -1,139 +1,142 @@
 //! A run over an upstream that is a table.
-use crate::outcomes::{add_address, add_late, add_no_name};
-use crate::shown::{push_answers, push_sent};
-use hickory_proto_core::dns_handle::Outcome;
-use hickory_proto_core::{DnsError, Name, NetError, Query, RecordType, TableHandle};
+use crate::outcomes::{add_address, add_late, add_no_name, name};
+use crate::shown::{say, say_part, show_answers, show_sent};
+use hickory_proto_core::{DnsError, NetError, NoRecords, Outcome, Query, RecordType, TableHandle};
 use hickory_resolver::{
     Hosts, Lookup, LookupIp, LookupIpStrategy, Reply, Request, ResolverConfig, ResolverOpts, Step,
     Transcript, run,
 };
-use std::alloc::{AllocError, Global};
-use std::net::Ipv4Addr;
+use std::alloc::Global;
 
-/// Adds its steps, and all that was sent.
-pub fn push_run(alloc: Global, text: &mut String) -> Result<(), NetError> {
-    text.push_str("# a run\n")?;
-    let mut requests = Vec::new(alloc);
-    let pushed = push_filled(alloc, text, &mut requests);
+/// Its steps, and all that was sent.
+pub fn show_run(rt: &impl Print, alloc: Global) -> Result<(), NetError> {
+    say(rt, &"# a run");
+    let requests = requests(alloc)?;
+    let transcript = transcript_of(alloc, table_of(alloc)?, &requests);
     drop(requests);
-    pushed
-}
-
-fn push_filled(
-    alloc: Global,
-    text: &mut String,
-    requests: &mut Vec<Request>,
-) -> Result<(), NetError> {
-    fill(alloc, requests)?;
-    let transcript = transcript_of(alloc, requests)?;
-    let pushed = push_transcript(text, &transcript);
-    drop(transcript.into_resolver());
-    Ok(pushed?)
+    show_transcript(rt, transcript?);
+    Ok(())
 }
 
 // The addresses of a host that has one family; that it lacks the other, out of the cache; its address, cleared and
 // asked again; a name that is not answered in time; and all is cleared.
-fn fill(alloc: Global, requests: &mut Vec<Request>) -> Result<(), NetError> {
-    let host = String::from_str(alloc, "h.")?;
-    requests.push(Request::LookupIp { host, now: 10 })?;
-    requests.push(lookup_of(alloc, "h.", RecordType::AAAA, 25)?)?;
-    let (name, record_type) = (String::from_str(alloc, "h.")?, RecordType::A);
-    requests.push(Request::ClearLookup {
-        name,
-        record_type,
-        now: 25,
-    })?;
-    requests.push(lookup_of(alloc, "h.", RecordType::A, 26)?)?;
-    requests.push(lookup_of(alloc, "t.", RecordType::A, 26)?)?;
-    requests.push(Request::Clear { now: 26 })?;
-    Ok(())
+fn requests(alloc: Global) -> Result<Vec<Request>, NetError> {
+    let mut requests = Vec::new(alloc);
+    push_requests(alloc, &mut requests)?;
+    Ok(requests)
 }
 
-fn lookup_of(
-    alloc: Global,
-    name: &str,
-    record_type: RecordType,
-    now: u64,
-) -> Result<Request, AllocError> {
-    let name = String::from_str(alloc, name)?;
-    Ok(Request::Lookup {
+fn push_requests(alloc: Global, requests: &mut Vec<Request>) -> Result<(), NetError> {
+    requests.push(addresses(text(alloc, "h.")?, 10))?;
+    requests.push(lookup_of(text(alloc, "h.")?, RecordType::AAAA, 25))?;
+    requests.push(clear_of(text(alloc, "h.")?, 25))?;
+    requests.push(lookup_of(text(alloc, "h.")?, RecordType::A, 26))?;
+    requests.push(lookup_of(text(alloc, "t.")?, RecordType::A, 26))?;
+    Ok(requests.push(Request::Clear { now: 26 })?)
+}
+
+fn text(alloc: Global, text: &str) -> Result<String, NetError> {
+    Ok(String::from_str(alloc, text)?)
+}
+
+fn addresses(host: String, now: u64) -> Request {
+    Request::LookupIp { host, now }
+}
+
+fn lookup_of(name: String, record_type: RecordType, now: u64) -> Request {
+    Request::Lookup {
         name,
         record_type,
         now,
-    })
+    }
 }
 
-fn transcript_of(alloc: Global, requests: &[Request]) -> Result<Transcript<TableHandle>, NetError> {
-    let handle = table_of(alloc)?;
-    let (config, mut options) = (ResolverConfig::default(alloc), ResolverOpts::default(alloc));
+fn clear_of(name: String, now: u64) -> Request {
+    let record_type = RecordType::A;
+    Request::ClearLookup {
+        name,
+        record_type,
+        now,
+    }
+}
+
+fn transcript_of(
+    alloc: Global,
+    handle: TableHandle,
+    requests: &[Request],
+) -> Result<Transcript<TableHandle>, NetError> {
+    let (config, hosts) = (ResolverConfig::default(alloc), Hosts::default(alloc));
+    run(config, options_of(alloc), hosts, handle, requests)
+}
+
+fn options_of(alloc: Global) -> ResolverOpts {
+    let mut options = ResolverOpts::default(alloc);
     options.preserve_intermediates = false;
     options.ip_strategy = LookupIpStrategy::Ipv4AndIpv6;
-    run(config, options, Hosts::default(alloc), handle, requests)
+    options
 }
 
 fn table_of(alloc: Global) -> Result<TableHandle, NetError> {
     let mut outcomes = Vec::new(alloc);
-    match fill_table(alloc, &mut outcomes) {
-        Ok(()) => TableHandle::new(outcomes),
-        Err(error) => {
-            drop(outcomes);
-            Err(error)
-        }
-    }
+    fill_table(alloc, &mut outcomes)?;
+    TableHandle::new(outcomes)
 }
 
 fn fill_table(alloc: Global, outcomes: &mut Vec<(Query, Outcome)>) -> Result<(), NetError> {
-    add_address(alloc, outcomes, "h.", Ipv4Addr::new(192, 0, 2, 3))?;
-    let other = Query::query(Name::from_ascii(alloc, "h.")?, RecordType::AAAA);
-    add_no_name(alloc, outcomes, other)?;
+    add_address(alloc, outcomes, "h.", 3)?;
+    add_no_name(
+        alloc,
+        outcomes,
+        Query::query(name(alloc, "h.")?, RecordType::AAAA),
+    )?;
     add_late(alloc, outcomes, "t.")
 }
 
-fn push_transcript(
-    text: &mut String,
-    transcript: &Transcript<TableHandle>,
-) -> Result<(), AllocError> {
+fn show_transcript(rt: &impl Print, transcript: Transcript<TableHandle>) {
     for step in transcript.steps() {
-        push_step(text, step)?;
+        show_step(rt, step);
     }
-    push_sent(text, "", transcript.exchanges())
+    show_sent(rt, "", transcript.exchanges());
+    drop(transcript.into_resolver());
 }
 
-fn push_step(text: &mut String, step: &Step) -> Result<(), AllocError> {
-    let (now, sent) = (step.now, step.exchanges);
-    write!(text, "at {now} sent {sent}\n")?;
+fn show_step(rt: &impl Print, step: &Step) {
+    let _ = println!(rt; "at {} sent {}", step.now, step.exchanges);
     match &step.reply {
-        Reply::Lookup(Ok(lookup)) => push_lookup(text, lookup),
-        Reply::LookupIp(Ok(found)) => push_found(text, found),
-        Reply::Cleared(Ok(())) => text.push_str("  cleared\n"),
+        Reply::Lookup(Ok(lookup)) => show_lookup(rt, lookup),
+        Reply::LookupIp(Ok(found)) => show_found(rt, found),
+        Reply::Cleared(Ok(())) => say_part(rt, &"cleared"),
         Reply::Lookup(Err(error)) | Reply::LookupIp(Err(error)) | Reply::Cleared(Err(error)) => {
-            push_error(text, error)
+            show_error(rt, error)
         }
     }
 }
 
-fn push_lookup(text: &mut String, lookup: &Lookup) -> Result<(), AllocError> {
-    let until = lookup.valid_until();
-    write!(text, "  until {until}\n")?;
-    push_answers(text, lookup.answers())
+fn show_lookup(rt: &impl Print, lookup: &Lookup) {
+    say_until(rt, lookup.valid_until());
+    show_answers(rt, lookup.answers());
 }
 
-fn push_found(text: &mut String, found: &LookupIp) -> Result<(), AllocError> {
-    let until = found.valid_until();
-    write!(text, "  until {until}\n")?;
+fn say_until(rt: &impl Print, until: u64) {
+    let _ = println!(rt; "  until {until}");
+}
+
+fn show_found(rt: &impl Print, found: &LookupIp) {
+    say_until(rt, found.valid_until());
     for address in found.iter() {
-        write!(text, "  address {address}\n")?;
+        let _ = println!(rt; "  address {address}");
     }
-    Ok(())
 }
 
 // With the seconds for which a negative answer may be kept.
-fn push_error(text: &mut String, error: &NetError) -> Result<(), AllocError> {
+fn show_error(rt: &impl Print, error: &NetError) {
     match error {
-        NetError::Dns(DnsError::NoRecordsFound(none)) => {
-            let (code, ttl) = (&none.response_code, none.negative_ttl.unwrap_or(0));
-            write!(text, "  {code:?} for {ttl}\n")
-        }
-        _ => write!(text, "  {error}\n"),
+        NetError::Dns(DnsError::NoRecordsFound(none)) => say_none(rt, none),
+        _ => say_part(rt, error),
     }
+}
+
+fn say_none(rt: &impl Print, none: &NoRecords) {
+    let ttl = none.negative_ttl.unwrap_or(0);
+    let _ = println!(rt; "  {:?} for {ttl}", none.response_code);
 }

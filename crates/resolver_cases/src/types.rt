@@ -1,9 +1,9 @@
 //! The look-ups of one type each.
-use crate::shown::push_sent;
+use crate::shown::{say, say_value, show_sent};
 use crate::upstream::{Upstream, builder_of};
 use hickory_proto_core::{NetError, RecordType};
 use hickory_resolver::{Lookup, Resolver};
-use std::alloc::{AllocError, Global};
+use std::alloc::Global;
 
 // The types of the calls, in their order.
 const TYPES: [RecordType; 11] = [
@@ -20,25 +20,18 @@ const TYPES: [RecordType; 11] = [
     RecordType::PTR,
 ];
 
-/// Adds the question that each look-up sends, and what stands for the resolver.
-pub fn push_types(alloc: Global, text: &mut String) -> Result<(), NetError> {
-    text.push_str("# each look-up of a type\n")?;
+/// The question that each look-up sends, and what stands for the resolver.
+pub fn show_types(rt: &impl Print, alloc: Global) -> Result<(), NetError> {
+    say(rt, &"# each look-up of a type");
     let mut resolver = builder_of(alloc)?.build()?;
-    ask_each(&mut resolver);
-    let pushed = push_asked(text, &resolver);
-    drop(resolver);
-    Ok(pushed?)
-}
-
-fn push_asked(text: &mut String, resolver: &Resolver<Upstream>) -> Result<(), AllocError> {
-    push_sent(text, "", resolver.client().handle().exchanges())?;
-    write!(text, "# debug\n{resolver:?}\n")
-}
-
-fn ask_each(resolver: &mut Resolver<Upstream>) {
     for record_type in TYPES {
-        drop(ask(resolver, record_type));
+        drop(ask(&mut resolver, record_type));
     }
+    show_sent(rt, "", resolver.client().handle().exchanges());
+    say(rt, &"# debug");
+    say_value(rt, &resolver);
+    drop(resolver);
+    Ok(())
 }
 
 // The look-up of a type by its own call.

@@ -1,6 +1,5 @@
 //! Clients and resolvers over tables of outcomes, and tables of hosts.
-use hickory_proto_core::dns_handle::Outcome;
-use hickory_proto_core::{NetError, Query, Recorded, TableHandle};
+use hickory_proto_core::{NetError, Outcome, Query, Recorded, TableHandle};
 use hickory_resolver::{CachingClient, Hosts, Resolver, ResolverBuilder, ResolverConfig};
 use std::alloc::Global;
 

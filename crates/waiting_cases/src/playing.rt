@@ -1,123 +1,103 @@
-//! A list of events over one resolver.
-use crate::outcomes::address;
-use hickory_proto_core::dns_handle::Outcome;
+//! A list of events over one resolver. A line of the file of events is:
+//!
+//! - `start NAME MOMENT`, a look-up of the addresses of a name is started. The moment is in seconds;
+//! - `start_ip HOST MOMENT`, a look-up of both families;
+//! - `NUMBER gets OUTCOME`, a call is handed what came back to its question;
+//! - `NUMBER dropped`, a call is let go;
+//! - `clear_lookup NAME`, the addresses of a name are cleared, and `clear`, all.
+use crate::outcomes::outcome_of;
+use crate::shown::{say, show_question, show_result};
 use hickory_proto_core::{NetError, Query, RecordType, ScriptHandle};
-use hickory_resolver::{Lookup, Resolver, ResolverConfig};
+use hickory_resolver::{Resolver, ResolverConfig};
 use hickory_resolver_events::{Event, EventReply, play};
-use std::alloc::Global;
+use std::alloc::{AllocError, Global};
 
-/// Adds what each event comes to: two look-ups that cross, a clear between, one that is dropped, and numbers of calls
-/// that do not wait.
-pub fn push_played(alloc: Global, text: &mut String) -> Result<(), NetError> {
-    text.push_str("# a list of events over one resolver\n")?;
-    let handle = ScriptHandle::new(Vec::new(alloc));
-    let config = ResolverConfig::default(alloc);
-    let mut resolver = Resolver::builder_with_config(config, handle).build()?;
-    push_replies(alloc, text, &mut resolver)
-}
-
-fn push_replies(
-    alloc: Global,
-    text: &mut String,
-    resolver: &mut Resolver<ScriptHandle>,
-) -> Result<(), NetError> {
+/// Shows what each event comes to.
+pub fn show_played(rt: &impl Print, alloc: Global, lines: &str) -> Result<(), NetError> {
+    say(rt, &"# a list of events over one resolver");
     let mut events = Vec::new(alloc);
-    push_crossing(alloc, &mut events)?;
-    push_dropped(alloc, &mut events)?;
-    push_cleared(alloc, &mut events)?;
-    let replies = play(resolver, events)?;
-    for reply in &replies {
-        push_reply(text, reply)?;
+    push_events(alloc, &mut events, lines)?;
+    let mut resolver = resolver(alloc)?;
+    let replies = play(&mut resolver, events);
+    drop(resolver);
+    show_replies(rt, &replies?);
+    Ok(())
+}
+
+fn push_events(alloc: Global, events: &mut Vec<Event>, lines: &str) -> Result<(), NetError> {
+    for line in lines.lines() {
+        events.push(event_of(alloc, line)?)?;
     }
     Ok(())
 }
 
-// Two look-ups of one name; the later one is answered first, and the other after a clear.
-fn push_crossing(alloc: Global, events: &mut Vec<Event>) -> Result<(), NetError> {
-    push_start(alloc, events, "www.", 100)?;
-    push_start(alloc, events, "www.", 101)?;
-    push_resume(events, 1, address(alloc, "www.", 60, 2))?;
-    push_resume(events, 1, address(alloc, "www.", 60, 3))?;
-    push_event(events, Event::Clear)?;
-    push_resume(events, 0, address(alloc, "www.", 30, 1))?;
-    push_start(alloc, events, "www.", 105)
+fn event_of(alloc: Global, line: &str) -> Result<Event, NetError> {
+    let words: Vec<&str> = line.split_whitespace().collect(alloc)?;
+    match words.as_slice() {
+        ["start", name, now] => Ok(start(text(alloc, name)?, now.parse().unwrap_or(0))),
+        ["start_ip", host, now] => Ok(start_ip(text(alloc, host)?, now.parse().unwrap_or(0))),
+        ["clear_lookup", name] => Ok(clear_lookup(text(alloc, name)?)),
+        [call, "gets", outcome @ ..] => Ok(resume(alloc, call.parse().unwrap_or(0), outcome)),
+        [call, "dropped"] => Ok(abandon(call.parse().unwrap_or(0))),
+        _ => Ok(Event::Clear),
+    }
 }
 
-// A look-up that is dropped does not go on, and cannot be dropped again.
-fn push_dropped(alloc: Global, events: &mut Vec<Event>) -> Result<(), NetError> {
-    push_start(alloc, events, "mail.", 105)?;
-    push_event(events, Event::Abandon { call: 3 })?;
-    push_event(events, Event::Abandon { call: 3 })?;
-    push_resume(events, 3, address(alloc, "mail.", 60, 4))?;
-    push_start(alloc, events, "mail.", 105)
+fn text(alloc: Global, text: &str) -> Result<String, AllocError> {
+    String::from_str(alloc, text)
 }
 
-// A clear of a name; an address is answered at once, and a number that no call has is told.
-fn push_cleared(alloc: Global, events: &mut Vec<Event>) -> Result<(), NetError> {
-    let name = String::from_str(alloc, "www.")?;
+fn start(name: String, now: u64) -> Event {
     let record_type = RecordType::A;
-    push_event(events, Event::ClearLookup { name, record_type })?;
-    push_start(alloc, events, "www.", 106)?;
-    let host = String::from_str(alloc, "192.0.2.9")?;
-    push_event(events, Event::StartIp { host, now: 106 })?;
-    push_event(events, Event::Abandon { call: 7 })
+    Event::Start {
+        name,
+        record_type,
+        now,
+    }
 }
 
-fn push_start(
-    alloc: Global,
-    events: &mut Vec<Event>,
-    name: &str,
-    now: u64,
-) -> Result<(), NetError> {
-    let name = String::from_str(alloc, name)?;
+fn start_ip(host: String, now: u64) -> Event {
+    Event::StartIp { host, now }
+}
+
+fn clear_lookup(name: String) -> Event {
     let record_type = RecordType::A;
-    push_event(
-        events,
-        Event::Start {
-            name,
-            record_type,
-            now,
-        },
-    )
+    Event::ClearLookup { name, record_type }
 }
 
-fn push_resume(events: &mut Vec<Event>, call: usize, outcome: Outcome) -> Result<(), NetError> {
-    push_event(events, Event::Resume { call, outcome })
+fn resume(alloc: Global, call: usize, words: &[&str]) -> Event {
+    let outcome = outcome_of(alloc, words);
+    Event::Resume { call, outcome }
 }
 
-fn push_event(events: &mut Vec<Event>, event: Event) -> Result<(), NetError> {
-    Ok(events.push(event)?)
+fn abandon(call: usize) -> Event {
+    Event::Abandon { call }
 }
 
-fn push_reply(text: &mut String, reply: &EventReply) -> Result<(), NetError> {
+fn resolver(alloc: Global) -> Result<Resolver<ScriptHandle>, NetError> {
+    let handle = ScriptHandle::new(Vec::new(alloc));
+    Resolver::builder_with_config(ResolverConfig::default(alloc), handle).build()
+}
+
+fn show_replies(rt: &impl Print, replies: &[EventReply]) {
+    for reply in replies {
+        show_reply(rt, reply);
+    }
+}
+
+fn show_reply(rt: &impl Print, reply: &EventReply) {
     match reply {
-        EventReply::Waits(question) => push_question(text, question),
-        EventReply::Done(result) => push_result(text, result),
-        EventReply::Dropped => Ok(text.push_str("dropped\n")?),
-        EventReply::Cleared(_) => Ok(text.push_str("cleared\n")?),
-        EventReply::NoCall => Ok(text.push_str("no call of this number waits\n")?),
+        EventReply::Waits(question) => show_asked(rt, question),
+        EventReply::Done(looked_up) => show_result(rt, looked_up),
+        EventReply::Dropped => say(rt, &"dropped"),
+        EventReply::Cleared(_) => say(rt, &"cleared"),
+        EventReply::NoCall => say(rt, &"no call of this number waits"),
     }
 }
 
-fn push_question(text: &mut String, question: &Result<Query, NetError>) -> Result<(), NetError> {
+fn show_asked(rt: &impl Print, question: &Result<Query, NetError>) {
     match question {
-        Ok(question) => Ok(write!(text, "asks {question}\n")?),
-        Err(error) => Ok(write!(text, "asks, {error}\n")?),
+        Ok(question) => show_question(rt, question),
+        Err(error) => say(rt, error),
     }
-}
-
-fn push_result(text: &mut String, looked_up: &Result<Lookup, NetError>) -> Result<(), NetError> {
-    match looked_up {
-        Ok(lookup) => push_lookup(text, lookup),
-        Err(error) => Ok(write!(text, "{error}\n")?),
-    }
-}
-
-fn push_lookup(text: &mut String, lookup: &Lookup) -> Result<(), NetError> {
-    let until = lookup.valid_until();
-    write!(text, "until {until}\n")?;
-    for answer in lookup.answers() {
-        write!(text, "  {answer}\n")?;
-    }
-    Ok(())
 }
