@@ -119,6 +119,11 @@ LDNS = [
         lambda case: case.kind == WE and case.fault in (OPT_NAME, SECOND_OPT),
     ),
     Class(
+        "a signature",
+        "ldns takes TSIG out of the count of the additional section, and so leaves the last record unread.",
+        lambda case: case.kind == WE and case.facts.has(TSIG),
+    ),
+    Class(
         "names in data of MINFO and its like",
         "RFC 3597, section 4, has names in data of the types of RFC 1035 decompressed. Those that the core does not know are "
         "kept as they stand, so that a pointer in them leads elsewhere once the message is written again.",

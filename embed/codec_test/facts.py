@@ -1,4 +1,5 @@
 """A look at the frame of a message by itself: its header, and where its records stand. No name is followed."""
+import contextlib
 import struct
 from collections import namedtuple
 
@@ -10,14 +11,11 @@ FIRST_NAME = {2: 0, 5: 0, SOA: 0, 12: 0, 15: 2, 33: 6}
 
 class Facts:
     def __init__(self, wire):
-        self.wire, self.records = wire, []
+        self.wire, self.records, self.opcode = wire, [], 0
         # Where the last name, question or record ends that is whole.
         self.end = 0
-        try:
+        with contextlib.suppress(IndexError, struct.error):
             self._look()
-            self.is_whole = True
-        except (IndexError, struct.error):
-            self.is_whole = False
 
     def _look(self):
         _, flags, *counts = struct.unpack_from(">6H", self.wire)
