@@ -167,11 +167,13 @@ static void fail(struct lookup *lookup, uint8_t failure) {
     go_on(lookup, yimarotu_fail(&session, lookup->number, failure));
 }
 
-static void feed(struct lookup *lookup, const uint8_t *reply, size_t length) {
+/* Goes on with a reply, if it is a message. */
+static int feed(struct lookup *lookup, const uint8_t *reply, size_t length) {
     yimarotu_came came = yimarotu_feed(&session, lookup->number, reply, length);
-    if (came.status == YIMAROTU_MESSAGE) return fail(lookup, YIMAROTU_FAIL_UPSTREAM);
+    if (came.status == YIMAROTU_MESSAGE) return 0;
     close_upstream(lookup);
     go_on(lookup, came);
+    return 1;
 }
 
 static void on_reply(struct lookup *lookup) {
@@ -180,9 +182,11 @@ static void on_reply(struct lookup *lookup) {
         if (got < 0 && errno == EAGAIN) return;
         if (got < 0) return fail(lookup, YIMAROTU_FAIL_REFUSED);
         if (!is_reply(lookup->question, room, got)) continue;
-        if (!is_truncated(room)) return feed(lookup, room, got);
-        if (!open_upstream(lookup, 1)) fail(lookup, YIMAROTU_FAIL_REFUSED);
-        return;
+        if (is_truncated(room)) {
+            if (!open_upstream(lookup, 1)) fail(lookup, YIMAROTU_FAIL_REFUSED);
+            return;
+        }
+        if (feed(lookup, room, got)) return;
     }
 }
 
@@ -202,8 +206,9 @@ static void on_stream(struct lookup *lookup, uint32_t events) {
     if (got <= 0) return fail(lookup, YIMAROTU_FAIL_UPSTREAM);
     lookup->got += got;
     if (lookup->got < 2 || lookup->got < 2 + number_at(lookup->reply)) return;
-    if (!is_reply(lookup->question, lookup->reply + 2, number_at(lookup->reply))) return fail(lookup, YIMAROTU_FAIL_UPSTREAM);
-    feed(lookup, lookup->reply + 2, number_at(lookup->reply));
+    size_t length = number_at(lookup->reply);
+    if (!is_reply(lookup->question, lookup->reply + 2, length) || !feed(lookup, lookup->reply + 2, length))
+        fail(lookup, YIMAROTU_FAIL_UPSTREAM);
 }
 
 /* ---- queries */

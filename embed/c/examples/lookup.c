@@ -28,12 +28,17 @@ static int open_socket(const struct addrinfo *server, int kind) {
     return -1;
 }
 
+static int is_message(const uint8_t *bytes, size_t length) {
+    static uint8_t room[MESSAGE];
+    return yimarotu_rewrite(bytes, length, MESSAGE, room, sizeof room).status != YIMAROTU_MESSAGE;
+}
+
 /* The length of the reply to one datagram, or -1. What is no reply to it is passed over. */
 static ssize_t ask_once(int fd, const uint8_t *question, size_t length, uint8_t *reply) {
     if (send(fd, question, length, 0) != (ssize_t)length) return -1;
     for (int number = 0; number < DATAGRAMS; number++) {
         ssize_t got = recv(fd, reply, MESSAGE, 0);
-        if (got < 0 || is_reply(question, reply, (size_t)got)) return got;
+        if (got < 0 || (is_reply(question, reply, (size_t)got) && is_message(reply, (size_t)got))) return got;
     }
     errno = EAGAIN;
     return -1;

@@ -49,14 +49,17 @@ static size_t put_record(const uint8_t *message, size_t at, uint32_t most) {
     return end;
 }
 
-/* An alias from what was asked to what was found, where they are two. It lives for this reply alone. */
+/* An alias from what was asked to what was found, where they are two: to the owner of the first answer, or to the name that
+ * has none. It lives for this reply alone. */
 static void put_alias(const uint8_t *question, size_t length, const uint8_t *message) {
-    if (number_at(message + 4) == 0 || is_same(question + HEADER, message + HEADER, length - HEADER - 4)) return;
+    size_t before = plain_length, start = plain_length + 12;
     put("\xc0\x0c\0\5\0\1\0\0\0\0\0\0", 12);
-    size_t start = plain_length;
-    put_name(message, HEADER);
+    put_name(message, number_at(message + 6) > 0 ? behind_questions(message) : HEADER);
     put_number_at(plain + start - 2, plain_length - start);
-    add(6, 1);
+    if (plain_length - start == length - HEADER - 4 && is_same(plain + start, question + HEADER, plain_length - start))
+        plain_length = before;
+    else
+        add(6, 1);
 }
 
 static void put_records(const uint8_t *message, uint32_t most) {

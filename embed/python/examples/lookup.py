@@ -16,7 +16,11 @@ NUMBER, SECONDS, DATAGRAMS = 1, 2, 50
 
 
 def is_reply(question, reply):
-    """Whether it has the id and the question, letter for letter."""
+    """Whether it is a message, and has the id and the question, letter for letter."""
+    try:
+        yimarotu.rewrite(reply)
+    except yimarotu.Refused:
+        return False
     end = behind_name(question, 12) + 4
     parts = [(of[:2], of[4:6], of[12:end]) for of in (question, reply)]
     return len(reply) >= end and reply[2] & 0xF8 == 0x80 and parts[0] == parts[1]
@@ -59,9 +63,6 @@ def look_up(session, host, server):
             waits = session.fail(NUMBER, yimarotu.FAIL_TIMEOUT)
         except OSError:
             waits = session.fail(NUMBER, yimarotu.FAIL_REFUSED)
-        except yimarotu.Refused:
-            # What came back was no message.
-            waits = session.fail(NUMBER, yimarotu.FAIL_UPSTREAM)
     return session.answer(NUMBER)
 
 

@@ -2,7 +2,7 @@
 use std::io::Read;
 use std::net::UdpSocket;
 use std::time::{Duration, SystemTime, UNIX_EPOCH};
-use yimarotu::{Failure, Found, Session};
+use yimarotu::{rewrite, Failure, Found, Session};
 
 const NUMBER: u64 = 1;
 
@@ -35,7 +35,7 @@ fn look_up(host: &str, server: &str) -> Option<Vec<u8>> {
     (answer.found == Found::Records).then_some(answer.message)
 }
 
-/// The reply to a question: of the same id, with the same question.
+/// The reply to a question.
 fn ask(mut question: Vec<u8>, server: &str) -> Option<Vec<u8>> {
     let socket = UdpSocket::bind("0.0.0.0:0").ok()?;
     std::fs::File::open("/dev/urandom").ok()?.read_exact(&mut question[..2]).ok()?;
@@ -45,13 +45,20 @@ fn ask(mut question: Vec<u8>, server: &str) -> Option<Vec<u8>> {
     let mut room = [0; 4096];
     for _ in 0..50 {
         let length = socket.recv(&mut room).ok()?;
-        let reply = &room[..length];
-        let is_reply = length >= question.len() && reply[..2] == question[..2] && reply[2] & 0xfa == 0x80;
-        if is_reply && reply[4..6] == question[4..6] && reply[12..question.len()] == question[12..] {
-            return Some(reply.to_vec());
+        if is_reply(&question, &room[..length]) {
+            return Some(room[..length].to_vec());
         }
     }
     None
+}
+
+/// Whether it is a whole message, and has the id and the question, letter for letter.
+fn is_reply(question: &[u8], reply: &[u8]) -> bool {
+    let end = behind_name(question, 12) + 4;
+    rewrite(reply, 65535).is_ok()
+        && reply.len() >= end
+        && reply[2] & 0xfa == 0x80
+        && [0..2, 4..6, 12..end].into_iter().all(|part| reply[part.clone()] == question[part])
 }
 
 /// The addresses among the answers of a message that the library wrote.

@@ -44,7 +44,10 @@ fn looks_up_and_keeps() {
     let mut session = Session::open("", b"", 100).unwrap();
     assert_eq!(session.start(7, "www.example.com.", 1, 100), Ok(true));
     let question = session.question(7).unwrap();
-    assert_eq!((question.message, question.mixed), (message(0x0100, 0, 0, b""), false));
+    // With OPT, which says that 1,232 octets can be taken (RFC 6891, section 6.1.2).
+    let mut wanted = message(0x0100, 0, 0, b"\0\0\x29\x04\xd0\0\0\0\0\0\0");
+    wanted[11] = 1;
+    assert_eq!((question.message, question.mixed), (wanted, false));
     assert_eq!(session.answer(7, 512), Err(Status::Waits));
     assert_eq!(session.feed(7, b"short"), Err(Status::Message(1)));
     assert_eq!(session.feed(7, &message(0x8180, 1, 0, &address(60))), Ok(false));
