@@ -34,7 +34,9 @@ DNSPYTHON = [
         "a chain of more than 16 pointers",
         "dnspython takes 16 pointers in a name, RFC 1035 names no number, and here it is 128. A message that is written here "
         "has one for each label at most.",
-        lambda case: case.kind != WE and "PointerChainTooLong" in case.words and case.facts.pointers() > 16,
+        lambda case: case.kind != WE
+        and "PointerChainTooLong" in case.words
+        and max(case.facts.pointers(), len(case.facts.records)) > 16,
     ),
     Class(
         "A, AAAA and SRV of a class that is not IN",
