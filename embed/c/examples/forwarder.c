@@ -213,20 +213,6 @@ static void on_stream(struct lookup *lookup, uint32_t events) {
 
 /* ---- queries */
 
-/* The text of a name: each octet by its number, but for letters. */
-static size_t name_text(const uint8_t *name, char *text) {
-    size_t length = 0;
-    for (size_t at = 0; name[at] != 0; at += name[at] + 1u) {
-        for (size_t octet = at + 1; octet <= at + name[at]; octet++) {
-            int is_letter = lower(name[octet]) >= 'a' && lower(name[octet]) <= 'z';
-            length += sprintf(text + length, is_letter ? "%c" : "\\%03u", name[octet]);
-        }
-        text[length++] = '.';
-    }
-    if (length == 0) text[length++] = '.';
-    return length;
-}
-
 static struct lookup *free_lookup(void) {
     static size_t next;
     for (size_t seen = 0; seen < LOOKUPS; seen++) {

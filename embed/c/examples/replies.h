@@ -1,5 +1,5 @@
 /* How the forwarder makes a reply out of a client's question and of the message that a look-up came to. Names are written
- * whole here: the library compresses them, and cuts what is too long. */
+ * whole here: the library compresses them, and cuts what is too long. And the text of a name, for the library. */
 #ifndef REPLIES_H
 #define REPLIES_H
 
@@ -86,6 +86,22 @@ static void make_reply(const uint8_t *question, size_t length, unsigned code, co
     put_number_at(plain + 4, length > HEADER);
     memset(plain + 6, 0, 6);
     if (message != NULL) put_alias(question, length, message), put_records(message, most);
+}
+
+/* The text of a name: letters, and every other octet by its number. */
+static size_t name_text(const uint8_t *name, char *text) {
+    size_t length = 0;
+    for (size_t at = 0; name[at] != 0; at += name[at] + 1u) {
+        for (const uint8_t *octet = name + at + 1; octet <= name + at + name[at]; octet++) {
+            int is_letter = lower(*octet) >= 'a' && lower(*octet) <= 'z';
+            char written[4] = {'\\', '0' + *octet / 100, '0' + *octet / 10 % 10, '0' + *octet % 10};
+            memcpy(text + length, is_letter ? (const char *)octet : written, is_letter ? 1 : 4);
+            length += is_letter ? 1 : 4;
+        }
+        text[length++] = '.';
+    }
+    if (length == 0) text[length++] = '.';
+    return length;
 }
 
 #endif
