@@ -72,26 +72,34 @@ static int watch(int change, int fd, uint32_t events, enum kind kind, size_t pla
 
 static void flush(struct connection *connection);
 
-static void send_reply(const struct waiter *waiter, size_t length) {
+static void send_reply(const struct waiter *waiter, const uint8_t *bytes, size_t length) {
     struct connection *connection = waiter->connection;
     if (connection == NULL) {
-        sendto(datagrams, room, length, 0, (const struct sockaddr *)&waiter->peer, waiter->peer_length);
+        sendto(datagrams, bytes, length, 0, (const struct sockaddr *)&waiter->peer, waiter->peer_length);
     } else if (connection->fd >= 0 && connection->generation == waiter->generation) {
         uint8_t *output = realloc(connection->output, connection->length + 2 + length);
         if (output == NULL) return;
         put_number_at(output + connection->length, length);
-        memcpy(output + connection->length + 2, room, length);
+        memcpy(output + connection->length + 2, bytes, length);
         connection->output = output, connection->length += 2 + length;
         flush(connection);
     }
 }
 
-/* Answers a client by a response code, and by the records of a message where there is one. */
+/* Answers a client by a response code alone, or by the records of a message, which live for so long at most. */
 static void reply(const struct waiter *waiter, unsigned code, const uint8_t *message, uint32_t most) {
     make_reply(waiter->query, waiter->length, code, message, most);
     if (waiter->has_opt) put_opt(code);
     yimarotu_written written = yimarotu_rewrite(plain, plain_length, waiter->limit, room, sizeof room);
-    if (written.status == YIMAROTU_OK) send_reply(waiter, written.length);
+    if (written.status == YIMAROTU_OK) send_reply(waiter, room, written.length);
+}
+
+/* Answers a client by the records that were found: mostly by their message as it is. */
+static void reply_found(const struct waiter *waiter, unsigned code, const uint8_t *message, size_t length) {
+    int is_copied = copy_reply(waiter->query, waiter->length, code, message, length);
+    if (is_copied && waiter->has_opt) put_opt(code);
+    if (is_copied && plain_length <= waiter->limit) send_reply(waiter, plain, plain_length);
+    else reply(waiter, code, message, UINT32_MAX);
 }
 
 /* ---- look-ups */
@@ -108,20 +116,26 @@ static void close_upstream(struct lookup *lookup) {
     lookup->fd = -1, lookup->reply = NULL, lookup->got = 0;
 }
 
+/* Answers a client by what the look-up came to. */
+static void answer(const struct waiter *waiter, const yimarotu_answered *answered, const uint8_t *message) {
+    int has_message = answered->status == YIMAROTU_OK && answered->length > 0;
+    if (!has_message) reply(waiter, SERVFAIL, NULL, 0);
+    else if (answered->error == YIMAROTU_FOUND) reply_found(waiter, answered->code, message, answered->length);
+    /* The SOA record of a negative answer may have lived in the cache for a while. */
+    else reply(waiter, answered->code, message, answered->ttl);
+}
+
 /* Answers all that wait, and forgets the look-up. */
 static void finish(struct lookup *lookup) {
     static uint8_t message[MESSAGE];
     yimarotu_answered answered = yimarotu_answer(&session, lookup->number, MESSAGE, message, sizeof message);
-    int has_message = answered.status == YIMAROTU_OK && answered.length > 0;
-    /* The SOA record of a negative answer may have lived in the cache for a while. */
-    uint32_t most = answered.error == YIMAROTU_FOUND ? UINT32_MAX : answered.ttl;
     struct waiter *waiter = lookup->waiters;
     struct lookup **link = bucket_of(waiter->query + HEADER, waiter->length - HEADER);
     while (*link != lookup) link = &(*link)->next;
     *link = lookup->next;
     while (waiter != NULL) {
         struct waiter *next = waiter->next;
-        reply(waiter, has_message ? answered.code : SERVFAIL, has_message ? message : NULL, most);
+        answer(waiter, &answered, message);
         free(waiter);
         waiter = next;
     }

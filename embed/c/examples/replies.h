@@ -77,15 +77,33 @@ static void put_opt(unsigned code) {
     add(10, 1);
 }
 
+static void put_flags(const uint8_t *question, unsigned code) {
+    put_number_at(plain + 2, 0x8080 | (number_at(question + 2) & 0x7910) | (code & 15));
+}
+
 /* A reply to a question, header and all, with a response code; and with the records of a message where there is one, which
  * live for so long at most. */
 static void make_reply(const uint8_t *question, size_t length, unsigned code, const uint8_t *message, uint32_t most) {
     plain_length = 0;
     put(question, length);
-    put_number_at(plain + 2, 0x8080 | (number_at(plain + 2) & 0x7910) | (code & 15));
+    put_flags(question, code);
     put_number_at(plain + 4, length > HEADER);
     memset(plain + 6, 0, 6);
     if (message != NULL) put_alias(question, length, message), put_records(message, most);
+}
+
+/* Whether a message is the reply as it stands, but for its header and the letters of its question, and makes it that. So it
+ * is where its first answer is of the very name that was asked. */
+static int copy_reply(const uint8_t *question, size_t length, unsigned code, const uint8_t *message, size_t message_length) {
+    if (number_at(message + 4) != 1 || number_at(message + 6) == 0 || behind_questions(message) != length) return 0;
+    if (!is_same(question + HEADER, message + HEADER, length - HEADER)) return 0;
+    if (number_at(message + length) != (0xc000 | HEADER)) return 0;
+    plain_length = 0;
+    put(message, message_length);
+    memcpy(plain, question, 2);
+    put_flags(question, code);
+    memcpy(plain + HEADER, question + HEADER, length - HEADER);
+    return 1;
 }
 
 /* The text of a name: letters, and every other octet by its number. */
