@@ -153,7 +153,11 @@ fn read_script_request(alloc: Global, fields: &[&str]) -> Result<Request, Conver
 }
 
 // A look-up of the names of an address.
-fn read_reverse(alloc: Global, moment: &str, fields: &[&str]) -> Result<Request, ConversationFault> {
+fn read_reverse(
+    alloc: Global,
+    moment: &str,
+    fields: &[&str],
+) -> Result<Request, ConversationFault> {
     let now = number64(moment)?;
     let [address] = fields else {
         return Err(ConversationFault::Script(ScriptFault::FieldCount));

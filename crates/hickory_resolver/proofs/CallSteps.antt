@@ -1,5 +1,6 @@
 -- A call that does no I/O, step by step.
-use Rattle.std.proofs.Common.{◌≡◌, ◌∙◌, ℕ, Bool, true, false, ◌||◌, List, [], ◌∷◌, ◌++◌, Option, Some, None, Ok, Err, refl, sym, ap, subst, inl, inr, reverse, arith}
+use Rattle.std.proofs.Common.{◌≡◌, ◌∙◌, ℕ, Bool, true, false, ◌||◌, List, [], ◌∷◌, ◌++◌, Option, Some}
+use Rattle.std.proofs.Common.{None, Ok, Err, refl, sym, ap, subst, inl, inr, reverse, arith}
 use Rattle.std.proofs.lemmas.List.{reverse-append}
 use Rattle.std.specs.Option.{is_some}
 use Rattle.hickory_proto_core.specs.Name.{NameValue}
@@ -8,86 +9,117 @@ use Rattle.hickory_proto_core.specs.codes.record_type.RecordType.{RecordType}
 use Rattle.hickory_proto_core.specs.declared.query.Query.{Query}
 use Rattle.hickory_proto_core.specs.declared.net_error.NetError.TheVariants.{OutOfMemory}
 use Rattle.hickory_resolver_model.specs.Cache.{CacheValue}
-use Rattle.hickory_resolver_model.specs.Calls.{CallContext, start_at, Plan, One, Both, Fallback, CallPlan, Says, next_type, IsAttemptResult, IsLastReply, joins_results, takes_memory, stops}
+use Rattle.hickory_resolver_model.specs.Calls.{CallContext, start_at, Plan, One, Both, Fallback}
+use Rattle.hickory_resolver_model.specs.Calls.{CallPlan, Says, next_type, IsAttemptResult, IsLastReply}
+use Rattle.hickory_resolver_model.specs.Calls.{joins_results, takes_memory, stops}
 use Rattle.hickory_resolver_model.specs.Client.{ClientValue, KeepsHandle}
 use Rattle.hickory_resolver_model.specs.Hops.{LookupContext}
 use Rattle.hickory_resolver_model.specs.Hosts.{Host}
 use Rattle.hickory_resolver_model.specs.Lookup.{LookupValue, LookupResult, question_of}
-use Rattle.hickory_resolver_model.specs.Resuming.{WaitingValue, ProgressValue, Waits, IsDone, PassedValue, passed_by, ComesTo, Starts, Resumes}
+use Rattle.hickory_resolver_model.specs.Resuming.{WaitingValue, ProgressValue, Waits, IsDone, PassedValue}
+use Rattle.hickory_resolver_model.specs.Resuming.{passed_by, ComesTo, Starts, Resumes}
 use Rattle.hickory_resolver_model.specs.Resolver.{call_context_of}
 use Rattle.hickory_resolver_model.specs.Verdict.{Hop}
-use Rattle.hickory_resolver_theorems.specs.ResumingCalls.{AttemptValue, CallProgressValue, CallWaits, CallIsDone, GoesOn, by_hosts, waits, at_once, stopped, next_name, no_name, GoesOnAfter, StartsNames, with_result, at_next}
+use Rattle.hickory_resolver_theorems.specs.ResumingCalls.{AttemptValue, CallProgressValue, CallWaits, CallIsDone}
+use Rattle.hickory_resolver_theorems.specs.ResumingCalls.{GoesOn, by_hosts, waits, at_once, stopped, next_name}
+use Rattle.hickory_resolver_theorems.specs.ResumingCalls.{no_name, GoesOnAfter, StartsNames, with_result, at_next}
 use Rattle.hickory_resolver.specs.declared.attempting.Attempt.{Attempt}
-use Rattle.hickory_resolver.specs.CallSteps.{first_of, first_question, StepValue, Goes, Over, LooksUpOnce, ComesAfter, IsBegunWith, IsReady, IsReadyAfter, GoesFrom, again_for, types_of, attempt_value, first_type, results_so_far, second_of, count_again, turns_left, IsFewer}
+use Rattle.hickory_resolver.specs.CallSteps.{first_of, first_question, StepValue, Goes, Over, LooksUpOnce}
+use Rattle.hickory_resolver.specs.CallSteps.{ComesAfter, IsBegunWith, IsReady, IsReadyAfter, GoesFrom, again_for}
+use Rattle.hickory_resolver.specs.CallSteps.{types_of, attempt_value, first_type, results_so_far, second_of}
+use Rattle.hickory_resolver.specs.CallSteps.{count_again, turns_left, IsFewer}
 
 module _ (s : CallContext) where
   -- a call that is done with this result
-  is_done : (a : AttemptValue) (before : CacheValue) (result : LookupResult) (end : CallProgressValue) (after : CacheValue) → GoesOn s a before (CallIsDone result) before → (end ≡ CallIsDone result) × (after ≡ before) → GoesOn s a before end after
+  is_done : (a : AttemptValue) (before : CacheValue) (result : LookupResult) (end : CallProgressValue)
+      (after : CacheValue) → GoesOn s a before (CallIsDone result) before → (end ≡ CallIsDone result)
+      × (after ≡ before) → GoesOn s a before end after
   is_done a before result end after done (end_is, after_is) =
-      subst (λ e. GoesOn s a before e after) (sym end_is) (subst (λ c. GoesOn s a before (CallIsDone result) c) (sym after_is) done)
+      subst (λ e. GoesOn s a before e after) (sym end_is)
+      (subst (λ c. GoesOn s a before (CallIsDone result) c) (sym after_is) done)
 
   -- a type was looked up
-  module _ (a : AttemptValue) (t : RecordType) (next : next_type a.plan.types a.results ≡ Some t) (before : CacheValue) (step : StepValue) (mid : CacheValue) where
-    pub looked_up : LooksUpOnce s a.looked a.name t before step mid → (end : CallProgressValue) (after : CacheValue) → ComesAfter s a step mid end after → GoesOn s a before end after
+  module _ (a : AttemptValue) (t : RecordType) (next : next_type a.plan.types a.results ≡ Some t)
+      (before : CacheValue) (step : StepValue) (mid : CacheValue) where
+    pub looked_up : LooksUpOnce s a.looked a.name t before step mid → (end : CallProgressValue) (after : CacheValue)
+        → ComesAfter s a step mid end after → GoesOn s a before end after
     looked_up (inl (progress, step_is, not_static, starts)) end after comes =
         let P : StepValue → Type 0 = λ x. ComesAfter s a x mid end after in
         by progress starts (subst P step_is comes)
       where
-        by : (p : ProgressValue) → Starts (start_at s before) (question_of a.name t) p mid → GoesOnAfter s a p mid end after → GoesOn s a before end after
+        by : (p : ProgressValue) → Starts (start_at s before) (question_of a.name t) p mid
+            → GoesOnAfter s a p mid end after → GoesOn s a before end after
         by (Waits w) starts (end_is, after_is) =
-            let here : GoesOn s a before (CallWaits (record { attempt = a; sub = w })) mid = waits (record { next = next; not_static = not_static; starts = starts }) in
-            subst (λ e. GoesOn s a before e after) (sym end_is) (subst (λ c. GoesOn s a before (CallWaits (record { attempt = a; sub = w })) c) (sym after_is) here)
+            let here : GoesOn s a before (CallWaits (record { attempt = a; sub = w })) mid =
+            waits (record { next = next; not_static = not_static; starts = starts }) in
+            subst (λ e. GoesOn s a before e after) (sym end_is)
+            (subst (λ c. GoesOn s a before (CallWaits (record { attempt = a; sub = w })) c) (sym after_is) here)
         by (IsDone r) starts rest = at_once (record { next = next; not_static = not_static; starts = starts }) rest
     looked_up (inr (inl (found, step_is, asked, has, mid_is))) end after comes =
         let P : StepValue → Type 0 = λ x. ComesAfter s a x mid end after in
         let rest : GoesOn s (with_result a (Ok found)) mid end after = subst P step_is comes in
-        by_hosts (record { next = next; looked = asked; found = found; has = has; result_is = inl refl }) (subst (λ c. GoesOn s (with_result a (Ok found)) c end after) mid_is rest)
+        by_hosts (record { next = next; looked = asked; found = found; has = has; result_is = inl refl })
+        (subst (λ c. GoesOn s (with_result a (Ok found)) c end after) mid_is rest)
     looked_up (inr (inr (step_is, mid_is))) end after comes =
         let P : StepValue → Type 0 = λ x. ComesAfter s a x mid end after in
         let over : (end ≡ CallIsDone (Err OutOfMemory)) × (after ≡ mid) = subst P step_is comes in
-        let takes : takes_memory a.plan.types a.results ≡ true = ap (λ o. is_some o || joins_results a.plan.types a.results) next in
+        let takes : takes_memory a.plan.types a.results ≡ true =
+        ap (λ o. is_some o || joins_results a.plan.types a.results) next in
         is_done a before (Err OutOfMemory) end after (stopped (inr (takes, refl)) refl) (over.0, over.1 ∙ mid_is)
 
   -- a look-up that waits was started with the name, at the moment of the call
   module _ (looked : Bool) (name : NameValue) (t : RecordType) (before : CacheValue) (mid : CacheValue) where
-    pub looked_up_begun : (step : StepValue) → LooksUpOnce s looked name t before step mid → (progress : ProgressValue) → step ≡ Goes progress → IsBegunWith name s.now progress
+    pub looked_up_begun : (step : StepValue) → LooksUpOnce s looked name t before step mid
+        → (progress : ProgressValue) → step ≡ Goes progress → IsBegunWith name s.now progress
     looked_up_begun step (inl (p, step_is, not_static, starts)) progress is =
         let same : p ≡ progress = cc in
         subst (λ x. IsBegunWith name s.now x) same (by p starts)
       where
         by : (p : ProgressValue) → Starts (start_at s before) (question_of name t) p mid → IsBegunWith name s.now p
-        by (Waits w) (upstream, w_is, same) = (ap (λ (v : WaitingValue). (first_question v).name) w_is, ap (λ (v : WaitingValue). v.now) w_is)
+        by (Waits w) (upstream, w_is, same) = (
+          ap (λ (v : WaitingValue). (first_question v).name) w_is,
+          ap (λ (v : WaitingValue). v.now) w_is,
+        )
         by (IsDone r) starts = tt
     looked_up_begun step (inr (inl (found, step_is, asked, has, same_cache))) progress is =
         let same : IsDone (Ok found) ≡ progress = cc in
         subst (λ x. IsBegunWith name s.now x) same tt
-    looked_up_begun step (inr (inr (step_is, same))) progress is = let clash : Goes progress ≡ Over (Err OutOfMemory) = sym is ∙ step_is in cc
+    looked_up_begun step (inr (inr (step_is, same))) progress is =
+        let clash : Goes progress ≡ Over (Err OutOfMemory) = sym is ∙ step_is in cc
 
   -- the types of a name are over, with this result
-  module _ (a : AttemptValue) (r : LookupResult) (made : IsAttemptResult a.plan.types a.results r) (before : CacheValue) (end : CallProgressValue) (after : CacheValue) where
+  module _ (a : AttemptValue) (r : LookupResult) (made : IsAttemptResult a.plan.types a.results r)
+      (before : CacheValue) (end : CallProgressValue) (after : CacheValue) where
     pub ends_call : stops r ≡ true → (end ≡ CallIsDone r) × (after ≡ before) → GoesOn s a before end after
     ends_call stopping over = is_done a before r end after (stopped made stopping) over
 
-    pub ends_names : stops r ≡ false → a.left ≡ [] → (result : LookupResult) → IsLastReply a.plan.literal (λ x. x ≡ r) result → (end ≡ CallIsDone result) × (after ≡ before) → GoesOn s a before end after
+    pub ends_names : stops r ≡ false → a.left ≡ [] → (result : LookupResult)
+        → IsLastReply a.plan.literal (λ x. x ≡ r) result → (end ≡ CallIsDone result) × (after ≡ before)
+        → GoesOn s a before end after
     ends_names live none result last over = is_done a before result end after (no_name made live none last) over
 
-    pub goes_to_next : stops r ≡ false → (name : NameValue) (names : List NameValue) → a.left ≡ name ∷ names → GoesOn s (at_next a name names) before end after → GoesOn s a before end after
+    pub goes_to_next : stops r ≡ false → (name : NameValue) (names : List NameValue) → a.left ≡ name ∷ names
+        → GoesOn s (at_next a name names) before end after → GoesOn s a before end after
     goes_to_next live name names left rest = next_name made live left rest
 
-first_push : (passed : List PassedValue) (p : PassedValue) (query : Query) → first_of (passed ++ p ∷ []) query ≡ first_of passed p.query
+first_push : (passed : List PassedValue) (p : PassedValue) (query : Query) → first_of (passed ++ p ∷ []) query
+    ≡ first_of passed p.query
 first_push [] p query = refl
 first_push (q ∷ qs) p query = refl
 
 module _ (s : LookupContext) (w : WaitingValue) (now_is : s.now ≡ w.now) (outcome : OutcomeValue) where
-  comes_begun : (passed : List PassedValue) (next : Hop) → passed ≡ w.passed ++ passed_by s w.hop outcome ∷ [] → (p : ProgressValue) (mid : CacheValue) → ComesTo s passed next p mid → IsBegunWith (first_question w).name w.now p
+  comes_begun : (passed : List PassedValue) (next : Hop) → passed ≡ w.passed ++ passed_by s w.hop outcome ∷ []
+      → (p : ProgressValue) (mid : CacheValue) → ComesTo s passed next p mid → IsBegunWith (first_question w).name w.now p
   comes_begun passed next passed_are (Waits v) mid (upstream, v_is, same) = (
-    ap (λ (x : WaitingValue). (first_question x).name) v_is ∙ ap (λ ps. (first_of ps next.query).name) passed_are ∙ ap (λ (q : Query). q.name) (first_push w.passed (passed_by s w.hop outcome) next.query),
+    ap (λ (x : WaitingValue). (first_question x).name) v_is ∙ ap (λ ps. (first_of ps next.query).name) passed_are
+        ∙ ap (λ (q : Query). q.name) (first_push w.passed (passed_by s w.hop outcome) next.query),
     ap (λ (x : WaitingValue). x.now) v_is ∙ now_is,
   )
   comes_begun passed next passed_are (IsDone r) mid comes = tt
 
   -- a look-up goes on with the name that it was started with
-  pub resumed_begun : (p : ProgressValue) (mid : CacheValue) → Resumes s w outcome p mid → IsBegunWith (first_question w).name w.now p
+  pub resumed_begun : (p : ProgressValue) (mid : CacheValue) → Resumes s w outcome p mid
+      → IsBegunWith (first_question w).name w.now p
   resumed_begun p mid (inl f) = elim f.goes_on [
     | inl comes ↦ comes_begun (w.passed ++ passed_by s w.hop outcome ∷ []) f.next refl p mid comes
     | inr out ↦ subst (λ x. IsBegunWith (first_question w).name w.now x) (sym out.0) tt
@@ -96,19 +128,25 @@ module _ (s : LookupContext) (w : WaitingValue) (now_is : s.now ≡ w.now) (outc
 
 -- ---- the code at a name
 
-module _ (s : CallContext) (from : AttemptValue) (a : Attempt) (name : NameValue) (from_is : from ≡ attempt_value a name s.now) (again_is : a.again ≡ again_for (types_of a.sought) a.first name) (before : CacheValue) where
+module _ (s : CallContext) (from : AttemptValue) (a : Attempt) (name : NameValue)
+    (from_is : from ≡ attempt_value a name s.now) (again_is : a.again ≡ again_for (types_of a.sought) a.first name)
+    (before : CacheValue) where
   -- a type of the name is looked up
-  pub goes_by_look_up : (t : RecordType) → next_type from.plan.types from.results ≡ Some t → (step : StepValue) (mid : CacheValue) → LooksUpOnce s from.looked from.name t before step mid → GoesFrom s from before a s.now step mid
+  pub goes_by_look_up : (t : RecordType) → next_type from.plan.types from.results ≡ Some t
+      → (step : StepValue) (mid : CacheValue) → LooksUpOnce s from.looked from.name t before step mid
+      → GoesFrom s from before a s.now step mid
   goes_by_look_up t next step mid once = record {
     name = name;
     ready = ready step once;
-    goes = λ end after comes. looked_up s from t next before step mid once end after (subst (λ x. ComesAfter s x step mid end after) (sym from_is) comes);
+    goes = λ end after comes. looked_up s from t next before step mid once end after
+        (subst (λ x. ComesAfter s x step mid end after) (sym from_is) comes);
   }
     where
       ready : (x : StepValue) → LooksUpOnce s from.looked from.name t before x mid → IsReadyAfter a name s.now x
       ready (Goes p) looks = record {
         again_is = again_is;
-        begun = subst (λ (f : AttemptValue). IsBegunWith f.name s.now p) from_is (looked_up_begun s from.looked from.name t before mid (Goes p) looks p refl);
+        begun = subst (λ (f : AttemptValue). IsBegunWith f.name s.now p) from_is
+            (looked_up_begun s from.looked from.name t before mid (Goes p) looks p refl);
       }
       ready (Over r) looks = tt
 
@@ -125,36 +163,45 @@ again_none (Both t u) r name = refl
 again_none (Fallback t u) r name = refl
 
 -- a second type is looked up behind the first result alone
-pub one_before : (plan : Plan) (first : Option LookupResult) (latest : LookupResult) (t : RecordType) → next_type plan (results_so_far first ++ latest ∷ []) ≡ Some t → first ≡ None
+pub one_before : (plan : Plan) (first : Option LookupResult) (latest : LookupResult) (t : RecordType)
+    → next_type plan (results_so_far first ++ latest ∷ []) ≡ Some t → first ≡ None
 one_before plan None latest t next = refl
 one_before (One a) (Some r) latest t next = let clash : None ≡ Some t = next in cc
 one_before (Both a b) (Some r) latest t next = let clash : None ≡ Some t = next in cc
 one_before (Fallback a b) (Some r) latest t next = let clash : None ≡ Some t = next in cc
 
-pub second_some : (name other : NameValue) (o : Option RecordType) (t : RecordType) → Some (other, t) ≡ second_of name o → (o ≡ Some t) × (other ≡ name)
+pub second_some : (name other : NameValue) (o : Option RecordType) (t : RecordType) → Some (other, t)
+    ≡ second_of name o → (o ≡ Some t) × (other ≡ name)
 second_some name other None t is = let clash : Some (other, t) ≡ None = is in cc
-second_some name other (Some u) t is = let both : (other, t) ≡ (name, u) = cc in (ap (λ (p : NameValue × RecordType). Some p.1) (sym both), ap (λ (p : NameValue × RecordType). p.0) both)
+second_some name other (Some u) t is = let both : (other, t) ≡ (name, u) = cc in
+    (ap (λ (p : NameValue × RecordType). Some p.1) (sym both), ap (λ (p : NameValue × RecordType). p.0) both)
 
 pub second_none : (name : NameValue) (o : Option RecordType) → None ≡ second_of name o → o ≡ None
 second_none name None is = refl
 second_none name (Some u) is = let clash : None ≡ Some (name, u) = is in cc
 
 -- the last reply, by what is known of what came last
-pub last_known : (o : Option LookupValue) (P Q : LookupResult → Type 0) → ((x : LookupResult) → P x → Q x) → (r : LookupResult) → IsLastReply o P r → IsLastReply o Q r
+pub last_known : (o : Option LookupValue) (P Q : LookupResult → Type 0) → ((x : LookupResult) → P x → Q x)
+    → (r : LookupResult) → IsLastReply o P r → IsLastReply o Q r
 last_known None P Q more r is = more r is
 last_known (Some literal) P Q more r is = is
 
 -- ---- steps one after another
 
-pub keeps_on : {H : Type 0} (before mid after : ClientValue H) → KeepsHandle before mid → KeepsHandle mid after → KeepsHandle before after
+pub keeps_on : {H : Type 0} (before mid after : ClientValue H) → KeepsHandle before mid → KeepsHandle mid after
+    → KeepsHandle before after
 keeps_on before mid after a b = record { handle_is = b.handle_is ∙ a.handle_is; option_is = b.option_is ∙ a.option_is }
 
-pub same_context : {H : Type 0} (before after : ClientValue H) (hosts : List Host) (now : ℕ) → KeepsHandle before after → call_context_of after hosts now ≡ call_context_of before hosts now
-same_context before after hosts now keeps = ap (λ b. record { now = now; preserve_intermediates = b; hosts = hosts }) keeps.option_is
+pub same_context : {H : Type 0} (before after : ClientValue H) (hosts : List Host) (now : ℕ)
+    → KeepsHandle before after → call_context_of after hosts now ≡ call_context_of before hosts now
+same_context before after hosts now keeps = ap (λ b. record { now = now; preserve_intermediates = b; hosts = hosts })
+    keeps.option_is
 
 module _ (s : CallContext) where
   -- memory ran out before a type of a name was looked up
-  pub refused : (a : AttemptValue) (t : RecordType) (next : next_type a.plan.types a.results ≡ Some t) (before : CacheValue) (end : CallProgressValue) (after : CacheValue) → (end ≡ CallIsDone (Err OutOfMemory)) × (after ≡ before) → GoesOn s a before end after
+  pub refused : (a : AttemptValue) (t : RecordType) (next : next_type a.plan.types a.results ≡ Some t)
+      (before : CacheValue) (end : CallProgressValue) (after : CacheValue) → (end ≡ CallIsDone (Err OutOfMemory))
+      × (after ≡ before) → GoesOn s a before end after
   refused a t next before end after over =
       let takes : takes_memory a.plan.types a.results ≡ true = ap (λ o. is_some o || joins_results a.plan.types a.results) next in
       is_done s a before (Err OutOfMemory) end after (stopped (inr (takes, refl)) refl) over
@@ -163,49 +210,81 @@ module _ (s : CallContext) where
 
 module _ (s : CallContext) (old : Attempt) (latest : LookupResult) (name : NameValue) (before : CacheValue) where
   -- a second type is looked up
-  pub goes_second : (other : NameValue) (t : RecordType) → Some (other, t) ≡ second_of name (next_type (types_of old.sought) (results_so_far old.first ++ latest ∷ [])) → (a : Attempt) → a ≡ record old { again = None } → (step : StepValue) (mid : CacheValue)
-      → LooksUpOnce s a.looked other t before step mid → GoesFrom s (with_result (attempt_value old name s.now) latest) before (record a { first = Some latest }) s.now step mid
+  pub goes_second : (other : NameValue) (t : RecordType) → Some (other, t)
+      ≡ second_of name (next_type (types_of old.sought) (results_so_far old.first ++ latest ∷ [])) → (a : Attempt) → a
+      ≡ record old { again = None } → (step : StepValue) (mid : CacheValue)
+      → LooksUpOnce s a.looked other t before step mid
+      → GoesFrom s (with_result (attempt_value old name s.now) latest) before (record a { first = Some latest }) s.now step mid
   goes_second other t is a a_is step mid =
-      let P : Attempt → Type 0 = λ m. LooksUpOnce s m.looked other t before step mid → GoesFrom s (with_result (attempt_value old name s.now) latest) before (record m { first = Some latest }) s.now step mid in
+      let P : Attempt → Type 0 = λ m. LooksUpOnce s m.looked other t before step mid
+      → GoesFrom s (with_result (attempt_value old name s.now) latest) before (record m { first = Some latest }) s.now step mid in
       subst P (sym a_is) here
     where
-      here : LooksUpOnce s old.looked other t before step mid → GoesFrom s (with_result (attempt_value old name s.now) latest) before (record old { again = None; first = Some latest }) s.now step mid
+      here : LooksUpOnce s old.looked other t before step mid
+          → GoesFrom s (with_result (attempt_value old name s.now) latest) before
+          (record old { again = None; first = Some latest }) s.now step mid
       here once =
           let both = second_some name other (next_type (types_of old.sought) (results_so_far old.first ++ latest ∷ [])) t is in
           let none : old.first ≡ None = one_before (types_of old.sought) old.first latest t both.0 in
           let N : NameValue → Type 0 = λ n. LooksUpOnce s old.looked n t before step mid in
           let from : AttemptValue = with_result (attempt_value old name s.now) latest in
-          goes_by_look_up s from (record old { again = None; first = Some latest }) name (λ i. record from { results = results_so_far (none i) ++ latest ∷ [] }) (again_none (types_of old.sought) latest name) before t both.0 step mid (subst N both.1 once)
+          goes_by_look_up s from (record old { again = None; first = Some latest }) name
+          (λ i. record from { results = results_so_far (none i) ++ latest ∷ [] })
+          (again_none (types_of old.sought) latest name) before t both.0 step mid (subst N both.1 once)
 
   -- no other type follows
-  pub goes_on_end : None ≡ second_of name (next_type (types_of old.sought) (results_so_far old.first ++ latest ∷ [])) → (a : Attempt) → a ≡ record old { again = None } → (b : Attempt) (step : StepValue) (mid : CacheValue)
-      → (next_type (types_of a.sought) (results_so_far a.first ++ latest ∷ []) ≡ None → GoesFrom s (with_result (attempt_value a name s.now) latest) before b s.now step mid) → GoesFrom s (with_result (attempt_value old name s.now) latest) before b s.now step mid
+  pub goes_on_end : None ≡ second_of name (next_type (types_of old.sought) (results_so_far old.first ++ latest ∷ []))
+      → (a : Attempt) → a ≡ record old { again = None } → (b : Attempt) (step : StepValue) (mid : CacheValue)
+      → (next_type (types_of a.sought) (results_so_far a.first ++ latest ∷ []) ≡ None
+      → GoesFrom s (with_result (attempt_value a name s.now) latest) before b s.now step mid)
+      → GoesFrom s (with_result (attempt_value old name s.now) latest) before b s.now step mid
   goes_on_end is a a_is b step mid goes =
-      let P : Attempt → Type 0 = λ m. next_type (types_of m.sought) (results_so_far m.first ++ latest ∷ []) ≡ None → GoesFrom s (with_result (attempt_value m name s.now) latest) before b s.now step mid in
+      let P : Attempt → Type 0 = λ m. next_type (types_of m.sought) (results_so_far m.first ++ latest ∷ []) ≡ None
+      → GoesFrom s (with_result (attempt_value m name s.now) latest) before b s.now step mid in
       subst P a_is goes (second_none name (next_type (types_of old.sought) (results_so_far old.first ++ latest ∷ [])) is)
 
-  module _ (reply : LookupResult) (made : IsAttemptResult (types_of old.sought) (results_so_far old.first ++ latest ∷ []) reply) (b : Attempt) where
+  module _ (reply : LookupResult) (made : IsAttemptResult (types_of old.sought)
+      (results_so_far old.first ++ latest ∷ []) reply) (b : Attempt) where
     abbrev at_end : AttemptValue
     at_end = with_result (attempt_value old name s.now) latest
 
     -- the reply of the name is that of the call
     pub goes_over : stops reply ≡ true → GoesFrom s at_end before b s.now (Over reply) before
-    goes_over stopping = record { name = name; ready = tt; goes = λ end after comes. ends_call s at_end reply made before end after stopping comes }
+    goes_over stopping = record {
+      name = name;
+      ready = tt;
+      goes = λ end after comes. ends_call s at_end reply made before end after stopping comes;
+    }
 
     -- it was the last name
-    pub goes_last : stops reply ≡ false → old.left.items ≡ [] → (result : LookupResult) → IsLastReply at_end.plan.literal (λ x. x ≡ reply) result → GoesFrom s at_end before b s.now (Over result) before
-    goes_last live none result last = record { name = name; ready = tt; goes = λ end after comes. ends_names s at_end reply made before end after live (ap (λ ns. reverse ns) none) result last comes }
+    pub goes_last : stops reply ≡ false → old.left.items ≡ [] → (result : LookupResult)
+        → IsLastReply at_end.plan.literal (λ x. x ≡ reply) result → GoesFrom s at_end before b s.now (Over result) before
+    goes_last live none result last = record {
+      name = name;
+      ready = tt;
+      goes = λ end after comes. ends_names s at_end reply made before end after live (ap (λ ns. reverse ns) none)
+          result last comes;
+    }
 
     -- another name follows
-    pub goes_next : stops reply ≡ false → (rest : List NameValue) (other : NameValue) → old.left.items ≡ rest ++ other ∷ [] → (step : StepValue) (mid : CacheValue)
+    pub goes_next : stops reply ≡ false → (rest : List NameValue) (other : NameValue) → old.left.items
+        ≡ rest ++ other ∷ [] → (step : StepValue) (mid : CacheValue)
         → GoesFrom s (at_next at_end other (reverse rest)) before b s.now step mid → GoesFrom s at_end before b s.now step mid
     goes_next live rest other are step mid next =
-        let turned : reverse old.left.items ≡ other ∷ reverse rest = ap (λ ns. reverse ns) are ∙ reverse-append rest (other ∷ []) in
-        record { name = next.name; ready = next.ready; goes = λ end after comes. goes_to_next s at_end reply made before end after live other (reverse rest) turned (next.goes end after comes) }
+        let turned : reverse old.left.items ≡ other ∷ reverse rest =
+        ap (λ ns. reverse ns) are ∙ reverse-append rest (other ∷ []) in
+        record {
+          name = next.name;
+          ready = next.ready;
+          goes = λ end after comes. goes_to_next s at_end reply made before end after live other (reverse rest) turned
+              (next.goes end after comes);
+        }
 
 -- the name that was there once more is taken
-pub fewer_second : (old a : Attempt) (latest : LookupResult) (name : NameValue) → a ≡ record old { again = None } → old.again ≡ Some name → (step : StepValue) → IsFewer step (turns_left (record a { first = Some latest })) (turns_left old)
-fewer_second old a latest name a_is again (Goes p) = omega (arith, ap (λ (m : Attempt). turns_left m) a_is, ap (λ o. count_again o) again)
+pub fewer_second : (old a : Attempt) (latest : LookupResult) (name : NameValue) → a ≡ record old { again = None }
+    → old.again ≡ Some name → (step : StepValue) → IsFewer step (turns_left (record a { first = Some latest })) (turns_left old)
+fewer_second old a latest name a_is again (Goes p) =
+    omega (arith, ap (λ (m : Attempt). turns_left m) a_is, ap (λ o. count_again o) again)
 fewer_second old a latest name a_is again (Over r) = tt
 
 -- ---- the loop
@@ -220,21 +299,36 @@ pub record StillGoes
   pub goes : (end : CallProgressValue) (after : CacheValue)
       → GoesOnAfter s (attempt_value a name now) sub mid end after → GoesOnAfter s from first before end after
 
-pub still_first : (s : CallContext) (a : Attempt) (name : NameValue) (now : ℕ) (sub : ProgressValue) (before : CacheValue) → IsReady a name now sub → StillGoes s (attempt_value a name now) sub before a now sub before
+pub still_first : (s : CallContext) (a : Attempt) (name : NameValue) (now : ℕ) (sub : ProgressValue)
+    (before : CacheValue) → IsReady a name now sub → StillGoes s (attempt_value a name now) sub before a now sub before
 still_first s a name now sub before ready = record { name = name; ready = ready; goes = λ end after comes. comes }
 
 module _ (s : CallContext) (from : AttemptValue) (first : ProgressValue) (before : CacheValue) (a : Attempt) (now : ℕ) where
-  pub still_next : (r : LookupResult) (mid : CacheValue) (still : StillGoes s from first before a now (IsDone r) mid) (b : Attempt) (p : ProgressValue) (after : CacheValue) → GoesFrom s (with_result (attempt_value a still.name now) r) mid b now (Goes p) after → StillGoes s from first before b now p after
-  still_next r mid still b p after step = record { name = step.name; ready = step.ready; goes = λ end last comes. still.goes end last (step.goes end last comes) }
+  pub still_next : (r : LookupResult) (mid : CacheValue) (still : StillGoes s from first before a now (IsDone r) mid)
+      (b : Attempt) (p : ProgressValue) (after : CacheValue)
+      → GoesFrom s (with_result (attempt_value a still.name now) r) mid b now (Goes p) after
+      → StillGoes s from first before b now p after
+  still_next r mid still b p after step = record {
+    name = step.name;
+    ready = step.ready;
+    goes = λ end last comes. still.goes end last (step.goes end last comes);
+  }
 
-  pub still_over : (r : LookupResult) (mid : CacheValue) (still : StillGoes s from first before a now (IsDone r) mid) (b : Attempt) (result : LookupResult) (after : CacheValue) → GoesFrom s (with_result (attempt_value a still.name now) r) mid b now (Over result) after → GoesOnAfter s from first before (CallIsDone result) after
-  still_over r mid still b result after step = still.goes (CallIsDone result) after (step.goes (CallIsDone result) after (refl, refl))
+  pub still_over : (r : LookupResult) (mid : CacheValue) (still : StillGoes s from first before a now (IsDone r) mid)
+      (b : Attempt) (result : LookupResult) (after : CacheValue)
+      → GoesFrom s (with_result (attempt_value a still.name now) r) mid b now (Over result) after
+      → GoesOnAfter s from first before (CallIsDone result) after
+  still_over r mid still b result after step = still.goes (CallIsDone result) after
+      (step.goes (CallIsDone result) after (refl, refl))
 
   module _ (w : WaitingValue) (mid : CacheValue) (still : StillGoes s from first before a now (Waits w) mid) where
-    pub still_waits : GoesOnAfter s from first before (CallWaits (record { attempt = attempt_value a (first_question w).name w.now; sub = w })) mid
+    pub still_waits : GoesOnAfter s from first before
+        (CallWaits (record { attempt = attempt_value a (first_question w).name w.now; sub = w })) mid
     still_waits =
-        let same : attempt_value a (first_question w).name w.now ≡ attempt_value a still.name now = λ i. attempt_value a (still.ready.begun.0 i) (still.ready.begun.1 i) in
-        still.goes (CallWaits (record { attempt = attempt_value a (first_question w).name w.now; sub = w })) mid (ap (λ (x : AttemptValue). CallWaits (record { attempt = x; sub = w })) same, refl)
+        let same : attempt_value a (first_question w).name w.now ≡ attempt_value a still.name now =
+        λ i. attempt_value a (still.ready.begun.0 i) (still.ready.begun.1 i) in
+        still.goes (CallWaits (record { attempt = attempt_value a (first_question w).name w.now; sub = w })) mid
+        (ap (λ (x : AttemptValue). CallWaits (record { attempt = x; sub = w })) same, refl)
 
     pub still_again : a.again ≡ again_for (types_of a.sought) a.first (first_question w).name
     still_again = still.ready.again_is ∙ ap (λ n. again_for (types_of a.sought) a.first n) (sym still.ready.begun.0)
@@ -243,15 +337,24 @@ module _ (s : CallContext) (from : AttemptValue) (first : ProgressValue) (before
 
 module _ (s : CallContext) (looked : Bool) where
   -- a name is the first
-  pub starts_names : (plan : CallPlan) (all left : List NameValue) (name : NameValue) → all ≡ left ++ name ∷ [] → (before : CacheValue) (end : CallProgressValue) (after : CacheValue)
-      → GoesOn s (record { plan = plan; looked = looked; name = name; results = []; left = reverse left }) before end after → StartsNames s plan looked (reverse all) before end after
+  pub starts_names : (plan : CallPlan) (all left : List NameValue) (name : NameValue) → all ≡ left ++ name ∷ []
+      → (before : CacheValue) (end : CallProgressValue) (after : CacheValue)
+      → GoesOn s (record { plan = plan; looked = looked; name = name; results = []; left = reverse left }) before end
+      after → StartsNames s plan looked (reverse all) before end after
   starts_names plan all left name are before end after goes =
       let turned : reverse all ≡ name ∷ reverse left = ap (λ ns. reverse ns) are ∙ reverse-append left (name ∷ []) in
       subst (λ ns. StartsNames s plan looked ns before end after) (sym turned) goes
 
   -- there is none
-  pub starts_none : (plan : CallPlan) (all : List NameValue) → all ≡ [] → (said : LookupResult) → Says plan.no_names said → (result : LookupResult) → IsLastReply plan.literal (λ x. x ≡ said) result → (before : CacheValue)
+  pub starts_none : (plan : CallPlan) (all : List NameValue) → all ≡ [] → (said : LookupResult)
+      → Says plan.no_names said → (result : LookupResult) → IsLastReply plan.literal (λ x. x ≡ said) result
+      → (before : CacheValue)
       → StartsNames s plan looked (reverse all) before (CallIsDone result) before
   starts_none plan all none said says result last before =
-      subst (λ ns. StartsNames s plan looked ns before (CallIsDone result) before) (sym (ap (λ ns. reverse ns) none))
-      (result, last_known plan.literal (λ x. x ≡ said) (Says plan.no_names) (λ x is. subst (Says plan.no_names) (sym is) says) result last, refl, refl)
+      subst (λ ns. StartsNames s plan looked ns before (CallIsDone result) before) (sym (ap (λ ns. reverse ns) none)) (
+        result,
+        last_known plan.literal (λ x. x ≡ said) (Says plan.no_names)
+            (λ x is. subst (Says plan.no_names) (sym is) says) result last,
+        refl,
+        refl,
+      )

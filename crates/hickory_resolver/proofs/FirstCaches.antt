@@ -27,7 +27,8 @@ abbrev made_or : CacheValue → Result CacheValue NetError → CacheValue
 made_or other (Ok made) = made
 made_or other (Err error) = other
 
-first_made : (fault : Option BoundsError) (cache first : CacheValue) → Ok cache ≡ option_map_or (λ f. Err (Bounds f)) fault (Ok first) → (fault ≡ None) × (cache ≡ first)
+first_made : (fault : Option BoundsError) (cache first : CacheValue) → Ok cache
+    ≡ option_map_or (λ f. Err (Bounds f)) fault (Ok first) → (fault ≡ None) × (cache ≡ first)
 first_made None cache first e = (refl, ap (made_or first) e)
 first_made (Some f) cache first e = absurd (let clash : Ok cache ≡ Err (Bounds f) = e in cc)
 
@@ -41,22 +42,37 @@ module _ {H : Type 0} (config : ResolverConfigValue) (options : OptionsValue) (h
   }
 
   -- a resolver whose cache was made is a new one
-  pub first_over : (cache : CacheValue) → Ok cache ≡ cache_for options → (made : ResolverValue H) → made ≡ over cache → (bounds_fault (bounds_of options) ≡ None) × (made ≡ record (new_resolver config options handle) { hosts = hosts })
+  pub first_over : (cache : CacheValue) → Ok cache ≡ cache_for options → (made : ResolverValue H) → made ≡ over cache
+      → (bounds_fault (bounds_of options) ≡ None) × (made ≡ record (new_resolver config options handle) { hosts = hosts })
   first_over cache e made is =
       let d = first_made (bounds_fault (bounds_of options)) cache (empty_cache options) e in
       (d.0, is ∙ ap over d.1)
 
 -- it is what a builder builds
-pub built_of : {H : Type 0} (b : BuilderValue H) (config : ResolverConfigValue) (options : OptionsValue) (handle : H) → record { config = config; options = options; handle = handle } ≡ b → (cache : CacheValue) → Ok cache ≡ cache_for options → (hosts : List Host) → hosts ≡ []
-    → (made : ResolverValue H) → made ≡ record { client = record { cache = cache; handle = handle; preserve_intermediates = options.preserve_intermediates }; hosts = hosts; config = config; options = options } → Ok made ≡ built b
+pub built_of : {H : Type 0} (b : BuilderValue H) (config : ResolverConfigValue) (options : OptionsValue) (handle : H)
+    → record { config = config; options = options; handle = handle } ≡ b → (cache : CacheValue) → Ok cache
+    ≡ cache_for options → (hosts : List Host) → hosts ≡ []
+    → (made : ResolverValue H) → made ≡ record {
+      client = record { cache = cache; handle = handle; preserve_intermediates = options.preserve_intermediates };
+      hosts = hosts;
+      config = config;
+      options = options;
+    } → Ok made ≡ built b
 built_of {H} b config options handle same cache e hosts none made is =
-    let P : List Host → Type 0 = λ hs. made ≡ record { client = record { cache = cache; handle = handle; preserve_intermediates = options.preserve_intermediates }; hosts = hs; config = config; options = options } in
+    let P : List Host → Type 0 = λ hs. made ≡ record {
+      client = record { cache = cache; handle = handle; preserve_intermediates = options.preserve_intermediates };
+      hosts = hs;
+      config = config;
+      options = options;
+    } in
     let d = first_over config options handle [] cache e made (subst P none is) in
-    let by : Option BoundsError → Result (ResolverValue H) NetError = λ f. option_map_or (λ fault. Err (Bounds fault)) f (Ok (new_resolver config options handle)) in
+    let by : Option BoundsError → Result (ResolverValue H) NetError =
+    λ f. option_map_or (λ fault. Err (Bounds fault)) f (Ok (new_resolver config options handle)) in
     ap (λ r. Ok r) d.1 ∙ sym (ap by d.0) ∙ ap built same
 
 -- where the bounds are in order, there is no run only where memory ran out
-pub no_room : {A : Type 0} (fault : Option BoundsError) (result : Result A NetError) → fault ≡ None → result ≡ Err OutOfMemory → IfErr result (IsNoRun fault)
+pub no_room : {A : Type 0} (fault : Option BoundsError) (result : Result A NetError) → fault ≡ None → result
+    ≡ Err OutOfMemory → IfErr result (IsNoRun fault)
 no_room {A} fault result none out =
     let P : Result A NetError → Type 0 = λ r. IfErr r (IsNoRun fault) in
     let Q : Option BoundsError → Type 0 = λ f. IsNoRun f OutOfMemory in

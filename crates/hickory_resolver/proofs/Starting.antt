@@ -1,5 +1,6 @@
 -- Calls of a resolver that do no I/O.
-use Rattle.std.proofs.Common.{◌≡◌, ◌≢◌, ◌⊎◌, ◌∙◌, ℕ, true, nat_le, if◌then◌else◌, List, Option, Some, None, Result, Ok, Err, refl, sym, ap, subst, inl, inr}
+use Rattle.std.proofs.Common.{◌≡◌, ◌≢◌, ◌⊎◌, ◌∙◌, ℕ, true, nat_le, if◌then◌else◌, List, Option}
+use Rattle.std.proofs.Common.{Some, None, Result, Ok, Err, refl, sym, ap, subst, inl, inr}
 use Rattle.std.specs.declared.net.IpAddr.{IpAddr}
 use Rattle.hickory_proto_core.specs.Handles.{HandleStep, OutcomeValue}
 use Rattle.hickory_proto_core.specs.Name.{NameValue}
@@ -13,58 +14,81 @@ use Rattle.hickory_resolver_model.specs.Hosts.{Host}
 use Rattle.hickory_resolver_model.specs.Lookup.{LookupResult}
 use Rattle.hickory_resolver_model.specs.Resolver.{ResolverValue, AnswersCall, AnswersHost, call_context_of, settings}
 use Rattle.hickory_resolver_model.specs.Run.{Call, AtOnce, Attempt, address_call, address_plan}
-use Rattle.hickory_resolver_theorems.specs.ResumingCalls.{WaitingCallValue, CallProgressValue, CallIsDone, StartsNames, ResumesCall}
+use Rattle.hickory_resolver_theorems.specs.ResumingCalls.{WaitingCallValue, CallProgressValue, CallIsDone}
+use Rattle.hickory_resolver_theorems.specs.ResumingCalls.{StartsNames, ResumesCall}
 use Rattle.hickory_resolver.specs.Starting.{KeepsAllButCache, StartsAt, StartsHost, ResumesAt}
 
 module _ {H : Type 0} (before : ResolverValue H) where
   -- a client whose cache alone changed
-  cache_alone : (client after_client : ClientValue H) (after : ResolverValue H) → client ≡ before.client → KeepsHandle client after_client → after ≡ record before { client = after_client } → KeepsAllButCache before after
+  cache_alone : (client after_client : ClientValue H) (after : ResolverValue H) → client ≡ before.client
+      → KeepsHandle client after_client → after ≡ record before { client = after_client } → KeepsAllButCache before after
   cache_alone client after_client after client_is keeps after_is =
       let R : ResolverValue H → Type 0 = λ r. r ≡ record before { client = record before.client { cache = r.client.cache } } in
-      let handle : after_client.handle ≡ before.client.handle = keeps.handle_is ∙ ap (λ (c : ClientValue H). c.handle) client_is in
-      let option : after_client.preserve_intermediates ≡ before.client.preserve_intermediates = keeps.option_is ∙ ap (λ (c : ClientValue H). c.preserve_intermediates) client_is in
-      subst R (sym after_is) (λ i. record before { client = record { cache = after_client.cache; handle = handle i; preserve_intermediates = option i } })
+      let handle : after_client.handle ≡ before.client.handle =
+      keeps.handle_is ∙ ap (λ (c : ClientValue H). c.handle) client_is in
+      let option : after_client.preserve_intermediates ≡ before.client.preserve_intermediates =
+      keeps.option_is ∙ ap (λ (c : ClientValue H). c.preserve_intermediates) client_is in
+      subst R (sym after_is) (λ i. record before {
+        client = record { cache = after_client.cache; handle = handle i; preserve_intermediates = option i };
+      })
 
   -- memory ran out before anything was looked up
-  pub started_out : (now : ℕ) (call : Call) (result : LookupResult) → result ≡ Err OutOfMemory → StartsAt now call before (CallIsDone result) before
+  pub started_out : (now : ℕ) (call : Call) (result : LookupResult) → result ≡ Err OutOfMemory
+      → StartsAt now call before (CallIsDone result) before
   started_out now call result out = record { starts = inr (ap CallIsDone out, refl); others_stay = refl }
 
   -- the answer is given at once, or memory ran out for it
-  pub started_at_once : (now : ℕ) (call : Call) (answer result : LookupResult) → call ≡ AtOnce answer → (result ≡ answer) ⊎ (result ≡ Err OutOfMemory) → StartsAt now call before (CallIsDone result) before
+  pub started_at_once : (now : ℕ) (call : Call) (answer result : LookupResult) → call ≡ AtOnce answer
+      → (result ≡ answer) ⊎ (result ≡ Err OutOfMemory) → StartsAt now call before (CallIsDone result) before
   started_at_once now call answer result call_is (inl is) =
-      subst (λ x. StartsAt now x before (CallIsDone result) before) (sym call_is) (record { starts = inl (ap CallIsDone is, refl); others_stay = refl })
+      subst (λ x. StartsAt now x before (CallIsDone result) before) (sym call_is)
+      (record { starts = inl (ap CallIsDone is, refl); others_stay = refl })
   started_at_once now call answer result call_is (inr out) = started_out now call result out
 
   -- an address that is the reply at once
-  pub literal_started : (now : ℕ) (address : IpAddr) (n : NameValue) (result : LookupResult) → nat_le (settings before).search.ndots 4 ≡ true
-      → (result ≡ Ok (literal_at_once n address now)) ⊎ (result ≡ Err OutOfMemory) → StartsAt now (address_call (settings before) (Some address) (Ok n) now) before (CallIsDone result) before
+  pub literal_started : (now : ℕ) (address : IpAddr) (n : NameValue) (result : LookupResult)
+      → nat_le (settings before).search.ndots 4 ≡ true
+      → (result ≡ Ok (literal_at_once n address now)) ⊎ (result ≡ Err OutOfMemory)
+      → StartsAt now (address_call (settings before) (Some address) (Ok n) now) before (CallIsDone result) before
   literal_started now address n result few is =
       started_at_once now (address_call (settings before) (Some address) (Ok n) now) (Ok (literal_at_once n address now)) result
-      (ap (λ b. if b then AtOnce (Ok (literal_at_once n address now)) else Attempt n (address_plan (settings before).strategy (Some (literal_at_last address now)))) few) is
+      (ap (λ b. if b then AtOnce (Ok (literal_at_once n address now)) else Attempt n
+      (address_plan (settings before).strategy (Some (literal_at_last address now)))) few) is
 
   -- the attempts at a name are started
-  pub started_names : (now : ℕ) (plan : CallPlan) (n : NameValue) (hosts : List Host) (names : List NameValue) (client after_client : ClientValue H) (progress : CallProgressValue) (after : ResolverValue H)
+  pub started_names : (now : ℕ) (plan : CallPlan) (n : NameValue) (hosts : List Host) (names : List NameValue)
+      (client after_client : ClientValue H) (progress : CallProgressValue) (after : ResolverValue H)
       → hosts ≡ before.hosts → client ≡ before.client → names ≡ attempts (settings before).search n
-      → StartsNames (call_context_of client hosts now) plan true names client.cache progress after_client.cache → KeepsHandle client after_client → after ≡ record before { client = after_client }
+      → StartsNames (call_context_of client hosts now) plan true names client.cache progress after_client.cache
+      → KeepsHandle client after_client → after ≡ record before { client = after_client }
       → StartsAt now (Attempt n plan) before progress after
   started_names now plan n hosts names client after_client progress after hosts_are client_is names_are starts keeps after_is =
-      let P : List Host → Type 0 = λ hs. StartsNames (call_context_of client hs now) plan true names client.cache progress after_client.cache in
-      let C : ClientValue H → Type 0 = λ c. StartsNames (call_context_of c before.hosts now) plan true names c.cache progress after_client.cache in
-      let N : List NameValue → Type 0 = λ ns. StartsNames (call_context_of before.client before.hosts now) plan true ns before.client.cache progress after_client.cache in
-      let A : ResolverValue H → Type 0 = λ r. StartsNames (call_context_of before.client before.hosts now) plan true (attempts (settings before).search n) before.client.cache progress r.client.cache in
+      let P : List Host → Type 0 = λ hs. StartsNames (call_context_of client hs now) plan true names client.cache
+      progress after_client.cache in
+      let C : ClientValue H → Type 0 = λ c. StartsNames (call_context_of c before.hosts now) plan true names c.cache
+      progress after_client.cache in
+      let N : List NameValue → Type 0 = λ ns. StartsNames (call_context_of before.client before.hosts now) plan true
+      ns before.client.cache progress after_client.cache in
+      let A : ResolverValue H → Type 0 = λ r. StartsNames (call_context_of before.client before.hosts now) plan true
+      (attempts (settings before).search n) before.client.cache progress r.client.cache in
       record {
         starts = inl (subst A (sym after_is) (subst N names_are (subst C client_is (subst P hosts_are starts))));
         others_stay = cache_alone client after_client after client_is keeps after_is;
       }
 
   -- a call goes on
-  pub resumed_at : (w : WaitingCallValue) (outcome : OutcomeValue) (hosts : List Host) (client after_client : ClientValue H) (progress : CallProgressValue) (after : ResolverValue H)
-      → hosts ≡ before.hosts → client ≡ before.client → ResumesCall (call_context_of client hosts w.sub.now) w outcome client.cache progress after_client.cache → KeepsHandle client after_client
+  pub resumed_at : (w : WaitingCallValue) (outcome : OutcomeValue) (hosts : List Host)
+      (client after_client : ClientValue H) (progress : CallProgressValue) (after : ResolverValue H)
+      → hosts ≡ before.hosts → client ≡ before.client → ResumesCall (call_context_of client hosts w.sub.now) w outcome
+      client.cache progress after_client.cache → KeepsHandle client after_client
       → after ≡ record before { client = after_client } → ResumesAt w outcome before progress after
   resumed_at w outcome hosts client after_client progress after hosts_are client_is resumes keeps after_is =
-      let P : List Host → Type 0 = λ hs. ResumesCall (call_context_of client hs w.sub.now) w outcome client.cache progress after_client.cache in
-      let C : ClientValue H → Type 0 = λ c. ResumesCall (call_context_of c before.hosts w.sub.now) w outcome c.cache progress after_client.cache in
-      let A : ResolverValue H → Type 0 = λ r. ResumesCall (call_context_of before.client before.hosts w.sub.now) w outcome before.client.cache progress r.client.cache in
+      let P : List Host → Type 0 = λ hs. ResumesCall (call_context_of client hs w.sub.now) w outcome client.cache
+      progress after_client.cache in
+      let C : ClientValue H → Type 0 = λ c. ResumesCall (call_context_of c before.hosts w.sub.now) w outcome c.cache
+      progress after_client.cache in
+      let A : ResolverValue H → Type 0 = λ r. ResumesCall (call_context_of before.client before.hosts w.sub.now) w
+      outcome before.client.cache progress r.client.cache in
       record {
         resumes = subst A (sym after_is) (subst C client_is (subst P hosts_are resumes));
         others_stay = cache_alone client after_client after client_is keeps after_is;
@@ -72,7 +96,9 @@ module _ {H : Type 0} (before : ResolverValue H) where
 
   -- a text that is no name: what was answered of it is what a start comes to
   module _ (step : HandleStep H) (now : ℕ) (fault : NameError) (result : LookupResult) where
-    at_once : (address : Option IpAddr) → AnswersCall step now (address_call (settings before) address (Err fault) now) before result before → StartsAt now (address_call (settings before) address (Err fault) now) before (CallIsDone result) before
+    at_once : (address : Option IpAddr) → AnswersCall step now
+        (address_call (settings before) address (Err fault) now) before result before
+        → StartsAt now (address_call (settings before) address (Err fault) now) before (CallIsDone result) before
     at_once None a = elim a.is [
       | inl is ↦ record { starts = inl (ap CallIsDone is.1, refl); others_stay = refl }
       | inr out ↦ started_out now (address_call (settings before) None (Err fault) now) result out.1
@@ -82,11 +108,15 @@ module _ {H : Type 0} (before : ResolverValue H) where
       | inr out ↦ started_out now (address_call (settings before) (Some address) (Err fault) now) result out.1
     ]
 
-    pub host_said : (Spells : Option IpAddr → Type 0) (Gives : Result NameValue NameError → Type 0) (address : Option IpAddr) → Spells address → Gives (Err fault)
-        → AnswersHost step (λ a. a ≡ address) (λ n. n ≡ Err fault) now before result before → StartsHost Spells Gives now before (CallIsDone result) before
+    pub host_said : (Spells : Option IpAddr → Type 0) (Gives : Result NameValue NameError → Type 0)
+        (address : Option IpAddr) → Spells address → Gives (Err fault)
+        → AnswersHost step (λ a. a ≡ address) (λ n. n ≡ Err fault) now before result before
+        → StartsHost Spells Gives now before (CallIsDone result) before
     host_said Spells Gives address spells gives (a, a_is, n, n_is, inl (known, answers)) =
-        let A : Option IpAddr → Type 0 = λ o. AnswersCall step now (address_call (settings before) o n now) before result before in
-        let N : Result NameValue NameError → Type 0 = λ m. AnswersCall step now (address_call (settings before) address m now) before result before in
+        let A : Option IpAddr → Type 0 = λ o. AnswersCall step now (address_call (settings before) o n now) before
+        result before in
+        let N : Result NameValue NameError → Type 0 =
+        λ m. AnswersCall step now (address_call (settings before) address m now) before result before in
         let K : Result NameValue NameError → Type 0 = λ m. m ≢ Err name_fault.OutOfMemory in
         (address, spells, Err fault, gives, inl (subst K n_is known, at_once address (subst N n_is (subst A a_is answers))))
     host_said Spells Gives address spells gives (a, a_is, n, n_is, inr (out, result_is, same)) =

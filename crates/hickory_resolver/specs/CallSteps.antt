@@ -1,5 +1,6 @@
 -- How the code of a call goes on: what it keeps between two sub-look-ups, and what each of its steps comes to.
-use Rattle.std.specs.Prelude.{◌≡◌, ◌⊎◌, ◌<◌, ◌+◌, ◌*◌, ℕ, Bool, true, false, codes, List, [], ◌∷◌, length, reverse, Option, Some, None, Ok, Err}
+use Rattle.std.specs.Prelude.{◌≡◌, ◌⊎◌, ◌<◌, ◌+◌, ◌*◌, ℕ, Bool, true, false, codes, List}
+use Rattle.std.specs.Prelude.{[], ◌∷◌, length, reverse, Option, Some, None, Ok, Err}
 use Rattle.std.specs.Option.{option_map}
 use Rattle.hickory_proto_core.specs.Name.{NameValue}
 use Rattle.hickory_proto_core.specs.Records.{data_of}

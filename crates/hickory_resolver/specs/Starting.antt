@@ -9,7 +9,8 @@ use Rattle.hickory_proto_core.specs.names.name_error.NameError.TheVariants as na
 use Rattle.hickory_proto_core.specs.declared.net_error.NetError.TheVariants.{OutOfMemory}
 use Rattle.hickory_resolver_model.specs.Resolver.{ResolverValue, settings}
 use Rattle.hickory_resolver_model.specs.Run.{Call, call_context_at, name_call, address_call}
-use Rattle.hickory_resolver_theorems.specs.ResumingCalls.{WaitingCallValue, CallProgressValue, CallIsDone, StartsCall, RunsOutAtStart, ResumesCall}
+use Rattle.hickory_resolver_theorems.specs.ResumingCalls.{WaitingCallValue, CallProgressValue, CallIsDone}
+use Rattle.hickory_resolver_theorems.specs.ResumingCalls.{StartsCall, RunsOutAtStart, ResumesCall}
 
 -- of a resolver the cache alone may have changed
 abbrev pub KeepsAllButCache : {H : Type 0} → ResolverValue H → ResolverValue H → Type 0

@@ -1,5 +1,6 @@
 //! Attempts at several names, one after another, without I/O: what a call does until it waits or is done.
-ghost use Rattle.std.specs.Prelude.{◌≡◌, ◌⊎◌, ◌*◌, ℕ, length, [], ◌∷◌, ◌++◌, None, Some, false, true, IfOk, IfSome, IsOkUnless, IsTrue, Err};
+ghost use Rattle.std.specs.Prelude.{◌≡◌, ◌⊎◌, ◌*◌, ℕ, length, [], ◌∷◌, ◌++◌, None, Some, false};
+ghost use Rattle.std.specs.Prelude.{true, IfOk, IfSome, IsOkUnless, IsTrue, Err};
 ghost use Rattle.std.specs.Option.{option_map};
 ghost use Rattle.hickory_proto_core.specs.Name.{NameValue};
 ghost use Rattle.hickory_proto_core.specs.Records.{data_of};
@@ -9,7 +10,9 @@ ghost use Rattle.hickory_resolver_model.specs.Client.{KeepsHandle};
 ghost use Rattle.hickory_resolver_model.specs.Hosts.{IsStatic};
 ghost use Rattle.hickory_resolver_model.specs.Resolver.{call_context_of};
 ghost use Rattle.hickory_resolver_theorems.specs.ResumingCalls.{with_result};
-ghost use Rattle.hickory_resolver.specs.CallSteps.{types_value, first_type, again_for, types_of, asks_for_all, no_names_of, results_so_far, LooksUpOnce, GoesFrom, IsFewer, attempt_value, first_value, second_of, step_of, turns_left};
+ghost use Rattle.hickory_resolver.specs.CallSteps.{types_value, first_type, again_for, types_of, asks_for_all};
+ghost use Rattle.hickory_resolver.specs.CallSteps.{no_names_of, results_so_far, LooksUpOnce, GoesFrom, IsFewer};
+ghost use Rattle.hickory_resolver.specs.CallSteps.{attempt_value, first_value, second_of, step_of, turns_left};
 
 use crate::literals::last_resort;
 use crate::results::{attempted, is_out_of_memory, stops};

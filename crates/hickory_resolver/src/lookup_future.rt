@@ -5,7 +5,7 @@ ghost use Rattle.hickory_resolver_model.specs.Run.{name_plan};
 
 use crate::attempting::Sought;
 use crate::calling::{resume, start};
-use crate::waiting_call::CallProgress;
+use crate::waiting_call::{CallProgress, WaitingCall};
 use hickory_proto_core::{DnsHandle, DnsRequestOptions, Name, NetError, RecordType};
 use hickory_resolver_client::CachingClient;
 use hickory_resolver_hosts::Hosts;
@@ -36,8 +36,9 @@ impl LookupFuture {
         loop {
             match progress {
                 CallProgress::Waiting(waiting) => {
-                    let (waiting, outcome) = waiting.ask(client, options);
-                    progress = resume(waiting, outcome, client, &hosts);
+                    let WaitingCall { attempt, sub } = waiting;
+                    let (sub, outcome) = client.ask(sub, options);
+                    progress = resume(WaitingCall { attempt, sub }, outcome, client, &hosts);
                 }
                 CallProgress::Done(result) => return result,
             }
@@ -61,8 +62,9 @@ impl LookupFuture {
         loop {
             match progress {
                 CallProgress::Waiting(waiting) => {
-                    let (waiting, outcome) = waiting.ask(client, options);
-                    progress = resume(waiting, outcome, client, hosts);
+                    let WaitingCall { attempt, sub } = waiting;
+                    let (sub, outcome) = client.ask(sub, options);
+                    progress = resume(WaitingCall { attempt, sub }, outcome, client, hosts);
                 }
                 CallProgress::Done(result) => return result,
             }

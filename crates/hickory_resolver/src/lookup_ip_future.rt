@@ -9,7 +9,7 @@ ghost use Rattle.hickory_resolver_model.specs.Run.{address_plan};
 use crate::attempting::Sought;
 use crate::calling::{resume, start};
 use crate::literals::as_addresses;
-use crate::waiting_call::CallProgress;
+use crate::waiting_call::{CallProgress, WaitingCall};
 use hickory_proto_core::{DnsHandle, DnsRequestOptions, Name, NetError, RData};
 use hickory_resolver_client::CachingClient;
 use hickory_resolver_config::LookupIpStrategy;
@@ -46,8 +46,9 @@ impl LookupIpFuture {
         loop {
             match progress {
                 CallProgress::Waiting(waiting) => {
-                    let (waiting, outcome) = waiting.ask(client, options);
-                    progress = resume(waiting, outcome, client, hosts);
+                    let WaitingCall { attempt, sub } = waiting;
+                    let (sub, outcome) = client.ask(sub, options);
+                    progress = resume(WaitingCall { attempt, sub }, outcome, client, hosts);
                 }
                 CallProgress::Done(result) => return as_addresses(result),
             }

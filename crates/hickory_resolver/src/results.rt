@@ -1,7 +1,8 @@
 //! What the results of a name's look-ups come to.
 ghost use Rattle.std.specs.Prelude.{◌≡◌, ◌⊎◌, [], ◌∷◌, ◌++◌, None, Ok, Err, true, if◌then◌else◌};
 ghost use Rattle.hickory_proto_core.specs.declared.net_error.NetError.TheVariants.{OutOfMemory};
-ghost use Rattle.hickory_resolver_model.specs.Calls.{IsAttemptResult, are_answers, both_results, is_out_of_memory, next_type, stops};
+ghost use Rattle.hickory_resolver_model.specs.Calls.{IsAttemptResult, are_answers, both_results};
+ghost use Rattle.hickory_resolver_model.specs.Calls.{is_out_of_memory, next_type, stops};
 ghost use Rattle.hickory_resolver.specs.CallSteps.{results_so_far, types_value};
 
 use crate::attempting::Types;

@@ -2,10 +2,9 @@
 ghost use Rattle.std.specs.Prelude.{◌≡◌};
 
 use crate::attempting::Attempt;
-use hickory_proto_core::{DnsHandle, DnsRequestOptions, NetError, Outcome, Query};
-use hickory_resolver_client::{CachingClient, Waiting};
+use hickory_proto_core::{NetError, Query};
+use hickory_resolver_client::Waiting;
 use hickory_resolver_lookup::Lookup;
-use std::hash::BuildHasher;
 use std::marker::Model;
 
 /// A call that waits for what comes back to a question. Its moment is that of its start, however late it goes on.
@@ -51,22 +50,6 @@ impl WaitingCall {
         ensures { result.now ≡ self.now.sub.hop.query }
     {
         self.sub.question()
-    }
-
-    // Sends the question by the handle of a client, and gives what came back beside the call.
-    pub(crate) fn ask<H: DnsHandle, S: BuildHasher>(
-        self,
-        client: &mut CachingClient<H, S>,
-        options: DnsRequestOptions,
-    ) -> (WaitingCall, Outcome)
-        ensures same { result.0 ≡ self }
-        ensures sent { H.step client.old.handle (record { query = self.sub.hop.query; options = options }) result.1
-            client.new.handle }
-        ensures stays { client.new ≡ record client.old { handle = client.new.handle } }
-    {
-        let WaitingCall { attempt, sub } = self;
-        let (sub, outcome) = client.ask(sub, options);
-        (WaitingCall { attempt, sub }, outcome)
     }
 
     /// The moment of its start (seconds).

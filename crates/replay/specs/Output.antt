@@ -12,12 +12,14 @@ use Rattle.hickory_proto_core.specs.declared.query.Query.{Query}
 use Rattle.hickory_proto_core.specs.names.name_error.NameError.{NameError}
 use Rattle.hickory_proto_core.specs.names.name_error.NameError.TheVariants as name_error
 use Rattle.hickory_proto_core.specs.declared.net_error.NetError.{NetError}
-use Rattle.hickory_proto_core.specs.declared.net_error.NetError.TheVariants.{Message, Timeout, Proto, Dns, NoOutcome, Bounds, OutOfMemory}
+use Rattle.hickory_proto_core.specs.declared.net_error.NetError.TheVariants.{Message, Timeout, Proto, Dns, NoOutcome}
+use Rattle.hickory_proto_core.specs.declared.net_error.NetError.TheVariants.{Bounds, OutOfMemory}
 use Rattle.hickory_proto_core.specs.declared.net_error.DnsError.TheVariants.{ResponseCode, NoRecordsFound}
 use Rattle.hickory_proto_core.specs.declared.recorded.Exchange.{Exchange}
 use Rattle.hickory_resolver_model.specs.Lookup.{LookupValue, LookupResult}
 use Rattle.hickory_proto_core.specs.codes.record_type.RecordType.{RecordType}
-use Rattle.hickory_resolver_model.specs.Run.{RequestValue, Lookup, LookupIp, ClearLookup, Clear, StepReply, LookedUp, LookedUpIp, Cleared, StepValue}
+use Rattle.hickory_resolver_model.specs.Run.{RequestValue, Lookup, LookupIp, ClearLookup, Clear, StepReply}
+use Rattle.hickory_resolver_model.specs.Run.{LookedUp, LookedUpIp, Cleared, StepValue}
 
 -- how the faults of names are numbered
 abbrev pub name_error_text : NameError → List ℕ

@@ -5,7 +5,9 @@ ghost use Rattle.hickory_proto_core.specs.Records.{data_of};
 ghost use Rattle.hickory_proto_core.specs.Texts.{question_text};
 ghost use Rattle.hickory_resolver.specs.Replies.{reply_of};
 ghost use Rattle.hickory_resolver.specs.Requests.{request_of};
-ghost use Rattle.replay.specs.Output.{address_text, addresses_text, asked_text, error_text, line_text, lookup_text, name_error_text, reply_text, request_text, result_text, section_text, sent_text, step_text};
+ghost use Rattle.replay.specs.Output.{address_text, addresses_text, asked_text, error_text, line_text};
+ghost use Rattle.replay.specs.Output.{lookup_text, name_error_text, reply_text, request_text, result_text};
+ghost use Rattle.replay.specs.Output.{section_text, sent_text, step_text};
 
 use hickory_proto_core::{
     DnsError, Exchange, NameError, NetError, NoRecords, Query, RData, Record, RecordType,

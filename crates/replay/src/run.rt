@@ -6,7 +6,7 @@ ghost use Rattle.hickory_resolver.specs.Requests.{request_of};
 ghost use Rattle.hickory_resolver_model.specs.Bounds.{bounds_fault};
 ghost use Rattle.hickory_resolver_model.specs.Options.{bounds_of};
 ghost use Rattle.hickory_resolver_model.specs.Run.{settings_of};
-ghost use Rattle.replay.specs.ScriptRun.{IsNoTable, IsRefused, IsReplayed, IsScriptTold, IsTable, IsTold, first_moment};
+ghost use Rattle.replay.specs.ScriptRun.{IsNoTable, IsRefused, IsReplayed, IsTable, IsTold, first_moment};
 
 use crate::error::ReplayError;
 use crate::output::TextListener;
@@ -71,8 +71,23 @@ pub fn replay_text_with_hashers<S: BuildHasher + Drop, T: BuildHasher + Drop>(
     ensures err { IfErr result (IsRefused script.now hosts.now) }
 {
     let script = read_script(alloc, script)?;
-    let table = read_table(alloc, hosts, first_moment(&script.requests), hosts_hasher)?;
-    run_script(alloc, script, table, cache_hasher, table_hasher)
+    let hosts = read_table(alloc, hosts, first_moment(&script.requests), hosts_hasher)?;
+    let Script {
+        table,
+        outcomes,
+        requests,
+        options,
+        domain,
+        search,
+    } = script;
+    let config = ResolverConfig::from_parts(domain, search, Vec::new(alloc));
+    if table {
+        let upstream = table_of(outcomes, table_hasher)?;
+        text_of_run(config, options, hosts, upstream, &requests, cache_hasher)
+    } else {
+        let upstream = ScriptHandle::new(without_questions(alloc, outcomes)?);
+        text_of_run(config, options, hosts, upstream, &requests, cache_hasher)
+    }
 }
 
 // The moment of the first request, or 0.
@@ -98,36 +113,6 @@ fn read_table<S: BuildHasher + Drop>(
     match table.read_hosts_bytes(hosts, now) {
         Ok(()) => Ok(table),
         Err(error) => Err(ReplayError::from(error)),
-    }
-}
-
-// The text of a run of a script over a table of hosts. Its bounds are in order.
-fn run_script<S: BuildHasher + Drop, T: BuildHasher + Drop>(
-    alloc: Global,
-    script: Script,
-    hosts: Hosts<S>,
-    cache_hasher: S,
-    table_hasher: T,
-) -> Result<String, ReplayError>
-    requires { bounds_fault (bounds_of script.options) ≡ None }
-    ensures ok { IfOk result (λ text. IsScriptTold script hosts (string_bytes text)) }
-    ensures err { IsOkUnless result ReplayError.Memory }
-{
-    let Script {
-        table,
-        outcomes,
-        requests,
-        options,
-        domain,
-        search,
-    } = script;
-    let config = ResolverConfig::from_parts(domain, search, Vec::new(alloc));
-    if table {
-        let upstream = table_of(outcomes, table_hasher)?;
-        text_of_run(config, options, hosts, upstream, &requests, cache_hasher)
-    } else {
-        let upstream = ScriptHandle::new(without_questions(alloc, outcomes)?);
-        text_of_run(config, options, hosts, upstream, &requests, cache_hasher)
     }
 }
 

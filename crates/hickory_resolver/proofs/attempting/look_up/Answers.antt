@@ -9,20 +9,53 @@ use Rattle.hickory_resolver.proofs.attempting.look_up.Goals as goal
 
 pub returns-then-skips_hosts-clause-looks_up : goal.returns-then-skips_hosts-clause-looks_up
 returns-then-skips_hosts-clause-looks_up g c =
-    let question_is : c.query-question.result ≡ question_of c.args.name c.args.record_type = λ i. record { name = c.query-question.ensures.name i; query_type = c.query-question.ensures.query_type i; query_class = c.query-question.ensures.query_class i } in
+    let question_is : c.query-question.result ≡ question_of c.args.name c.args.record_type =
+    λ i. record {
+      name = c.query-question.ensures.name i;
+      query_type = c.query-question.ensures.query_type i;
+      query_class = c.query-question.ensures.query_class i;
+    } in
     let P : Query → Type 0 = λ q. (c.args.looked ≡ false) ⊎ IsStatic q c.args.now c.args.hosts.now None in
-    let Q : Query → Type 0 = λ q. Starts (start_of c.args.client.now c.args.now) q (progress_of c.start.result) c.start.new.self.cache in
-    inl (progress_of c.start.result, refl, subst P question_is (c.skips_hosts.ensures.none c.if-skips_hosts.true c.args.now), subst Q question_is c.start.ensures.starts)
+    let Q : Query → Type 0 = λ q. Starts (start_of c.args.client.now c.args.now) q (progress_of c.start.result)
+    c.start.new.self.cache in
+    inl (
+      progress_of c.start.result,
+      refl,
+      subst P question_is (c.skips_hosts.ensures.none c.if-skips_hosts.true c.args.now),
+      subst Q question_is c.start.ensures.starts,
+    )
 
 pub returns-in-Ok-Some-clause-looks_up : goal.returns-in-Ok-Some-clause-looks_up
 returns-in-Ok-Some-clause-looks_up g c =
-    let question_is : c.query-question.result ≡ question_of c.args.name c.args.record_type = λ i. record { name = c.query-question.ensures.name i; query_type = c.query-question.ensures.query_type i; query_class = c.query-question.ensures.query_class i } in
+    let question_is : c.query-question.result ≡ question_of c.args.name c.args.record_type =
+    λ i. record {
+      name = c.query-question.ensures.name i;
+      query_type = c.query-question.ensures.query_type i;
+      query_class = c.query-question.ensures.query_class i;
+    } in
     let P : Query → Type 0 = λ q. IsStatic q c.args.now c.args.hosts.now (Some c.in-Ok-Some.found) in
-    inr (inl (c.in-Ok-Some.found, refl, c.skips_hosts.ensures.asked c.if-skips_hosts.false, subst P question_is (rw c.in-Ok-Some.field-0-is at c.in-Ok-Some.ensures.ok), refl))
+    inr (inl (
+      c.in-Ok-Some.found,
+      refl,
+      c.skips_hosts.ensures.asked c.if-skips_hosts.false,
+      subst P question_is (rw c.in-Ok-Some.field-0-is at c.in-Ok-Some.ensures.ok),
+      refl,
+    ))
 
 pub returns-in-Ok-None-clause-looks_up : goal.returns-in-Ok-None-clause-looks_up
 returns-in-Ok-None-clause-looks_up g c =
-    let question_is : c.query-question.result ≡ question_of c.args.name c.args.record_type = λ i. record { name = c.query-question.ensures.name i; query_type = c.query-question.ensures.query_type i; query_class = c.query-question.ensures.query_class i } in
+    let question_is : c.query-question.result ≡ question_of c.args.name c.args.record_type =
+    λ i. record {
+      name = c.query-question.ensures.name i;
+      query_type = c.query-question.ensures.query_type i;
+      query_class = c.query-question.ensures.query_class i;
+    } in
     let P : Query → Type 0 = λ q. IsStatic q c.args.now c.args.hosts.now None in
-    let Q : Query → Type 0 = λ q. Starts (start_of c.args.client.now c.args.now) q (progress_of c.start-in-Ok-None.result) c.start-in-Ok-None.new.self.cache in
-    inl (progress_of c.start-in-Ok-None.result, refl, inr (subst P question_is (rw c.in-Ok-None.field-0-is at c.in-Ok-None.ensures.ok)), subst Q question_is c.start-in-Ok-None.ensures.starts)
+    let Q : Query → Type 0 = λ q. Starts (start_of c.args.client.now c.args.now) q
+    (progress_of c.start-in-Ok-None.result) c.start-in-Ok-None.new.self.cache in
+    inl (
+      progress_of c.start-in-Ok-None.result,
+      refl,
+      inr (subst P question_is (rw c.in-Ok-None.field-0-is at c.in-Ok-None.ensures.ok)),
+      subst Q question_is c.start-in-Ok-None.ensures.starts,
+    )

@@ -16,8 +16,19 @@ returns-clause-resumes g c =
     let p = progress_of c.resume-progress.result in
     let mid = c.resume-progress.new.self in
     let N : ℕ → Type 0 = λ m. IsReady c.waiting.inside.attempt name m p in
-    let G : ℕ → Type 0 = λ m. GoesOnAfter (call_context_of mid c.args.hosts.now m) (attempt_value c.waiting.inside.attempt name m) p mid.cache (call_progress_of c.go_on.result) c.go_on.new.client.cache in
-    let C : CallContext → Type 0 = λ t. GoesOnAfter t (attempt_value c.waiting.inside.attempt name moment) p mid.cache (call_progress_of c.go_on.result) c.go_on.new.client.cache in
-    let ready = subst N (sym c.now-now.ensures) (record { again_is = c.waiting.invariant; begun = resumed_begun (start_of c.args.client.now moment) c.waiting.inside.sub refl c.args.outcome p mid.cache c.resume-progress.ensures.resumes }) in
-    rw (← c.waiting.view_is)
-    (p, mid.cache, c.resume-progress.ensures.resumes, subst C (same_context c.args.client.now mid c.args.hosts.now moment c.resume-progress.ensures.stays) (subst G c.now-now.ensures (c.go_on.ensures.goes name ready)))
+    let G : ℕ → Type 0 = λ m. GoesOnAfter (call_context_of mid c.args.hosts.now m)
+    (attempt_value c.waiting.inside.attempt name m) p mid.cache (call_progress_of c.go_on.result) c.go_on.new.client.cache in
+    let C : CallContext → Type 0 = λ t. GoesOnAfter t (attempt_value c.waiting.inside.attempt name moment) p mid.cache
+    (call_progress_of c.go_on.result) c.go_on.new.client.cache in
+    let ready = subst N (sym c.now-now.ensures) (record {
+      again_is = c.waiting.invariant;
+      begun = resumed_begun (start_of c.args.client.now moment) c.waiting.inside.sub refl c.args.outcome p mid.cache
+          c.resume-progress.ensures.resumes;
+    }) in
+    rw (← c.waiting.view_is) (
+      p,
+      mid.cache,
+      c.resume-progress.ensures.resumes,
+      subst C (same_context c.args.client.now mid c.args.hosts.now moment c.resume-progress.ensures.stays)
+          (subst G c.now-now.ensures (c.go_on.ensures.goes name ready)),
+    )

@@ -15,9 +15,11 @@ returns-clause-run g c =
     let after = c.serve_each.new.resolver in
     let s = c.in_ok-serve_each.ensures.ok in (
       s.0,
-      is_run_from step a.config a.options a.hosts a.handle first.resolver first.ensures.1 first.ensures.0 requests s.0 s.1 after s.2,
+      is_run_from step a.config a.options a.hosts a.handle first.resolver first.ensures.1 first.ensures.0 requests s.0
+          s.1 after s.2,
       subst (λ exchanges. HearsAll g.L.Listener.hears a.listener requests s.0 exchanges c.serve_each.new.listener)
-          (all_exchanges step a.config a.options a.hosts a.handle first.resolver first.ensures.1 first.ensures.0 requests s.0 s.1 after s.2) s.3,
+          (all_exchanges step a.config a.options a.hosts a.handle first.resolver first.ensures.1 first.ensures.0
+          requests s.0 s.1 after s.2) s.3,
     )
 
 pub returns-in_err-serve_each-clause-refused : goal.returns-in_err-serve_each-clause-refused

@@ -13,9 +13,11 @@ returns-clause-run g c =
     let requests = map request_of a.requests.now in
     let first = c.in_ok-resolver in
     let kept = c.in_ok-steps.ensures.ok in
-    let P : TranscriptValue g.row.H.Denot → Type 0 = λ t. IsRunFrom step a.config a.options a.hosts a.handle requests t.steps t.resolver in
+    let P : TranscriptValue g.row.H.Denot → Type 0 =
+    λ t. IsRunFrom step a.config a.options a.hosts a.handle requests t.steps t.resolver in
     subst P (sym c.new.ensures)
-    (is_run_from step a.config a.options a.hosts a.handle first.resolver first.ensures.1 first.ensures.0 requests c.in_ok-steps.steps.items kept.0 c.keep_steps.new.resolver kept.1)
+    (is_run_from step a.config a.options a.hosts a.handle first.resolver first.ensures.1 first.ensures.0 requests
+    c.in_ok-steps.steps.items kept.0 c.keep_steps.new.resolver kept.1)
 
 pub returns-in_err-steps-clause-refused : goal.returns-in_err-steps-clause-refused
 returns-in_err-steps-clause-refused g c =

@@ -3,4 +3,5 @@ use Rattle.replay.specs.Output.{sent_text}
 use Rattle.replay.proofs.output.push_sent.Given as goal
 
 abbrev pub invariant-loop-exchange : goal.invariant-loop-exchange
-invariant-loop-exchange l = string_bytes l.text ≡ string_bytes l.initial.text ++ sent_text (map (λ x. x.query) (take l.exchange-index l.exchanges))
+invariant-loop-exchange l = string_bytes l.text
+    ≡ string_bytes l.initial.text ++ sent_text (map (λ x. x.query) (take l.exchange-index l.exchanges))

@@ -16,7 +16,8 @@ returns-in-Ok-clause-goes g c =
     let A : Plan → Type 0 = λ p. c.in-Ok.again ≡ again_for p None c.args.name in
     let t_is : c.first.result ≡ first_type plan = c.first.ensures ∙ ap (λ p. first_type p) c.types-types.ensures in
     let next : next_type plan [] ≡ Some c.first.result = first_next plan ∙ ap (λ (t : RecordType). Some t) (sym t_is) in
-    goes_by_look_up s (first_value c.args.self.now c.args.name c.args.now) a c.args.name refl (subst A c.types-types.ensures c.in-Ok.ensures.ok) c.args.client.now.cache c.first.result next _ _ c.look_up.ensures.looks_up
+    goes_by_look_up s (first_value c.args.self.now c.args.name c.args.now) a c.args.name refl
+    (subst A c.types-types.ensures c.in-Ok.ensures.ok) c.args.client.now.cache c.first.result next _ _ c.look_up.ensures.looks_up
 
 pub returns-in-Err-clause-goes : goal.returns-in-Err-clause-goes
 returns-in-Err-clause-goes g c =
@@ -25,5 +26,7 @@ returns-in-Err-clause-goes g c =
     record {
       name = c.args.name;
       ready = tt;
-      goes = λ end after comes. refused s (first_value c.args.self.now c.args.name c.args.now) (first_type plan) (first_next plan) c.args.client.now.cache end after (comes.0 ∙ ap (λ e. CallIsDone (Err e)) c.in-Err.ensures.err, comes.1);
+      goes = λ end after comes. refused s (first_value c.args.self.now c.args.name c.args.now) (first_type plan)
+          (first_next plan) c.args.client.now.cache end after
+          (comes.0 ∙ ap (λ e. CallIsDone (Err e)) c.in-Err.ensures.err, comes.1);
     }

@@ -6,7 +6,8 @@ use Rattle.hickory_resolver.proofs.DrivenCalls.{IsDriven}
 use Rattle.hickory_resolver.proofs.lookup_future.LookupFuture.lookup.Given as goal
 
 abbrev pub invariant-loop-progress : goal.invariant-loop-progress
-invariant-loop-progress g l = IsDriven g.H.DnsHandle.step l.options [] l.now (name_plan l.fn.record_type) false (reverse l.fn.names.items) l.fn.client (call_progress_of l.progress) l.client
+invariant-loop-progress g l = IsDriven g.H.DnsHandle.step l.options [] l.now (name_plan l.fn.record_type) false
+    (reverse l.fn.names.items) l.fn.client (call_progress_of l.progress) l.client
 
 abbrev pub decreases-loop-progress : goal.decreases-loop-progress
 decreases-loop-progress g l = call_left (call_progress_of l.progress)

@@ -14,8 +14,11 @@ returns-in_err-attempts g c = call_unserved g.H.DnsHandle.step c.args.now c.args
 pub returns : goal.returns
 returns g c =
     let with_client : ResolverValue _ → ResolverValue _ = λ r. record r { client = c.lookup.new.client } in
-    let L : Option LookupValue → Type 0 = λ literal. LooksUp g.H.DnsHandle.step c.request_options-options.result c.self.inside.hosts c.args.now (address_plan c.ip_strategy-strategy.result literal) true (reverse c.reverse.new.self.items) c.self.inside.client c.lookup.result c.lookup.new.client in
-    call_addresses g.H.DnsHandle.step c.args.now c.args.self.now (option_map (λ literal. literal_at_last literal c.args.now) c.args.address) _
+    let L : Option LookupValue → Type 0 = λ literal. LooksUp g.H.DnsHandle.step c.request_options-options.result
+    c.self.inside.hosts c.args.now (address_plan c.ip_strategy-strategy.result literal) true
+    (reverse c.reverse.new.self.items) c.self.inside.client c.lookup.result c.lookup.new.client in
+    call_addresses g.H.DnsHandle.step c.args.now c.args.self.now
+    (option_map (λ literal. literal_at_last literal c.args.now) c.args.address) _
     c.args.name _ _ _ _ c.lookup.new.client c.lookup.result _
     c.ip_strategy-strategy.ensures
     c.request_options-options.ensures

@@ -11,4 +11,5 @@ returns-clause-ok g c = search rules
 pub returns-clause-keeps : goal.returns-clause-keeps
 returns-clause-keeps g c =
     subst (λ (r : ResolverValue _). KeepsWhatIsKnown r.client.cache c.clear_each.new.client.cache) c.self.view_is
-    (subst (λ (x : ClientValue _). KeepsWhatIsKnown c.self.inside.client.cache x.cache) (sym c.clear_each.ensures) (names_keep c.args.record_type c.in_ok-names.names.items c.self.inside.client.cache))
+    (subst (λ (x : ClientValue _). KeepsWhatIsKnown c.self.inside.client.cache x.cache) (sym c.clear_each.ensures)
+    (names_keep c.args.record_type c.in_ok-names.names.items c.self.inside.client.cache))

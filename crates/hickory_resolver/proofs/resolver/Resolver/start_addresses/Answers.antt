@@ -12,6 +12,10 @@ use Rattle.hickory_resolver.proofs.resolver.Resolver.start_addresses.Goals as go
 
 pub returns : goal.returns
 returns g c =
-    let S : LookupIpStrategy → Type 0 = λ strategy. StartsAt c.args.now (Attempt c.args.name (address_plan strategy (option_map (λ rdata. last_resort (data_of rdata) c.args.now) c.record_data.result))) c.args.self.now (call_progress_of c.start_call.result) c.start_call.new.self in
-    let L : Option LookupValue → Type 0 = λ literal. StartsAt c.args.now (Attempt c.args.name (address_plan (settings c.args.self.now).strategy literal)) c.args.self.now (call_progress_of c.start_call.result) c.start_call.new.self in
+    let S : LookupIpStrategy → Type 0 = λ strategy. StartsAt c.args.now
+    (Attempt c.args.name (address_plan strategy (option_map (λ rdata. last_resort (data_of rdata) c.args.now)
+    c.record_data.result))) c.args.self.now (call_progress_of c.start_call.result) c.start_call.new.self in
+    let L : Option LookupValue → Type 0 = λ literal. StartsAt c.args.now
+    (Attempt c.args.name (address_plan (settings c.args.self.now).strategy literal)) c.args.self.now
+    (call_progress_of c.start_call.result) c.start_call.new.self in
     subst L (c.record_data.ensures c.args.now) (subst S c.ip_strategy.ensures c.start_call.ensures)

@@ -8,4 +8,9 @@ pub returns-in-Ok : goal.returns-in-Ok
 returns-in-Ok g c = (Ok c.in-Ok.name, c.in-Ok.ensures, c.start_call.ensures)
 
 pub returns-in-Err : goal.returns-in-Err
-returns-in-Err g c = (Err c.in-Err.fault, c.in-Err.ensures, started_at_once c.args.self.now c.args.now (name_call c.args.record_type (Err c.in-Err.fault)) (Err (net_error_of c.in-Err.fault)) _ refl (inl (ap (λ e. Err e) c.from.ensures)))
+returns-in-Err g c = (
+  Err c.in-Err.fault,
+  c.in-Err.ensures,
+  started_at_once c.args.self.now c.args.now (name_call c.args.record_type (Err c.in-Err.fault))
+      (Err (net_error_of c.in-Err.fault)) _ refl (inl (ap (λ e. Err e) c.from.ensures)),
+)

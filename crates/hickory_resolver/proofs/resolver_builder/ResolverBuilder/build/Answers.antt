@@ -3,4 +3,5 @@ use Rattle.hickory_resolver.proofs.resolver_builder.ResolverBuilder.build.Goals 
 
 pub returns : goal.returns
 returns g c =
-    built_of c.args.self _ _ _ c.self.view_is c.in_ok-cache.cache c.in_ok-cache.ensures _ c.with_hasher-hosts.ensures _ c.new.ensures
+    built_of c.args.self _ _ _ c.self.view_is c.in_ok-cache.cache c.in_ok-cache.ensures _ c.with_hasher-hosts.ensures
+    _ c.new.ensures
