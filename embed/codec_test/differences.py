@@ -99,6 +99,11 @@ LDNS = [
         lambda case: case.kind == WE and case.fault == POINTER_NOT_BACK,
     ),
     Class(
+        "a pointer to the first octet",
+        "ldns refuses it. RFC 1035, section 4.1.4, counts from the first octet of the id, and forbids no place that is prior.",
+        lambda case: case.kind == THEY and "Invalid compression pointer" in case.words and b"\xc0\0" in case.facts.wire,
+    ),
+    Class(
         "no data",
         "ldns takes data of length 0 under any type.",
         lambda case: case.kind == WE
