@@ -112,8 +112,11 @@ LDNS = [
     ),
     Class(
         "a name past the data",
-        "ldns reads a name in data up to its end, also where that is past the length of the data.",
-        lambda case: case.kind == WE and case.fault == SHORT and case.facts.has_long_names(),
+        "ldns reads a name in data up to its end, also where that is past the length of the data, be it by a pointer to a label "
+        "that goes on past the pointer.",
+        lambda case: case.kind == WE
+        and case.fault == SHORT
+        and (case.facts.has_long_names() or case.facts.leads_past()),
     ),
     Class(
         "octets behind the data of a record",
