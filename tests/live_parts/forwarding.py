@@ -111,7 +111,7 @@ async def client(kind, seed, port, names):
     """What was wrong in the replies to one client, which asks for its part of the names in an order of its own."""
     part = [name for number, name in enumerate(names) if (number + seed) % (CLIENTS // ASKERS) == 0]
     order = random.Random(seed).sample(part, len(part))
-    queries = [dns.message.make_query(name, "A") for name in order]
+    queries = [dns.message.make_query(name, "A", id=number) for number, name in enumerate(order)]
     replies = await asyncio.wait_for(kind(port, queries), SECONDS * 6)
     return [fault for query, reply in zip(queries, replies) for fault in faults_of(query, reply, names)]
 
@@ -128,17 +128,18 @@ async def by_datagrams(port, queries):
 
 
 async def by_stream(port, queries):
-    """All queries at once, over one connection."""
+    """All queries at once, over one connection. Replies may come in any order (RFC 7766, section 7)."""
     reader, writer = await asyncio.open_connection(servers.ADDRESS, port)
     for query in queries:
         wire = query.to_wire()
         writer.write(struct.pack(">H", len(wire)) + wire)
-    replies = []
+    replies = {}
     for _ in queries:
         (length,) = struct.unpack(">H", await reader.readexactly(2))
-        replies.append(dns.message.from_wire(await reader.readexactly(length)))
+        reply = dns.message.from_wire(await reader.readexactly(length))
+        replies[reply.id] = reply
     writer.close()
-    return replies
+    return [replies[query.id] for query in queries]
 
 
 def faults_of(query, reply, names):

@@ -18,13 +18,13 @@ class NotInstalled(Exception):
     """A package is not there, and could not be installed."""
 
 
-def install():
-    lacking = [name for name, path in PACKAGES.items() if not os.path.exists(path)]
+def install(packages=PACKAGES):
+    lacking = [name for name, path in packages.items() if not os.path.exists(path)]
     if lacking and not apt_get("install", "--no-install-recommends", *lacking):
         apt_get("update")
         apt_get("install", "--no-install-recommends", *lacking)
     for name in lacking:
-        if not os.path.exists(PACKAGES[name]):
+        if not os.path.exists(packages[name]):
             raise NotInstalled(f"the package {name} could not be installed by apt-get")
 
 

@@ -1,6 +1,6 @@
-//! The call of the crate: replays to the byte, and what is refused.
+//! The calls of the crate: replays to the byte, look-ups, and what is refused.
 use std::{fs, path::Path};
-use yimarotu::{replay, Status};
+use yimarotu::{replay, rewrite, Failure, Found, Session, Status};
 
 #[test]
 fn replays_to_the_byte() {
@@ -25,4 +25,60 @@ fn replays_to_the_byte() {
 fn says_what_it_refuses() {
     assert_eq!(replay(b"at 0 clear\nat x clear\n", b""), Err(Status::Script(2)));
     assert_eq!(replay(b"at 0 clear\n", b"\xff\n"), Err(Status::Hosts));
+}
+
+/// A header of this first half, with so many questions and records in its first two sections; and the question.
+fn message(flags: u16, answers: u8, authorities: u8, records: &[u8]) -> Vec<u8> {
+    let flags = flags.to_be_bytes();
+    let header = [0, 0, flags[0], flags[1], 0, 1, 0, answers, 0, authorities, 0, 0];
+    [&header[..], b"\x03www\x07example\x03com\0\0\x01\0\x01", records].concat()
+}
+
+/// An address of the name that is asked, for so many seconds.
+fn address(ttl: u8) -> Vec<u8> {
+    [b"\xc0\x0c\0\x01\0\x01\0\0\0", &[ttl][..], b"\0\x04\xc0\0\x02\x01"].concat()
+}
+
+#[test]
+fn looks_up_and_keeps() {
+    let mut session = Session::open("", b"", 100).unwrap();
+    assert_eq!(session.start(7, "www.example.com.", 1, 100), Ok(true));
+    let question = session.question(7).unwrap();
+    // With OPT, which says that 1,232 octets can be taken (RFC 6891, section 6.1.2).
+    let mut wanted = message(0x0100, 0, 0, b"\0\0\x29\x04\xd0\0\0\0\0\0\0");
+    wanted[11] = 1;
+    assert_eq!((question.message, question.mixed), (wanted, false));
+    assert_eq!(session.answer(7, 512), Err(Status::Waits));
+    assert_eq!(session.feed(7, b"short"), Err(Status::Message(1)));
+    assert_eq!(session.feed(7, &message(0x8180, 1, 0, &address(60))), Ok(false));
+    let answer = session.answer(7, 512).unwrap();
+    assert_eq!((answer.found, answer.until, &answer.message[4..]), (Found::Records, 160, &message(0, 1, 0, &address(60))[4..]));
+    assert_eq!(session.start(8, "WWW.example.com.", 1, 130), Ok(false));
+    assert_eq!(session.answer(8, 512).unwrap().message[33..], address(30));
+    assert_eq!(session.start(8, "www.example.com.", 1, 130), Err(Status::InUse));
+    assert_eq!(session.question(8), Err(Status::Done));
+    assert_eq!(session.cancel(8), Ok(()));
+    assert_eq!(session.cancel(8), Err(Status::NoLookup));
+    assert_eq!(session.clear(), Ok(()));
+    assert_eq!(session.start(8, "www.example.com.", 1, 131), Ok(true));
+}
+
+#[test]
+fn goes_on_after_failures() {
+    let mut session = Session::open("option ip_strategy Ipv4Only\n", b"192.0.2.9 printer.\n", 0).unwrap();
+    assert_eq!(session.start_ip(1, "www.example.com.", 0), Ok(true));
+    assert_eq!(session.fail(1, Failure::Timeout), Ok(false));
+    assert_eq!(session.answer(1, 512).unwrap().found, Found::TimedOut);
+    assert_eq!(session.start_ip(2, "printer.", 0), Ok(false));
+    assert!(session.answer(2, 512).unwrap().message.ends_with(&[192, 0, 2, 9]));
+    assert_eq!(Session::open("option ndots x\n", b"", 0).err(), Some(Status::Script(1)));
+}
+
+#[test]
+fn writes_messages_again() {
+    let whole = message(0x8180, 1, 0, &address(60));
+    assert_eq!(rewrite(&whole, 512), Ok(whole.clone()));
+    assert_eq!(rewrite(&whole, 40), Ok(message(0x8380, 0, 0, b"")));
+    assert_eq!(rewrite(&whole[..40], 512), Err(Status::Message(1)));
+    assert_eq!(rewrite(&whole, 12), Err(Status::Unwritable(23)));
 }
