@@ -27,6 +27,7 @@ use Rattle.replay_script.specs.declared.setting.Setting.TheVariants as setting
 use Rattle.conversation.specs.Answers.{Answer, AnswersDone, AnswersFields, AnswersFirstLine, AnswersFor, AnswersLine, AnswersMarked, AnswersOutcome, AnswersRequest, AnswersSetting, AnswersVerb, AnswersWord, Begins, Feeds, FeedsReply, IsOpened, Serves, Takes, adds_hosts, cancels, ends, keeps, nothing, refused, sets, with_hosts, with_line}
 use Rattle.conversation.specs.Hearing.{Answers}
 use Rattle.conversation.specs.Journal.{moment_asked, moment_at, moment_behind}
+use Rattle.conversation.specs.Faults.{RefusalValue, of_line, refusal_of, unknown}
 use Rattle.conversation.specs.Lines.{IsAsked, IsScriptLine, mark_by, mark_in, mark_of, said_of, verb_named, word_named}
 use Rattle.conversation.specs.State.{ConversationValue, InFlightValue, Setting, Serving, Stage, request_at}
 use Rattle.conversation.specs.Texts.{fields_text}
@@ -77,18 +78,18 @@ pick P true x y p f g = f refl p
 pick P false x y p f g = g refl p
 
 module _ (c : ConversationValue) (mark : List ℕ) (moment : Option ℕ) (answer : Answer) where
-  refuses : (f : ConversationFault) → answer ≡ refused c mark f → Happens c mark moment answer
+  refuses : (f : RefusalValue) → answer ≡ refused c mark f → Happens c mark moment answer
   refuses f e = unchanged (ap (λ a. a.journal) e) (ap (λ a. a.stage) e) (ap (λ a. a.held) e)
 
   -- ---- settings
 
   hosts_by : (stage : Stage) (behind : List (List ℕ)) → c.stage ≡ stage → answer ≡ adds_hosts c mark stage behind → Happens c mark moment answer
   hosts_by (Setting configuration lines) behind at e = more_hosts configuration lines (with_hosts lines behind) at (ap (λ a. a.stage) e) (ap (λ a. a.journal) e) (ap (λ a. a.held) e)
-  hosts_by (Serving s cache) behind at e = refuses fault.SettingAfterRequest e
+  hosts_by (Serving s cache) behind at e = refuses (of_line fault.SettingAfterRequest) e
 
-  ends_by : (b : Bool) → answer ≡ cond b (record (nothing c mark) { is_last = true }) (refused c mark (fault.Script script.FieldCount)) → Happens c mark moment answer
+  ends_by : (b : Bool) → answer ≡ cond b (record (nothing c mark) { is_last = true }) (refused c mark (of_line (fault.Script script.FieldCount))) → Happens c mark moment answer
   ends_by true e = unchanged (ap (λ a. a.journal) e) (ap (λ a. a.stage) e) (ap (λ a. a.held) e)
-  ends_by false e = refuses (fault.Script script.FieldCount) e
+  ends_by false e = refuses (of_line (fault.Script script.FieldCount)) e
 
   -- what a line of a setting says
   setting_kind : (text : List ℕ) (behind : List (List ℕ)) (said : Line) → word_named text ≡ word.Setting → IsSaid false (text ∷ behind) (Ok said) → (one : OneSetting) × (said ≡ line.Configuration one) × IsNoMode one
@@ -119,41 +120,41 @@ module _ (c : ConversationValue) (mark : List ℕ) (moment : Option ℕ) (answer
       let P : Line → Type 0 = λ l. IsSaid false (text ∷ behind) (Ok l) in
       let made : answer ≡ sets c mark configuration lines (text ∷ behind) (Ok (line.Configuration kind.0)) = e ∙ ap (λ l. sets c mark configuration lines (text ∷ behind) (Ok l)) kind.1 in
       set configuration lines (text ∷ behind) kind.0 at own (subst P kind.1 is) kind.2 (ap (λ a. a.stage) made) (ap (λ a. a.journal) made) (ap (λ a. a.text) made) (ap (λ a. a.held) made)
-  set_by configuration lines text behind at named own (Err f) is e = refuses (fault.Script f.fault) e
+  set_by configuration lines text behind at named own (Err f) is e = refuses (refusal_of f) e
 
   setting_by : (stage : Stage) (text : List ℕ) (behind : List (List ℕ)) → c.stage ≡ stage → word_named text ≡ word.Setting → AreFields (text ∷ behind) → AnswersSetting c mark stage (text ∷ behind) answer → Happens c mark moment answer
   setting_by (Setting configuration lines) text behind at named own (said, (result, is, e), answer_is) =
       set_by configuration lines text behind at named own result is (answer_is ∙ ap (λ r. sets c mark configuration lines (text ∷ behind) r) e)
-  setting_by (Serving s cache) text behind at named own e = refuses fault.SettingAfterRequest e
+  setting_by (Serving s cache) text behind at named own e = refuses (of_line fault.SettingAfterRequest) e
 
   -- ---- requests
 
   begins_by : (given : List (List ℕ)) (q : RequestValue) → request_at mark c.requests ≡ None → AreFields given → IsAsked given (Ok q) → moment ≡ moment_at given → (over : Result (Settings × CacheValue) ConversationFault) → IsOpened c.stage (moment_of q) over
-      → MatchResult over (λ o. Serves mark q o.0 o.1 answer) (λ f. answer ≡ refused c mark f) → Happens c mark moment answer
+      → MatchResult over (λ o. Serves mark q o.0 o.1 answer) (λ f. answer ≡ refused c mark (of_line f)) → Happens c mark moment answer
   begins_by given q none own asked at (Ok o) is serves = begun given q o.0 o.1 none own asked at is serves
-  begins_by given q none own asked at (Err f) is e = refuses f e
+  begins_by given q none own asked at (Err f) is e = refuses (of_line f) e
 
-  asked_by : (given : List (List ℕ)) → request_at mark c.requests ≡ None → AreFields given → moment ≡ moment_at given → (asked : Result RequestValue ConversationFault) → IsAsked given asked → MatchResult asked (λ q. Begins c mark q answer) (λ f. answer ≡ refused c mark f) → Happens c mark moment answer
+  asked_by : (given : List (List ℕ)) → request_at mark c.requests ≡ None → AreFields given → moment ≡ moment_at given → (asked : Result RequestValue RefusalValue) → IsAsked given asked → MatchResult asked (λ q. Begins c mark q answer) (λ f. answer ≡ refused c mark f) → Happens c mark moment answer
   asked_by given none own at (Ok q) is (over, opens, serves) = begins_by given q none own is at over opens serves
   asked_by given none own at (Err f) is e = refuses f e
 
   request_by : (given : List (List ℕ)) → AreFields given → moment ≡ moment_at given → (o : Option InFlightValue) → request_at mark c.requests ≡ o
-      → MatchOption o ((asked : Result RequestValue ConversationFault) × IsAsked given asked × MatchResult asked (λ q. Begins c mark q answer) (λ f. answer ≡ refused c mark f)) (λ r. answer ≡ refused c mark fault.MarkInUse)
+      → MatchOption o ((asked : Result RequestValue RefusalValue) × IsAsked given asked × MatchResult asked (λ q. Begins c mark q answer) (λ f. answer ≡ refused c mark f)) (λ r. answer ≡ refused c mark (of_line fault.MarkInUse))
       → Happens c mark moment answer
   request_by given own at None none (asked, is, rest) = asked_by given none own at asked is rest
-  request_by given own at (Some r) some e = refuses fault.MarkInUse e
+  request_by given own at (Some r) some e = refuses (of_line fault.MarkInUse) e
 
   -- ---- outcomes
 
-  cancels_by : (r : InFlightValue) (b : Bool) → request_at mark c.requests ≡ Some r → answer ≡ cond b (cancels c mark []) (refused c mark (fault.Script script.FieldCount)) → Happens c mark moment answer
+  cancels_by : (r : InFlightValue) (b : Bool) → request_at mark c.requests ≡ Some r → answer ≡ cond b (cancels c mark []) (refused c mark (of_line (fault.Script script.FieldCount))) → Happens c mark moment answer
   cancels_by r true at e = cancelled r at (ap (λ a. a.journal) e) (ap (λ a. a.held) e)
-  cancels_by r false at e = refuses (fault.Script script.FieldCount) e
+  cancels_by r false at e = refuses (of_line (fault.Script script.FieldCount)) e
 
   done_by : (r : InFlightValue) (behind : List (List ℕ)) (b d : Bool) → request_at mark c.requests ≡ Some r
-      → MatchBool b (MatchBool d (FeedsReply mark c.stage r answer) (answer ≡ refused c mark (fault.Script script.FieldCount))) (answer ≡ refused c mark (fault.Script script.NoReply)) → Happens c mark moment answer
+      → MatchBool b (MatchBool d (FeedsReply mark c.stage r answer) (answer ≡ refused c mark (of_line (fault.Script script.FieldCount)))) (answer ≡ refused c mark (of_line (fault.Script script.NoReply))) → Happens c mark moment answer
   done_by r behind true true at (reply, is_open, feeds) = done r reply at is_open feeds
-  done_by r behind true false at e = refuses (fault.Script script.FieldCount) e
-  done_by r behind false d at e = refuses (fault.Script script.NoReply) e
+  done_by r behind true false at e = refuses (of_line (fault.Script script.FieldCount)) e
+  done_by r behind false d at e = refuses (of_line (fault.Script script.NoReply)) e
 
   none_open : (o : Option OpenReply) → is_some o ≡ false → o ≡ None
   none_open None e = refl
@@ -163,14 +164,14 @@ module _ (c : ConversationValue) (mark : List ℕ) (moment : Option ℕ) (answer
   some_open None e = absurd (let h = e in cc)
   some_open (Some x) e = (x, refl)
 
-  first_by : (r : InFlightValue) (given : List (List ℕ)) → (AnswersLine c mark r given answer → is_some r.reply ≡ false → Happens c mark moment answer) → (b : Bool) → is_some r.reply ≡ b → MatchBool b (answer ≡ refused c mark fault.ReplyNotDone) (AnswersLine c mark r given answer) → Happens c mark moment answer
-  first_by r given go true is_open e = refuses fault.ReplyNotDone e
+  first_by : (r : InFlightValue) (given : List (List ℕ)) → (AnswersLine c mark r given answer → is_some r.reply ≡ false → Happens c mark moment answer) → (b : Bool) → is_some r.reply ≡ b → MatchBool b (answer ≡ refused c mark (of_line fault.ReplyNotDone)) (AnswersLine c mark r given answer) → Happens c mark moment answer
+  first_by r given go true is_open e = refuses (of_line fault.ReplyNotDone) e
   first_by r given go false none is = go is none
 
   line_by : (r : InFlightValue) (given : List (List ℕ)) (result : Result Line LineFaultValue) → ((said : Line) → IsSaid (is_some r.reply) given (Ok said) → Takes c mark r given (Ok said) answer → Happens c mark moment answer)
       → IsSaid (is_some r.reply) given result → Takes c mark r given (said_of result) answer → Happens c mark moment answer
   line_by r given (Ok said) go is takes = go said is takes
-  line_by r given (Err f) go is e = refuses (fault.Script f.fault) e
+  line_by r given (Err f) go is e = refuses (refusal_of f) e
 
   a_line : (r : InFlightValue) (given : List (List ℕ)) → ((said : Line) → IsSaid (is_some r.reply) given (Ok said) → Takes c mark r given (Ok said) answer → Happens c mark moment answer) → AnswersLine c mark r given answer → Happens c mark moment answer
   a_line r given go (said, (result, is, e), takes) = line_by r given result go is (subst (λ x. Takes c mark r given x answer) e takes)
@@ -214,8 +215,8 @@ module _ (c : ConversationValue) (mark : List ℕ) (moment : Option ℕ) (answer
   by_line D w behind r h go = subst (λ x. AreFields (x ∷ behind) → AnswersLine c mark r (x ∷ behind) answer → Happens c mark moment answer) (sym (word-is D w h)) go
 
   flight_by : (v : Verb) (w : List ℕ) (behind : List (List ℕ)) → ((r : InFlightValue) → request_at mark c.requests ≡ Some r → AnswersFor c mark r v behind (w ∷ behind) answer → Happens c mark moment answer)
-      → (o : Option InFlightValue) → request_at mark c.requests ≡ o → MatchOption o (answer ≡ refused c mark fault.NoSuchRequest) (λ r. AnswersFor c mark r v behind (w ∷ behind) answer) → Happens c mark moment answer
-  flight_by v w behind go None at e = refuses fault.NoSuchRequest e
+      → (o : Option InFlightValue) → request_at mark c.requests ≡ o → MatchOption o (answer ≡ refused c mark (of_line fault.NoSuchRequest)) (λ r. AnswersFor c mark r v behind (w ∷ behind) answer) → Happens c mark moment answer
+  flight_by v w behind go None at e = refuses (of_line fault.NoSuchRequest) e
   flight_by v w behind go (Some r) at is = go r at is
 
   verb_by : (w : List ℕ) (behind : List (List ℕ)) → AreFields (w ∷ behind) → (is_text (codes "explain") w ≡ true → moment ≡ moment_at behind) → (is_text (codes "explain") w ≡ false → moment ≡ moment_at (w ∷ behind)) → AnswersVerb c mark (verb_named w) behind (w ∷ behind) answer → Happens c mark moment answer
@@ -229,7 +230,7 @@ module _ (c : ConversationValue) (mark : List ℕ) (moment : Option ℕ) (answer
       pick P (is_text (codes "additional") w) (Some verb.Record) _ is (λ h a. flight verb.Record (λ r at x. by_line (codes "additional") w behind r h (additional_by r behind at) own x) a) (λ h5 is.
       pick P (is_text (codes "done") w) (Some verb.Done) _ is (λ h a. flight verb.Done (λ r at x. done_by r behind (is_some r.reply) (is_empty behind) at x) a) (λ h6 is.
       pick P (is_text (codes "fail") w) (Some verb.Fail) _ is (λ h a. flight verb.Fail (λ r at x. by_first (codes "fail") w behind r h (fail_by r behind at) own x) a) (λ h7 is.
-      pick P (is_text (codes "cancel") w) (Some verb.Cancel) None is (λ h a. flight verb.Cancel (λ r at x. cancels_by r (is_empty behind) at x) a) (λ h8 e. refuses (fault.Script script.UnknownDirective) e)))))))))
+      pick P (is_text (codes "cancel") w) (Some verb.Cancel) None is (λ h a. flight verb.Cancel (λ r at x. cancels_by r (is_empty behind) at x) a) (λ h8 e. refuses (unknown (w ∷ behind)) e)))))))))
     where
       flight : (v : Verb) → ((r : InFlightValue) → request_at mark c.requests ≡ Some r → AnswersFor c mark r v behind (w ∷ behind) answer → Happens c mark moment answer) → AnswersOutcome c mark v behind (w ∷ behind) answer → Happens c mark moment answer
       flight v go a = flight_by v w behind go (request_at mark c.requests) refl a
@@ -237,7 +238,7 @@ module _ (c : ConversationValue) (mark : List ℕ) (moment : Option ℕ) (answer
   -- ---- words
 
   marked_by : (behind : List (List ℕ)) → AreFields behind → moment ≡ moment_behind behind → AnswersMarked c mark behind answer → Happens c mark moment answer
-  marked_by [] own at e = refuses (fault.Script script.UnknownDirective) e
+  marked_by [] own at e = refuses (unknown []) e
   marked_by (w ∷ behind) own at is =
       let pick_at : (b : Bool) → Option ℕ = λ b. cond b (moment_at behind) (moment_at (w ∷ behind)) in
       verb_by w behind own (λ h. at ∙ ap pick_at h) (λ h. at ∙ ap pick_at h) is
@@ -251,7 +252,7 @@ word_by c t answer w behind mark_is own is = subst (λ m. Happens c m (moment_be
     by word.End e is = subst (λ x. Happens c (mark_by x w) (moment_behind behind) answer) (sym e) (ends_by c (codes "-") (moment_behind behind) answer (is_empty behind) is)
     by word.Hosts e is = subst (λ x. Happens c (mark_by x w) (moment_behind behind) answer) (sym e) (hosts_by c (codes "-") (moment_behind behind) answer c.stage behind refl is)
     by word.Setting e is = subst (λ x. Happens c (mark_by x w) (moment_behind behind) answer) (sym e) (setting_by c (codes "-") (moment_behind behind) answer c.stage w behind refl e own is)
-    by word.Unused e is = subst (λ x. Happens c (mark_by x w) (moment_behind behind) answer) (sym e) (refuses c (codes "-") (moment_behind behind) answer (fault.Script script.UnknownDirective) is)
+    by word.Unused e is = subst (λ x. Happens c (mark_by x w) (moment_behind behind) answer) (sym e) (refuses c (codes "-") (moment_behind behind) answer (unknown (w ∷ behind)) is)
     by word.Mark e is = subst (λ x. Happens c (mark_by x w) (moment_behind behind) answer) (sym e) (marked_by c w (moment_behind behind) answer behind own.1 refl is)
 
 nothing_heard : (c : ConversationValue) (mark : List ℕ) (moment : Option ℕ) (answer : Answer) → answer ≡ nothing c mark → Happens c mark moment answer
@@ -265,10 +266,10 @@ fields_by c t answer (w ∷ behind) mark_is own is = word_by c t answer w behind
 pub happens : (c : ConversationValue) (t : List ℕ) (answer : Answer) → Answers c t answer → Happens c (mark_of t) (moment_asked (fields t)) answer
 happens c t answer is = skipped (is_skipped t) refl is
   where
-    allowed : (b : Bool) → list_all is_allowed t ≡ b → is_skipped t ≡ false → MatchBool b (AnswersFields c (fields t) answer) (answer ≡ refused c (codes "-") (fault.Script script.BadByte)) → Happens c (mark_of t) (moment_asked (fields t)) answer
+    allowed : (b : Bool) → list_all is_allowed t ≡ b → is_skipped t ≡ false → MatchBool b (AnswersFields c (fields t) answer) (answer ≡ refused c (codes "-") (of_line (fault.Script script.BadByte))) → Happens c (mark_of t) (moment_asked (fields t)) answer
     allowed true e h is = fields_by c t answer (fields t) (rw (h, e) refl) (fields-are t e) is
-    allowed false e h is = subst (λ m. Happens c m (moment_asked (fields t)) answer) (sym (rw (h, e) refl)) (refuses c (codes "-") (moment_asked (fields t)) answer (fault.Script script.BadByte) is)
+    allowed false e h is = subst (λ m. Happens c m (moment_asked (fields t)) answer) (sym (rw (h, e) refl)) (refuses c (codes "-") (moment_asked (fields t)) answer (of_line (fault.Script script.BadByte)) is)
 
-    skipped : (b : Bool) → is_skipped t ≡ b → MatchBool b (answer ≡ nothing c (codes "-")) (MatchBool (list_all is_allowed t) (AnswersFields c (fields t) answer) (answer ≡ refused c (codes "-") (fault.Script script.BadByte))) → Happens c (mark_of t) (moment_asked (fields t)) answer
+    skipped : (b : Bool) → is_skipped t ≡ b → MatchBool b (answer ≡ nothing c (codes "-")) (MatchBool (list_all is_allowed t) (AnswersFields c (fields t) answer) (answer ≡ refused c (codes "-") (of_line (fault.Script script.BadByte)))) → Happens c (mark_of t) (moment_asked (fields t)) answer
     skipped true h is = subst (λ m. Happens c m (moment_asked (fields t)) answer) (sym (rw h refl)) (nothing_heard c (codes "-") (moment_asked (fields t)) answer is)
     skipped false h is = allowed (list_all is_allowed t) refl h is

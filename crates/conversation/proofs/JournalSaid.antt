@@ -34,12 +34,11 @@ use Rattle.hickory_proto_core.specs.codes.record_type.RecordType.TheVariants as 
 use Rattle.hickory_resolver_lookup.specs.declared.request.Request.TheVariants as asked
 use Rattle.replay_script.specs.Words.{number_field}
 use Rattle.replay_script.proofs.Allowed.{allowed_text}
-use Rattle.conversation.specs.declared.fault.ConversationFault.{ConversationFault}
-use Rattle.conversation.specs.declared.fault.ConversationFault.TheVariants as conversation
 use Rattle.conversation.proofs.JournalReverse.{IsNameField, reverse-field}
 use Rattle.std.specs.Result.{result_ok}
 use Rattle.hickory_resolver_model.specs.Run.{moment_of}
 use Rattle.conversation.specs.Journal.{moment_at}
+use Rattle.conversation.specs.Faults.{RefusalValue, refusal_of}
 use Rattle.conversation.specs.Lines.{IsAsked, IsPointer, IsReverse, IsScriptRequest, is_reverse, pointer_of, request_in, said_of}
 use Rattle.conversation.proofs.JournalTexts.{AreFields, IsField, line_of, line-read, whole_lines}
 use Rattle.conversation.proofs.JournalRequests.{IsMoment, IsWritable, asked-again, asked-fields, asked_fields, number-below, typed-PTR, writable}
@@ -135,7 +134,7 @@ scripted (w ∷ rest) q r own is same =
     let k = writable rest (request_of r) own.1 a.1 in
     subst (λ x. IsAskedIn (w ∷ rest) x) (sym same) (record { asked = r; asked_is = refl; writable = k.0; moment_is = moment_found w rest (moment_of (request_of r)) a.0 k.1 })
 
-request_said : (given : List (List ℕ)) (q : RequestValue) (result : Result Line LineFaultValue) → AreFields given → IsSaid false given result → Ok q ≡ request_in (said_of result) → IsAskedIn given q
+request_said : (given : List (List ℕ)) (q : RequestValue) (result : Result Line LineFaultValue) → AreFields given → IsSaid false given result → Ok q ≡ request_in given (said_of result) → IsAskedIn given q
 request_said given q (Ok (line.Request r)) own is e = scripted given q r own is (let same : q ≡ request_of r = cc in same)
 request_said given q (Ok line.Blank) own is e = absurd (let h = e in cc)
 request_said given q (Ok (line.Reply head)) own is e = absurd (let h = e in cc)
@@ -145,16 +144,16 @@ request_said given q (Ok (line.Configuration setting)) own is e = absurd (let h 
 request_said given q (Err f) own is e = absurd (let h = e in cc)
 
 script_request : (given : List (List ℕ)) (q : RequestValue) → AreFields given → IsScriptRequest given (Ok q) → IsAskedIn given q
-script_request given q own (said, (result, is, e), asks) = request_said given q result own is (asks ∙ ap request_in e)
+script_request given q own (said, (result, is, e), asks) = request_said given q result own is (asks ∙ ap (λ r. request_in given r) e)
 
-abbrev asks_it : RequestValue → Result RequestValue ConversationFault
+abbrev asks_it : RequestValue → Result RequestValue RefusalValue
 asks_it q = Ok q
 
 -- a look-up of the name of an address
 pointer_asked : (t : List ℕ) (now : ℕ) → IsNameField t → Request
 pointer_asked t now own = let heap : Global = handle in asked.Lookup (spelled heap t ∣ allowed_text t own.field.allowed ∣₁ own.short) type.PTR now
 
-pointed : (at moment verb : List ℕ) (behind : List (List ℕ)) (q : RequestValue) (now : ℕ) (address : List ℕ) (found : Option IpAddr) → at ≡ codes "at" → number_field 64 moment ≡ Ok now → IsReadAddress address found → Ok q ≡ pointer_of now found → IsAskedIn (at ∷ moment ∷ verb ∷ behind) q
+pointed : (at moment verb : List ℕ) (behind : List (List ℕ)) (q : RequestValue) (now : ℕ) (address : List ℕ) (found : Option IpAddr) → at ≡ codes "at" → number_field 64 moment ≡ Ok now → IsReadAddress address found → Ok q ≡ pointer_of now address found → IsAskedIn (at ∷ moment ∷ verb ∷ behind) q
 unfolding pointer_asked
 pointed at moment verb behind q now address None word e is same = absurd (let h = same in cc)
 pointed at moment verb behind q now address (Some a) word e is same =
@@ -176,7 +175,7 @@ reversed at moment verb behind q word is = by (number_field 64 moment) refl is
     given now e (address ∷ []) (found, read, same) = pointed at moment verb behind q now address found (word-is (codes "at") at word) e read same
     given now e (address ∷ x ∷ xs) refused = absurd (let h = refused in cc)
 
-    by : (r : Result ℕ LineFaultValue) → number_field 64 moment ≡ r → MatchResult r (λ now. IsPointer now behind (Ok q)) (λ f. asks_it q ≡ Err (conversation.Script f.fault)) → IsAskedIn (at ∷ moment ∷ verb ∷ behind) q
+    by : (r : Result ℕ LineFaultValue) → number_field 64 moment ≡ r → MatchResult r (λ now. IsPointer now behind (Ok q)) (λ f. asks_it q ≡ Err (refusal_of f)) → IsAskedIn (at ∷ moment ∷ verb ∷ behind) q
     by (Ok now) e pointer = given now e behind pointer
     by (Err f) e refused = absurd (let h = refused in cc)
 

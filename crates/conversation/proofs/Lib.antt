@@ -1,3 +1,7 @@
+pub mod Held
+pub mod Answered
+pub mod Told
+pub mod Asked
 pub mod JournalTexts
 pub mod JournalRequests
 pub mod JournalReverse

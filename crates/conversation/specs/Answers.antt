@@ -31,7 +31,7 @@ use Rattle.replay_script.specs.declared.line.Line.{Line}
 use Rattle.replay_script.specs.declared.line.Line.TheVariants as line
 use Rattle.replay_script.specs.declared.reply_line.ReplyHead.{ReplyHead}
 use Rattle.replay_script.specs.declared.script.OpenReply.{OpenReply}
-use Rattle.conversation.specs.Faults.{hosts_fault}
+use Rattle.conversation.specs.Faults.{RefusalValue, hosts_fault, of_line, unknown}
 use Rattle.conversation.specs.Lines.{IsAsked, IsScriptLine, mark_or_none, verb_named, word_named}
 use Rattle.conversation.specs.State.{BegunValue, ConversationValue, InFlightValue, Setting, Serving, Stage, request_at}
 use Rattle.conversation.specs.Texts.{cancelled_text, clear_text, fault_text, fields_text, looked_up_text, send_text}
@@ -62,8 +62,8 @@ nothing c mark = record {
 }
 
 -- a fault is told, and changes nothing
-abbrev pub refused : ConversationValue → List ℕ → ConversationFault → Answer
-refused c mark f = record (nothing c mark) { text = fault_text mark c.lines f }
+abbrev pub refused : ConversationValue → List ℕ → RefusalValue → Answer
+refused c mark refusal = record (nothing c mark) { text = fault_text mark c.lines refusal }
 
 -- ---- settings
 
@@ -74,29 +74,29 @@ with_hosts hosts given = hosts ++ codes "\n" ++ fields_text given
 abbrev pub adds_hosts : ConversationValue → List ℕ → Stage → List (List ℕ) → Answer
 adds_hosts c mark (Setting configuration hosts) given =
     record (nothing c mark) { stage = Setting configuration (with_hosts hosts given) }
-adds_hosts c mark (Serving s cache) given = refused c mark fault.SettingAfterRequest
+adds_hosts c mark (Serving s cache) given = refused c mark (of_line fault.SettingAfterRequest)
 
 -- a setting is kept, and the journal has its line
 abbrev pub sets : ConversationValue → List ℕ → ConfigurationValue → List ℕ → List (List ℕ)
-    → Result Line ConversationFault → Answer
+    → Result Line RefusalValue → Answer
 sets c mark configuration hosts given (Ok (line.Configuration setting)) = record (nothing c mark) {
   journal = fields_text given;
   stage = Setting (with_setting setting configuration) hosts;
 }
-sets c mark configuration hosts given (Err f) = refused c mark f
-sets c mark configuration hosts given (Ok other) = refused c mark (fault.Script script.UnknownDirective)
+sets c mark configuration hosts given (Err refusal) = refused c mark refusal
+sets c mark configuration hosts given (Ok other) = refused c mark (unknown given)
 
 abbrev pub AnswersSetting : ConversationValue → List ℕ → Stage → List (List ℕ) → Answer → Type 0
 AnswersSetting c mark (Setting configuration hosts) given answer =
-    (said : Result Line ConversationFault) × IsScriptLine false given said
+    (said : Result Line RefusalValue) × IsScriptLine false given said
     × (answer ≡ sets c mark configuration hosts given said)
-AnswersSetting c mark (Serving s cache) given answer = answer ≡ refused c mark fault.SettingAfterRequest
+AnswersSetting c mark (Serving s cache) given answer = answer ≡ refused c mark (of_line fault.SettingAfterRequest)
 
 -- `end`
 abbrev pub ends : ConversationValue → List ℕ → List (List ℕ) → Answer
 ends c mark behind =
     if is_empty behind then record (nothing c mark) { is_last = true }
-    else refused c mark (fault.Script script.FieldCount)
+    else refused c mark (of_line (fault.Script script.FieldCount))
 
 -- ---- the first request
 
@@ -194,15 +194,15 @@ Serves mark request s cache answer =
 abbrev pub Begins : ConversationValue → List ℕ → RequestValue → Answer → Type 0
 Begins c mark request answer =
     (opened : Result (Settings × CacheValue) ConversationFault) × IsOpened c.stage (moment_of request) opened
-    × MatchResult opened (λ over. Serves mark request over.0 over.1 answer) (λ f. answer ≡ refused c mark f)
+    × MatchResult opened (λ over. Serves mark request over.0 over.1 answer) (λ f. answer ≡ refused c mark (of_line f))
 
 -- a mark that is in use is refused; else the request is read
 abbrev pub AnswersRequest : ConversationValue → List ℕ → List (List ℕ) → Answer → Type 0
 AnswersRequest c mark given answer =
     MatchOption (request_at mark c.requests)
-    ((asked : Result RequestValue ConversationFault) × IsAsked given asked
-    × MatchResult asked (λ request. Begins c mark request answer) (λ f. answer ≡ refused c mark f))
-    (λ r. answer ≡ refused c mark fault.MarkInUse)
+    ((asked : Result RequestValue RefusalValue) × IsAsked given asked
+    × MatchResult asked (λ request. Begins c mark request answer) (λ refusal. answer ≡ refused c mark refusal))
+    (λ r. answer ≡ refused c mark (of_line fault.MarkInUse))
 
 -- ---- outcomes
 
@@ -227,21 +227,21 @@ abbrev pub AnswersDone : ConversationValue → List ℕ → InFlightValue → Li
 AnswersDone c mark r behind answer =
     MatchBool (is_some r.reply)
     (MatchBool (is_empty behind) (FeedsReply mark c.stage r answer)
-    (answer ≡ refused c mark (fault.Script script.FieldCount)))
-    (answer ≡ refused c mark (fault.Script script.NoReply))
+    (answer ≡ refused c mark (of_line (fault.Script script.FieldCount))))
+    (answer ≡ refused c mark (of_line (fault.Script script.NoReply)))
 
 -- the request is forgotten
 abbrev pub cancels : ConversationValue → List ℕ → List (List ℕ) → Answer
 cancels c mark behind =
     if is_empty behind then record (nothing c mark) { text = cancelled_text mark; held = None }
-    else refused c mark (fault.Script script.FieldCount)
+    else refused c mark (of_line (fault.Script script.FieldCount))
 
 -- a request is kept, and nothing is said
 abbrev pub keeps : ConversationValue → List ℕ → InFlightValue → Answer
 keeps c mark r = record (nothing c mark) { held = Some r }
 
 -- a reply is opened, gets one more record, or the question fails
-abbrev pub Takes : ConversationValue → List ℕ → InFlightValue → List (List ℕ) → Result Line ConversationFault → Answer
+abbrev pub Takes : ConversationValue → List ℕ → InFlightValue → List (List ℕ) → Result Line RefusalValue → Answer
     → Type 0
 Takes c mark r given (Ok (line.Reply head)) answer =
     answer ≡ keeps c mark (record {
@@ -257,18 +257,18 @@ Takes c mark r given (Ok (line.Record section found)) answer =
     })
 Takes c mark r given (Ok (line.Fail failure)) answer =
     Feeds mark c.stage (with_line r.begun given) r.waiting (Err (error_of failure.kind)) answer
-Takes c mark r given (Ok other) answer = answer ≡ refused c mark (fault.Script script.UnknownDirective)
-Takes c mark r given (Err f) answer = answer ≡ refused c mark f
+Takes c mark r given (Ok other) answer = answer ≡ refused c mark (unknown given)
+Takes c mark r given (Err refusal) answer = answer ≡ refused c mark refusal
 
 abbrev pub AnswersLine : ConversationValue → List ℕ → InFlightValue → List (List ℕ) → Answer → Type 0
 AnswersLine c mark r given answer =
-    (said : Result Line ConversationFault) × IsScriptLine (is_some r.reply) given said
+    (said : Result Line RefusalValue) × IsScriptLine (is_some r.reply) given said
     × Takes c mark r given said answer
 
 -- an outcome can begin only where no reply is open
 abbrev pub AnswersFirstLine : ConversationValue → List ℕ → InFlightValue → List (List ℕ) → Answer → Type 0
 AnswersFirstLine c mark r given answer =
-    MatchBool (is_some r.reply) (answer ≡ refused c mark fault.ReplyNotDone) (AnswersLine c mark r given answer)
+    MatchBool (is_some r.reply) (answer ≡ refused c mark (of_line fault.ReplyNotDone)) (AnswersLine c mark r given answer)
 
 -- ---- lines with a mark
 
@@ -285,17 +285,17 @@ AnswersFor c mark r verb.Explain behind given answer = ⊥
 
 abbrev pub AnswersOutcome : ConversationValue → List ℕ → Verb → List (List ℕ) → List (List ℕ) → Answer → Type 0
 AnswersOutcome c mark v behind given answer =
-    MatchOption (request_at mark c.requests) (answer ≡ refused c mark fault.NoSuchRequest)
+    MatchOption (request_at mark c.requests) (answer ≡ refused c mark (of_line fault.NoSuchRequest))
     (λ r. AnswersFor c mark r v behind given answer)
 
 abbrev pub AnswersVerb : ConversationValue → List ℕ → Option Verb → List (List ℕ) → List (List ℕ) → Answer → Type 0
-AnswersVerb c mark None behind given answer = answer ≡ refused c mark (fault.Script script.UnknownDirective)
+AnswersVerb c mark None behind given answer = answer ≡ refused c mark (unknown given)
 AnswersVerb c mark (Some verb.At) behind given answer = AnswersRequest c mark given answer
 AnswersVerb c mark (Some verb.Explain) behind given answer = AnswersRequest c mark behind answer
 AnswersVerb c mark (Some v) behind given answer = AnswersOutcome c mark v behind given answer
 
 abbrev pub AnswersMarked : ConversationValue → List ℕ → List (List ℕ) → Answer → Type 0
-AnswersMarked c mark [] answer = answer ≡ refused c mark (fault.Script script.UnknownDirective)
+AnswersMarked c mark [] answer = answer ≡ refused c mark (unknown [])
 AnswersMarked c mark (text ∷ behind) answer =
     AnswersVerb c mark (verb_named text) behind (text ∷ behind) answer
 
@@ -305,7 +305,7 @@ abbrev pub AnswersWord : ConversationValue → List ℕ → Word → List (List 
 AnswersWord c mark word.End behind given answer = answer ≡ ends c mark behind
 AnswersWord c mark word.Hosts behind given answer = answer ≡ adds_hosts c mark c.stage behind
 AnswersWord c mark word.Setting behind given answer = AnswersSetting c mark c.stage given answer
-AnswersWord c mark word.Unused behind given answer = answer ≡ refused c mark (fault.Script script.UnknownDirective)
+AnswersWord c mark word.Unused behind given answer = answer ≡ refused c mark (unknown given)
 AnswersWord c mark word.Mark behind given answer = AnswersMarked c mark behind answer
 
 abbrev pub AnswersFields : ConversationValue → List (List ℕ) → Answer → Type 0

@@ -1,7 +1,8 @@
 -- The codes of faults, with their words.
-use Rattle.std.specs.Prelude.{ℕ, Bool, true, false, List, codes}
+use Rattle.std.specs.Prelude.{ℕ, Bool, true, false, List, [], ◌∷◌, codes, Option, None, Some}
 use Rattle.hickory_resolver.specs.hosts.hosts_error.HostsError.{HostsError}
 use Rattle.hickory_resolver.specs.hosts.hosts_error.HostsError.TheVariants as hosts
+use Rattle.replay_script.specs.Faults.{LineFaultValue}
 use Rattle.replay_script.specs.declared.fault.ScriptFault.{ScriptFault}
 use Rattle.replay_script.specs.declared.fault.ScriptFault.TheVariants as script
 use Rattle.conversation.specs.declared.fault.ConversationFault.{ConversationFault}
@@ -44,3 +45,24 @@ hosts_fault other = fault.HostsNotUtf8
 abbrev pub is_memory : ConversationFault → Bool
 is_memory (fault.Script script.OutOfMemory) = true
 is_memory other = false
+
+-- why a line is refused, and the field that it is refused for, where it is one
+pub record RefusalValue : Type 0 where
+  pub fault : ConversationFault
+  pub field : Option (List ℕ)
+
+-- for no single field
+abbrev pub of_line : ConversationFault → RefusalValue
+of_line f = record { fault = f; field = None }
+
+abbrev pub of_field : ConversationFault → List ℕ → RefusalValue
+of_field f text = record { fault = f; field = Some text }
+
+-- no directive stands at the front of these fields
+abbrev pub unknown : List (List ℕ) → RefusalValue
+unknown [] = of_line (fault.Script script.UnknownDirective)
+unknown (text ∷ behind) = of_field (fault.Script script.UnknownDirective) text
+
+-- the fault of a line of a script
+abbrev pub refusal_of : LineFaultValue → RefusalValue
+refusal_of f = record { fault = fault.Script f.fault; field = f.field }

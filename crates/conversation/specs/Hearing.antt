@@ -10,10 +10,10 @@ use Rattle.replay_script.specs.Fields.{fields, is_skipped, is_allowed}
 use Rattle.replay_script.specs.Configuration.{configured}
 use Rattle.replay_script.specs.declared.fault.ScriptFault.TheVariants as script
 use Rattle.conversation.specs.Answers.{Answer, AnswersFields, Came, ComesTo, IsOpened, nothing, refused}
+use Rattle.conversation.specs.Faults.{of_line}
 use Rattle.conversation.specs.Lines.{mark_of}
 use Rattle.conversation.specs.State.{ConversationValue, InFlightValue, Puts, Setting, Serving, Stage, counted, request_at}
 use Rattle.conversation.specs.declared.heard.Heard.{Heard}
-use Rattle.conversation.specs.declared.fault.ConversationFault.{ConversationFault}
 use Rattle.conversation.specs.declared.fault.ConversationFault.TheVariants as fault
 
 -- what a line is answered in a conversation that counted it
@@ -21,7 +21,7 @@ abbrev pub Answers : ConversationValue → List ℕ → Answer → Type 0
 Answers c text answer =
     MatchBool (is_skipped text) (answer ≡ nothing c (codes "-"))
     (MatchBool (list_all is_allowed text) (AnswersFields c (fields text) answer)
-    (answer ≡ refused c (codes "-") (fault.Script script.BadByte)))
+    (answer ≡ refused c (codes "-") (of_line (fault.Script script.BadByte))))
 
 -- the answer is said
 pub record Says (answer : Answer) (heard : Heard) : Type 0 where

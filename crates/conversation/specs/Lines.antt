@@ -14,10 +14,10 @@ use Rattle.replay_script.specs.Fields.{fields, is_skipped, is_allowed}
 use Rattle.replay_script.specs.Line.{IsSaid}
 use Rattle.replay_script.specs.Words.{number_field}
 use Rattle.replay_script.specs.Faults.{LineFaultValue}
-use Rattle.replay_script.specs.declared.fault.ScriptFault.TheVariants.{BadAddress, FieldCount, UnknownDirective}
+use Rattle.replay_script.specs.declared.fault.ScriptFault.TheVariants.{BadAddress, FieldCount}
 use Rattle.replay_script.specs.declared.line.Line.{Line}
 use Rattle.replay_script.specs.declared.line.Line.TheVariants as line
-use Rattle.conversation.specs.declared.fault.ConversationFault.{ConversationFault}
+use Rattle.conversation.specs.Faults.{RefusalValue, of_field, of_line, refusal_of, unknown}
 use Rattle.conversation.specs.declared.fault.ConversationFault.TheVariants as fault
 use Rattle.conversation.specs.declared.reading.Word.{Word}
 use Rattle.conversation.specs.declared.reading.Word.TheVariants as word
@@ -75,43 +75,42 @@ mark_of text =
 -- ---- lines of a script
 
 -- what a line of a script says, or its fault
-abbrev pub said_of : Result Line LineFaultValue → Result Line ConversationFault
+abbrev pub said_of : Result Line LineFaultValue → Result Line RefusalValue
 said_of (Ok said) = Ok said
-said_of (Err f) = Err (fault.Script f.fault)
+said_of (Err f) = Err (refusal_of f)
 
-abbrev pub IsScriptLine : Bool → List (List ℕ) → Result Line ConversationFault → Type 0
+abbrev pub IsScriptLine : Bool → List (List ℕ) → Result Line RefusalValue → Type 0
 IsScriptLine has_reply given result =
     (said : Result Line LineFaultValue) × IsSaid has_reply given said × (result ≡ said_of said)
 
 -- ---- requests
 
-abbrev pub request_in : Result Line ConversationFault → Result RequestValue ConversationFault
-request_in (Ok (line.Request request)) = Ok (request_of request)
-request_in (Ok line.Blank) = Err (fault.Script UnknownDirective)
-request_in (Ok (line.Reply head)) = Err (fault.Script UnknownDirective)
-request_in (Ok (line.Fail failure)) = Err (fault.Script UnknownDirective)
-request_in (Ok (line.Record section found)) = Err (fault.Script UnknownDirective)
-request_in (Ok (line.Configuration setting)) = Err (fault.Script UnknownDirective)
-request_in (Err f) = Err f
+abbrev pub request_in : List (List ℕ) → Result Line RefusalValue → Result RequestValue RefusalValue
+request_in given (Ok (line.Request request)) = Ok (request_of request)
+request_in given (Err refusal) = Err refusal
+request_in given (Ok other) = Err (unknown given)
 
 -- as a script has it
-abbrev pub IsScriptRequest : List (List ℕ) → Result RequestValue ConversationFault → Type 0
+abbrev pub IsScriptRequest : List (List ℕ) → Result RequestValue RefusalValue → Type 0
 IsScriptRequest given result =
-    (said : Result Line ConversationFault) × IsScriptLine false given said × (result ≡ request_in said)
+    (said : Result Line RefusalValue) × IsScriptLine false given said × (result ≡ request_in given said)
 
 -- `reverse` ADDRESS is a look-up of the names of the address
-abbrev pub pointer_of : ℕ → Option IpAddr → Result RequestValue ConversationFault
-pointer_of now None = Err (fault.Script BadAddress)
-pointer_of now (Some address) = Ok (Lookup (name_text (arpa_name (whole_net address))) type.PTR now)
+abbrev pub pointer_at : ℕ → IpAddr → RequestValue
+pointer_at now address = Lookup (name_text (arpa_name (whole_net address))) type.PTR now
 
-abbrev pub IsPointer : ℕ → List (List ℕ) → Result RequestValue ConversationFault → Type 0
-IsPointer now (address ∷ []) result =
-    (found : Option IpAddr) × IsReadAddress address found × (result ≡ pointer_of now found)
-IsPointer now given result = result ≡ Err (fault.Script FieldCount)
+abbrev pub pointer_of : ℕ → List ℕ → Option IpAddr → Result RequestValue RefusalValue
+pointer_of now text None = Err (of_field (fault.Script BadAddress) text)
+pointer_of now text (Some address) = Ok (pointer_at now address)
 
-abbrev pub IsReverse : List ℕ → List (List ℕ) → Result RequestValue ConversationFault → Type 0
+abbrev pub IsPointer : ℕ → List (List ℕ) → Result RequestValue RefusalValue → Type 0
+IsPointer now (text ∷ []) result =
+    (found : Option IpAddr) × IsReadAddress text found × (result ≡ pointer_of now text found)
+IsPointer now given result = result ≡ Err (of_line (fault.Script FieldCount))
+
+abbrev pub IsReverse : List ℕ → List (List ℕ) → Result RequestValue RefusalValue → Type 0
 IsReverse moment given result =
-    MatchResult (number_field 64 moment) (λ now. IsPointer now given result) (λ f. result ≡ Err (fault.Script f.fault))
+    MatchResult (number_field 64 moment) (λ now. IsPointer now given result) (λ f. result ≡ Err (refusal_of f))
 
 -- whether the fields begin with `at` MOMENT `reverse`
 abbrev pub is_reverse : List (List ℕ) → Bool
@@ -119,7 +118,7 @@ is_reverse (at ∷ moment ∷ asked ∷ behind) = is_text (codes "at") at && is_
 is_reverse given = false
 
 -- the request that the fields behind a mark ask, or their fault
-abbrev pub IsAsked : List (List ℕ) → Result RequestValue ConversationFault → Type 0
+abbrev pub IsAsked : List (List ℕ) → Result RequestValue RefusalValue → Type 0
 IsAsked (at ∷ moment ∷ asked ∷ behind) result =
     MatchBool (is_reverse (at ∷ moment ∷ asked ∷ behind)) (IsReverse moment behind result)
     (IsScriptRequest (at ∷ moment ∷ asked ∷ behind) result)

@@ -3,28 +3,28 @@ use Rattle.std.specs.Prelude.{◌≡◌, ◌⊎◌, Bool, true, false, List, [],
 use Rattle.std.specs.Option.{is_some, option_map}
 use Rattle.std.specs.declared.alloc.AllocError.{AllocError}
 use Rattle.hickory_proto_core.specs.Handles.{OutcomeValue}
-use Rattle.hickory_proto_core.specs.ResponseKind.{is_empty}
 use Rattle.hickory_resolver.specs.CallProgress.{call_progress_of}
 use Rattle.hickory_resolver_model.specs.Calls.{is_out_of_memory}
 use Rattle.hickory_resolver_model.specs.Lookup.{LookupResult}
-use Rattle.hickory_resolver_model.specs.Run.{RequestValue, Settings}
+use Rattle.hickory_resolver_model.specs.Resolver.{ResolverValue, settings}
+use Rattle.hickory_resolver_model.specs.Hosts.{Host}
+use Rattle.hickory_resolver_model.specs.Run.{RequestValue, Settings, first_cache, settings_of}
 use Rattle.hickory_resolver_model.specs.Cache.{CacheValue}
 use Rattle.hickory_resolver_theorems.specs.ResumingCalls.{WaitingCallValue}
 use Rattle.hickory_resolver.specs.Requests.{request_of}
 use Rattle.hickory_resolver_lookup.specs.declared.request.Request.{Request}
 use Rattle.replay.specs.Output.{request_text}
+use Rattle.replay_script.specs.Configuration.{ConfigurationValue}
 use Rattle.conversation.specs.Answers as answers
-use Rattle.conversation.specs.Answers.{Answer, Feeds, IsOpened, keeps, refused}
-use Rattle.conversation.specs.Faults.{out_of_memory}
-use Rattle.conversation.specs.Hearing.{IsFedOut, IsLeft, Says, Stands}
-use Rattle.conversation.specs.State.{BegunValue, ConversationValue, InFlightValue, Puts, Requests, Serving, request_at}
+use Rattle.conversation.specs.Answers.{Answer, Feeds, IsOpened, Serves, config_of, keeps, refused}
+use Rattle.conversation.specs.Faults.{RefusalValue, is_memory, of_line, out_of_memory}
+use Rattle.conversation.specs.Hearing.{IsBegunOver, IsFedOut, IsLeft, Says, Stands}
+use Rattle.conversation.specs.State.{BegunValue, ConversationValue, InFlightValue, Puts, Requests, Serving, Stage, request_at}
 use Rattle.conversation.specs.Texts.{clear_text, looked_up_text}
 use Rattle.conversation.specs.declared.heard.Heard.{Heard}
 use Rattle.conversation.specs.declared.fault.ConversationFault.{ConversationFault}
-use Rattle.conversation.specs.declared.fault.ConversationFault.TheVariants as faults
 use Rattle.conversation.specs.declared.reading.Verb.{Verb}
 use Rattle.conversation.specs.declared.reading.Verb.TheVariants as verb
-use Rattle.replay_script.specs.declared.fault.ScriptFault.TheVariants as script
 use Rattle.conversation.specs.declared.requests.Came.{Came}
 use Rattle.conversation.specs.declared.requests.Came.TheVariants as came
 
@@ -49,7 +49,7 @@ pub record IsClearBlock (mark : List ℕ) (begun : BegunValue) (heard : Heard) :
   pub last_is : heard.is_last ≡ false
 
 -- an answer of this kind is told of the request of a mark; or memory ran out
-abbrev pub IsTold : {E : Type 0} → List ℕ → (Answer → Type 0) → Result Heard E → Requests → Requests → Type 0
+abbrev pub IsTold : List ℕ → (Answer → Type 0) → Result Heard AllocError → Requests → Requests → Type 0
 IsTold mark Kind (Ok heard) before after =
     (answer : Answer) × Kind answer × Says answer heard × Puts mark answer.held before after
 IsTold mark Kind (Err error) before after = PutsSome mark before after
@@ -60,24 +60,28 @@ pub record RanOut (mark : List ℕ) (before after : ConversationValue) : Type 0 
   pub stage_is : IsLeft before mark after.stage
   pub requests_are : PutsSome mark before.requests after.requests
 
--- an answer of this kind is given; a fault is, and nothing changed; or memory ran out
-abbrev pub IsTaken : ConversationValue → List ℕ → (Answer → Type 0) → Result Heard ConversationFault
-    → ConversationValue → Type 0
-IsTaken before mark Kind (Ok heard) after =
+-- an answer of this kind is given; or memory ran out
+abbrev pub IsAnswered : ConversationValue → List ℕ → (Answer → Type 0) → Result Heard AllocError → ConversationValue
+    → Type 0
+IsAnswered before mark Kind (Ok heard) after =
     (answer : Answer) × Kind answer × Says answer heard × Stands mark answer before after
-IsTaken before mark Kind (Err fault) after =
-    (Kind (refused before mark fault) × (after ≡ before)) ⊎ ((fault ≡ out_of_memory) × RanOut mark before after)
+IsAnswered before mark Kind (Err error) after = RanOut mark before after
+
+-- a fault that is not one of memory is told
+abbrev pub IsRefused : ConversationValue → List ℕ → RefusalValue → Result Heard AllocError → Type 0
+IsRefused c mark refusal (Ok heard) = (is_memory refusal.fault ≡ false) × Says (refused c mark refusal) heard
+IsRefused c mark refusal (Err error) = Unit {0}
 
 -- a request that is what was asked, or its fault; or memory ran out
-abbrev pub IsAskedOr : (Result RequestValue ConversationFault → Type 0) → Result Request ConversationFault → Type 0
+abbrev pub IsAskedOr : (Result RequestValue RefusalValue → Type 0) → Result Request RefusalValue → Type 0
 IsAskedOr Asks (Ok request) = Asks (Ok (request_of request))
-IsAskedOr Asks (Err fault) = Asks (Err fault) ⊎ (fault ≡ out_of_memory)
+IsAskedOr Asks (Err refusal) = Asks (Err refusal) ⊎ (refusal ≡ of_line out_of_memory)
 
 -- ---- requests in flight
 
 -- whether a reply is open for the request of a mark
-abbrev pub HasReply : ConversationValue → List ℕ → Bool → Type 0
-HasReply c mark has_reply = option_map (λ r. is_some r.reply) (request_at mark c.requests) ≡ Some has_reply
+abbrev pub HasReply : Requests → List ℕ → Bool → Type 0
+HasReply requests mark has_reply = option_map (λ r. is_some r.reply) (request_at mark requests) ≡ Some has_reply
 
 -- an answer of a kind that depends on the request of a mark
 abbrev pub OfRequest : ConversationValue → List ℕ → (InFlightValue → Answer → Type 0) → Answer → Type 0
@@ -91,21 +95,36 @@ IsOfOutcome other = Unit {0}
 
 -- a request that was taken out goes on; where memory runs out, what is left is of it
 abbrev pub IsFed : ConversationValue → List ℕ → BegunValue → WaitingCallValue → OutcomeValue
-    → Result Heard ConversationFault → ConversationValue → Type 0
+    → Result Heard AllocError → ConversationValue → Type 0
 IsFed before mark begun w outcome (Ok heard) after =
     (answer : Answer) × Feeds mark before.stage begun w outcome answer × Says answer heard
     × Stands mark answer before after
-IsFed before mark begun w outcome (Err fault) after =
-    (fault ≡ out_of_memory) × (after.lines ≡ before.lines)
-    × ((after.stage ≡ before.stage) ⊎ IsFedOut before.stage w outcome after.stage)
+IsFed before mark begun w outcome (Err error) after =
+    (after.lines ≡ before.lines) × ((after.stage ≡ before.stage) ⊎ IsFedOut before.stage w outcome after.stage)
     × PutsSome mark before.requests after.requests
 
 -- a request is kept under its mark, and nothing is said
-abbrev pub IsKept : ConversationValue → List ℕ → InFlightValue → Result Heard ConversationFault → ConversationValue
-    → Type 0
-IsKept before mark r (Ok heard) after =
-    Says (keeps before mark r) heard × Stands mark (keeps before mark r) before after
-IsKept before mark r (Err fault) after = (fault ≡ out_of_memory) × (after ≡ before)
+abbrev pub IsKept : ConversationValue → List ℕ → InFlightValue → Result Heard AllocError → ConversationValue → Type 0
+IsKept before mark r (Ok heard) after = Says (keeps before mark r) heard × Stands mark (keeps before mark r) before after
+IsKept before mark r (Err error) after = after ≡ before
+
+-- ---- a resolver
+
+abbrev pub stage_by : {H : Type 0} → ResolverValue H → Stage
+stage_by resolver = Serving (settings resolver) resolver.client.cache
+
+-- a new one, of what is configured, over this table of hosts
+abbrev pub stage_over : ConfigurationValue → List Host → Stage
+stage_over configuration hosts =
+    let s = settings_of (config_of configuration) configuration.options hosts in Serving s (first_cache s)
+
+-- an answer of this kind is told of the request of a mark, and stands; or memory ran out, and this is left
+abbrev pub IsGiven : List ℕ → (Answer → Type 0) → (Stage → Type 0) → Result Heard AllocError → Stage → Requests
+    → Requests → Type 0
+IsGiven mark Kind Left (Ok heard) stage before after =
+    (answer : Answer) × Kind answer × Says answer heard × (stage ≡ answer.stage)
+    × Puts mark answer.held before after
+IsGiven mark Kind Left (Err error) stage before after = Left stage × PutsSome mark before after
 
 -- ---- the first request
 
@@ -117,17 +136,13 @@ IsOpening before now (Ok done) after =
 IsOpening before now (Err fault) after =
     (IsOpened before.stage now (Err fault) ⊎ (fault ≡ out_of_memory)) × (after ≡ before)
 
--- ---- ends
-
-abbrev pub IsEnding : List (List ℕ) → Result Heard ConversationFault → Type 0
-IsEnding behind (Ok heard) =
-    (is_empty behind ≡ true) × (string_bytes heard.text ≡ []) × (string_bytes heard.journal ≡ [])
-    × (heard.is_last ≡ true)
-IsEnding behind (Err fault) = (is_empty behind ≡ false) × (fault ≡ faults.Script script.FieldCount)
-
--- an answer of this kind, also one that tells a fault; or memory ran out
-abbrev pub IsAnswered : ConversationValue → List ℕ → (Answer → Type 0) → Result Heard AllocError → ConversationValue
-    → Type 0
-IsAnswered before mark Kind (Ok heard) after =
-    (answer : Answer) × Kind answer × Says answer heard × Stands mark answer before after
-IsAnswered before mark Kind (Err error) after = RanOut mark before after
+-- a request is begun over the resolver that is there
+abbrev pub IsServing : ConversationValue → List ℕ → RequestValue → Result Heard AllocError → ConversationValue → Type 0
+IsServing before mark request (Ok heard) after =
+    (s : Settings) × (cache : CacheValue) × (before.stage ≡ Serving s cache) × (answer : Answer)
+    × Serves mark request s cache answer × Says answer heard × Stands mark answer before after
+IsServing before mark request (Err error) after =
+    (after.lines ≡ before.lines) × PutsSome mark before.requests after.requests
+    × ((after.stage ≡ before.stage)
+    ⊎ ((s : Settings) × (cache : CacheValue) × (before.stage ≡ Serving s cache)
+    × IsBegunOver s cache request after.stage))

@@ -1,5 +1,5 @@
 -- The lines that go out.
-use Rattle.std.specs.Prelude.{ℕ, List, [], ◌∷◌, ◌++◌, codes, if◌then◌else◌}
+use Rattle.std.specs.Prelude.{ℕ, List, [], ◌∷◌, ◌++◌, codes, Option, None, Some, if◌then◌else◌}
 use Rattle.std.specs.Fmt.{decimal}
 use Rattle.std.specs.List.{flat_map}
 use Rattle.hickory_proto_core.specs.Texts.{question_text}
@@ -8,14 +8,18 @@ use Rattle.hickory_proto_core.specs.declared.query.Query.{Query}
 use Rattle.hickory_resolver_model.specs.Lookup.{LookupResult}
 use Rattle.hickory_resolver_model.specs.Run.{RequestValue}
 use Rattle.replay.specs.Output.{request_text, result_text, sent_text}
-use Rattle.conversation.specs.Faults.{fault_words}
+use Rattle.conversation.specs.Faults.{RefusalValue, fault_words}
 use Rattle.conversation.specs.State.{BegunValue}
-use Rattle.conversation.specs.declared.fault.ConversationFault.{ConversationFault}
 
--- MARK `fault` LINE CODE WORDS
-abbrev pub fault_text : List ℕ → ℕ → ConversationFault → List ℕ
-fault_text mark line fault =
-    mark ++ codes " fault " ++ decimal line ++ codes " " ++ fault_words fault ++ codes "\n"
+-- MARK `fault` LINE CODE WORDS, and `: FIELD` where the fault is about one field
+abbrev pub field_text : Option (List ℕ) → List ℕ
+field_text None = []
+field_text (Some text) = codes ": " ++ text
+
+abbrev pub fault_text : List ℕ → ℕ → RefusalValue → List ℕ
+fault_text mark line refusal =
+    mark ++ codes " fault " ++ decimal line ++ codes " " ++ fault_words refusal.fault ++ field_text refusal.field
+    ++ codes "\n"
 
 -- whether the server is asked to recurse, the payload that EDNS announces (bytes), and whether the case of the name is
 -- varied

@@ -4,9 +4,10 @@ ghost use Rattle.conversation.specs.Faults.{fault_words, is_memory, script_words
 
 use hickory_resolver::HostsError;
 use replay_script::{LineFault, ScriptFault};
-use std::alloc::{AllocError, AllocFailed};
+use std::alloc::AllocError;
+use std::marker::Model;
 
-/// Why a line is refused.
+/// What is wrong with a line.
 #[derive(Clone, Copy, Debug, PartialEq, Eq)]
 pub enum ConversationFault {
     /// What is wrong with a line of a script.
@@ -77,17 +78,6 @@ impl From<ScriptFault> for ConversationFault {
     }
 }
 
-impl<'a> From<LineFault<'a>> for ConversationFault {
-    ghost use Rattle.std.specs.Prelude.{◌≡◌};
-    ghost use Rattle.conversation.specs.declared.fault.ConversationFault.TheVariants.{Script};
-
-    ghost from_gives = { λ error x. x ≡ Script error.fault };
-
-    fn from(error: LineFault<'a>) -> ConversationFault {
-        ConversationFault::Script(error.fault)
-    }
-}
-
 impl From<AllocError> for ConversationFault {
     ghost use Rattle.std.specs.Prelude.{◌≡◌};
     ghost use Rattle.conversation.specs.Faults.{out_of_memory};
@@ -95,17 +85,6 @@ impl From<AllocError> for ConversationFault {
     ghost from_gives = { λ _ x. x ≡ out_of_memory };
 
     fn from(_: AllocError) -> ConversationFault {
-        ConversationFault::Script(ScriptFault::OutOfMemory)
-    }
-}
-
-impl<T: Drop> From<AllocFailed<T>> for ConversationFault {
-    ghost use Rattle.std.specs.Prelude.{◌≡◌};
-    ghost use Rattle.conversation.specs.Faults.{out_of_memory};
-
-    ghost from_gives = { λ _ x. x ≡ out_of_memory };
-
-    fn from(_: AllocFailed<T>) -> ConversationFault {
         ConversationFault::Script(ScriptFault::OutOfMemory)
     }
 }
@@ -120,6 +99,80 @@ impl From<HostsError> for ConversationFault {
         match error {
             HostsError::OutOfMemory => ConversationFault::Script(ScriptFault::OutOfMemory),
             _ => ConversationFault::HostsNotUtf8,
+        }
+    }
+}
+
+/// Why a line is refused, and the field that it is refused for.
+#[derive(Drop)]
+pub struct Refusal<'a> {
+    pub fault: ConversationFault,
+    /// The text of that field; none where the fault is about no single field.
+    pub field: Option<&'a str>,
+}
+
+impl<'a> Model for Refusal<'a> {
+    ghost use Rattle.std.specs.Option.{option_map};
+    ghost use Rattle.conversation.specs.Faults.{RefusalValue};
+
+    ghost Value = { RefusalValue };
+
+    ghost view = { λ r. record {
+      fault = r.fault;
+      field = option_map (λ text. text.now) r.field;
+    } };
+}
+
+impl<'a> Refusal<'a> {
+    ghost use Rattle.conversation.specs.Faults.{of_field, of_line, out_of_memory, unknown};
+    ghost use Rattle.replay_script.specs.Words.{texts};
+
+    /// A refusal for no single field.
+    pub fn of_line(fault: ConversationFault) -> Refusal<'a>
+        ensures { result ≡ of_line fault }
+    {
+        Refusal { fault, field: None }
+    }
+
+    /// A refusal for this field.
+    pub fn of_field(fault: ConversationFault, field: &'a str) -> Refusal<'a>
+        ensures { result ≡ of_field fault field.now }
+    {
+        Refusal {
+            fault,
+            field: Some(field),
+        }
+    }
+
+    /// A refusal where no directive stands at the front of these fields.
+    pub fn unknown(fields: &[&'a str]) -> Refusal<'a>
+        ensures { result ≡ unknown (texts fields.now) }
+    {
+        let fault = ConversationFault::Script(ScriptFault::UnknownDirective);
+        match fields {
+            [word, ..] => Refusal::of_field(fault, word),
+            [] => Refusal::of_line(fault),
+        }
+    }
+
+    /// A refusal where no memory was left.
+    pub fn out_of_memory() -> Refusal<'a>
+        ensures { result ≡ of_line out_of_memory }
+    {
+        Refusal::of_line(ConversationFault::Script(ScriptFault::OutOfMemory))
+    }
+}
+
+impl<'a> From<LineFault<'a>> for Refusal<'a> {
+    ghost use Rattle.std.specs.Prelude.{◌≡◌};
+    ghost use Rattle.conversation.specs.Faults.{refusal_of};
+
+    ghost from_gives = { λ error x. x ≡ refusal_of error };
+
+    fn from(error: LineFault<'a>) -> Refusal<'a> {
+        Refusal {
+            fault: ConversationFault::Script(error.fault),
+            field: error.field,
         }
     }
 }

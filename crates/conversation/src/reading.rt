@@ -1,14 +1,15 @@
 //! What a line of a conversation is about.
-ghost use Rattle.std.specs.Prelude.{◌≡◌, ◌⊎◌, ◌&&◌, Err, Some, codes, string_bytes, IfOk};
+ghost use Rattle.std.specs.Prelude.{◌≡◌, ◌⊎◌, ◌&&◌, Err, Ok, Some, codes, string_bytes, IfOk};
 ghost use Rattle.hickory_proto_core.specs.Codes.{is_text};
 ghost use Rattle.hickory_proto_core.specs.NameText.{name_text};
+ghost use Rattle.hickory_resolver.specs.Requests.{request_of};
 ghost use Rattle.replay_script.specs.Fields.{fields};
 ghost use Rattle.replay_script.specs.Words.{texts};
-ghost use Rattle.conversation.specs.Faults.{out_of_memory};
-ghost use Rattle.conversation.specs.Lines.{IsScriptLine, mark_in, mark_of, mark_or_none, pointer_of, verb_named, word_named};
+ghost use Rattle.conversation.specs.Faults.{of_line, out_of_memory};
+ghost use Rattle.conversation.specs.Lines.{IsAsked, IsPointer, IsReverse, IsScriptLine, IsScriptRequest, mark_in, mark_of, mark_or_none, pointer_at, request_in, verb_named, word_named};
 ghost use Rattle.conversation.specs.Telling.{IsAskedOr};
 
-use crate::fault::ConversationFault;
+use crate::fault::{ConversationFault, Refusal};
 use hickory_proto_core::{IntoName, Name, RecordType};
 use hickory_resolver::Request;
 use replay_script::words::number64;
@@ -120,22 +121,30 @@ pub fn mark_or_none(word: &str) -> &str
 }
 
 /// What the fields of a line of a script say.
-pub fn read_said(alloc: Global, has_reply: bool, fields: &[&str]) -> Result<Line, ConversationFault>
-    ensures { IsScriptLine has_reply (texts fields.now) result ⊎ (result ≡ Err out_of_memory) }
+pub fn read_said<'a>(
+    alloc: Global,
+    has_reply: bool,
+    fields: &[&'a str],
+) -> Result<Line, Refusal<'a>>
+    ensures { IsScriptLine has_reply (texts fields.now) result ⊎ (result ≡ Err (of_line out_of_memory)) }
 {
     match read_fields(alloc, has_reply, fields) {
         Ok(line) => Ok(line),
-        Err(error) => Err(ConversationFault::Script(error.fault)),
+        Err(error) => Err(Refusal::from(error)),
     }
 }
 
 /// A request: `at` MOMENT, a verb and what it is about, as in a script, or `reverse` ADDRESS.
-pub fn read_request(alloc: Global, fields: &[&str]) -> Result<Request, ConversationFault> {
-    match fields {
-        [at, moment, asked, behind @ ..] if is_reverse(at, asked) => {
-            read_reverse(alloc, moment, behind)
-        }
-        _ => read_script_request(alloc, fields),
+pub fn read_request<'a>(alloc: Global, fields: &[&'a str]) -> Result<Request, Refusal<'a>>
+    ensures { IsAskedOr (IsAsked (texts fields.now)) result }
+{
+    let [at, moment, asked, behind @ ..] = fields else {
+        return read_script_request(alloc, fields);
+    };
+    if is_reverse(at, asked) {
+        read_reverse(alloc, moment, behind)
+    } else {
+        read_script_request(alloc, fields)
     }
 }
 
@@ -145,34 +154,59 @@ fn is_reverse(at: &str, asked: &str) -> bool
     at == "at" && asked == "reverse"
 }
 
-fn read_script_request(alloc: Global, fields: &[&str]) -> Result<Request, ConversationFault> {
-    match read_said(alloc, false, fields)? {
+fn read_script_request<'a>(alloc: Global, fields: &[&'a str]) -> Result<Request, Refusal<'a>>
+    ensures { IsAskedOr (IsScriptRequest (texts fields.now)) result }
+{
+    match read_said(alloc, false, fields) {
+        Ok(line) => request_in(line, fields),
+        Err(refusal) => Err(refusal),
+    }
+}
+
+// The request that a line of a script is; another line has no directive that could stand here.
+fn request_in<'a>(line: Line, fields: &[&'a str]) -> Result<Request, Refusal<'a>>
+    ensures { IsAskedOr (λ asked. asked ≡ request_in (texts fields.now) (Ok line)) result }
+{
+    match line {
         Line::Request(request) => Ok(request),
-        _ => Err(ConversationFault::Script(ScriptFault::UnknownDirective)),
+        _ => Err(Refusal::unknown(fields)),
     }
 }
 
 // A look-up of the names of an address.
-fn read_reverse(
+fn read_reverse<'a>(
     alloc: Global,
-    moment: &str,
-    fields: &[&str],
-) -> Result<Request, ConversationFault> {
-    let now = number64(moment)?;
-    let [address] = fields else {
-        return Err(ConversationFault::Script(ScriptFault::FieldCount));
-    };
-    match address.to_ip() {
-        Some(address) => pointer_request(alloc, address, now),
-        None => Err(ConversationFault::Script(ScriptFault::BadAddress)),
+    moment: &'a str,
+    fields: &[&'a str],
+) -> Result<Request, Refusal<'a>>
+    ensures { IsAskedOr (IsReverse moment.now (texts fields.now)) result }
+{
+    match number64(moment) {
+        Ok(now) => read_pointer(alloc, now, fields),
+        Err(error) => Err(Refusal::from(error)),
     }
 }
 
-fn pointer_request(alloc: Global, address: IpAddr, now: u64) -> Result<Request, ConversationFault>
-    ensures { IsAskedOr (λ asked. asked ≡ pointer_of now (Some address)) result }
+fn read_pointer<'a>(alloc: Global, now: u64, fields: &[&'a str]) -> Result<Request, Refusal<'a>>
+    ensures { IsAskedOr (IsPointer now (texts fields.now)) result }
+{
+    let [text] = fields else {
+        return Err(Refusal::of_line(ConversationFault::Script(ScriptFault::FieldCount)));
+    };
+    match text.to_ip() {
+        Some(address) => match pointer_request(alloc, address, now) {
+            Ok(request) => Ok(request),
+            Err(AllocError) => Err(Refusal::out_of_memory()),
+        },
+        None => Err(Refusal::of_field(ConversationFault::Script(ScriptFault::BadAddress), text)),
+    }
+}
+
+fn pointer_request(alloc: Global, address: IpAddr, now: u64) -> Result<Request, AllocError>
+    ensures { IfOk result (λ request. request_of request ≡ pointer_at now address) }
 {
     let Ok(name) = Name::from_ip(alloc, address) else {
-        return Err(ConversationFault::Script(ScriptFault::OutOfMemory));
+        return Err(AllocError);
     };
     Ok(Request::Lookup {
         name: text_of(alloc, &name)?,

@@ -1,4 +1,14 @@
 //! Requests over a resolver: they begin, go on and end.
+ghost use Rattle.std.specs.Prelude.{◌≡◌, IfOk, IfSome, OnErr, OnOk, None, Some, string_bytes};
+ghost use Rattle.std.specs.Option.{option_map};
+ghost use Rattle.hickory_resolver.specs.CallProgress.{call_progress_of};
+ghost use Rattle.hickory_resolver.specs.Requests.{request_of};
+ghost use Rattle.hickory_resolver.specs.Starting.{KeepsAllButCache};
+ghost use Rattle.hickory_resolver_model.specs.Resolver.{settings};
+ghost use Rattle.conversation.specs.Answers.{ComesTo, Feeds, Looks, Serves, Tells, asking};
+ghost use Rattle.conversation.specs.Hearing.{IsBegunOver, IsFedOut};
+ghost use Rattle.conversation.specs.State.{Puts, begun_of, in_flight_of, request_at, requests_of};
+ghost use Rattle.conversation.specs.Telling.{IsBlock, IsClearBlock, IsGiven, IsTold, came_of, stage_by};
 
 use crate::heard::Heard;
 use crate::in_flight::{Begun, InFlight};
@@ -24,9 +34,30 @@ pub fn begin(
     requests: &mut HashMap<String, InFlight>,
     mark: &str,
     request: Request,
-) -> Result<Heard, AllocError> {
+) -> Result<Heard, AllocError>
+    ensures { IsGiven mark.now
+        (Serves mark.now (request_of request) (settings resolver.old) resolver.old.client.cache)
+        (IsBegunOver (settings resolver.old) resolver.old.client.cache (request_of request))
+        result (stage_by resolver.new) (requests_of requests.old.entries) (requests_of requests.new.entries) }
+{
     let came = ask(resolver, &request)?;
     let begun = Begun::new(alloc, request);
+    tell(alloc, resolver, requests, mark, begun, came)
+}
+
+// Tells how far a request came.
+fn tell(
+    alloc: Global,
+    resolver: &Resolver<ScriptHandle>,
+    requests: &mut HashMap<String, InFlight>,
+    mark: &str,
+    begun: Begun,
+    came: Came,
+) -> Result<Heard, AllocError>
+    ensures { IsTold mark.now
+        (Tells mark.now (settings resolver.now) (begun_of begun) (came_of came) resolver.now.client.cache)
+        result (requests_of requests.old.entries) (requests_of requests.new.entries) }
+{
     match came {
         Came::Looks(progress) => settle(alloc, resolver, requests, mark, begun, progress),
         Came::Clears => finish_clear(alloc, requests, mark, &begun),
@@ -34,7 +65,12 @@ pub fn begin(
 }
 
 // Asks a resolver.
-fn ask(resolver: &mut Resolver<ScriptHandle>, request: &Request) -> Result<Came, AllocError> {
+fn ask(resolver: &mut Resolver<ScriptHandle>, request: &Request) -> Result<Came, AllocError>
+    ensures comes { IfOk result (λ came. ComesTo (settings resolver.old) (request_of request.now)
+        resolver.old.client.cache (came_of came) resolver.new.client.cache) }
+    ensures others_stay { KeepsAllButCache resolver.old resolver.new }
+    ensures unchanged { OnErr result (resolver.new ≡ resolver.old) }
+{
     match request {
         Request::Lookup {
             name,
@@ -68,7 +104,12 @@ pub fn go_on(
     begun: Begun,
     waiting: WaitingCall,
     outcome: Outcome,
-) -> Result<Heard, AllocError> {
+) -> Result<Heard, AllocError>
+    ensures { IsGiven mark.now
+        (Feeds mark.now (stage_by resolver.old) (begun_of begun) waiting outcome)
+        (IsFedOut (stage_by resolver.old) waiting outcome)
+        result (stage_by resolver.new) (requests_of requests.old.entries) (requests_of requests.new.entries) }
+{
     let progress = resolver.resume(waiting, outcome);
     settle(alloc, resolver, requests, mark, begun, progress)
 }
@@ -81,7 +122,12 @@ fn settle(
     mark: &str,
     begun: Begun,
     progress: CallProgress,
-) -> Result<Heard, AllocError> {
+) -> Result<Heard, AllocError>
+    ensures { IsTold mark.now
+        (Tells mark.now (settings resolver.now) (begun_of begun) (Looks (call_progress_of progress))
+        resolver.now.client.cache)
+        result (requests_of requests.old.entries) (requests_of requests.new.entries) }
+{
     match progress {
         CallProgress::Waiting(waiting) => {
             let options = resolver.request_options();
@@ -100,7 +146,11 @@ fn keep(
     mark: &str,
     begun: Begun,
     waiting: WaitingCall,
-) -> Result<(), AllocError> {
+) -> Result<(), AllocError>
+    ensures kept { OnOk result (Puts mark.now (Some (asking (begun_of begun) waiting))
+        (requests_of requests.old.entries) (requests_of requests.new.entries)) }
+    ensures unchanged { OnErr result (requests.new.entries ≡ requests.old.entries) }
+{
     let mut begun = begun;
     begun.add_question(waiting.question())?;
     let key = String::from_str(alloc, mark)?;
@@ -117,19 +167,30 @@ pub fn put(
     requests: &mut HashMap<String, InFlight>,
     key: String,
     in_flight: InFlight,
-) -> Result<(), AllocError> {
+) -> Result<(), AllocError>
+    ensures kept { OnOk result (Puts (string_bytes key) (Some (in_flight_of in_flight))
+        (requests_of requests.old.entries) (requests_of requests.new.entries)) }
+    ensures unchanged { OnErr result (requests.new.entries ≡ requests.old.entries) }
+{
     requests.insert(key, in_flight)?;
     Ok(())
 }
 
 /// Forgets the request of a mark, where there is one.
-pub fn forget(requests: &mut HashMap<String, InFlight>, mark: &str) {
+pub fn forget(requests: &mut HashMap<String, InFlight>, mark: &str)
+    ensures { Puts mark.now None (requests_of requests.old.entries) (requests_of requests.new.entries) }
+{
     let forgotten = requests.remove(mark);
     drop(forgotten);
 }
 
 /// Takes the request of a mark out, where there is one, with the mark.
-pub fn take(requests: &mut HashMap<String, InFlight>, mark: &str) -> Option<(String, InFlight)> {
+pub fn take(requests: &mut HashMap<String, InFlight>, mark: &str) -> Option<(String, InFlight)>
+    ensures mark { IfSome result (λ taken. string_bytes taken.0 ≡ mark.now) }
+    ensures found { option_map (λ taken. in_flight_of taken.1) result
+        ≡ request_at mark.now (requests_of requests.old.entries) }
+    ensures taken { Puts mark.now None (requests_of requests.old.entries) (requests_of requests.new.entries) }
+{
     requests.remove_entry(mark)
 }
 
@@ -140,7 +201,10 @@ fn finish(
     mark: &str,
     begun: &Begun,
     found: &Result<Lookup, NetError>,
-) -> Result<Heard, AllocError> {
+) -> Result<Heard, AllocError>
+    ensures told { IfOk result (IsBlock mark.now (begun_of begun.now) found.now) }
+    ensures forgotten { Puts mark.now None (requests_of requests.old.entries) (requests_of requests.new.entries) }
+{
     forget(requests, mark);
     if matches!(found, Err(NetError::OutOfMemory)) {
         return Err(AllocError);
@@ -154,7 +218,10 @@ fn finish_clear(
     requests: &mut HashMap<String, InFlight>,
     mark: &str,
     begun: &Begun,
-) -> Result<Heard, AllocError> {
+) -> Result<Heard, AllocError>
+    ensures told { IfOk result (IsClearBlock mark.now (begun_of begun.now)) }
+    ensures forgotten { Puts mark.now None (requests_of requests.old.entries) (requests_of requests.new.entries) }
+{
     forget(requests, mark);
     told_clear(alloc, mark, begun)
 }

@@ -1,16 +1,18 @@
 //! What stands between two lines, and what a line does with it.
+ghost use Rattle.conversation.specs.State.{conversation_of};
+ghost use Rattle.conversation.specs.Telling.{IsRefused};
 
-use crate::fault::ConversationFault;
+use crate::fault::{ConversationFault, Refusal};
 use crate::heard::Heard;
 use crate::in_flight::{Begun, InFlight, outcome_of};
 use crate::reading::{Verb, Word, mark_of, mark_or_none, read_request, read_said};
 use crate::requests::{begin, forget, go_on, put, take};
 use crate::writing::{push_fields, told_cancel, told_fault, told_last, told_nothing, told_setting};
 use hickory_proto_core::{Outcome, Record, ScriptHandle};
-use hickory_resolver::{Hosts, Resolver, ResolverConfig, WaitingCall};
+use hickory_resolver::{Hosts, Request, Resolver, ResolverConfig, WaitingCall};
 use replay_script::{
-    Configuration, FailureKind, Line, OpenReply, ReplyHead, ScriptFault, Section, is_skipped,
-    read_text, split,
+    Configuration, FailureKind, Line, OpenReply, ReplyHead, ScriptFault, Section, Setting,
+    is_skipped, read_text, split,
 };
 use std::alloc::{AllocError, Global};
 use std::collections::HashMap;
@@ -53,41 +55,74 @@ impl State {
         }
     }
 
-    // Answers a line, or tells its fault.
+    // Answers a line.
     fn answer(&mut self, line: &[u8]) -> Result<Heard, AllocError> {
-        match self.hear_line(line) {
-            Ok(heard) => Ok(heard),
-            Err(fault) if fault.is_memory() => Err(AllocError),
-            Err(fault) => told_fault(self.alloc, mark_of(line), self.lines, fault),
-        }
-    }
-
-    fn hear_line(&mut self, line: &[u8]) -> Result<Heard, ConversationFault> {
         if is_skipped(line) {
             return Ok(told_nothing(self.alloc));
         }
-        let text = read_text(line)?;
+        match read_text(line) {
+            Ok(text) => self.hear_text(text),
+            Err(error) => self.refuse("-", &Refusal::from(error)),
+        }
+    }
+
+    fn hear_text(&mut self, text: &str) -> Result<Heard, AllocError> {
         let fields = split(self.alloc, text)?;
         self.hear_fields(&fields)
     }
 
-    fn hear_fields(&mut self, fields: &[&str]) -> Result<Heard, ConversationFault> {
+    fn hear_fields(&mut self, fields: &[&str]) -> Result<Heard, AllocError> {
         let [word, behind @ ..] = fields else {
             return Ok(told_nothing(self.alloc));
         };
+        self.hear_word(word, behind, fields)
+    }
+
+    // A line by its first word; behind are the others.
+    fn hear_word(
+        &mut self,
+        word: &str,
+        behind: &[&str],
+        fields: &[&str],
+    ) -> Result<Heard, AllocError> {
         let mark = mark_or_none(word);
         match Word::of(word) {
-            Word::End => end(self.alloc, behind),
+            Word::End => self.end(mark, behind),
             Word::Hosts => self.add_hosts(mark, behind),
             Word::Setting => self.add_setting(mark, fields),
-            Word::Unused => Err(ConversationFault::Script(ScriptFault::UnknownDirective)),
+            Word::Unused => self.refuse(mark, &Refusal::unknown(fields)),
             Word::Mark => self.hear_marked(mark, behind),
         }
     }
 
-    fn add_hosts(&mut self, mark: &str, fields: &[&str]) -> Result<Heard, ConversationFault> {
+    // A fault of a line is told; where that is one of memory, memory ran out.
+    fn refuse(&self, mark: &str, refusal: &Refusal<'_>) -> Result<Heard, AllocError>
+        ensures { IsRefused (conversation_of self.now) mark.now refusal.now result }
+    {
+        if refusal.fault.is_memory() {
+            return Err(AllocError);
+        }
+        told_fault(self.alloc, mark, self.lines, refusal)
+    }
+
+    // `end`
+    fn end(&self, mark: &str, fields: &[&str]) -> Result<Heard, AllocError> {
+        if fields.is_empty() {
+            return Ok(told_last(self.alloc));
+        }
+        self.refuse(
+            mark,
+            &Refusal::of_line(ConversationFault::Script(ScriptFault::FieldCount)),
+        )
+    }
+
+    // A line of a file of hosts.
+    fn add_hosts(&mut self, mark: &str, fields: &[&str]) -> Result<Heard, AllocError> {
         if self.resolver.is_some() {
-            return Err(ConversationFault::SettingAfterRequest);
+            return self.refuse(
+                mark,
+                &Refusal::of_line(ConversationFault::SettingAfterRequest),
+            );
         }
         let mut line = String::from_str(self.alloc, "\n")?;
         push_fields(&mut line, fields)?;
@@ -95,44 +130,85 @@ impl State {
         Ok(told_nothing(self.alloc))
     }
 
-    fn add_setting(&mut self, mark: &str, fields: &[&str]) -> Result<Heard, ConversationFault> {
+    // A setting.
+    fn add_setting(&mut self, mark: &str, fields: &[&str]) -> Result<Heard, AllocError> {
         if self.resolver.is_some() {
-            return Err(ConversationFault::SettingAfterRequest);
+            return self.refuse(
+                mark,
+                &Refusal::of_line(ConversationFault::SettingAfterRequest),
+            );
         }
-        match read_said(self.alloc, false, fields)? {
-            Line::Configuration(setting) => {
-                let heard = told_setting(self.alloc, fields)?;
-                self.configuration.set(setting)?;
-                Ok(heard)
-            }
-            _ => Err(ConversationFault::Script(ScriptFault::UnknownDirective)),
+        match read_said(self.alloc, false, fields) {
+            Ok(line) => self.take_setting(mark, line, fields),
+            Err(refusal) => self.refuse(mark, &refusal),
         }
     }
 
-    fn hear_marked(&mut self, mark: &str, fields: &[&str]) -> Result<Heard, ConversationFault> {
+    // What a line of a setting says is kept.
+    fn take_setting(
+        &mut self,
+        mark: &str,
+        line: Line,
+        fields: &[&str],
+    ) -> Result<Heard, AllocError> {
+        match line {
+            Line::Configuration(setting) => self.set(fields, setting),
+            _ => self.refuse(mark, &Refusal::unknown(fields)),
+        }
+    }
+
+    // Keeps a setting that these fields say.
+    fn set(&mut self, fields: &[&str], setting: Setting) -> Result<Heard, AllocError> {
+        let heard = told_setting(self.alloc, fields)?;
+        match self.configuration.set(setting) {
+            Ok(()) => Ok(heard),
+            Err(_) => Err(AllocError),
+        }
+    }
+
+    // A line with a mark.
+    fn hear_marked(&mut self, mark: &str, fields: &[&str]) -> Result<Heard, AllocError> {
         let [verb, behind @ ..] = fields else {
-            return Err(ConversationFault::Script(ScriptFault::UnknownDirective));
+            return self.refuse(mark, &Refusal::unknown(fields));
         };
-        match Verb::of(verb) {
-            Some(Verb::At) => self.begin(mark, fields),
-            Some(Verb::Explain) => self.begin(mark, behind),
-            Some(verb) => self.hear_of(mark, verb, behind, fields),
-            None => Err(ConversationFault::Script(ScriptFault::UnknownDirective)),
+        self.hear_verb(mark, verb, behind, fields)
+    }
+
+    // A line with a mark by its verb; behind are the fields behind that.
+    fn hear_verb(
+        &mut self,
+        mark: &str,
+        verb: &str,
+        behind: &[&str],
+        fields: &[&str],
+    ) -> Result<Heard, AllocError> {
+        let Some(verb) = Verb::of(verb) else {
+            return self.refuse(mark, &Refusal::unknown(fields));
+        };
+        match verb {
+            Verb::At => self.begin(mark, fields),
+            Verb::Explain => self.begin(mark, behind),
+            _ => self.hear_of(mark, verb, behind, fields),
         }
     }
 
     // A request begins, unless its mark is in use.
-    fn begin(&mut self, mark: &str, fields: &[&str]) -> Result<Heard, ConversationFault> {
+    fn begin(&mut self, mark: &str, fields: &[&str]) -> Result<Heard, AllocError> {
         if self.requests.contains_key(mark) {
-            return Err(ConversationFault::MarkInUse);
+            return self.refuse(mark, &Refusal::of_line(ConversationFault::MarkInUse));
         }
-        let request = read_request(self.alloc, fields)?;
-        self.open(request.moment())?;
-        let Some(resolver) = &mut self.resolver else {
-            return Err(ConversationFault::Script(ScriptFault::OutOfMemory));
-        };
-        let heard = begin(self.alloc, resolver, &mut self.requests, mark, request)?;
-        Ok(heard)
+        match read_request(self.alloc, fields) {
+            Ok(request) => self.begin_request(mark, request),
+            Err(refusal) => self.refuse(mark, &refusal),
+        }
+    }
+
+    // A request begins. At the first one the resolver is made.
+    fn begin_request(&mut self, mark: &str, request: Request) -> Result<Heard, AllocError> {
+        match self.open(request.moment()) {
+            Ok(()) => self.serve(mark, request),
+            Err(fault) => self.refuse(mark, &Refusal::of_line(fault)),
+        }
     }
 
     // At the first request, of this moment (seconds), the resolver is made.
@@ -143,11 +219,25 @@ impl State {
         self.configuration.check_bounds(self.alloc)?;
         let mut hosts = Hosts::default(self.alloc);
         hosts.read_hosts_bytes(&self.hosts, now)?;
+        self.make_resolver(hosts)?;
+        Ok(())
+    }
+
+    // The resolver of what is set is made, over these hosts. The bounds are in order.
+    fn make_resolver(&mut self, hosts: Hosts) -> Result<(), AllocError> {
         let nothing = Configuration::default(self.alloc);
         let configuration = mem::replace(&mut self.configuration, nothing);
         self.hosts = Vec::new(self.alloc);
         self.resolver = Some(resolver_of(self.alloc, configuration, hosts)?);
         Ok(())
+    }
+
+    // A request begins over the resolver that is there.
+    fn serve(&mut self, mark: &str, request: Request) -> Result<Heard, AllocError> {
+        let Some(resolver) = &mut self.resolver else {
+            return Err(AllocError);
+        };
+        begin(self.alloc, resolver, &mut self.requests, mark, request)
     }
 
     // A line for a request in flight.
@@ -157,9 +247,9 @@ impl State {
         verb: Verb,
         behind: &[&str],
         fields: &[&str],
-    ) -> Result<Heard, ConversationFault> {
+    ) -> Result<Heard, AllocError> {
         let Some(has_reply) = has_reply(&self.requests, mark) else {
-            return Err(ConversationFault::NoSuchRequest);
+            return self.refuse(mark, &Refusal::of_line(ConversationFault::NoSuchRequest));
         };
         match verb {
             Verb::Cancel => self.cancel(mark, behind),
@@ -170,35 +260,47 @@ impl State {
     }
 
     // The request is forgotten.
-    fn cancel(&mut self, mark: &str, fields: &[&str]) -> Result<Heard, ConversationFault> {
-        if !fields.is_empty() {
-            return Err(ConversationFault::Script(ScriptFault::FieldCount));
+    fn cancel(&mut self, mark: &str, fields: &[&str]) -> Result<Heard, AllocError> {
+        if fields.is_empty() {
+            return self.cancel_request(mark);
         }
+        self.refuse(
+            mark,
+            &Refusal::of_line(ConversationFault::Script(ScriptFault::FieldCount)),
+        )
+    }
+
+    fn cancel_request(&mut self, mark: &str) -> Result<Heard, AllocError> {
         let heard = told_cancel(self.alloc, mark)?;
         forget(&mut self.requests, mark);
         Ok(heard)
     }
 
     // The open reply is whole.
-    fn done(
-        &mut self,
-        mark: &str,
-        has_reply: bool,
-        fields: &[&str],
-    ) -> Result<Heard, ConversationFault> {
-        if !has_reply {
-            return Err(ConversationFault::Script(ScriptFault::NoReply));
+    fn done(&mut self, mark: &str, has_reply: bool, fields: &[&str]) -> Result<Heard, AllocError> {
+        if has_reply {
+            return self.end_reply(mark, fields);
         }
-        if !fields.is_empty() {
-            return Err(ConversationFault::Script(ScriptFault::FieldCount));
+        self.refuse(
+            mark,
+            &Refusal::of_line(ConversationFault::Script(ScriptFault::NoReply)),
+        )
+    }
+
+    fn end_reply(&mut self, mark: &str, fields: &[&str]) -> Result<Heard, AllocError> {
+        if fields.is_empty() {
+            return self.feed_reply(mark);
         }
-        self.feed_reply(mark)
+        self.refuse(
+            mark,
+            &Refusal::of_line(ConversationFault::Script(ScriptFault::FieldCount)),
+        )
     }
 
     // The open reply is fed to its request.
-    fn feed_reply(&mut self, mark: &str) -> Result<Heard, ConversationFault> {
+    fn feed_reply(&mut self, mark: &str) -> Result<Heard, AllocError> {
         let Some((_, in_flight)) = take(&mut self.requests, mark) else {
-            return Err(ConversationFault::Script(ScriptFault::OutOfMemory));
+            return Err(AllocError);
         };
         let InFlight {
             begun,
@@ -206,7 +308,7 @@ impl State {
             reply,
         } = in_flight;
         let Some(reply) = reply else {
-            return Err(ConversationFault::Script(ScriptFault::OutOfMemory));
+            return Err(AllocError);
         };
         self.feed(mark, begun, waiting, outcome_of(reply))
     }
@@ -218,11 +320,11 @@ impl State {
         begun: Begun,
         waiting: WaitingCall,
         outcome: Outcome,
-    ) -> Result<Heard, ConversationFault> {
+    ) -> Result<Heard, AllocError> {
         let Some(resolver) = &mut self.resolver else {
-            return Err(ConversationFault::Script(ScriptFault::OutOfMemory));
+            return Err(AllocError);
         };
-        let heard = go_on(
+        go_on(
             self.alloc,
             resolver,
             &mut self.requests,
@@ -230,8 +332,7 @@ impl State {
             begun,
             waiting,
             outcome,
-        )?;
-        Ok(heard)
+        )
     }
 
     // The first line of an outcome.
@@ -240,9 +341,9 @@ impl State {
         mark: &str,
         has_reply: bool,
         fields: &[&str],
-    ) -> Result<Heard, ConversationFault> {
+    ) -> Result<Heard, AllocError> {
         if has_reply {
-            return Err(ConversationFault::ReplyNotDone);
+            return self.refuse(mark, &Refusal::of_line(ConversationFault::ReplyNotDone));
         }
         self.add_line(mark, has_reply, fields)
     }
@@ -253,12 +354,20 @@ impl State {
         mark: &str,
         has_reply: bool,
         fields: &[&str],
-    ) -> Result<Heard, ConversationFault> {
-        match read_said(self.alloc, has_reply, fields)? {
+    ) -> Result<Heard, AllocError> {
+        match read_said(self.alloc, has_reply, fields) {
+            Ok(line) => self.take_line(mark, line, fields),
+            Err(refusal) => self.refuse(mark, &refusal),
+        }
+    }
+
+    // What a line of an outcome says is taken.
+    fn take_line(&mut self, mark: &str, line: Line, fields: &[&str]) -> Result<Heard, AllocError> {
+        match line {
             Line::Reply(head) => self.open_reply(mark, head, fields),
             Line::Record(section, found) => self.add_record(mark, section, found, fields),
             Line::Fail(failure) => self.fail(mark, failure.kind, fields),
-            _ => Err(ConversationFault::Script(ScriptFault::UnknownDirective)),
+            _ => self.refuse(mark, &Refusal::unknown(fields)),
         }
     }
 
@@ -267,10 +376,12 @@ impl State {
         mark: &str,
         head: ReplyHead,
         fields: &[&str],
-    ) -> Result<Heard, ConversationFault> {
-        let reply = OpenReply::open(self.alloc, head)?;
+    ) -> Result<Heard, AllocError> {
+        let Ok(reply) = OpenReply::open(self.alloc, head) else {
+            return Err(AllocError);
+        };
         let Some((key, in_flight)) = take(&mut self.requests, mark) else {
-            return Err(ConversationFault::Script(ScriptFault::OutOfMemory));
+            return Err(AllocError);
         };
         let InFlight { begun, waiting, .. } = in_flight;
         self.keep(key, begun, waiting, reply, fields)
@@ -282,9 +393,9 @@ impl State {
         section: Section,
         found: Record,
         fields: &[&str],
-    ) -> Result<Heard, ConversationFault> {
+    ) -> Result<Heard, AllocError> {
         let Some((key, in_flight)) = take(&mut self.requests, mark) else {
-            return Err(ConversationFault::Script(ScriptFault::OutOfMemory));
+            return Err(AllocError);
         };
         let InFlight {
             begun,
@@ -292,9 +403,11 @@ impl State {
             reply,
         } = in_flight;
         let Some(mut reply) = reply else {
-            return Err(ConversationFault::Script(ScriptFault::OutOfMemory));
+            return Err(AllocError);
         };
-        reply.add(section, found)?;
+        if reply.add(section, found).is_err() {
+            return Err(AllocError);
+        }
         self.keep(key, begun, waiting, reply, fields)
     }
 
@@ -306,7 +419,7 @@ impl State {
         waiting: WaitingCall,
         reply: OpenReply,
         fields: &[&str],
-    ) -> Result<Heard, ConversationFault> {
+    ) -> Result<Heard, AllocError> {
         let mut begun = begun;
         begun.add_line(fields)?;
         let in_flight = InFlight {
@@ -324,9 +437,9 @@ impl State {
         mark: &str,
         kind: FailureKind,
         fields: &[&str],
-    ) -> Result<Heard, ConversationFault> {
+    ) -> Result<Heard, AllocError> {
         let Some((_, in_flight)) = take(&mut self.requests, mark) else {
-            return Err(ConversationFault::Script(ScriptFault::OutOfMemory));
+            return Err(AllocError);
         };
         let InFlight {
             mut begun,
@@ -344,14 +457,6 @@ fn has_reply(requests: &HashMap<String, InFlight>, mark: &str) -> Option<bool> {
         Some(in_flight) => Some(in_flight.reply.is_some()),
         None => None,
     }
-}
-
-// `end`
-fn end(alloc: Global, fields: &[&str]) -> Result<Heard, ConversationFault> {
-    if !fields.is_empty() {
-        return Err(ConversationFault::Script(ScriptFault::FieldCount));
-    }
-    Ok(told_last(alloc))
 }
 
 // The resolver of this configuration, whose bounds are in order, over these hosts. Its own handle is never asked.

@@ -1,12 +1,13 @@
 //! What goes out.
 ghost use Rattle.std.specs.Prelude.{◌≡◌, ◌++◌, [], codes, true, false, if◌then◌else◌, string_bytes, IfOk, OnOk};
+ghost use Rattle.std.specs.Option.{option_map};
 ghost use Rattle.hickory_resolver.specs.Requests.{request_of};
 ghost use Rattle.replay.specs.Output.{request_text, sent_text};
 ghost use Rattle.replay_script.specs.Words.{texts};
 ghost use Rattle.conversation.specs.State.{begun_of};
-ghost use Rattle.conversation.specs.Texts.{cancelled_text, clear_text, edns_text, fault_text, fields_behind, fields_text, looked_up_text, options_text, send_text};
+ghost use Rattle.conversation.specs.Texts.{cancelled_text, clear_text, edns_text, fault_text, field_text, fields_behind, fields_text, looked_up_text, options_text, send_text};
 
-use crate::fault::ConversationFault;
+use crate::fault::Refusal;
 use crate::heard::Heard;
 use crate::in_flight::Begun;
 use hickory_proto_core::{DnsRequestOptions, NetError, Query};
@@ -58,15 +59,27 @@ pub fn told_fault(
     alloc: Global,
     mark: &str,
     line: u64,
-    fault: ConversationFault,
+    refusal: &Refusal<'_>,
 ) -> Result<Heard, AllocError>
-    ensures text { IfOk result (λ h. string_bytes h.text ≡ fault_text mark.now line fault) }
+    ensures text { IfOk result (λ h. string_bytes h.text ≡ fault_text mark.now line refusal.now) }
     ensures journal { IfOk result (λ h. string_bytes h.journal ≡ []) }
     ensures last { IfOk result (λ h. h.is_last ≡ false) }
 {
-    let words = fault.words();
-    let text = format!(in alloc; "{mark} fault {line} {words}\n")?;
+    let words = refusal.fault.words();
+    let mut text = format!(in alloc; "{mark} fault {line} {words}")?;
+    push_field(&mut text, refusal.field)?;
+    text.push_str("\n")?;
     Ok(told_text(alloc, text))
+}
+
+// The field that a fault is about, where it is about one.
+fn push_field(text: &mut String, field: Option<&str>) -> Result<(), AllocError>
+    ensures { OnOk result (string_bytes text.new ≡ string_bytes text.old ++ field_text (option_map (λ t. t.now) field.entry)) }
+{
+    match field {
+        Some(field) => write!(text, ": {field}"),
+        None => Ok(()),
+    }
 }
 
 /// The line of a request that is cancelled.

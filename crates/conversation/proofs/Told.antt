@@ -1,0 +1,131 @@
+-- What is told of a request over a resolver.
+use Rattle.std.proofs.Common.{◌≡◌, ◌≢◌, ◌∙◌, ◌⊎◌, ℕ, Bool, true, false, List, [], ◌∷◌, ◌++◌, Option, None, Some, Result, Ok, Err, IfOk, IsErr, OnErr, OnOk, string_bytes, refl, sym, ap, subst, inl, inr}
+use Rattle.std.specs.declared.alloc.AllocError.{AllocError}
+use Rattle.hickory_proto_core.specs.Handles.{OutcomeValue}
+use Rattle.std.specs.declared.net.IpAddr.{IpAddr}
+use Rattle.hickory_proto_core.specs.Name.{NameValue}
+use Rattle.hickory_proto_core.specs.NameGiven.{IsReadName, IsReadAddress}
+use Rattle.hickory_proto_core.specs.codes.record_type.RecordType.{RecordType}
+use Rattle.hickory_proto_core.specs.declared.dns_request.DnsRequestOptions.{DnsRequestOptions}
+use Rattle.hickory_proto_core.specs.declared.query.Query.{Query}
+use Rattle.hickory_proto_core.specs.names.name_error.NameError.{NameError}
+use Rattle.hickory_resolver.specs.CallProgress.{call_progress_of}
+use Rattle.hickory_resolver.specs.declared.waiting_call.CallProgress.{CallProgress}
+use Rattle.hickory_resolver.specs.Starting.{KeepsAllButCache, ResumesAt, StartsHost, StartsName}
+use Rattle.hickory_resolver_model.specs.Cache.{CacheValue}
+use Rattle.hickory_resolver_model.specs.Lookup.{LookupResult}
+use Rattle.hickory_resolver_model.specs.Resolver.{ResolverValue, settings}
+use Rattle.hickory_resolver_model.specs.Run.{RequestValue, Lookup, LookupIp, Settings, address_call, call_context_at}
+use Rattle.hickory_resolver_theorems.specs.ResumingCalls.{WaitingCallValue, CallProgressValue, CallWaits, CallIsDone, RunsOutAtStart, StartsCall}
+use Rattle.conversation.specs.Answers.{Answer, Came, Clears, ComesTo, Feeds, Looks, Serves, Tells, asking, just_begun}
+use Rattle.conversation.specs.Hearing.{IsBegunOver, IsFedOut, Says}
+use Rattle.conversation.specs.State.{BegunValue, InFlightValue, Puts, Requests, Serving, Stage, request_at}
+use Rattle.conversation.specs.Telling.{IsBlock, IsClearBlock, IsGiven, IsTold, PutsSome, stage_by}
+use Rattle.conversation.specs.Texts.{send_text}
+use Rattle.conversation.specs.declared.heard.Heard.{Heard}
+use Rattle.conversation.proofs.Held.{some_stays}
+
+-- ---- how far a request came
+
+pub told_waits : (mark : List ℕ) (s : Settings) (begun : BegunValue) (w : WaitingCallValue) (cache : CacheValue) (heard : Heard) (before after : Requests) (question : Query) (options : DnsRequestOptions)
+    → question ≡ w.sub.hop.query → options ≡ s.request_options
+    → string_bytes heard.text ≡ send_text mark question options → string_bytes heard.journal ≡ [] → heard.is_last ≡ false
+    → Puts mark (Some (asking begun w)) before after → IsTold mark (Tells mark s begun (Looks (CallWaits w)) cache) (Ok heard) before after
+told_waits mark s begun w cache heard before after question options asks by text journal last puts = (
+  record {
+    text = send_text mark w.sub.hop.query s.request_options;
+    journal = [];
+    is_last = false;
+    stage = Serving s cache;
+    held = Some (asking begun w);
+  },
+  refl,
+  record { text_is = text ∙ ap (λ q. send_text mark q options) asks ∙ ap (send_text mark w.sub.hop.query) by; journal_is = journal; last_is = last },
+  puts,
+)
+
+-- the request is kept, with its question
+pub kept_asking : (mark key : List ℕ) (begun now : BegunValue) (w : WaitingCallValue) (question : Query) (result : Result (Unit {0}) AllocError) (before after : Requests)
+    → key ≡ mark → question ≡ w.sub.hop.query → now ≡ record begun { sent = begun.sent ++ question ∷ [] }
+    → OnOk result (Puts key (Some (record { begun = now; waiting = w; reply = None })) before after)
+    → OnOk result (Puts mark (Some (asking begun w)) before after)
+kept_asking mark key begun now w question result before after key_is asks now_is puts =
+    let now_asks : now ≡ record begun { sent = begun.sent ++ w.sub.hop.query ∷ [] } = now_is ∙ ap (λ q. record begun { sent = begun.sent ++ q ∷ [] }) asks in
+    subst (λ k. OnOk result (Puts k (Some (asking begun w)) before after)) key_is
+    (subst (λ b. OnOk result (Puts key (Some (record { begun = b; waiting = w; reply = None })) before after)) now_asks puts)
+
+pub told_done : (mark : List ℕ) (s : Settings) (begun : BegunValue) (found : LookupResult) (cache : CacheValue) (result : Result Heard AllocError) (before after : Requests)
+    → IfOk result (IsBlock mark begun found) → Puts mark None before after → IsTold mark (Tells mark s begun (Looks (CallIsDone found)) cache) result before after
+told_done mark s begun found cache (Ok heard) before after block puts =
+    (record { text = _; journal = _; is_last = false; stage = Serving s cache; held = None }, (block.remembered, refl), record { text_is = block.text_is; journal_is = block.journal_is; last_is = block.last_is }, puts)
+told_done mark s begun found cache (Err e) before after block puts = (None, puts)
+
+pub told_cleared : (mark : List ℕ) (s : Settings) (begun : BegunValue) (cache : CacheValue) (result : Result Heard AllocError) (before after : Requests)
+    → IfOk result (IsClearBlock mark begun) → Puts mark None before after → IsTold mark (Tells mark s begun Clears cache) result before after
+told_cleared mark s begun cache (Ok heard) before after block puts =
+    (record { text = _; journal = _; is_last = false; stage = Serving s cache; held = None }, refl, record { text_is = block.text_is; journal_is = block.journal_is; last_is = block.last_is }, puts)
+told_cleared mark s begun cache (Err e) before after block puts = (None, puts)
+
+tells_stage : (mark : List ℕ) (s : Settings) (begun : BegunValue) (came : Came) (cache : CacheValue) (answer : Answer) → Tells mark s begun came cache answer → answer.stage ≡ Serving s cache
+tells_stage mark s begun (Looks (CallWaits w)) cache answer is = ap (λ a. a.stage) is
+tells_stage mark s begun (Looks (CallIsDone found)) cache answer is = ap (λ a. a.stage) is.1
+tells_stage mark s begun Clears cache answer is = ap (λ a. a.stage) is
+
+-- ---- over a resolver
+
+same_settings : {H : Type 0} (before after : ResolverValue H) → KeepsAllButCache before after → settings after ≡ settings before
+same_settings before after same = ap settings same
+
+pub begun_told : {H : Type 0} (mark : List ℕ) (request : RequestValue) (came : Came) (r left : ResolverValue H) (result : Result Heard AllocError) (before after : Requests)
+    → ComesTo (settings r) request r.client.cache came left.client.cache → KeepsAllButCache r left
+    → IsTold mark (Tells mark (settings left) (just_begun request) came left.client.cache) result before after
+    → IsGiven mark (Serves mark request (settings r) r.client.cache) (IsBegunOver (settings r) r.client.cache request) result (stage_by left) before after
+begun_told mark request came r left (Ok heard) before after comes same (answer, tells, says, puts) =
+    let kept = same_settings r left same in
+    let told : Tells mark (settings r) (just_begun request) came left.client.cache answer = subst (λ s. Tells mark s (just_begun request) came left.client.cache answer) kept tells in
+    (answer, (came, left.client.cache, comes, told), says, sym (tells_stage mark (settings left) (just_begun request) came left.client.cache answer tells), puts)
+begun_told mark request came r left (Err e) before after comes same some =
+    (inr (came, left.client.cache, comes, ap (λ s. Serving s left.client.cache) (same_settings r left same)), some)
+
+pub begun_none : {H : Type 0} (mark : List ℕ) (request : RequestValue) (r left : ResolverValue H) (result : Result Heard AllocError) (requests : Requests) → IsErr result → left ≡ r
+    → IsGiven mark (Serves mark request (settings r) r.client.cache) (IsBegunOver (settings r) r.client.cache request) result (stage_by left) requests requests
+begun_none mark request r left (Ok heard) requests out same = absurd (let h = out in cc)
+begun_none mark request r left (Err e) requests out same = (inl (ap stage_by same), some_stays mark requests)
+
+pub fed_told : {H : Type 0} (mark : List ℕ) (begun : BegunValue) (w : WaitingCallValue) (outcome : OutcomeValue) (progress : CallProgressValue) (r left : ResolverValue H) (result : Result Heard AllocError) (before after : Requests)
+    → ResumesAt w outcome r progress left → IsTold mark (Tells mark (settings left) begun (Looks progress) left.client.cache) result before after
+    → IsGiven mark (Feeds mark (stage_by r) begun w outcome) (IsFedOut (stage_by r) w outcome) result (stage_by left) before after
+fed_told mark begun w outcome progress r left (Ok heard) before after resumed (answer, tells, says, puts) =
+    let kept = same_settings r left resumed.others_stay in
+    let told : Tells mark (settings r) begun (Looks progress) left.client.cache answer = subst (λ s. Tells mark s begun (Looks progress) left.client.cache answer) kept tells in
+    (answer, (progress, left.client.cache, resumed.resumes, told), says, sym (tells_stage mark (settings left) begun (Looks progress) left.client.cache answer tells), puts)
+fed_told mark begun w outcome progress r left (Err e) before after resumed some =
+    ((progress, left.client.cache, resumed.resumes, ap (λ s. Serving s left.client.cache) (same_settings r left resumed.others_stay)), some)
+
+-- memory ran out
+pub told_out : (mark : List ℕ) (Kind : Answer → Type 0) (result : Result Heard AllocError) (before after : Requests) → IsErr result → after ≡ before → IsTold mark Kind result before after
+told_out mark Kind (Ok heard) before after out same = absurd (let h = out in cc)
+told_out mark Kind (Err e) before after out same = subst (λ x. PutsSome mark before x) (sym same) (some_stays mark before)
+
+-- ---- what a resolver was asked
+
+pub looks_up : {H : Type 0} (text : List ℕ) (t : RecordType) (now : ℕ) (progress : CallProgressValue) (r left : ResolverValue H)
+    → StartsName (λ name. IsReadName text name) t now r progress left
+    → ComesTo (settings r) (Lookup text t now) r.client.cache (Looks progress) left.client.cache × KeepsAllButCache r left
+looks_up text t now progress r left (name, read, starts) = ((name, read, starts.starts), starts.others_stay)
+
+pub looks_up_host : {H : Type 0} (text : List ℕ) (now : ℕ) (progress : CallProgressValue) (r left : ResolverValue H)
+    → StartsHost (λ address. IsReadAddress text address) (λ name. IsReadName text name) now r progress left
+    → ComesTo (settings r) (LookupIp text now) r.client.cache (Looks progress) left.client.cache × KeepsAllButCache r left
+looks_up_host text now progress r left (address, spells, name, read, inl (memory, starts)) = by starts.starts
+  where
+    by : StartsCall (call_context_at (settings r) now) (settings r) (address_call (settings r) address name now) r.client.cache progress left.client.cache ⊎ RunsOutAtStart r.client.cache progress left.client.cache → ComesTo (settings r) (LookupIp text now) r.client.cache (Looks progress) left.client.cache × KeepsAllButCache r left
+    by (inl begins) = ((address, spells, name, read, inl (memory, begins)), starts.others_stay)
+    by (inr out) = ((address, spells, name, read, inr out), starts.others_stay)
+looks_up_host text now progress r left (address, spells, name, read, inr (memory, done, same)) =
+    ((address, spells, name, read, inr (done, ap (λ x. x.client.cache) same)), same ∙ ap (λ x. record r { client = record r.client { cache = x } }) (sym (ap (λ x. x.client.cache) same)))
+
+-- how far the code's call came
+pub told_as : (mark : List ℕ) (s : Settings) (begun : BegunValue) (progress now : CallProgress) (cache : CacheValue) (result : Result Heard AllocError) (before after : Requests) → progress ≡ now
+    → IsTold mark (Tells mark s begun (Looks (call_progress_of now)) cache) result before after → IsTold mark (Tells mark s begun (Looks (call_progress_of progress)) cache) result before after
+told_as mark s begun progress now cache result before after same told = subst (λ p. IsTold mark (Tells mark s begun (Looks (call_progress_of p)) cache) result before after) (sym same) told

@@ -1,0 +1,8 @@
+use Rattle.std.proofs.Common.{◌≡◌, false, rules}
+use Rattle.conversation.specs.State.{begun_of, conversation_of, in_flight_of, requests_of, stage_of}
+use Rattle.conversation.specs.Faults.{is_memory}
+use Rattle.conversation.proofs.Answered.{refused_told}
+use Rattle.conversation.proofs.state.State.refuse.Goals as goal
+
+pub returns : goal.returns
+returns c = let told : is_memory c.args.refusal.now.fault ≡ false = search rules in refused_told (conversation_of c.args.self.now) c.args.mark.now c.args.refusal.now c.told_fault.result told c.told_fault.ensures.text c.told_fault.ensures.journal c.told_fault.ensures.last
