@@ -6,10 +6,15 @@
  *
  * Bytes cross as a pointer and a length; the library reads or writes so many bytes there, keeps no pointer to them, and
  * frees none. No pointer may be null, not even where its length is 0. A length is at most PTRDIFF_MAX. A room overlaps
- * nothing else that the call is given. A moment is in seconds, from whatever start the program takes.
+ * nothing else that the call is given. A moment is in seconds, from whatever start the program takes; it should never go
+ * back, or answers are used for longer than they were received for.
  *
  * A call never ends the program; where memory runs out it says so. The library takes memory by the malloc and realloc of
- * the program. What a session holds is given back when it is closed; all other memory when the call returns.
+ * the program, and gives it back by its free. What a session holds is given back when it is closed; all other memory when
+ * the call returns.
+ *
+ * Names of the cache and of the hosts are hashed without a secret: a stranger who may ask for any name can make a session
+ * slow by names of one hash.
  *
  * Calls may be made from several threads at once, but of one session only one at a time. None may come from a signal
  * handler, or from a child of fork() in a program with threads.
@@ -71,10 +76,10 @@ enum {
     YIMAROTU_NO_RECORDS = 1,    /* a negative answer; its code is NOERROR (0) or NXDOMAIN (3) */
     YIMAROTU_RESPONSE_CODE = 2, /* a response with another code */
     YIMAROTU_TIMED_OUT = 3,     /* the upstream did not answer in time */
-    YIMAROTU_UPSTREAM = 4,      /* the upstream failed otherwise */
+    YIMAROTU_UPSTREAM = 4,      /* the upstream cannot be reached, or failed otherwise */
     YIMAROTU_BAD_NAME = 5,      /* the text is no name */
-    YIMAROTU_NO_OUTCOME = 6,    /* of replays alone */
-    YIMAROTU_BOUNDS = 7,        /* of replays alone */
+    YIMAROTU_NO_OUTCOME = 6,    /* never given */
+    YIMAROTU_BOUNDS = 7,        /* never given */
     YIMAROTU_RAN_OUT = 8        /* no memory was left within the look-up */
 };
 
@@ -114,11 +119,12 @@ typedef struct yimarotu_session {
 
 typedef struct yimarotu_opened {
     uint8_t status;
-    size_t line; /* of the fault of the settings, from 1; 0 where no one line has it */
+    size_t line; /* of the fault of the settings, from 1; 0 where no one line has it, or a line is no setting */
 } yimarotu_opened;
 
-/* Opens a session with these settings, as the lines of a script that set something, over what a file of hosts says, read
- * at this moment. Where the status is not YIMAROTU_OK the session stays as it was. */
+/* Opens a session with these settings, the lines of a script that set something (docs/SCRIPTS.md, "Configuration"), over
+ * what a file of hosts says. What the hosts answer is said to be usable for a day from this moment, however late it is
+ * asked. Where the status is not YIMAROTU_OK the session stays as it was. */
 yimarotu_opened yimarotu_open(yimarotu_session *session, const uint8_t *settings, size_t settings_length,
                               const uint8_t *hosts, size_t hosts_length, uint64_t moment);
 
@@ -134,7 +140,7 @@ typedef struct yimarotu_came {
 } yimarotu_came;
 
 /* Starts a look-up of records of a type (RFC 1035, section 3.2.2) for a name, UTF-8, at this moment, under a number that
- * no other look-up of the session has. Where the status is not YIMAROTU_OK there is no such look-up. */
+ * no other look-up of the session has. Where the status is not YIMAROTU_OK none was started. */
 yimarotu_came yimarotu_start(yimarotu_session *session, uint64_t number, const uint8_t *name, size_t name_length,
                              uint16_t record_type, uint64_t moment);
 
@@ -145,7 +151,7 @@ yimarotu_came yimarotu_start_ip(yimarotu_session *session, uint64_t number, cons
 typedef struct yimarotu_asked {
     uint8_t status;
     uint8_t fault;
-    bool mixed;    /* where the status is YIMAROTU_OK: the settings want the case of the name varied */
+    bool mixed;    /* whether the case of the name is to be varied; no setting wants it so far */
     size_t length; /* of the message: where it was written, and where the room is too small for it; else 0 */
 } yimarotu_asked;
 
@@ -154,9 +160,9 @@ typedef struct yimarotu_asked {
  * the room does. A message takes at most 512 bytes. */
 yimarotu_asked yimarotu_question(yimarotu_session *session, uint64_t number, uint8_t *room, size_t room_length);
 
-/* Goes on with the look-up by a DNS message that came back to its question. That it is the one, by its id, its question
- * and whom it comes from, and is not truncated, is for the program to see. Where the status is YIMAROTU_MESSAGE the
- * look-up waits on as before; where it is YIMAROTU_NO_MEMORY it waits on, or is forgotten. */
+/* Goes on with the look-up by a DNS message that came back to its question. The program sees to it that this is the
+ * response: by its QR bit, its id, its question and whom it comes from; and that it is not truncated. The message is read
+ * first, whether or not there is such a look-up. Where the status is not YIMAROTU_OK nothing changes. */
 yimarotu_came yimarotu_feed(yimarotu_session *session, uint64_t number, const uint8_t *message, size_t message_length);
 
 /* Goes on with the look-up by a failure of its question, by number. */

@@ -38,6 +38,7 @@ fn serve(
             resolver.start_lookup(host, RecordType::A, 100),
         )?;
     }
+    // Each of them sends eight questions at most.
     for _ in 0..24 {
         let Some(last) = waiting.pop() else { break };
         let outcome = answer(alloc, last.question());

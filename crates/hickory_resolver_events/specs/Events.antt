@@ -1,7 +1,7 @@
 -- Events over one resolver. Each is told as what happened to its calls, which have the numbers of their starts, from 0;
 -- what was told happened, one after another, from the resolver's cache and table of hosts on; and from a cache without
 -- entries on each call keeps its promises.
-use Rattle.std.specs.Prelude.{◌≡◌, ◌≢◌, ℕ, List, [], ◌∷◌, ◌++◌, Option, Some, None, Result, Ok, Err, IfOk, get_or, set, string_bytes}
+use Rattle.std.specs.Prelude.{◌≡◌, ◌≢◌, ℕ, List, [], ◌∷◌, ◌++◌, Option, Some, None, Result, Ok, Err, IfOk, IsOkUnless, get_or, set, string_bytes}
 use Rattle.std.specs.declared.net.IpAddr.{IpAddr}
 use Rattle.hickory_proto_core.specs.Handles.{OutcomeValue}
 use Rattle.hickory_proto_core.specs.Name.{NameValue}
@@ -25,7 +25,8 @@ use Rattle.hickory_resolver_events.specs.declared.events.EventReply.TheVariants.
 
 -- what is said of how far a call came: its result, or its question, where there is memory for a copy of it
 abbrev pub TellsProgress : CallProgressValue → EventReply → Type 0
-TellsProgress (CallWaits w) (Waits question) = IfOk question (λ q. q ≡ w.sub.hop.query)
+TellsProgress (CallWaits w) (Waits question) =
+    IfOk question (λ q. q ≡ w.sub.hop.query) × IsOkUnless question OutOfMemory
 TellsProgress (CallIsDone result) (Done told) = told ≡ result
 TellsProgress progress reply = ⊥
 

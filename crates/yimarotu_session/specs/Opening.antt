@@ -1,12 +1,14 @@
 -- How a session is opened.
-use Rattle.std.specs.Prelude.{◌≡◌, ◌⊎◌, ◌&&◌, ◌==◌, ℕ, Bool, false, true, List, [], length, Result, Ok, Err, MatchResult}
+use Rattle.std.specs.Prelude.{◌≡◌, ◌≢◌, ◌⊎◌, ◌&&◌, ◌==◌, ℕ, Bool, false, true, List, [], length, Result, Ok, Err, MatchResult}
 use Rattle.hickory_proto_core.specs.Handles.{OutcomeValue}
 use Rattle.hickory_resolver.specs.Reading.{IsBytesRead}
 use Rattle.hickory_resolver.specs.hosts.hosts_error.HostsError.{HostsError}
+use Rattle.hickory_resolver.specs.hosts.hosts_error.HostsError.TheVariants as hosts_error
 use Rattle.hickory_resolver_config.specs.ResolverConfig.{ResolverConfigValue}
 use Rattle.hickory_resolver_model.specs.Hosts.{Host}
 use Rattle.hickory_resolver_model.specs.Resolver.{ResolverValue, new_resolver}
-use Rattle.replay_script.specs.Script.{IsScript, ScriptValue}
+use Rattle.replay_script.specs.Script.{IsFault, IsScript, ScriptValue}
+use Rattle.replay_script.specs.declared.fault.ScriptFault.TheVariants as script_fault
 use Rattle.yimarotu_session.specs.Sessions.{SessionValue}
 use Rattle.yimarotu_session.specs.declared.opening.OpenError.{OpenError}
 use Rattle.yimarotu_session.specs.declared.opening.OpenError.TheVariants.{Script, NotSettings, Hosts, OutOfMemory}
@@ -28,9 +30,9 @@ pub record AreSettings (settings : List ℕ) (script : ScriptValue) : Type 0 whe
   pub read : IsScript settings (Ok script)
   pub only : only_sets script ≡ true
 
--- the settings are read, or a line has a fault, or does something else
+-- the settings have a fault, or a line does something else; or no memory is left
 abbrev pub IsNoSettings : List ℕ → OpenError → Type 0
-IsNoSettings settings (Script error) = IsScript settings (Err error)
+IsNoSettings settings (Script error) = IsFault settings error × (error.fault ≢ script_fault.OutOfMemory)
 IsNoSettings settings NotSettings =
     (script : ScriptValue) × IsScript settings (Ok script) × (only_sets script ≡ false)
 IsNoSettings settings (Hosts error) = ⊥
@@ -39,11 +41,12 @@ IsNoSettings settings OutOfMemory = Unit {0}
 abbrev pub IsSettingsRead : List ℕ → Result ScriptValue OpenError → Type 0
 IsSettingsRead settings result = MatchResult result (AreSettings settings) (IsNoSettings settings)
 
--- the hosts are read, or a line has a fault
+-- the hosts have a fault; or no memory is left
 abbrev pub IsNoHosts : List ℕ → ℕ → OpenError → Type 0
 IsNoHosts hosts now (Script error) = ⊥
 IsNoHosts hosts now NotSettings = ⊥
-IsNoHosts hosts now (Hosts error) = (table : List Host) × IsBytesRead now hosts [] (Err error) table
+IsNoHosts hosts now (Hosts error) =
+    (error ≢ hosts_error.OutOfMemory) × ((table : List Host) × IsBytesRead now hosts [] (Err error) table)
 IsNoHosts hosts now OutOfMemory = Unit {0}
 
 abbrev pub IsHostsRead : List ℕ → ℕ → Result (List Host) OpenError → Type 0

@@ -1,5 +1,5 @@
 //! How a session is opened.
-ghost use Rattle.std.specs.Prelude.{◌≡◌, ◌⊎◌, IfOk, IsOkUnless, None};
+ghost use Rattle.std.specs.Prelude.{◌≡◌, ◌≢◌, IfOk, IsOkUnless, None};
 ghost use Rattle.hickory_resolver_model.specs.Bounds.{bounds_fault};
 ghost use Rattle.hickory_resolver_model.specs.Options.{bounds_of};
 ghost use Rattle.yimarotu_session.specs.Opening.{IsHostsRead, IsMade, IsMadeOver, IsSettingsRead, only_sets, resolver_over};
@@ -76,7 +76,8 @@ fn only_sets(script: &Script) -> bool
 
 // A fault of the settings.
 fn settings_error(error: ScriptError) -> OpenError
-    ensures { (result ≡ OpenError.Script error) ⊎ (result ≡ OpenError.OutOfMemory) }
+    ensures memory { error.fault ≡ ScriptFault.OutOfMemory → result ≡ OpenError.OutOfMemory }
+    ensures fault { error.fault ≢ ScriptFault.OutOfMemory → result ≡ OpenError.Script error }
 {
     match error.fault {
         ScriptFault::OutOfMemory => OpenError::OutOfMemory,

@@ -1,6 +1,7 @@
 """Yimarotu, a stub resolver's core, for Python: the calls of yimarotu.h, over ctypes.
 
-Messages are bytes (RFC 1035, section 4.1), texts are str or bytes, and moments are seconds."""
+Messages are bytes (RFC 1035, section 4.1), texts are str or bytes, and moments are seconds. Threads may share a session:
+calls are made one at a time, under the interpreter's lock. A number that does not fit raises OverflowError."""
 import ctypes
 import os
 from collections import namedtuple
@@ -66,7 +67,7 @@ _CALLS = {
 
 def _load():
     here = os.path.dirname(os.path.abspath(__file__))
-    library = ctypes.CDLL(os.environ.get("YIMAROTU", os.path.join(here, "..", "..", "out", "libyimarotu.so")))
+    library = ctypes.PyDLL(os.environ.get("YIMAROTU", os.path.join(here, "..", "..", "out", "libyimarotu.so")))
     for name, (result, words) in _CALLS.items():
         call = getattr(library, "yimarotu_" + name)
         call.restype, call.argtypes = result, words
@@ -74,6 +75,13 @@ def _load():
 
 
 _library = _load()
+
+
+def _call(name, *words):
+    for word, kind in zip(words, _CALLS[name][1]):
+        if isinstance(word, int) and not 0 <= word < 1 << 8 * ctypes.sizeof(kind):
+            raise OverflowError(f"{word} does not fit")
+    return getattr(_library, "yimarotu_" + name)(*words)
 
 
 def _octets(text):
@@ -98,14 +106,13 @@ def _in_room(call, size):
 
 def rewrite(message, limit=65535):
     """A message that is read and written again, in at most so many bytes."""
-    call = _library.yimarotu_rewrite
-    return _in_room(lambda *room: call(message, len(message), limit, *room), max(1, min(limit, 4096)))[1]
+    size = max(1, min(limit, 4096))
+    return _in_room(lambda *room: _call("rewrite", message, len(message), limit, *room), size)[1]
 
 
 def replay(script, hosts=b"", room=1 << 16):
     """The text of a replay of a script, over what a file of hosts says: all of them bytes."""
-    call = _library.yimarotu_replay
-    return _in_room(lambda *given: call(script, len(script), hosts, len(hosts), *given), room)[1]
+    return _in_room(lambda *given: _call("replay", script, len(script), hosts, len(hosts), *given), room)[1]
 
 
 class Session:
@@ -119,7 +126,7 @@ class Session:
         _told(self._call("open", settings, len(settings), hosts, len(hosts), moment))
 
     def _call(self, name, *words):
-        return getattr(_library, "yimarotu_" + name)(ctypes.byref(self._session), *words)
+        return _call(name, ctypes.byref(self._session), *words)
 
     def start(self, number, name, record_type, moment):
         """Starts a look-up of records of a type, under a number that is free. Tells whether it waits."""
