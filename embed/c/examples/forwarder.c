@@ -9,6 +9,7 @@
 #include <string.h>
 #include <sys/epoll.h>
 #include <sys/random.h>
+#include <sys/resource.h>
 #include <sys/socket.h>
 #include <time.h>
 #include <unistd.h>
@@ -66,7 +67,15 @@ static int watch(int change, int fd, uint32_t events, enum kind kind, size_t pla
     return epoll_ctl(epoll, change, fd, &event) == 0;
 }
 
-static void flush(struct connection *connection);
+static void flush(struct connection *connection) {
+    const uint8_t *rest = connection->output + connection->sent;
+    ssize_t sent = send(connection->fd, rest, connection->length - connection->sent, MSG_NOSIGNAL);
+    if (sent > 0) connection->sent += sent, connection->until = milliseconds() + IDLE;
+    int is_empty = connection->sent == connection->length;
+    if (is_empty) connection->sent = connection->length = 0;
+    uint32_t events = is_empty ? EPOLLIN : EPOLLIN | EPOLLOUT;
+    watch(EPOLL_CTL_MOD, connection->fd, events, CONNECTION, connection - connections, connection->generation);
+}
 
 /* Sends what is in the room to a client. */
 static void send_reply(const struct waiter *waiter, size_t length) {
@@ -260,16 +269,6 @@ static void close_connection(struct connection *connection) {
     connection->fd = -1, connection->output = NULL, connection->got = connection->length = connection->sent = 0;
 }
 
-static void flush(struct connection *connection) {
-    const uint8_t *rest = connection->output + connection->sent;
-    ssize_t sent = send(connection->fd, rest, connection->length - connection->sent, MSG_NOSIGNAL);
-    if (sent > 0) connection->sent += sent, connection->until = milliseconds() + IDLE;
-    int is_empty = connection->sent == connection->length;
-    if (is_empty) connection->sent = connection->length = 0;
-    uint32_t events = is_empty ? EPOLLIN : EPOLLIN | EPOLLOUT;
-    watch(EPOLL_CTL_MOD, connection->fd, events, CONNECTION, connection - connections, connection->generation);
-}
-
 static void on_streams(void) {
     int fd = accept4(streams, NULL, NULL, SOCK_NONBLOCK | SOCK_CLOEXEC), place = 0;
     if (fd < 0) return;
@@ -363,6 +362,12 @@ static int listen_at(const struct addrinfo *at) {
         && watch(EPOLL_CTL_ADD, streams, EPOLLIN, STREAMS, 0, 0);
 }
 
+/* Each question has a socket, so that many wait at once where there may be many files. */
+static void open_many(void) {
+    struct rlimit files;
+    if (getrlimit(RLIMIT_NOFILE, &files) == 0) files.rlim_cur = files.rlim_max, setrlimit(RLIMIT_NOFILE, &files);
+}
+
 /* Gives back what is held, so that a search for leaks finds none. */
 static void close_all(struct addrinfo *at) {
     for (struct lookup *lookup = lookups; lookup < lookups + LOOKUPS; lookup++)
@@ -381,7 +386,7 @@ int main(int count, char **words) {
     struct addrinfo *at = address_of(words[1], words[2]);
     server = address_of(words[3], words[4]);
     if (at == NULL || server == NULL) return fputs("no address, or no port\n", stderr), 2;
-    sigaction(SIGINT, &action, NULL), sigaction(SIGTERM, &action, NULL);
+    open_many(), sigaction(SIGINT, &action, NULL), sigaction(SIGTERM, &action, NULL);
     for (int place = 0; place < CONNECTIONS; place++) connections[place].fd = -1;
     for (int place = 0; place < LOOKUPS; place++) lookups[place].fd = -1;
     uint64_t now = milliseconds() / 1000;
