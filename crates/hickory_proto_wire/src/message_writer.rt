@@ -18,6 +18,11 @@ use crate::to_wire_error::ToWireError;
 use crate::wire_message::WireMessage;
 use std::alloc::{AllocError, Global};
 
+// The memory that is taken at first for the octets behind the header, and for places: most messages need no more.
+const OCTETS: usize = 512;
+
+const PLACES: usize = 16;
+
 // The weight of a bit that is set.
 fn weighed(set: bool, weight: u16) -> u16
     ensures { result ≡ weighed set weight }
@@ -138,6 +143,16 @@ fn opt_len(edns: &Option<Edns>, code: u16) -> usize
     }
 }
 
+// How many octets the header and OPT take.
+fn room_around(source: &WireMessage) -> usize
+    requires { opt_fault source.now.edns ≡ None }
+    ensures octets { result ≡ 12 + length (opt_octets source.now.edns
+        (response_code source.now.message.metadata.response_code)) }
+    ensures small { result ≤ 65558 }
+{
+    HEADER + opt_len(&source.edns, source.message.metadata.response_code.code())
+}
+
 // Header, body and OPT, one behind the other.
 fn assembled(
     alloc: Global,
@@ -151,23 +166,13 @@ fn assembled(
         ++ (body.now ++ opt_octets source.now.edns (response_code source.now.message.metadata.response_code))) }
     ensures range { OnOk result (AreInRange source.now.edns) }
 {
-    let mut out = Vec::new(alloc);
+    let mut out = Vec::with_capacity(alloc, room_around(source) + body.len())?;
     put_start(&mut out, source, kept)?;
     put_counts(&mut out, source, kept)?;
     out.extend_from_slice(body)?;
     let code = source.message.metadata.response_code.code();
     put_edns(&mut out, &source.edns, code)?;
     Ok(out)
-}
-
-// How many octets the header and OPT take.
-fn room_around(source: &WireMessage) -> usize
-    requires { opt_fault source.now.edns ≡ None }
-    ensures octets { result ≡ 12 + length (opt_octets source.now.edns
-        (response_code source.now.message.metadata.response_code)) }
-    ensures small { result ≤ 65558 }
-{
-    HEADER + opt_len(&source.edns, source.message.metadata.response_code.code())
 }
 
 // The octets of a message, so many at most.
@@ -181,8 +186,8 @@ pub(crate) fn octets_within(
     ensures unique { IfOk result (λ v. (other : List ℕ) → IsWritten source.now limit other → other ≡ v.items) }
 {
     check_message(source)?;
-    let mut body = Vec::new(alloc);
-    let mut places = Vec::new(alloc);
+    let mut body = Vec::with_capacity(alloc, OCTETS)?;
+    let mut places = Vec::with_capacity(alloc, PLACES)?;
     let queries = queries_of(source);
     add_queries(&mut body, &mut places, queries)?;
     let around = room_around(source);

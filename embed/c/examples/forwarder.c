@@ -1,5 +1,5 @@
 /* A caching forwarder of DNS, by UDP and TCP: forwarder ADDRESS PORT SERVER PORT. Says "forwarding on ADDRESS:PORT" on
- * standard error once it listens, and ends by SIGINT or SIGTERM. Clients that ask for the same at once share a question. */
+ * standard error once it listens, and ends by SIGINT or SIGTERM. Clients that ask the same at once share a question. */
 #define _GNU_SOURCE
 #include <errno.h>
 #include <netdb.h>
@@ -9,16 +9,15 @@
 #include <string.h>
 #include <sys/epoll.h>
 #include <sys/random.h>
+#include <sys/resource.h>
 #include <sys/socket.h>
 #include <time.h>
 #include <unistd.h>
 
-#include "replies.h"
-#include "yimarotu.h"
+#include "queries.h"
 
-enum { QUERY = 4096, OUTPUT = 1 << 20, LOOKUPS = 2048, BUCKETS = 1024, CONNECTIONS = 200, TURNS = 64, TRIES = 2 };
+enum { OUTPUT = 1 << 20, LOOKUPS = 2048, BUCKETS = 1024, CONNECTIONS = 200, TURNS = 64, TRIES = 2, WAITING = 1 << 20 };
 enum { TIMEOUT = 1500, IDLE = 10000, TICK = 100 }; /* milliseconds */
-enum { FINE = -1, DROPPED = -2 };
 enum kind { DATAGRAMS, STREAMS, UPSTREAM, CONNECTION };
 
 struct waiter { /* a client that waits for a reply */
@@ -27,9 +26,7 @@ struct waiter { /* a client that waits for a reply */
     uint32_t generation;           /* of the connection */
     struct sockaddr_storage peer;
     socklen_t peer_length;
-    uint8_t query[HEADER + 260]; /* header and question */
-    size_t length, limit;
-    int has_opt;
+    struct query query;
 };
 
 struct lookup {
@@ -70,43 +67,37 @@ static int watch(int change, int fd, uint32_t events, enum kind kind, size_t pla
     return epoll_ctl(epoll, change, fd, &event) == 0;
 }
 
-static void flush(struct connection *connection);
+static void flush(struct connection *connection) {
+    const uint8_t *rest = connection->output + connection->sent;
+    ssize_t sent = send(connection->fd, rest, connection->length - connection->sent, MSG_NOSIGNAL);
+    if (sent > 0) connection->sent += sent, connection->until = milliseconds() + IDLE;
+    int is_empty = connection->sent == connection->length;
+    if (is_empty) connection->sent = connection->length = 0;
+    uint32_t events = is_empty ? EPOLLIN : EPOLLIN | EPOLLOUT;
+    watch(EPOLL_CTL_MOD, connection->fd, events, CONNECTION, connection - connections, connection->generation);
+}
 
-static void send_reply(const struct waiter *waiter, const uint8_t *bytes, size_t length) {
+/* Sends what is in the room to a client. */
+static void send_reply(const struct waiter *waiter, size_t length) {
     struct connection *connection = waiter->connection;
+    if (length == 0) return;
     if (connection == NULL) {
-        sendto(datagrams, bytes, length, 0, (const struct sockaddr *)&waiter->peer, waiter->peer_length);
+        sendto(datagrams, room, length, 0, (const struct sockaddr *)&waiter->peer, waiter->peer_length);
     } else if (connection->fd >= 0 && connection->generation == waiter->generation) {
         uint8_t *output = realloc(connection->output, connection->length + 2 + length);
         if (output == NULL) return;
         put_number_at(output + connection->length, length);
-        memcpy(output + connection->length + 2, bytes, length);
+        memcpy(output + connection->length + 2, room, length);
         connection->output = output, connection->length += 2 + length;
         flush(connection);
     }
 }
 
-/* Answers a client by a response code alone, or by the records of a message, which live for so long at most. */
-static void reply(const struct waiter *waiter, unsigned code, const uint8_t *message, uint32_t most) {
-    make_reply(waiter->query, waiter->length, code, message, most);
-    if (waiter->has_opt) put_opt(code);
-    yimarotu_written written = yimarotu_rewrite(plain, plain_length, waiter->limit, room, sizeof room);
-    if (written.status == YIMAROTU_OK) send_reply(waiter, room, written.length);
-}
-
-/* Answers a client by the records that were found: mostly by their message as it is. */
-static void reply_found(const struct waiter *waiter, unsigned code, const uint8_t *message, size_t length) {
-    int is_copied = copy_reply(waiter->query, waiter->length, code, message, length);
-    if (is_copied && waiter->has_opt) put_opt(code);
-    if (is_copied && plain_length <= waiter->limit) send_reply(waiter, plain, plain_length);
-    else reply(waiter, code, message, UINT32_MAX);
-}
-
 /* ---- look-ups */
 
-static struct lookup **bucket_of(const uint8_t *question, size_t length) {
+static struct lookup **bucket_of(const struct query *query) {
     uint32_t sum = 2166136261u;
-    for (size_t at = 0; at < length; at++) sum = (sum ^ lower(question[at])) * 16777619u;
+    for (size_t at = HEADER; at < query->length; at++) sum = (sum ^ lower(query->bytes[at])) * 16777619u;
     return &buckets[sum % BUCKETS];
 }
 
@@ -116,26 +107,17 @@ static void close_upstream(struct lookup *lookup) {
     lookup->fd = -1, lookup->reply = NULL, lookup->got = 0;
 }
 
-/* Answers a client by what the look-up came to. */
-static void answer(const struct waiter *waiter, const yimarotu_answered *answered, const uint8_t *message) {
-    int has_message = answered->status == YIMAROTU_OK && answered->length > 0;
-    if (!has_message) reply(waiter, SERVFAIL, NULL, 0);
-    else if (answered->error == YIMAROTU_FOUND) reply_found(waiter, answered->code, message, answered->length);
-    /* The SOA record of a negative answer may have lived in the cache for a while. */
-    else reply(waiter, answered->code, message, answered->ttl);
-}
-
 /* Answers all that wait, and forgets the look-up. */
 static void finish(struct lookup *lookup) {
     static uint8_t message[MESSAGE];
     yimarotu_answered answered = yimarotu_answer(&session, lookup->number, MESSAGE, message, sizeof message);
     struct waiter *waiter = lookup->waiters;
-    struct lookup **link = bucket_of(waiter->query + HEADER, waiter->length - HEADER);
+    struct lookup **link = bucket_of(&waiter->query);
     while (*link != lookup) link = &(*link)->next;
     *link = lookup->next;
     while (waiter != NULL) {
         struct waiter *next = waiter->next;
-        answer(waiter, &answered, message);
+        send_reply(waiter, write_answer(&waiter->query, answered, message, room));
         free(waiter);
         waiter = next;
     }
@@ -152,7 +134,8 @@ static int open_upstream(struct lookup *lookup, int by_stream) {
     lookup->generation++, lookup->by_stream = by_stream, lookup->until = milliseconds() + TIMEOUT;
     if (connect(lookup->fd, server->ai_addr, server->ai_addrlen) != 0 && errno != EINPROGRESS) return 0;
     if (by_stream && (lookup->reply = malloc(2 + MESSAGE)) == NULL) return 0;
-    return watch(EPOLL_CTL_ADD, lookup->fd, by_stream ? EPOLLOUT : EPOLLIN, UPSTREAM, lookup - lookups, lookup->generation);
+    uint32_t events = by_stream ? EPOLLOUT : EPOLLIN;
+    return watch(EPOLL_CTL_ADD, lookup->fd, events, UPSTREAM, lookup - lookups, lookup->generation);
 }
 
 /* Sends the question by UDP, with an id that nobody can guess. */
@@ -238,52 +221,23 @@ static struct lookup *free_lookup(void) {
 
 static void start(struct waiter *waiter) {
     char text[4 * 256];
-    size_t length = waiter->length - HEADER;
-    struct lookup **bucket = bucket_of(waiter->query + HEADER, length), *lookup;
+    const struct query *query = &waiter->query;
+    struct lookup **bucket = bucket_of(query), *lookup;
     for (lookup = *bucket; lookup != NULL; lookup = lookup->next) {
         struct waiter *first = lookup->waiters;
-        if (first->length != waiter->length || !is_same(first->query + HEADER, waiter->query + HEADER, length)) continue;
+        if (!asks_the_same(&first->query, query)) continue;
         waiter->next = first->next, first->next = waiter;
         return;
     }
     if ((lookup = free_lookup()) == NULL) {
-        reply(waiter, SERVFAIL, NULL, 0);
+        send_reply(waiter, write_reply(query, SERVFAIL, NULL, 0, room));
         return free(waiter);
     }
     lookup->number = (uint64_t)++lookup->generation << 32 | ((lookup - lookups) + 1), lookup->fd = -1;
     lookup->next = *bucket, *bucket = lookup, lookup->waiters = waiter;
-    size_t text_length = name_text(waiter->query + HEADER, text);
-    unsigned type = number_at(waiter->query + waiter->length - 4);
+    size_t text_length = name_text(query->bytes + HEADER, text);
+    unsigned type = number_at(query->bytes + query->length - 4);
     go_on(lookup, yimarotu_start(&session, lookup->number, (uint8_t *)text, text_length, type, milliseconds() / 1000));
-}
-
-/* What OPT says, which the library writes last: how much the client takes by UDP, and whether it is of version 0. */
-static int read_opt(struct waiter *waiter, const uint8_t *query, size_t length) {
-    const uint8_t *opt = NULL;
-    for (size_t at = behind_questions(query); at < length;) opt = record_at(query, at, &at);
-    if (opt == NULL || number_at(opt) != OPT) return 1;
-    size_t size = number_at(opt + 2);
-    if (waiter->connection == NULL) waiter->limit = size < 512 ? 512 : size > QUERY ? QUERY : size;
-    waiter->has_opt = 1;
-    return opt[5] == 0;
-}
-
-/* Takes a query: the response code to refuse it with, or FINE, or DROPPED. */
-static int read_query(struct waiter *waiter, const uint8_t *query, size_t length) {
-    waiter->limit = waiter->connection == NULL ? 512 : MESSAGE;
-    if (length < HEADER || query[2] & 0x80) return DROPPED;
-    memcpy(waiter->query, query, waiter->length = HEADER);
-    yimarotu_written written = yimarotu_rewrite(query, length, MESSAGE, room, sizeof room);
-    if (written.status != YIMAROTU_OK) return written.status == YIMAROTU_MESSAGE ? FORMERR : SERVFAIL;
-    int is_current = read_opt(waiter, room, written.length);
-    if (number_at(room + 4) == 1) waiter->length = behind_name(room, HEADER) + 4;
-    memcpy(waiter->query, room, waiter->length);
-    if (room[2] & 0x78) return NOTIMP;
-    if (waiter->length == HEADER) return FORMERR;
-    if (!is_current) return BADVERS;
-    unsigned type = number_at(room + waiter->length - 4);
-    if (number_at(room + waiter->length - 2) != 1) return REFUSED;
-    return type == 0 || type == OPT || (type >= 128 && type < 255) ? NOTIMP : FINE;
 }
 
 /* Takes the query of a client, whose address or connection is in the model. */
@@ -291,9 +245,9 @@ static void on_query(const struct waiter *model, const uint8_t *query, size_t le
     struct waiter *waiter = malloc(sizeof *waiter);
     if (waiter == NULL) return;
     *waiter = *model;
-    int code = read_query(waiter, query, length);
+    int code = read_query(&waiter->query, query, length, waiter->connection != NULL, room);
     if (code == FINE) return start(waiter);
-    if (code != DROPPED) reply(waiter, code, NULL, 0);
+    if (code != DROPPED) send_reply(waiter, write_reply(&waiter->query, code, NULL, 0, room));
     free(waiter);
 }
 
@@ -315,31 +269,22 @@ static void close_connection(struct connection *connection) {
     connection->fd = -1, connection->output = NULL, connection->got = connection->length = connection->sent = 0;
 }
 
-static void flush(struct connection *connection) {
-    const uint8_t *rest = connection->output + connection->sent;
-    ssize_t sent = send(connection->fd, rest, connection->length - connection->sent, MSG_NOSIGNAL);
-    if (sent > 0) connection->sent += sent, connection->until = milliseconds() + IDLE;
-    int is_empty = connection->sent == connection->length;
-    if (is_empty) connection->sent = connection->length = 0;
-    uint32_t events = is_empty ? EPOLLIN : EPOLLIN | EPOLLOUT;
-    watch(EPOLL_CTL_MOD, connection->fd, events, CONNECTION, connection - connections, connection->generation);
-}
-
 static void on_streams(void) {
     int fd = accept4(streams, NULL, NULL, SOCK_NONBLOCK | SOCK_CLOEXEC), place = 0;
     if (fd < 0) return;
     while (place < CONNECTIONS && connections[place].fd >= 0) place++;
-    if (place == CONNECTIONS || !watch(EPOLL_CTL_ADD, fd, EPOLLIN, CONNECTION, place, connections[place].generation + 1)) {
+    struct connection *connection = &connections[place];
+    if (place == CONNECTIONS || !watch(EPOLL_CTL_ADD, fd, EPOLLIN, CONNECTION, place, connection->generation + 1))
         close(fd);
-        return;
-    }
-    connections[place].fd = fd, connections[place].generation++, connections[place].until = milliseconds() + IDLE;
+    else
+        connection->fd = fd, connection->generation++, connection->until = milliseconds() + IDLE;
 }
 
 static void on_connection(struct connection *connection, uint32_t events) {
     if (events & EPOLLOUT) flush(connection);
     if (!(events & (EPOLLIN | EPOLLERR | EPOLLHUP))) return;
-    ssize_t got = recv(connection->fd, connection->query + connection->got, sizeof connection->query - connection->got, 0);
+    size_t left = sizeof connection->query - connection->got;
+    ssize_t got = recv(connection->fd, connection->query + connection->got, left, 0);
     if (got < 0 && errno == EAGAIN) return;
     if (got <= 0 || connection->length > OUTPUT) return close_connection(connection);
     connection->got += got, connection->until = milliseconds() + IDLE;
@@ -403,16 +348,24 @@ static struct addrinfo *address_of(const char *address, const char *port) {
     return getaddrinfo(address, port, &wanted, &found) == 0 ? found : NULL;
 }
 
+/* Where many ask at once, their queries wait in the socket's buffer: what has no place there is lost. */
 static int listen_at(const struct addrinfo *at) {
-    int on = 1;
+    int on = 1, waiting = WAITING;
     epoll = epoll_create1(EPOLL_CLOEXEC);
     datagrams = socket(at->ai_family, SOCK_DGRAM | SOCK_NONBLOCK | SOCK_CLOEXEC, 0);
     streams = socket(at->ai_family, SOCK_STREAM | SOCK_NONBLOCK | SOCK_CLOEXEC, 0);
     return epoll >= 0 && datagrams >= 0 && streams >= 0
         && setsockopt(streams, SOL_SOCKET, SO_REUSEADDR, &on, sizeof on) == 0
+        && setsockopt(datagrams, SOL_SOCKET, SO_RCVBUF, &waiting, sizeof waiting) == 0
         && bind(datagrams, at->ai_addr, at->ai_addrlen) == 0 && bind(streams, at->ai_addr, at->ai_addrlen) == 0
         && listen(streams, CONNECTIONS) == 0 && watch(EPOLL_CTL_ADD, datagrams, EPOLLIN, DATAGRAMS, 0, 0)
         && watch(EPOLL_CTL_ADD, streams, EPOLLIN, STREAMS, 0, 0);
+}
+
+/* Each question has a socket, so that many wait at once where there may be many files. */
+static void open_many(void) {
+    struct rlimit files;
+    if (getrlimit(RLIMIT_NOFILE, &files) == 0) files.rlim_cur = files.rlim_max, setrlimit(RLIMIT_NOFILE, &files);
 }
 
 /* Gives back what is held, so that a search for leaks finds none. */
@@ -433,10 +386,11 @@ int main(int count, char **words) {
     struct addrinfo *at = address_of(words[1], words[2]);
     server = address_of(words[3], words[4]);
     if (at == NULL || server == NULL) return fputs("no address, or no port\n", stderr), 2;
-    sigaction(SIGINT, &action, NULL), sigaction(SIGTERM, &action, NULL);
+    open_many(), sigaction(SIGINT, &action, NULL), sigaction(SIGTERM, &action, NULL);
     for (int place = 0; place < CONNECTIONS; place++) connections[place].fd = -1;
     for (int place = 0; place < LOOKUPS; place++) lookups[place].fd = -1;
-    if (yimarotu_open(&session, settings, sizeof settings - 1, settings, 0, milliseconds() / 1000).status != YIMAROTU_OK)
+    uint64_t now = milliseconds() / 1000;
+    if (yimarotu_open(&session, settings, sizeof settings - 1, settings, 0, now).status != YIMAROTU_OK)
         return fputs("the session was not opened\n", stderr), 3;
     if (!listen_at(at)) return perror("cannot listen"), 4;
     fprintf(stderr, "forwarding on %s:%s\n", words[1], words[2]);

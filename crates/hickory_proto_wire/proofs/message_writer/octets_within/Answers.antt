@@ -21,8 +21,8 @@ pub returns-then-limit-needed-clause-refused : goal.returns-then-limit-needed-cl
 returns-then-limit-needed-clause-refused c = λ other.
     let m = c.args.source.now in
     let start =
-    start_is m c.queries_of-queries.result.now c.new-body.result.items c.new-places.result.items _ c.new-body.ensures.items
-    c.new-places.ensures.items c.queries_of-queries.ensures c.in_ok-add_queries.ensures.added in
+    start_is m c.queries_of-queries.result.now c.in_ok-body.body.items c.in_ok-places.places.items _ c.in_ok-body.ensures.items
+    c.in_ok-places.ensures.items c.queries_of-queries.ensures c.in_ok-add_queries.ensures.added in
     limit_small m c.args.limit c.room_around-around.result c.add_queries.new.body.items c.room_around-around.ensures.octets
     (ap (λ (b : Body). b.octets) start) (omega (arith, c.if-limit-needed.true, ap length c.as_slice.ensures.value))
     c.in_ok-check_message.ensures
@@ -31,8 +31,8 @@ pub returns-clause-refused : goal.returns-clause-refused
 returns-clause-refused c =
     let m = c.args.source.now in
     let start =
-    start_is m c.queries_of-queries.result.now c.new-body.result.items c.new-places.result.items _ c.new-body.ensures.items
-    c.new-places.ensures.items c.queries_of-queries.ensures c.in_ok-add_queries.ensures.added in
+    start_is m c.queries_of-queries.result.now c.in_ok-body.body.items c.in_ok-places.places.items _ c.in_ok-body.ensures.items
+    c.in_ok-places.ensures.items c.queries_of-queries.ensures c.in_ok-add_queries.ensures.added in
     limit_fits m c.args.limit c.room_around-around.result c.add_queries.new.body.items c.room_around-around.ensures.octets
     (ap (λ (b : Body). b.octets) start) (omega (arith, c.if-limit-needed.false, ap length c.as_slice.ensures.value))
     c.in_ok-check_message.ensures
@@ -42,8 +42,8 @@ returns-clause-written c =
     let m = c.args.source.now in
     let opt = opt_octets m.edns (response_code m.message.metadata.response_code) in
     let start =
-    start_is m c.queries_of-queries.result.now c.new-body.result.items c.new-places.result.items _ c.new-body.ensures.items
-    c.new-places.ensures.items c.queries_of-queries.ensures c.in_ok-add_queries.ensures.added in
+    start_is m c.queries_of-queries.result.now c.in_ok-body.body.items c.in_ok-places.places.items _ c.in_ok-body.ensures.items
+    c.in_ok-places.ensures.items c.queries_of-queries.ensures c.in_ok-add_queries.ensures.added in
     is_written m c.args.limit c.room_around-around.result c.in_ok-kept.kept c.add_sections.new.body.items
     c.in_ok-octets.octets.items c.room_around-around.ensures.octets (omega (arith, c.if-limit-needed.false))
     (subst (λ (b : Body). KeepsMost b (records_of m) (c.args.limit - c.room_around-around.result) c.in_ok-kept.kept c.add_sections.new.body.items)
