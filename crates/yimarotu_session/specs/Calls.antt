@@ -1,16 +1,20 @@
 -- What the calls of a session do.
-use Rattle.std.specs.Prelude.{◌≡◌, ℕ, Bool, true, false, List, [], Option, None, Some, Result, Ok, Err, MatchOption, MatchResult}
+use Rattle.std.specs.Prelude.{◌≡◌, ◌≢◌, ℕ, Bool, true, false, List, [], Option, None, Some}
+use Rattle.std.specs.Prelude.{Result, Ok, Err, MatchOption, MatchResult, IsOkUnless, OnErr, OnOk}
 use Rattle.std.specs.Option.{is_some}
 use Rattle.hickory_proto_core.specs.Handles.{OutcomeValue}
+use Rattle.hickory_proto_core.specs.Name.{NameValue}
 use Rattle.hickory_proto_core.specs.NameGiven.{IsReadName, IsReadAddress}
 use Rattle.hickory_proto_core.specs.codes.record_type.RecordType.{RecordType}
 use Rattle.hickory_proto_core.specs.declared.query.Query.{Query}
+use Rattle.hickory_proto_core.specs.names.name_error.NameError.{NameError}
+use Rattle.hickory_proto_core.specs.names.name_error.NameError.TheVariants as name_fault
 use Rattle.hickory_resolver.specs.CallProgress.{call_progress_of}
 use Rattle.hickory_resolver.specs.Starting.{ResumesAt, StartsHost, StartsName}
 use Rattle.hickory_resolver.specs.declared.waiting_call.CallProgress.{CallProgress}
 use Rattle.hickory_resolver.specs.declared.waiting_call.CallProgress.TheVariants.{Waiting, Done}
 use Rattle.hickory_resolver_model.specs.Lookup.{LookupResult}
-use Rattle.hickory_resolver_model.specs.Resolver.{ResolverValue}
+use Rattle.hickory_resolver_model.specs.Resolver.{ResolverValue, after_clear_lookup}
 use Rattle.hickory_resolver_theorems.specs.ResumingCalls.{CallProgressValue}
 use Rattle.yimarotu_session.specs.Sessions.{Lookups, Puts, SessionValue, lookup_at}
 use Rattle.yimarotu_session.specs.declared.session_error.SessionError.{SessionError}
@@ -26,7 +30,9 @@ waits_of (Waiting w) = true
 waits_of (Done found) = false
 
 -- How far a look-up came stands under its number, and it is told whether it waits.
-pub record Stands (Comes : Does) (number : ℕ) (before : SessionValue) (waits : Bool) (after : SessionValue) : Type 0 where
+pub record Stands
+    (Comes : Does) (number : ℕ) (before : SessionValue) (waits : Bool) (after : SessionValue)
+    : Type 0 where
   pub progress : CallProgress
   pub comes : Comes before.resolver (call_progress_of progress) after.resolver
   pub waits_is : waits ≡ waits_of progress
@@ -99,6 +105,14 @@ pub record Cancels (number : ℕ) (before : SessionValue) (was_there : Bool) (af
   pub told : was_there ≡ is_some (lookup_at number before.lookups)
   pub resolver_stays : after.resolver ≡ before.resolver
   pub lookups_are : Puts number None before.lookups after.lookups
+
+-- The cache has nothing for the attempts at a name, of a type, and all else stays: what is no name clears nothing. Or
+-- no memory is left, and nothing changes.
+abbrev pub ClearsName : List ℕ → RecordType → SessionValue → Result (Unit {0}) SessionError → SessionValue → Type 0
+ClearsName name t before result after =
+    OnOk result ((given : Result NameValue NameError) × IsReadName name given × (given ≢ Err name_fault.OutOfMemory)
+    × (after ≡ record before { resolver = after_clear_lookup t given before.resolver }))
+    × OnErr result (after ≡ before) × IsOkUnless result OutOfMemory
 
 -- the cache has no entries, and all else stays
 abbrev pub cleared : SessionValue → SessionValue

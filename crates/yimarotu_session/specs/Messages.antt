@@ -1,5 +1,5 @@
 -- The messages by which questions are sent, and those that tell what a look-up came to.
-use Rattle.std.specs.Prelude.{ℕ, true, false, List, [], ◌∷◌, Option, None, Some, if◌then◌else◌}
+use Rattle.std.specs.Prelude.{ℕ, true, false, List, [], ◌∷◌, map, Option, None, Some, if◌then◌else◌}
 use Rattle.hickory_proto_core.specs.Errors.{NoRecordsValue}
 use Rattle.hickory_proto_core.specs.Messages.{MessageValue, response_metadata}
 use Rattle.hickory_proto_core.specs.Records.{RecordValue}
@@ -8,6 +8,7 @@ use Rattle.hickory_proto_core.specs.declared.dns_request.DnsRequestOptions.{DnsR
 use Rattle.hickory_proto_core.specs.declared.query.Query.{Query}
 use Rattle.hickory_proto_wire.specs.Edns.{EdnsValue}
 use Rattle.hickory_proto_wire.specs.declared.wire_message.WireMessage.{WireMessage}
+use Rattle.hickory_resolver_model.specs.Hosts.{as_fqdn}
 
 -- what EDNS announces
 abbrev pub announced : DnsRequestOptions → Option EdnsValue
@@ -33,7 +34,15 @@ question_message question options = record {
   };
 }
 
--- a message as a response, without OPT
+-- a question, and a record, whose name is absolute
+abbrev pub whole_query : Query → Query
+whole_query q = record q { name = as_fqdn q.name }
+
+abbrev pub whole_record : RecordValue → RecordValue
+whole_record r = record r { name = as_fqdn r.name }
+
+-- A message as a response, without OPT. An address that was looked up comes under a relative name, which no octets
+-- spell: the names that are asked and that own answers are absolute here.
 abbrev pub response_message : MessageValue → WireMessage
 response_message message = record {
   is_response = true;
@@ -41,7 +50,10 @@ response_message message = record {
   authentic_data = false;
   checking_disabled = false;
   edns = None;
-  message = message;
+  message = record message {
+    queries = map whole_query message.queries;
+    answers = map whole_record message.answers;
+  };
 }
 
 -- the records of the authority section of a negative answer: those that it came with, or else its SOA

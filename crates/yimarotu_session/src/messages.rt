@@ -1,7 +1,7 @@
 //! Questions and what look-ups came to, as messages.
-ghost use Rattle.std.specs.Prelude.{◌≡◌, ◌∷◌, [], IfOk};
+ghost use Rattle.std.specs.Prelude.{◌≡◌, ◌∷◌, [], IfOk, map};
 ghost use Rattle.hickory_proto_core.specs.Errors.{items_or_none};
-ghost use Rattle.yimarotu_session.specs.Messages.{announced, negative_message, question_message, records_or, response_message};
+ghost use Rattle.yimarotu_session.specs.Messages.{announced, negative_message, question_message, records_or, response_message, whole_query, whole_record};
 
 use hickory_proto_core::{DnsRequestOptions, Message, NetError, NoRecords, Query, Record};
 use hickory_proto_wire::{Edns, WireMessage};
@@ -43,18 +43,50 @@ fn announced(alloc: Global, options: DnsRequestOptions) -> Option<Edns>
     })
 }
 
-/// The message as a response, without OPT.
+/// The message as a response, without OPT. The names that are asked and that own answers are made absolute, since no
+/// octets spell relative ones: an address that was looked up has such a name.
 pub fn response_message(message: Message) -> WireMessage
     ensures { result ≡ response_message message }
 {
+    let mut whole = message;
+    whole_queries(&mut whole.queries);
+    whole_records(&mut whole.answers);
     WireMessage {
         is_response: true,
         reserved: false,
         authentic_data: false,
         checking_disabled: false,
         edns: None,
-        message,
+        message: whole,
     }
+}
+
+fn whole_queries(queries: &mut Vec<Query>)
+    ensures { queries.new.items ≡ map whole_query queries.old.items }
+{
+    for asked in queries.iter_mut() {
+        whole_query(asked);
+    }
+}
+
+fn whole_query(query: &mut Query)
+    ensures { query.new ≡ whole_query query.old }
+{
+    query.name.set_fqdn(true);
+}
+
+fn whole_records(records: &mut Vec<Record>)
+    ensures { records.new.items ≡ map whole_record records.old.items }
+{
+    for owned in records.iter_mut() {
+        whole_record(owned);
+    }
+}
+
+fn whole_record(owned: &mut Record)
+    ensures { owned.new ≡ whole_record owned.old }
+{
+    owned.name.set_fqdn(true);
 }
 
 /// A negative answer as a message.

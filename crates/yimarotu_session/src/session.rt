@@ -1,7 +1,7 @@
 //! A resolver, and look-ups that wait or are done, each under a number.
 ghost use Rattle.std.specs.Prelude.{◌≡◌, [], Err, IfErr, IfOk, Ok, Some};
 ghost use Rattle.hickory_resolver_model.specs.Options.{request_options_of};
-ghost use Rattle.yimarotu_session.specs.Calls.{BeginsHost, BeginsName, Cancels, Feeds, cleared, found_at, question_at, waits_of};
+ghost use Rattle.yimarotu_session.specs.Calls.{BeginsHost, BeginsName, Cancels, ClearsName, Feeds, cleared, found_at, question_at, waits_of};
 ghost use Rattle.yimarotu_session.specs.Opening.{IsOpened};
 ghost use Rattle.yimarotu_session.specs.Sessions.{Puts};
 
@@ -143,6 +143,17 @@ impl Session {
         ensures { Cancels number self.old result self.new }
     {
         forget(&mut self.lookups, number)
+    }
+
+    /// Drops from the cache what it has for the names that are attempted for this one, of this type. What is no name
+    /// clears nothing, and a refused call changes nothing. The look-ups stay.
+    pub fn clear_name(&mut self, name: &str, record_type: RecordType) -> Result<(), SessionError>
+        ensures { ClearsName name.now record_type self.old result self.new }
+    {
+        match self.resolver.clear_lookup_cache(name, record_type) {
+            Ok(()) => Ok(()),
+            Err(_) => Err(SessionError::OutOfMemory),
+        }
     }
 
     /// Empties the cache. The look-ups stay.
