@@ -6,7 +6,7 @@ use hickory_proto_core::{
 use std::alloc::Global;
 
 /// What words say that came back: `OWNER SECONDS TYPE DATA` is a response with that record, where the data is an
-/// address, or the target of an alias; `memory` is a want of memory, and `timeout` no response in time.
+/// address, or the target of an alias; `memory` is out of memory, and `timeout` no response in time.
 pub fn outcome_of(alloc: Global, words: &[&str]) -> Outcome {
     match words {
         [owner, seconds, _, data] => answer(alloc, owner, seconds.parse().unwrap_or(0), data),
