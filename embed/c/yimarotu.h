@@ -144,7 +144,8 @@ typedef struct yimarotu_came {
 yimarotu_came yimarotu_start(yimarotu_session *session, uint64_t number, const uint8_t *name, size_t name_length,
                              uint16_t record_type, uint64_t moment);
 
-/* The same of the addresses of a host, in the families that the settings say. */
+/* The same of the addresses of a host, in the families that the settings say. A text that is an address is its own
+ * answer: a record under the text as an absolute name, or under the root where it is no name, as with IPv6. */
 yimarotu_came yimarotu_start_ip(yimarotu_session *session, uint64_t number, const uint8_t *host, size_t host_length,
                                 uint64_t moment);
 
@@ -189,6 +190,10 @@ yimarotu_answered yimarotu_answer(yimarotu_session *session, uint64_t number, si
 /* Forgets the look-up of a number, whether it waits or is done, and the number is free. What was kept of its questions
  * stays in the cache. Gives a status. */
 uint8_t yimarotu_cancel(yimarotu_session *session, uint64_t number);
+
+/* Drops from the cache what it has for the names that a look-up of this name, UTF-8, would attempt, of a type; the
+ * look-ups stay. What is no name clears nothing. Where the status is not YIMAROTU_OK nothing changes. Gives a status. */
+uint8_t yimarotu_clear_name(yimarotu_session *session, const uint8_t *name, size_t name_length, uint16_t record_type);
 
 /* Empties the cache; the look-ups stay. Gives a status. */
 uint8_t yimarotu_clear(yimarotu_session *session);

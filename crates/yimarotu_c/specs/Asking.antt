@@ -14,8 +14,8 @@ use Rattle.yimarotu_session.specs.Messages.{question_message}
 use Rattle.yimarotu_session.specs.Sessions.{SessionValue}
 
 -- A call that reads a session, and writes at the front of a room. Of one that is closed it ends so, and the room stays.
-abbrev pub Reads : {A : Type 0} → (SessionValue → List ℕ → List ℕ → A → Type 0) → A → Option SessionValue → List ℕ → A
-    → Option SessionValue → List ℕ → Type 0
+abbrev pub Reads : {A : Type 0} → (SessionValue → List ℕ → List ℕ → A → Type 0) → A → Option SessionValue → List ℕ
+    → A → Option SessionValue → List ℕ → Type 0
 Reads Tells closed session before ended left after =
     (left ≡ session)
     × MatchOption session ((ended ≡ closed) × (after ≡ before)) (λ s. Tells s before after ended)

@@ -15,7 +15,7 @@ use Rattle.yimarotu_c.specs.Statuses.{number_of}
 use Rattle.yimarotu_c.specs.declared.looking_up.YimarotuCame.{YimarotuCame}
 use Rattle.yimarotu_c.specs.declared.status.Status.{Status}
 use Rattle.yimarotu_c.specs.declared.status.Status.TheVariants as status
-use Rattle.yimarotu_session.specs.Calls.{BeginsHost, BeginsName, Cancels, Feeds}
+use Rattle.yimarotu_session.specs.Calls.{BeginsHost, BeginsName, Cancels, ClearsName, Feeds}
 use Rattle.yimarotu_session.specs.Sessions.{SessionValue}
 use Rattle.yimarotu_session.specs.declared.session_error.SessionError.{SessionError}
 use Rattle.yimarotu_session.specs.declared.session_error.SessionError.TheVariants.{OutOfMemory, InUse, NoLookup, Waits, IsDone}
@@ -74,7 +74,9 @@ pub record IsFed (number : ℕ) (bytes : List ℕ) (before : SessionValue) (ende
   pub spelled : message_of bytes ≡ Ok found
   pub fed : Calls (Feeds (Ok found.message) number) before ended after
 
-pub record IsNotFed (bytes : List ℕ) (before : SessionValue) (ended : YimarotuCame) (after : SessionValue) : Type 0 where
+pub record IsNotFed
+    (bytes : List ℕ) (before : SessionValue) (ended : YimarotuCame) (after : SessionValue)
+    : Type 0 where
   pub error : WireError
   pub fault : wire.Fails error (message_of bytes)
   pub told : ended ≡ came_unread error
@@ -92,6 +94,18 @@ Fails number failure before ended after =
 
 abbrev pub cancel_status : Bool → Status
 cancel_status was_there = if was_there then status.Ok else status.NoLookup
+
+abbrev pub clear_status : Result (Unit {0}) SessionError → Status
+clear_status (Ok done) = status.Ok
+clear_status (Err error) = status_of error
+
+-- what the cache has for a name is dropped; where the name is not UTF-8, nothing changes
+abbrev pub ClearedName : List ℕ → ℕ → SessionValue → ℕ → SessionValue → Type 0
+ClearedName name code before ended after =
+    (IsUtf8 name
+    × (result : Result (Unit {0}) SessionError) × ClearsName name (type_of code) before result after
+    × (ended ≡ number_of (clear_status result)))
+    ⊎ (¬ (IsUtf8 name) × (ended ≡ number_of status.Text) × (after ≡ before))
 
 abbrev pub Cancelled : ℕ → SessionValue → ℕ → SessionValue → Type 0
 Cancelled number before ended after =

@@ -1,7 +1,7 @@
 //! Look-ups of a session: they are started, fed and forgotten.
 ghost use Rattle.std.specs.Prelude.{◌≡◌, None, Some};
 ghost use Rattle.yimarotu_c.specs.Failures.{IsFailure};
-ghost use Rattle.yimarotu_c.specs.LookingUp.{Cancelled, Fails, Fed, OnOpen, Started, StartedHost, came_end, came_of, came_unread, cancel_status, status_of};
+ghost use Rattle.yimarotu_c.specs.LookingUp.{Cancelled, ClearedName, Fails, Fed, OnOpen, Started, StartedHost, came_end, came_of, came_unread, cancel_status, clear_status, status_of};
 ghost use Rattle.yimarotu_c.specs.Statuses.{number_of};
 ghost use Rattle.yimarotu_c.specs.declared.status.Status.TheVariants as status;
 ghost use Rattle.yimarotu_session.specs.Calls.{cleared};
@@ -185,6 +185,46 @@ fn cancel_status(was_there: bool) -> Status
         Status::Ok
     } else {
         Status::NoLookup
+    }
+}
+
+/// Drops from the cache what it has for the names that a look-up of this one would attempt, of a type. The look-ups stay.
+#[unsafe(no_mangle)]
+pub extern "C" fn yimarotu_clear_name(
+    alloc: Global,
+    session: &mut YimarotuSession,
+    name: &[u8],
+    record_type: u16,
+) -> u8
+    ensures { OnOpen (ClearedName name.now record_type) (number_of status.Closed) session.old.inside.value result
+        session.new.inside.value }
+{
+    let Some(mut inside) = take(alloc, session) else {
+        return Status::Closed.number();
+    };
+    let ended = clear_name(&mut inside, name, record_type);
+    put(session, inside);
+    ended
+}
+
+fn clear_name(session: &mut Session, name: &[u8], record_type: u16) -> u8
+    ensures { ClearedName name.now record_type session.old result session.new }
+{
+    match str::from_utf8(name) {
+        Ok(name) => {
+            let ended = session.clear_name(name, RecordType::from_code(record_type));
+            clear_status(ended).number()
+        }
+        Err(_) => Status::Text.number(),
+    }
+}
+
+fn clear_status(ended: Result<(), SessionError>) -> Status
+    ensures { result ≡ clear_status ended }
+{
+    match ended {
+        Ok(()) => Status::Ok,
+        Err(error) => status_of(error),
     }
 }
 

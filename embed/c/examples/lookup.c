@@ -111,13 +111,6 @@ static void print_addresses(const uint8_t *message) {
     }
 }
 
-/* Whether a text is an address, which stands for itself. The library would say so, but its record has a relative name, and
- * no message holds one. */
-static int is_address(const char *text) {
-    struct in6_addr address;
-    return inet_pton(AF_INET, text, &address) == 1 || inet_pton(AF_INET6, text, &address) == 1;
-}
-
 /* Looks the host up, prints its addresses, and gives 0; or 1 where it has none, 3 where that could not be learnt. */
 static int look_up(yimarotu_session *session, const char *host, const struct addrinfo *server) {
     static uint8_t message[MESSAGE];
@@ -138,7 +131,6 @@ int main(int count, char **arguments) {
     if (count < 3 || count > 4) return fputs("usage: lookup HOST SERVER [PORT]\n", stderr), 2;
     if (getaddrinfo(arguments[2], count == 4 ? arguments[3] : "53", &wanted, &server) != 0)
         return fputs("the server is no address, or the port no number\n", stderr), 2;
-    if (is_address(arguments[1])) return freeaddrinfo(server), puts(arguments[1]), 0;
     yimarotu_opened opened = yimarotu_open(&session, settings, sizeof settings - 1, settings, 0, (uint64_t)time(NULL));
     int status = opened.status == YIMAROTU_OK ? look_up(&session, arguments[1], server) : 3;
     yimarotu_close(&session);

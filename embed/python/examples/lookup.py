@@ -86,20 +86,10 @@ def addresses(message):
             yield ipaddress.ip_address(message[at - length : at])
 
 
-def is_address(text):
-    """Whether it stands for itself. The library would say so, but its record has a relative name, and no message holds one."""
-    try:
-        return bool(ipaddress.ip_address(text))
-    except ValueError:
-        return False
-
-
 def main():
     if len(sys.argv) != 4:
         sys.exit("usage: lookup.py HOST SERVER PORT")
     host, server, port = sys.argv[1:]
-    if is_address(host):
-        return print(host)
     with yimarotu.Session("option preserve_intermediates false\n", moment=int(time.time())) as session:
         answer = look_up(session, host, (server, int(port)))
     if answer.error != yimarotu.FOUND:

@@ -60,6 +60,7 @@ _CALLS = {
     "fail": (_Came, [*_AT, _U64, _U8]),
     "answer": (_Answered, [*_AT, _U64, _SIZE, *_BYTES]),
     "cancel": (_U8, [*_AT, _U64]),
+    "clear_name": (_U8, [*_AT, *_BYTES, _U16]),
     "clear": (_U8, _AT),
     "replay": (_Replayed, [*_BYTES, *_BYTES, *_BYTES]),
 }
@@ -159,6 +160,11 @@ class Session:
     def cancel(self, number):
         """Forgets a look-up; its number is free."""
         self._status("cancel", number)
+
+    def clear_name(self, name, record_type):
+        """Drops from the cache what it has for a name, of a type."""
+        name = _octets(name)
+        self._status("clear_name", name, len(name), record_type)
 
     def clear(self):
         """Empties the cache."""

@@ -12,10 +12,6 @@ fn main() {
         eprintln!("usage: lookup HOST SERVER PORT");
         std::process::exit(2)
     };
-    // An address stands for itself. The library would say so, but its record has a relative name, and no message holds one.
-    if host.parse::<std::net::IpAddr>().is_ok() {
-        return println!("{host}");
-    }
     let message = look_up(host, &format!("{server}:{port}"));
     for address in message.iter().flat_map(|message| addresses(message)) {
         println!("{address}");

@@ -145,6 +145,7 @@ extern "C" {
     fn yimarotu_fail(session: *mut RawSession, number: u64, failure: u8) -> Came;
     fn yimarotu_answer(session: *mut RawSession, number: u64, limit: usize, room: *mut u8, room_length: usize) -> Answered;
     fn yimarotu_cancel(session: *mut RawSession, number: u64) -> u8;
+    fn yimarotu_clear_name(session: *mut RawSession, name: *const u8, name_length: usize, record_type: u16) -> u8;
     fn yimarotu_clear(session: *mut RawSession) -> u8;
     fn yimarotu_replay(script: *const u8, script_length: usize, hosts: *const u8, hosts_length: usize, room: *mut u8,
                        room_length: usize) -> Replayed;
@@ -268,6 +269,11 @@ impl Session {
     /// Forgets a look-up; its number is free.
     pub fn cancel(&mut self, number: u64) -> Result<(), Status> {
         status(unsafe { yimarotu_cancel(self.raw.get(), number) }, 0, 0)
+    }
+
+    /// Drops from the cache what it has for a name, of a type; the look-ups stay.
+    pub fn clear_name(&mut self, name: &str, record_type: u16) -> Result<(), Status> {
+        status(unsafe { yimarotu_clear_name(self.raw.get(), name.as_ptr(), name.len(), record_type) }, 0, 0)
     }
 
     /// Empties the cache; the look-ups stay.

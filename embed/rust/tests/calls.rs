@@ -59,8 +59,13 @@ fn looks_up_and_keeps() {
     assert_eq!(session.question(8), Err(Status::Done));
     assert_eq!(session.cancel(8), Ok(()));
     assert_eq!(session.cancel(8), Err(Status::NoLookup));
-    assert_eq!(session.clear(), Ok(()));
+    assert_eq!(session.clear_name("www.example.com.", 28), Ok(()));
+    assert_eq!(session.start(8, "www.example.com.", 1, 131), Ok(false));
+    assert_eq!((session.cancel(8), session.clear_name("www.EXAMPLE.com.", 1)), (Ok(()), Ok(())));
     assert_eq!(session.start(8, "www.example.com.", 1, 131), Ok(true));
+    assert_eq!(session.feed(8, &message(0x8180, 1, 0, &address(60))), Ok(false));
+    assert_eq!(session.clear(), Ok(()));
+    assert_eq!(session.start(9, "www.example.com.", 1, 131), Ok(true));
 }
 
 #[test]
@@ -71,6 +76,8 @@ fn goes_on_after_failures() {
     assert_eq!(session.answer(1, 512).unwrap().found, Found::TimedOut);
     assert_eq!(session.start_ip(2, "printer.", 0), Ok(false));
     assert!(session.answer(2, 512).unwrap().message.ends_with(&[192, 0, 2, 9]));
+    assert_eq!(session.start_ip(3, "192.0.2.7", 0), Ok(false));
+    assert!(session.answer(3, 512).unwrap().message.ends_with(&[192, 0, 2, 7]));
     assert_eq!(Session::open("option ndots x\n", b"", 0).err(), Some(Status::Script(1)));
 }
 
