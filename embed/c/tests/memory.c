@@ -51,13 +51,16 @@ void __wrap_free(void *bytes) {
 #define WWW "\3www\7example\3com\0\0\1\0\1"
 #define OPT "\0\0\x29\x04\xd0\0\0\0\0\0\0"
 #define ADDRESS(ttl) "\xc0\x0c\0\1\0\1\0\0\0" ttl "\0\4\xc0\0\2\1"
-#define SOA "\xc0\x10\0\6\0\1\0\0\0\x78\0\x18\xc0\x10\xc0\x10\0\0\0\0\0\0\0\0\0\0\0\0\0\0\0\0\0\0\0\x3c"
+#define SOA "\xc0\x14\0\6\0\1\0\0\0\x78\0\x18\xc0\x14\xc0\x14\0\0\0\0\0\0\0\0\0\0\0\0\0\0\0\0\0\0\0\x3c"
 #define SCRIPT \
     "reply NOERROR www.example.com. A\nanswer www.example.com. 60 IN A 192.0.2.1\nat 100 lookup www.example.com. A\n"
 
 static const char FOUND[] = "\0\0\x81\x80\0\1\0\1\0\0\0\0" WWW ADDRESS("\x3c");
 static const char HIT[] = "\0\0\x81\x80\0\1\0\1\0\0\0\0" WWW ADDRESS("\x1e");
 static const char NO_NAME[] = "\0\0\x81\x83\0\1\0\0\0\1\0\0\7missing\7example\3com\0\0\1\0\1" SOA;
+/* A response that came from no upstream has no flag but QR. */
+static const char LITERAL[] =
+    "\0\0\x80\0\0\1\0\1\0\0\0\0\003192\0010\0012\0011\0\0\1\0\1\xc0\x0c\0\1\0\1\0\1\x51\x80\0\4\xc0\0\2\1";
 static const char ASKED[] = "\0\0\1\0\0\1\0\0\0\0\0\1" WWW OPT;
 static const char TEXT[] =
     "at 100 lookup www.example.com. A\n  sent www.example.com. IN A\n  ok www.example.com. IN A until 160\n"
@@ -151,6 +154,14 @@ static end replay(void) {
     return r.line ? WRONG : written(r.status, r.length, TEXT, sizeof TEXT - 1, 0);
 }
 
+static end start_6(void) { return came(yimarotu_start_ip(&session, 6, BYTES("192.0.2.1"), 100), 6, false); }
+static end answer_6(void) { return answer(6, YIMAROTU_FOUND, 86500, LITERAL, sizeof LITERAL - 1); }
+
+static end clear_name(void) {
+    uint8_t status = yimarotu_clear_name(&session, BYTES("www.example.com."), A);
+    return status == YIMAROTU_OK ? WHOLE : status == YIMAROTU_NO_MEMORY ? NO_MEMORY : WRONG;
+}
+
 static end cancel_5(void) { return yimarotu_cancel(&session, 5) == YIMAROTU_OK ? WHOLE : WRONG; }
 static end clear(void) { return yimarotu_clear(&session) == YIMAROTU_OK ? WHOLE : WRONG; }
 
@@ -177,11 +188,14 @@ static const call CALLS[] = {
     {"yimarotu_answer, a hit", answer_2, 0, NULL, false},
     {"yimarotu_start_ip, a host of the table", start_3, 3, NULL, false},
     {"yimarotu_start, another miss", start_4, 4, NULL, false},
-    {"yimarotu_fail", fail_4, 4, start_4, false},
+    {"yimarotu_fail", fail_4, 4, start_4, true},
     {"yimarotu_answer, a failure", answer_4, 0, NULL, true},
     {"yimarotu_start, a name that is missing", start_5, 5, NULL, false},
     {"yimarotu_feed, no such name", feed_5, 5, start_5, false},
     {"yimarotu_answer, no such name", answer_5, 0, NULL, false},
+    {"yimarotu_start_ip, an address", start_6, 6, NULL, false},
+    {"yimarotu_answer, an address", answer_6, 0, NULL, false},
+    {"yimarotu_clear_name", clear_name, 0, NULL, false},
     {"yimarotu_rewrite", rewrite, 0, NULL, false},
     {"yimarotu_replay", replay, 0, NULL, false},
     {"yimarotu_cancel", cancel_5, 0, NULL, true},
