@@ -41,6 +41,13 @@ map_through : {X Y Z : Type 0} (f : X → Y) (g : Y → Z) (o : Option X) → op
 map_through f g None = refl
 map_through f g (Some x) = refl
 
+pub reply_found : (mark : List ℕ) (es : List (String Global × InFlight)) (found : Option InFlight) → found ≡ lookup (λ k. bytes_eq mark (string_bytes k)) es
+    → option_map (λ r. is_some r.reply) found ≡ option_map (λ r. is_some r.reply) (request_at mark (requests_of es))
+reply_found mark es found is =
+    let has : InFlightValue → Bool = λ r. is_some r.reply in
+    ap (λ (o : Option InFlight). option_map (λ r. is_some r.reply) o) is
+    ∙ map_through in_flight_of has (lookup (λ k. bytes_eq mark (string_bytes k)) es) ∙ ap (option_map has) (sym (request_found mark es))
+
 -- what was taken out
 pub found_taken : (mark : List ℕ) (es : List (String Global × InFlight)) (taken : Option (String Global × InFlight)) → option_map (λ p. p.1) taken ≡ lookup (λ k. bytes_eq mark (string_bytes k)) es → option_map (λ p. in_flight_of p.1) taken ≡ request_at mark (requests_of es)
 found_taken mark es taken value = map_through (λ p. p.1) in_flight_of taken ∙ ap (option_map in_flight_of) value ∙ sym (request_found mark es)
@@ -51,6 +58,9 @@ is_some_map f (Some x) = refl
 
 pub some_through : (es : List (String Global × InFlight)) (mark : List ℕ) → is_some (option_map in_flight_of (lookup (λ k. bytes_eq mark (string_bytes k)) es)) ≡ is_some (lookup (λ k. bytes_eq mark (string_bytes k)) es)
 some_through es mark = is_some_map in_flight_of (lookup (λ k. bytes_eq mark (string_bytes k)) es)
+
+pub is_held : (mark : List ℕ) (es : List (String Global × InFlight)) (found : Bool) → found ≡ is_some (lookup (λ k. bytes_eq mark (string_bytes k)) es) → is_some (request_at mark (requests_of es)) ≡ found
+is_held mark es found is = ap is_some (request_found mark es) ∙ some_through es mark ∙ sym is
 
 -- ---- what stands under marks
 

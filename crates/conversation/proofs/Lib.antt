@@ -1,5 +1,9 @@
 pub mod Held
 pub mod Answered
+pub mod Settings
+pub mod Beginnings
+pub mod Outcomes
+pub mod Hearings
 pub mod Told
 pub mod Asked
 pub mod JournalTexts
@@ -13,3 +17,4 @@ pub mod JournalCalls
 pub mod JournalStands
 pub mod JournalSteps
 pub mod Journal
+pub mod HearAll

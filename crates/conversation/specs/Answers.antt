@@ -4,6 +4,7 @@ use Rattle.std.specs.Option.{is_some, option_map}
 use Rattle.std.specs.List.{list_all}
 use Rattle.hickory_proto_core.specs.Handles.{OutcomeValue}
 use Rattle.hickory_proto_core.specs.Name.{NameValue}
+use Rattle.hickory_proto_core.specs.Records.{RecordValue}
 use Rattle.hickory_proto_core.specs.ResponseKind.{is_empty}
 use Rattle.hickory_proto_core.specs.NameGiven.{IsReadName, IsReadAddress}
 use Rattle.hickory_proto_core.specs.names.name_error.NameError.{NameError}
@@ -29,6 +30,8 @@ use Rattle.replay_script.specs.ReplyLine.{opened_response}
 use Rattle.replay_script.specs.declared.fault.ScriptFault.TheVariants as script
 use Rattle.replay_script.specs.declared.line.Line.{Line}
 use Rattle.replay_script.specs.declared.line.Line.TheVariants as line
+use Rattle.replay_script.specs.declared.fail_line.FailureKind.{FailureKind}
+use Rattle.replay_script.specs.declared.record_line.Section.{Section}
 use Rattle.replay_script.specs.declared.reply_line.ReplyHead.{ReplyHead}
 use Rattle.replay_script.specs.declared.script.OpenReply.{OpenReply}
 use Rattle.conversation.specs.Faults.{RefusalValue, hosts_fault, of_line, unknown}
@@ -104,8 +107,8 @@ ends c mark behind =
 abbrev pub config_of : ConfigurationValue → ResolverConfigValue
 config_of c = record { domain = c.domain; search = c.search; name_servers = [] }
 
--- the settings of a resolver and its cache, at the moment of a request: at the first one it is new, over a table that is
--- read then; bounds on times to live that are reversed, or hosts that cannot be read, are a fault
+-- the settings of a resolver and its cache, at the moment of a request: at the first one it is new, over a table that
+-- is read then; bounds on times to live that are reversed, or hosts that cannot be read, are a fault
 abbrev pub AreHosts : ConfigurationValue → Result (Unit {0}) HostsError → List Host
     → Result (Settings × CacheValue) ConversationFault → Type 0
 AreHosts configuration (Ok done) table result =
@@ -223,40 +226,56 @@ abbrev pub FeedsReply : List ℕ → Stage → InFlightValue → Answer → Type
 FeedsReply mark stage r answer =
     (reply : OpenReply) × (r.reply ≡ Some reply) × Feeds mark stage r.begun r.waiting (Ok reply.message) answer
 
+abbrev pub EndsReply : ConversationValue → List ℕ → InFlightValue → List (List ℕ) → Answer → Type 0
+EndsReply c mark r behind answer =
+    MatchBool (is_empty behind) (FeedsReply mark c.stage r answer)
+    (answer ≡ refused c mark (of_line (fault.Script script.FieldCount)))
+
 abbrev pub AnswersDone : ConversationValue → List ℕ → InFlightValue → List (List ℕ) → Answer → Type 0
 AnswersDone c mark r behind answer =
-    MatchBool (is_some r.reply)
-    (MatchBool (is_empty behind) (FeedsReply mark c.stage r answer)
-    (answer ≡ refused c mark (of_line (fault.Script script.FieldCount))))
+    MatchBool (is_some r.reply) (EndsReply c mark r behind answer)
     (answer ≡ refused c mark (of_line (fault.Script script.NoReply)))
 
 -- the request is forgotten
+abbrev pub cancelled : ConversationValue → List ℕ → Answer
+cancelled c mark = record (nothing c mark) { text = cancelled_text mark; held = None }
+
 abbrev pub cancels : ConversationValue → List ℕ → List (List ℕ) → Answer
 cancels c mark behind =
-    if is_empty behind then record (nothing c mark) { text = cancelled_text mark; held = None }
-    else refused c mark (of_line (fault.Script script.FieldCount))
+    if is_empty behind then cancelled c mark else refused c mark (of_line (fault.Script script.FieldCount))
 
 -- a request is kept, and nothing is said
 abbrev pub keeps : ConversationValue → List ℕ → InFlightValue → Answer
 keeps c mark r = record (nothing c mark) { held = Some r }
 
--- a reply is opened, gets one more record, or the question fails
-abbrev pub Takes : ConversationValue → List ℕ → InFlightValue → List (List ℕ) → Result Line RefusalValue → Answer
-    → Type 0
-Takes c mark r given (Ok (line.Reply head)) answer =
-    answer ≡ keeps c mark (record {
+-- a reply is opened
+abbrev pub opens : ConversationValue → List ℕ → InFlightValue → List (List ℕ) → ReplyHead → Answer
+opens c mark r given head =
+    keeps c mark (record {
       begun = with_line r.begun given;
       waiting = r.waiting;
       reply = Some (record { query = head.query; message = opened_response head });
     })
-Takes c mark r given (Ok (line.Record section found)) answer =
-    answer ≡ keeps c mark (record {
+
+-- it gets one more record
+abbrev pub adds : ConversationValue → List ℕ → InFlightValue → List (List ℕ) → Section → RecordValue → Answer
+adds c mark r given section found =
+    keeps c mark (record {
       begun = with_line r.begun given;
       waiting = r.waiting;
       reply = option_map (answered section found) r.reply;
     })
-Takes c mark r given (Ok (line.Fail failure)) answer =
-    Feeds mark c.stage (with_line r.begun given) r.waiting (Err (error_of failure.kind)) answer
+
+-- the question fails
+abbrev pub Fails : ConversationValue → List ℕ → InFlightValue → List (List ℕ) → FailureKind → Answer → Type 0
+Fails c mark r given kind answer =
+    Feeds mark c.stage (with_line r.begun given) r.waiting (Err (error_of kind)) answer
+
+abbrev pub Takes : ConversationValue → List ℕ → InFlightValue → List (List ℕ) → Result Line RefusalValue → Answer
+    → Type 0
+Takes c mark r given (Ok (line.Reply head)) answer = answer ≡ opens c mark r given head
+Takes c mark r given (Ok (line.Record section found)) answer = answer ≡ adds c mark r given section found
+Takes c mark r given (Ok (line.Fail failure)) answer = Fails c mark r given failure.kind answer
 Takes c mark r given (Ok other) answer = answer ≡ refused c mark (unknown given)
 Takes c mark r given (Err refusal) answer = answer ≡ refused c mark refusal
 
@@ -268,7 +287,8 @@ AnswersLine c mark r given answer =
 -- an outcome can begin only where no reply is open
 abbrev pub AnswersFirstLine : ConversationValue → List ℕ → InFlightValue → List (List ℕ) → Answer → Type 0
 AnswersFirstLine c mark r given answer =
-    MatchBool (is_some r.reply) (answer ≡ refused c mark (of_line fault.ReplyNotDone)) (AnswersLine c mark r given answer)
+    MatchBool (is_some r.reply) (answer ≡ refused c mark (of_line fault.ReplyNotDone))
+    (AnswersLine c mark r given answer)
 
 -- ---- lines with a mark
 

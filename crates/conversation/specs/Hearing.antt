@@ -93,3 +93,9 @@ AreHeard before (text ∷ texts) (Some answer ∷ answers) after =
 AreHeard before (text ∷ texts) (None ∷ answers) after =
     (mid : ConversationValue) × RunsOut (mark_of text) (counted before) mid × AreHeard mid texts answers after
 AreHeard before _ _ after = ⊥
+
+-- these lines go out, of what lines are answered one after another
+abbrev pub AllSay : List Answer → List Heard → Type 0
+AllSay [] [] = Unit {0}
+AllSay (answer ∷ answers) (heard ∷ heards) = Says answer heard × AllSay answers heards
+AllSay answers heards = ⊥

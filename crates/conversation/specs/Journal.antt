@@ -1,6 +1,6 @@
 -- The journal of a conversation, as a script: what goes out of a conversation with one request at a time is what a
 -- replay of its journal writes, over the hosts that stood.
-use Rattle.std.specs.Prelude.{◌≡◌, ◌≤◌, ◌+◌, ◌||◌, ℕ, false, not, List, [], ◌∷◌, ◌++◌, length, map, drop, codes, Option, None, Some, Result, Ok, MatchBool, MatchOption, if◌then◌else◌}
+use Rattle.std.specs.Prelude.{◌≡◌, ◌≤◌, ◌+◌, ◌||◌, ℕ, false, not, List, [], ◌∷◌, ◌++◌, length, map, drop, codes, string_bytes, Option, None, Some, Result, Ok, MatchBool, MatchOption, if◌then◌else◌}
 use Rattle.std.specs.Ffi.{without_last}
 use Rattle.std.specs.List.{flat_map}
 use Rattle.std.specs.Option.{is_some}
@@ -14,9 +14,10 @@ use Rattle.replay.specs.ScriptRun.{IsReplayed}
 use Rattle.replay_script.specs.Fields.{fields}
 use Rattle.replay_script.specs.Words.{number_field}
 use Rattle.conversation.specs.Answers.{Answer, IsOpened}
-use Rattle.conversation.specs.Hearing.{AreHeard, silent}
+use Rattle.conversation.specs.Hearing.{AllSay, AreHeard, silent}
 use Rattle.conversation.specs.Lines.{mark_of}
 use Rattle.conversation.specs.State.{ConversationValue, InFlightValue, Setting, Serving, Stage}
+use Rattle.conversation.specs.declared.heard.Heard.{Heard}
 
 -- ---- one request at a time
 
@@ -126,3 +127,12 @@ IsScriptOfBlocks hosts texts answers after =
     AreHeard (silent hosts) texts (map (λ answer. Some answer) answers) after → AreInTurn (Idle 0) texts answers
     → CanServe after.stage
     → IsReplayed (journal_of answers) (hosts_stood hosts answers) (blocks_of texts answers)
+
+-- Lines that were heard one after another, each of them answered, and what went out. From silence on, one request at a
+-- time, their blocks are what a replay writes of what the journal got, and of the hosts.
+abbrev pub IsScriptHeard : ConversationValue → List (List ℕ) → List Heard → ConversationValue → Type 0
+IsScriptHeard before texts heards after =
+    (answers : List Answer) × AllSay answers heards × AreHeard before texts (map (λ answer. Some answer) answers) after
+    × ((hosts : List ℕ) → before ≡ silent hosts → AreInTurn (Idle 0) texts answers → CanServe after.stage
+    → IsReplayed (flat_map (λ heard. string_bytes heard.journal) heards) (hosts_stood hosts answers)
+    (blocks_of texts answers))

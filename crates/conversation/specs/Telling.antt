@@ -6,7 +6,7 @@ use Rattle.hickory_proto_core.specs.Handles.{OutcomeValue}
 use Rattle.hickory_resolver.specs.CallProgress.{call_progress_of}
 use Rattle.hickory_resolver_model.specs.Calls.{is_out_of_memory}
 use Rattle.hickory_resolver_model.specs.Lookup.{LookupResult}
-use Rattle.hickory_resolver_model.specs.Resolver.{ResolverValue, settings}
+use Rattle.hickory_resolver_model.specs.Resolver.{ResolverValue, new_resolver, settings}
 use Rattle.hickory_resolver_model.specs.Hosts.{Host}
 use Rattle.hickory_resolver_model.specs.Run.{RequestValue, Settings, first_cache, settings_of}
 use Rattle.hickory_resolver_model.specs.Cache.{CacheValue}
@@ -19,8 +19,8 @@ use Rattle.conversation.specs.Answers as answers
 use Rattle.conversation.specs.Answers.{Answer, Feeds, IsOpened, Serves, config_of, keeps, refused}
 use Rattle.conversation.specs.Faults.{RefusalValue, is_memory, of_line, out_of_memory}
 use Rattle.conversation.specs.Hearing.{IsBegunOver, IsFedOut, IsLeft, Says, Stands}
-use Rattle.conversation.specs.State.{BegunValue, ConversationValue, InFlightValue, Puts, Requests, Serving, Stage, request_at}
-use Rattle.conversation.specs.Texts.{clear_text, looked_up_text}
+use Rattle.conversation.specs.State.{BegunValue, ConversationValue, InFlightValue, Puts, Requests, Serving, Setting, Stage, request_at}
+use Rattle.conversation.specs.Texts.{clear_text, fields_text, looked_up_text}
 use Rattle.conversation.specs.declared.heard.Heard.{Heard}
 use Rattle.conversation.specs.declared.fault.ConversationFault.{ConversationFault}
 use Rattle.conversation.specs.declared.reading.Verb.{Verb}
@@ -77,6 +77,16 @@ abbrev pub IsAskedOr : (Result RequestValue RefusalValue → Type 0) → Result 
 IsAskedOr Asks (Ok request) = Asks (Ok (request_of request))
 IsAskedOr Asks (Err refusal) = Asks (Err refusal) ⊎ (refusal ≡ of_line out_of_memory)
 
+-- before the first request this is set, with these lines of hosts
+abbrev pub set_so : ConversationValue → ConfigurationValue → List ℕ → ConversationValue
+set_so c configuration hosts = record c { stage = Setting configuration hosts }
+
+-- a setting is told to the journal
+pub record IsSettingTold (given : List (List ℕ)) (heard : Heard) : Type 0 where
+  pub text_is : string_bytes heard.text ≡ []
+  pub journal_is : string_bytes heard.journal ≡ fields_text given
+  pub last_is : heard.is_last ≡ false
+
 -- ---- requests in flight
 
 -- whether a reply is open for the request of a mark
@@ -86,6 +96,11 @@ HasReply requests mark has_reply = option_map (λ r. is_some r.reply) (request_a
 -- an answer of a kind that depends on the request of a mark
 abbrev pub OfRequest : ConversationValue → List ℕ → (InFlightValue → Answer → Type 0) → Answer → Type 0
 OfRequest c mark Kind answer = (r : InFlightValue) → request_at mark c.requests ≡ Some r → Kind r answer
+
+-- that answer is given; or memory ran out
+abbrev pub IsForRequest : ConversationValue → List ℕ → (InFlightValue → Answer → Type 0) → Result Heard AllocError
+    → ConversationValue → Type 0
+IsForRequest before mark Kind result after = IsAnswered before mark (OfRequest before mark Kind) result after
 
 -- a verb for a request in flight
 abbrev pub IsOfOutcome : Verb → Type 0
@@ -105,7 +120,8 @@ IsFed before mark begun w outcome (Err error) after =
 
 -- a request is kept under its mark, and nothing is said
 abbrev pub IsKept : ConversationValue → List ℕ → InFlightValue → Result Heard AllocError → ConversationValue → Type 0
-IsKept before mark r (Ok heard) after = Says (keeps before mark r) heard × Stands mark (keeps before mark r) before after
+IsKept before mark r (Ok heard) after =
+    Says (keeps before mark r) heard × Stands mark (keeps before mark r) before after
 IsKept before mark r (Err error) after = after ≡ before
 
 -- ---- a resolver
@@ -114,6 +130,10 @@ abbrev pub stage_by : {H : Type 0} → ResolverValue H → Stage
 stage_by resolver = Serving (settings resolver) resolver.client.cache
 
 -- a new one, of what is configured, over this table of hosts
+abbrev pub resolver_over : ConfigurationValue → List Host → ResolverValue (List OutcomeValue)
+resolver_over configuration hosts =
+    record (new_resolver (config_of configuration) configuration.options []) { hosts = hosts }
+
 abbrev pub stage_over : ConfigurationValue → List Host → Stage
 stage_over configuration hosts =
     let s = settings_of (config_of configuration) configuration.options hosts in Serving s (first_cache s)

@@ -1,4 +1,9 @@
 //! A conversation with a resolver, line by line.
+ghost use Rattle.std.specs.Prelude.{◌≡◌, IfOk};
+ghost use Rattle.replay_script.specs.Words.{texts};
+ghost use Rattle.conversation.specs.Hearing.{IsHeard, silent};
+ghost use Rattle.conversation.specs.Journal.{IsScriptHeard};
+
 use crate::heard::Heard;
 use crate::state::State;
 use std::alloc::{AllocError, Global};
@@ -21,7 +26,9 @@ impl Model for Conversation {
 
 impl Conversation {
     /// A conversation in which nothing was said, over what this file of hosts says. Takes no memory.
-    pub fn new(alloc: Global, hosts: Vec<u8>) -> Conversation {
+    pub fn new(alloc: Global, hosts: Vec<u8>) -> Conversation
+        ensures { result ≡ silent hosts.items }
+    {
         Conversation {
             state: State::new(alloc, hosts),
         }
@@ -29,7 +36,26 @@ impl Conversation {
 
     /// Hears a line, without its end. Where memory runs out there is no answer, and the request of the line's mark is
     /// forgotten; the conversation goes on.
-    pub fn hear(&mut self, line: &[u8]) -> Result<Heard, AllocError> {
+    pub fn hear(&mut self, line: &[u8]) -> Result<Heard, AllocError>
+        ensures { IsHeard self.old line.now result self.new }
+    {
         self.state.hear(line)
+    }
+
+    /// Hears lines, without their ends, one after another, up to the last of the conversation: what each is answered.
+    /// Where memory runs out there is no answer.
+    pub fn hear_all(&mut self, alloc: Global, lines: &[&[u8]]) -> Result<Vec<Heard>, AllocError>
+        ensures { IfOk result (λ heards. IsScriptHeard self.old (texts lines.now) heards.items self.new) }
+    {
+        let mut heards = Vec::new(alloc);
+        for line in lines {
+            let heard = self.hear(line)?;
+            let is_last = heard.is_last;
+            heards.push(heard)?;
+            if is_last {
+                return Ok(heards);
+            }
+        }
+        Ok(heards)
     }
 }

@@ -1,0 +1,150 @@
+-- Lines before the first request: settings and hosts; and the end.
+use Rattle.std.proofs.Common.{◌≡◌, ◌∙◌, ◌⊎◌, ℕ, Bool, true, false, cond, List, [], ◌∷◌, ◌++◌, codes, length, ◌==◌, Option, None, Some, Result, Ok, Err, IfOk, OnErr, OnOk, Bor, string_bytes, refl, sym, ap, subst, append_assoc, inl, inr, ne_eqb, arith}
+use Rattle.std.specs.Option.{is_some}
+use Rattle.std.specs.declared.alloc.AllocError.{AllocError}
+use Rattle.hickory_proto_core.specs.Handles.{OutcomeValue}
+use Rattle.hickory_proto_core.specs.ResponseKind.{is_empty}
+use Rattle.hickory_resolver_model.specs.Cache.{CacheValue}
+use Rattle.hickory_resolver_model.specs.Resolver.{ResolverValue, settings}
+use Rattle.hickory_resolver_model.specs.Run.{Settings}
+use Rattle.replay_script.specs.Configuration.{ConfigurationValue, with_setting}
+use Rattle.replay_script.specs.Words.{texts}
+use Rattle.replay_script.specs.declared.fault.ScriptFault.TheVariants as script
+use Rattle.replay_script.specs.declared.line.Line.{Line}
+use Rattle.replay_script.specs.declared.line.Line.TheVariants as line
+use Rattle.replay_script.specs.declared.setting.Setting as setting
+use Rattle.conversation.specs.Answers.{Answer, AnswersSetting, adds_hosts, cancelled, cancels, ends, nothing, refused, sets, with_hosts}
+use Rattle.conversation.specs.Faults.{RefusalValue, is_memory, of_line, out_of_memory, unknown}
+use Rattle.conversation.specs.Hearing.{Says, Stands}
+use Rattle.conversation.specs.Lines.{IsScriptLine}
+use Rattle.conversation.specs.State.{ConversationValue, Puts, Requests, Setting, Serving, Stage, request_at, stage_of}
+use Rattle.conversation.specs.Telling.{IsAnswered, IsRefused, IsSettingTold, RanOut}
+use Rattle.conversation.specs.Texts.{cancelled_text, fields_text}
+use Rattle.conversation.specs.declared.heard.Heard.{Heard}
+use Rattle.conversation.specs.declared.fault.ConversationFault.TheVariants as fault
+use Rattle.conversation.proofs.Answered.{answered_by, answered_refused, ran_out_here, stays}
+use Rattle.conversation.proofs.Held.{puts_same}
+
+-- ---- choices
+
+pub empty_texts : (fs : List (Bor (List ℕ))) → is_empty (texts fs) ≡ (length fs == 0)
+empty_texts [] = refl
+empty_texts (f ∷ fs) = sym (ne_eqb (length (f ∷ fs)) 0 (λ e. omega arith))
+
+pub when_true : {A : Type 0} (b : Bool) (x y : A) → b ≡ true → x ≡ cond b x y
+when_true true x y e = refl
+when_true false x y e = absurd (let h = e in cc)
+
+pub when_false : {A : Type 0} (b : Bool) (x y : A) → b ≡ false → y ≡ cond b x y
+when_false true x y e = absurd (let h = e in cc)
+when_false false x y e = refl
+
+-- a fault is told, of which it is known what it is for
+pub refused_for : (c : ConversationValue) (mark : List ℕ) (refusal wanted : RefusalValue) (Kind : Answer → Type 0) (result : Result Heard AllocError) → IsRefused c mark refusal result → refusal ≡ wanted → (is_memory wanted.fault ≡ false → Kind (refused c mark wanted)) → IsAnswered c mark Kind result c
+refused_for c mark refusal wanted Kind result is same kind =
+    answered_refused c mark wanted Kind result (subst (λ r. IsRefused c mark r result) same is) kind
+
+-- a line was read
+pub line_read : (has_reply : Bool) (given : List (List ℕ)) (said : Line) → IsScriptLine has_reply given (Ok said) ⊎ (Ok said ≡ Err (of_line out_of_memory)) → IsScriptLine has_reply given (Ok said)
+line_read has_reply given said (inl is) = is
+line_read has_reply given said (inr out) = absurd (let h = out in cc)
+
+abbrev pub wrong : RefusalValue → Result Line RefusalValue
+wrong refusal = Err refusal
+
+-- a line has a fault, which is told
+pub line_wrong : (has_reply : Bool) (given : List (List ℕ)) (refusal : RefusalValue) → IsScriptLine has_reply given (Err refusal) ⊎ (wrong refusal ≡ wrong (of_line out_of_memory)) → is_memory refusal.fault ≡ false → IsScriptLine has_reply given (Err refusal)
+line_wrong has_reply given refusal (inl is) told = is
+line_wrong has_reply given refusal (inr out) told =
+    let same : refusal ≡ of_line out_of_memory = let h = out in cc in
+    absurd (let h : true ≡ false = sym (ap (λ r. is_memory r.fault) same) ∙ told in cc)
+
+-- ---- stages
+
+pub setting_stage : (configuration : ConfigurationValue) (hosts : List ℕ) (r : Option (ResolverValue (List OutcomeValue))) → is_some r ≡ false → stage_of configuration hosts r ≡ Setting configuration hosts
+setting_stage configuration hosts None e = refl
+setting_stage configuration hosts (Some r) e = absurd (let h = e in cc)
+
+pub serving_stage : (configuration : ConfigurationValue) (hosts : List ℕ) (r : Option (ResolverValue (List OutcomeValue))) → is_some r ≡ true → (s : Settings) × (cache : CacheValue) × (stage_of configuration hosts r ≡ Serving s cache)
+serving_stage configuration hosts None e = absurd (let h = e in cc)
+serving_stage configuration hosts (Some r) e = (settings r, r.client.cache, refl)
+
+-- ---- the end
+
+pub ended : (c : ConversationValue) (mark : List ℕ) (given : List (List ℕ)) (heard : Heard) → is_empty given ≡ true → string_bytes heard.text ≡ [] → string_bytes heard.journal ≡ [] → heard.is_last ≡ true
+    → IsAnswered c mark (λ answer. answer ≡ ends c mark given) (Ok heard) c
+ended c mark given heard none text journal last =
+    answered_by c c mark (λ answer. answer ≡ ends c mark given) heard (record (nothing c mark) { is_last = true })
+    (when_true (is_empty given) (record (nothing c mark) { is_last = true }) (refused c mark (of_line (fault.Script script.FieldCount))) none)
+    text journal last (stays c mark (record (nothing c mark) { is_last = true }) refl refl)
+
+pub not_ended : (c : ConversationValue) (mark : List ℕ) (given : List (List ℕ)) → is_empty given ≡ false → refused c mark (of_line (fault.Script script.FieldCount)) ≡ ends c mark given
+not_ended c mark given some = when_false (is_empty given) (record (nothing c mark) { is_last = true }) (refused c mark (of_line (fault.Script script.FieldCount))) some
+
+-- ---- hosts
+
+pub hosts_late : (c : ConversationValue) (mark : List ℕ) (given : List (List ℕ)) (s : Settings) (cache : CacheValue) → c.stage ≡ Serving s cache → refused c mark (of_line fault.SettingAfterRequest) ≡ adds_hosts c mark c.stage given
+hosts_late c mark given s cache e = subst (λ x. refused c mark (of_line fault.SettingAfterRequest) ≡ adds_hosts c mark x given) (sym e) refl
+
+pub hosts_more : (hosts line : List ℕ) (given : List (List ℕ)) → line ≡ codes "\n" ++ fields_text given → hosts ++ line ≡ with_hosts hosts given
+hosts_more hosts line given e = ap (λ l. hosts ++ l) e ∙ sym (append_assoc hosts (codes "\n") (fields_text given))
+
+pub hosts_added : (before after : ConversationValue) (mark : List ℕ) (given : List (List ℕ)) (configuration : ConfigurationValue) (hosts now : List ℕ) (heard : Heard)
+    → before.stage ≡ Setting configuration hosts → after ≡ record before { stage = Setting configuration now } → now ≡ with_hosts hosts given
+    → string_bytes heard.text ≡ [] → string_bytes heard.journal ≡ [] → heard.is_last ≡ false
+    → IsAnswered before mark (λ answer. answer ≡ adds_hosts before mark before.stage given) (Ok heard) after
+hosts_added before after mark given configuration hosts now heard was is added text journal last =
+    answered_by before after mark (λ answer. answer ≡ adds_hosts before mark before.stage given) heard
+    (record (nothing before mark) { stage = Setting configuration (with_hosts hosts given) })
+    (subst (λ x. record (nothing before mark) { stage = Setting configuration (with_hosts hosts given) } ≡ adds_hosts before mark x given) (sym was) refl)
+    text journal last
+    (record {
+      lines_are = ap (λ c. c.lines) is;
+      stage_is = ap (λ c. c.stage) is ∙ ap (λ lines. Setting configuration lines) added;
+      requests_are = subst (λ x. Puts mark (request_at mark before.requests) before.requests x) (sym (ap (λ c. c.requests) is)) (puts_same mark before.requests);
+    })
+
+-- ---- settings
+
+pub setting_late : (c : ConversationValue) (mark : List ℕ) (given : List (List ℕ)) (s : Settings) (cache : CacheValue) → c.stage ≡ Serving s cache → AnswersSetting c mark c.stage given (refused c mark (of_line fault.SettingAfterRequest))
+setting_late c mark given s cache e = subst (λ x. AnswersSetting c mark x given (refused c mark (of_line fault.SettingAfterRequest))) (sym e) refl
+
+-- a line of a setting is read
+pub setting_read : (before after : ConversationValue) (mark : List ℕ) (given : List (List ℕ)) (configuration : ConfigurationValue) (hosts : List ℕ) (said : Result Line RefusalValue) (result : Result Heard AllocError)
+    → before.stage ≡ Setting configuration hosts → IsScriptLine false given said
+    → IsAnswered before mark (λ answer. answer ≡ sets before mark configuration hosts given said) result after
+    → IsAnswered before mark (λ answer. AnswersSetting before mark before.stage given answer) result after
+setting_read before after mark given configuration hosts said (Ok heard) was is (answer, kind, says, stands) =
+    (answer, subst (λ x. AnswersSetting before mark x given answer) (sym was) (said, is, kind), says, stands)
+setting_read before after mark given configuration hosts said (Err e) was is ran = ran
+
+pub setting_wrong : (c : ConversationValue) (mark : List ℕ) (given : List (List ℕ)) (configuration : ConfigurationValue) (hosts : List ℕ) (refusal : RefusalValue)
+    → c.stage ≡ Setting configuration hosts → IsScriptLine false given (Err refusal) → AnswersSetting c mark c.stage given (refused c mark refusal)
+setting_wrong c mark given configuration hosts refusal was is =
+    subst (λ x. AnswersSetting c mark x given (refused c mark refusal)) (sym was) (Err refusal, is, refl)
+
+-- a line that sets nothing
+pub not_set : (c : ConversationValue) (mark : List ℕ) (given : List (List ℕ)) (configuration : ConfigurationValue) (hosts : List ℕ) (said : Line) → ((chosen : setting.Setting) → said ≡ line.Configuration chosen → ⊥)
+    → refused c mark (unknown given) ≡ sets c mark configuration hosts given (Ok said)
+not_set c mark given configuration hosts line.Blank a = refl
+not_set c mark given configuration hosts (line.Configuration chosen) a = absurd (a chosen refl)
+not_set c mark given configuration hosts (line.Reply head) a = refl
+not_set c mark given configuration hosts (line.Record section found) a = refl
+not_set c mark given configuration hosts (line.Fail failure) a = refl
+not_set c mark given configuration hosts (line.Request request) a = refl
+
+pub setting_taken : (before after : ConversationValue) (mark : List ℕ) (given : List (List ℕ)) (configuration : ConfigurationValue) (hosts : List ℕ) (said : Line) (chosen : setting.Setting) (result : Result Heard AllocError)
+    → said ≡ line.Configuration chosen → IfOk result (IsSettingTold given)
+    → OnOk result (after ≡ record before { stage = Setting (with_setting chosen configuration) hosts }) → OnErr result (after ≡ before)
+    → IsAnswered before mark (λ answer. answer ≡ sets before mark configuration hosts given (Ok said)) result after
+setting_taken before after mark given configuration hosts said chosen (Ok heard) is told set same =
+    answered_by before after mark (λ answer. answer ≡ sets before mark configuration hosts given (Ok said)) heard
+    (sets before mark configuration hosts given (Ok (line.Configuration chosen)))
+    (ap (λ x. sets before mark configuration hosts given (Ok x)) (sym is))
+    told.text_is told.journal_is told.last_is
+    (record {
+      lines_are = ap (λ c. c.lines) set;
+      stage_is = ap (λ c. c.stage) set;
+      requests_are = subst (λ x. Puts mark (request_at mark before.requests) before.requests x) (sym (ap (λ c. c.requests) set)) (puts_same mark before.requests);
+    })
+setting_taken before after mark given configuration hosts said chosen (Err e) is told set same = subst (λ x. RanOut mark before x) (sym same) (ran_out_here before mark)

@@ -1,0 +1,45 @@
+use Rattle.std.proofs.Common.{◌≡◌, ◌∙◌, ◌++◌, false, inl, List, ap, refl, string_bytes, sym, ℕ}
+use Rattle.std.specs.Option.{is_some}
+use Rattle.replay_script.specs.Words.{texts}
+use Rattle.conversation.specs.Answers.{adds_hosts}
+use Rattle.conversation.specs.Faults.{of_line}
+use Rattle.conversation.specs.State.{Stage, conversation_of, requests_of, stage_of}
+use Rattle.conversation.specs.Texts.{fields_text}
+use Rattle.conversation.specs.declared.fault.ConversationFault.TheVariants as fault
+use Rattle.conversation.proofs.Answered.{answered_out, out_here}
+use Rattle.conversation.proofs.Held.{some_stays}
+use Rattle.conversation.proofs.Settings.{hosts_added, hosts_late, hosts_more, refused_for, serving_stage, setting_stage}
+use Rattle.conversation.proofs.state.State.add_hosts.Goals as goal
+
+pub returns-then-is_some : goal.returns-then-is_some
+returns-then-is_some c =
+    let s = c.args.self.now in
+    let over = serving_stage s.configuration s.hosts.items s.resolver (sym c.is_some.ensures ∙ c.if-is_some.true) in
+    refused_for (conversation_of s) c.args.mark.now c.of_line.result (of_line fault.SettingAfterRequest) (λ answer. answer ≡ adds_hosts (conversation_of s) c.args.mark.now (conversation_of s).stage (texts c.args.fields.now)) c.refuse.result c.refuse.ensures c.of_line.ensures
+    (λ told. hosts_late (conversation_of s) c.args.mark.now (texts c.args.fields.now) over.0 over.1 over.2)
+
+pub returns-in_err-line : goal.returns-in_err-line
+returns-in_err-line c = out_here (conversation_of c.args.self.now) c.args.mark.now (λ answer. answer ≡ adds_hosts (conversation_of c.args.self.now) c.args.mark.now (conversation_of c.args.self.now).stage (texts c.args.fields.now)) c.from_residual.result c.from_residual.ensures.0
+
+pub returns-in_err-push_fields : goal.returns-in_err-push_fields
+returns-in_err-push_fields c = out_here (conversation_of c.args.self.now) c.args.mark.now (λ answer. answer ≡ adds_hosts (conversation_of c.args.self.now) c.args.mark.now (conversation_of c.args.self.now).stage (texts c.args.fields.now)) c.from_residual-in_err-push_fields.result c.from_residual-in_err-push_fields.ensures.0
+
+pub returns-in_err-extend_from_slice : goal.returns-in_err-extend_from_slice
+returns-in_err-extend_from_slice c =
+    let s = c.args.self.now in
+    answered_out (conversation_of s) (record (conversation_of s) { stage = stage_of s.configuration c.extend_from_slice.new.self.items s.resolver }) c.args.mark.now (λ answer. answer ≡ adds_hosts (conversation_of s) c.args.mark.now (conversation_of s).stage (texts c.args.fields.now)) c.from_residual-in_err-extend_from_slice.result c.from_residual-in_err-extend_from_slice.ensures.0
+    (record {
+      lines_are = refl;
+      stage_is = inl (ap (λ (lines : List ℕ). stage_of s.configuration lines s.resolver) c.in_err-extend_from_slice.ensures.items);
+      requests_are = some_stays c.args.mark.now (requests_of s.requests.entries);
+    })
+
+pub returns : goal.returns
+returns c =
+    let s = c.args.self.now in
+    let unset : is_some s.resolver ≡ false = sym c.is_some.ensures ∙ c.if-is_some.false in
+    let given = texts c.args.fields.now in
+    hosts_added (conversation_of s) (record (conversation_of s) { stage = stage_of s.configuration c.extend_from_slice.new.self.items s.resolver }) c.args.mark.now given s.configuration s.hosts.items c.extend_from_slice.new.self.items c.told_nothing.result
+    (setting_stage s.configuration s.hosts.items s.resolver unset) (ap (λ (x : Stage). record (conversation_of s) { stage = x }) (setting_stage s.configuration c.extend_from_slice.new.self.items s.resolver unset))
+    (c.in_ok-extend_from_slice.ensures.items ∙ ap (λ (line : List ℕ). s.hosts.items ++ line) c.as_bytes.ensures.value ∙ hosts_more s.hosts.items (string_bytes c.push_fields.new.text) given (c.in_ok-push_fields.ensures ∙ ap (λ (line : List ℕ). line ++ fields_text given) c.in_ok-line.ensures.ok))
+    c.told_nothing.ensures.text c.told_nothing.ensures.journal c.told_nothing.ensures.last
