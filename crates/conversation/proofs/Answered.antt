@@ -41,12 +41,12 @@ out_here c mark Kind result out = answered_out c c mark Kind result out (ran_out
 
 -- an answer is given
 pub answered_by : (before after : ConversationValue) (mark : List ℕ) (Kind : Answer → Type 0) (heard : Heard) (answer : Answer) → Kind answer
-    → string_bytes heard.text ≡ answer.text → string_bytes heard.journal ≡ answer.journal → heard.is_last ≡ answer.is_last → Stands mark answer before after
+    → string_bytes heard.explained ≡ answer.explained → string_bytes heard.text ≡ answer.text → string_bytes heard.journal ≡ answer.journal → heard.is_last ≡ answer.is_last → Stands mark answer before after
     → IsAnswered before mark Kind (Ok heard) after
-answered_by before after mark Kind heard answer kind text journal last stands = (answer, kind, record { text_is = text; journal_is = journal; last_is = last }, stands)
+answered_by before after mark Kind heard answer kind explained text journal last stands = (answer, kind, record { explained_is = explained; text_is = text; journal_is = journal; last_is = last }, stands)
 
 -- a fault was written
 pub refused_told : (c : ConversationValue) (mark : List ℕ) (refusal : RefusalValue) (result : Result Heard AllocError) → is_memory refusal.fault ≡ false
-    → IfOk result (λ h. string_bytes h.text ≡ fault_text mark c.lines refusal) → IfOk result (λ h. string_bytes h.journal ≡ []) → IfOk result (λ h. h.is_last ≡ false) → IsRefused c mark refusal result
-refused_told c mark refusal (Ok heard) told text journal last = (told, record { text_is = text; journal_is = journal; last_is = last })
-refused_told c mark refusal (Err e) told text journal last = tt
+    → IfOk result (λ h. string_bytes h.explained ≡ []) → IfOk result (λ h. string_bytes h.text ≡ fault_text mark c.lines refusal) → IfOk result (λ h. string_bytes h.journal ≡ []) → IfOk result (λ h. h.is_last ≡ false) → IsRefused c mark refusal result
+refused_told c mark refusal (Ok heard) told explained text journal last = (told, record { explained_is = explained; text_is = text; journal_is = journal; last_is = last })
+refused_told c mark refusal (Err e) told explained text journal last = tt

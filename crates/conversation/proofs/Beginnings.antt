@@ -35,27 +35,27 @@ none_case : {A : Type 0} (o : Option A) (P Q : Type 0) → is_some o ≡ false �
 none_case None P Q e p = p
 none_case (Some r) P Q e p = absurd (let h = e in cc)
 
-pub mark_used : (c : ConversationValue) (mark : List ℕ) (given : List (List ℕ)) → is_some (request_at mark c.requests) ≡ true → AnswersRequest c mark given (refused c mark (of_line fault.MarkInUse))
-mark_used c mark given used =
+pub mark_used : (c : ConversationValue) (mark : List ℕ) (explains : Bool) (given : List (List ℕ)) → is_some (request_at mark c.requests) ≡ true → AnswersRequest c mark explains given (refused c mark (of_line fault.MarkInUse))
+mark_used c mark explains given used =
     some_case (request_at mark c.requests)
-    ((asked : Result RequestValue RefusalValue) × IsAsked given asked × MatchResult asked (λ request. Begins c mark request (refused c mark (of_line fault.MarkInUse))) (λ refusal. refused c mark (of_line fault.MarkInUse) ≡ refused c mark refusal))
+    ((asked : Result RequestValue RefusalValue) × IsAsked given asked × MatchResult asked (λ request. Begins c mark explains request (refused c mark (of_line fault.MarkInUse))) (λ refusal. refused c mark (of_line fault.MarkInUse) ≡ refused c mark refusal))
     (refused c mark (of_line fault.MarkInUse) ≡ refused c mark (of_line fault.MarkInUse))
     used refl
 
 -- what is asked
-pub asks : (c : ConversationValue) (mark : List ℕ) (given : List (List ℕ)) (answer : Answer) (asked : Result RequestValue RefusalValue) → is_some (request_at mark c.requests) ≡ false → IsAsked given asked
-    → MatchResult asked (λ request. Begins c mark request answer) (λ refusal. answer ≡ refused c mark refusal) → AnswersRequest c mark given answer
-asks c mark given answer asked free is kind =
+pub asks : (c : ConversationValue) (mark : List ℕ) (explains : Bool) (given : List (List ℕ)) (answer : Answer) (asked : Result RequestValue RefusalValue) → is_some (request_at mark c.requests) ≡ false → IsAsked given asked
+    → MatchResult asked (λ request. Begins c mark explains request answer) (λ refusal. answer ≡ refused c mark refusal) → AnswersRequest c mark explains given answer
+asks c mark explains given answer asked free is kind =
     none_case (request_at mark c.requests)
-    ((asked : Result RequestValue RefusalValue) × IsAsked given asked × MatchResult asked (λ request. Begins c mark request answer) (λ refusal. answer ≡ refused c mark refusal))
+    ((asked : Result RequestValue RefusalValue) × IsAsked given asked × MatchResult asked (λ request. Begins c mark explains request answer) (λ refusal. answer ≡ refused c mark refusal))
     (answer ≡ refused c mark (of_line fault.MarkInUse))
     free (asked, is, kind)
 
 -- a fault of the fields, where it is not one of memory
-pub asks_fault : (c : ConversationValue) (mark : List ℕ) (given : List (List ℕ)) (refusal : RefusalValue) → is_some (request_at mark c.requests) ≡ false
-    → IsAsked given (Err refusal) ⊎ (refusal ≡ of_line out_of_memory) → is_memory refusal.fault ≡ false → AnswersRequest c mark given (refused c mark refusal)
-asks_fault c mark given refusal free (inl is) told = asks c mark given (refused c mark refusal) (Err refusal) free is refl
-asks_fault c mark given refusal free (inr out) told = absurd (let h : true ≡ false = sym (ap (λ r. is_memory r.fault) out) ∙ told in cc)
+pub asks_fault : (c : ConversationValue) (mark : List ℕ) (explains : Bool) (given : List (List ℕ)) (refusal : RefusalValue) → is_some (request_at mark c.requests) ≡ false
+    → IsAsked given (Err refusal) ⊎ (refusal ≡ of_line out_of_memory) → is_memory refusal.fault ≡ false → AnswersRequest c mark explains given (refused c mark refusal)
+asks_fault c mark explains given refusal free (inl is) told = asks c mark explains given (refused c mark refusal) (Err refusal) free is refl
+asks_fault c mark explains given refusal free (inr out) told = absurd (let h : true ≡ false = sym (ap (λ r. is_memory r.fault) out) ∙ told in cc)
 
 -- ---- the resolver
 
@@ -108,9 +108,9 @@ same_opened stage now moment s t cache kept at same opened =
     subst (λ m. IsOpened stage m (Ok (t, kept))) at
     (subst (λ x. IsOpened stage now (Ok (t, x))) two (subst (λ x. IsOpened stage now (Ok (x, cache))) one opened))
 
-pub began : (before mid after : ConversationValue) (mark : List ℕ) (request : RequestValue) (now : ℕ) (result : Result Heard AllocError) → now ≡ moment_of request → IsOpening before now (Ok tt) mid
-    → IsServing mid mark request result after → IsAnswered before mark (Begins before mark request) result after
-began before mid after mark request now (Ok heard) at (s, cache, opened, is) (t, kept, serving, answer, serves, says, stands) = (
+pub began : (before mid after : ConversationValue) (mark : List ℕ) (explains : Bool) (request : RequestValue) (now : ℕ) (result : Result Heard AllocError) → now ≡ moment_of request → IsOpening before now (Ok tt) mid
+    → IsServing mid mark explains request result after → IsAnswered before mark (Begins before mark explains request) result after
+began before mid after mark explains request now (Ok heard) at (s, cache, opened, is) (t, kept, serving, answer, serves, says, stands) = (
   answer,
   (Ok (t, kept), same_opened before.stage now (moment_of request) s t cache kept at (sym (ap (λ c. c.stage) is) ∙ serving) opened, serves),
   says,
@@ -120,7 +120,7 @@ began before mid after mark request now (Ok heard) at (s, cache, opened, is) (t,
     requests_are = subst (λ x. Puts mark answer.held x after.requests) (ap (λ c. c.requests) is) stands.requests_are;
   },
 )
-began before mid after mark request now (Err e) at (s, cache, opened, is) (lines, some, left) = record {
+began before mid after mark explains request now (Err e) at (s, cache, opened, is) (lines, some, left) = record {
   lines_are = lines ∙ ap (λ c. c.lines) is;
   stage_is = inr (inl (request, by left));
   requests_are = subst (λ x. PutsSome mark x after.requests) (ap (λ c. c.requests) is) some;
@@ -131,24 +131,24 @@ began before mid after mark request now (Err e) at (s, cache, opened, is) (lines
     by (inr (t, kept, serving, over)) = (t, kept, same_opened before.stage now (moment_of request) s t cache kept at (sym (ap (λ c. c.stage) is) ∙ serving) opened, over)
 
 -- there is no resolver
-pub not_begun : (before mid : ConversationValue) (mark : List ℕ) (request : RequestValue) (now : ℕ) (f : ConversationFault) (refusal : RefusalValue) (result : Result Heard AllocError) → now ≡ moment_of request
-    → IsOpening before now (Err f) mid → refusal ≡ of_line f → IsRefused mid mark refusal result → IsAnswered before mark (Begins before mark request) result mid
-not_begun before mid mark request now f refusal (Err e) at (why, same) of is = subst (λ x. RanOut mark before x) (sym same) (ran_out_here before mark)
-not_begun before mid mark request now f refusal (Ok heard) at (inl opened, same) of is = (
+pub not_begun : (before mid : ConversationValue) (mark : List ℕ) (explains : Bool) (request : RequestValue) (now : ℕ) (f : ConversationFault) (refusal : RefusalValue) (result : Result Heard AllocError) → now ≡ moment_of request
+    → IsOpening before now (Err f) mid → refusal ≡ of_line f → IsRefused mid mark refusal result → IsAnswered before mark (Begins before mark explains request) result mid
+not_begun before mid mark explains request now f refusal (Err e) at (why, same) of is = subst (λ x. RanOut mark before x) (sym same) (ran_out_here before mark)
+not_begun before mid mark explains request now f refusal (Ok heard) at (inl opened, same) of is = (
   refused before mark (of_line f),
   (Err f, subst (λ m. IsOpened before.stage m (Err f)) at opened, refl),
   subst (λ x. Says (refused x mark (of_line f)) heard) same (subst (λ r. Says (refused mid mark r) heard) of is.1),
   subst (λ x. Stands mark (refused before mark (of_line f)) before x) (sym same) (stays before mark (refused before mark (of_line f)) refl refl),
 )
-not_begun before mid mark request now f refusal (Ok heard) at (inr out, same) of is = absurd (let h : true ≡ false = sym (ap (λ r. is_memory r.fault) (of ∙ ap of_line out)) ∙ is.0 in cc)
+not_begun before mid mark explains request now f refusal (Ok heard) at (inr out, same) of is = absurd (let h : true ≡ false = sym (ap (λ r. is_memory r.fault) (of ∙ ap of_line out)) ∙ is.0 in cc)
 
 -- what is told over a resolver is told of the conversation
-pub served : (before after : ConversationValue) (mark : List ℕ) (request : RequestValue) (s : Settings) (cache : CacheValue) (result : Result Heard AllocError) (stage : Stage) → before.stage ≡ Serving s cache → after.lines ≡ before.lines → after.stage ≡ stage
-    → IsGiven mark (Serves mark request s cache) (IsBegunOver s cache request) result stage before.requests after.requests → IsServing before mark request result after
-served before after mark request s cache (Ok heard) stage serving lines is (answer, serves, says, stands, puts) =
+pub served : (before after : ConversationValue) (mark : List ℕ) (explains : Bool) (request : RequestValue) (s : Settings) (cache : CacheValue) (result : Result Heard AllocError) (stage : Stage) → before.stage ≡ Serving s cache → after.lines ≡ before.lines → after.stage ≡ stage
+    → IsGiven mark (Serves mark explains request s cache) (IsBegunOver s cache request) result stage before.requests after.requests → IsServing before mark explains request result after
+served before after mark explains request s cache (Ok heard) stage serving lines is (answer, serves, says, stands, puts) =
     (s, cache, serving, answer, serves, says, record { lines_are = lines; stage_is = is ∙ stands; requests_are = puts })
-served before after mark request s cache (Err e) stage serving lines is (left, some) =
+served before after mark explains request s cache (Err e) stage serving lines is (left, some) =
     (lines, some, inr (s, cache, serving, subst (λ x. IsBegunOver s cache request x) (sym is) left))
 
-pub not_served : (c : ConversationValue) (mark : List ℕ) (request : RequestValue) (e : AllocError) → IsServing c mark request (Err e) c
-not_served c mark request e = (refl, (request_at mark c.requests, puts_same mark c.requests), inl refl)
+pub not_served : (c : ConversationValue) (mark : List ℕ) (explains : Bool) (request : RequestValue) (e : AllocError) → IsServing c mark explains request (Err e) c
+not_served c mark explains request e = (refl, (request_at mark c.requests, puts_same mark c.requests), inl refl)

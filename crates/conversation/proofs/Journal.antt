@@ -75,20 +75,20 @@ module _ (hosts J B : List ℕ) (c : ConversationValue) (text : List ℕ) (answe
       let b_is : B ≡ B ++ block_of line_mark answer = sym (append-nil B) ∙ ap (λ x. B ++ x) (sym (no-text line_mark answer t)) in
       subst P (sym st) (subst Q (sym h) (refl, zero_is, subst R (sym j) (subst T b_is is)))
 
-  begun_next : (given : List (List ℕ)) (q : RequestValue) (s : Settings) (cache : CacheValue) → IsAskedIn given q → moment_asked (fields text) ≡ moment_at given → IsOpened c.stage (moment_of q) (Ok (s, cache)) → Serves line_mark q s cache answer → IsInTurn (Idle latest) text answer → Next
-  begun_next given q s cache a at opens serving turn =
+  begun_next : (given : List (List ℕ)) (explains : Bool) (q : RequestValue) (s : Settings) (cache : CacheValue) → IsAskedIn given q → moment_asked (fields text) ≡ moment_at given → IsOpened c.stage (moment_of q) (Ok (s, cache)) → Serves line_mark explains q s cache answer → IsInTurn (Idle latest) text answer → Next
+  begun_next given explains q s cache a at opens serving turn =
       let asked = a.asked in
       let p = request_of asked in
-      let serving : Serves line_mark p s cache answer = subst (λ x. Serves line_mark x s cache answer) (sym a.asked_is) serving in
+      let serving : Serves line_mark explains p s cache answer = subst (λ x. Serves line_mark explains x s cache answer) (sym a.asked_is) serving in
       let opens : IsOpened c.stage (moment_of p) (Ok (s, cache)) = subst (λ x. IsOpened c.stage (moment_of x) (Ok (s, cache))) (sym a.asked_is) opens in
-      let told = told-of line_mark s (just_begun p) serving.0 serving.1 answer serving.3 in
+      let told = told-of line_mark serving.3 s (just_begun p explains) serving.0 serving.1 answer serving.5 in
       let moment : moment_begun text answer answer.stage ≡ Some (moment_of p) = some-begun text answer s serving.1 told ∙ at ∙ a.moment_is ∙ ap (λ x. Some (moment_of x)) (sym a.asked_is) in
       let order : latest ≤ moment_of p = subst (IsNoEarlier latest) moment turn in
       let w = underway hosts J B latest c.stage held asked s cache stands opens order (subst IsWritable (sym a.asked_is) a.writable) in
       let M : Option ℕ → Type 0 = λ m. NextIdle hosts J B line_mark (later latest m) answer in
       let H : List ℕ → Type 0 = λ h. StandsAt h (J ++ answer.journal) (B ++ block_of line_mark answer) (turn_of line_mark answer.held (moment_of p)) answer.stage answer.held in
       let hosts_is : hosts ≡ hosts_after hosts answer.stage = sym (ap (λ x. hosts_after hosts x) told.stage_is) in
-      subst M (sym moment) (subst H hosts_is (serves hosts J B line_mark asked s cache answer w serving))
+      subst M (sym moment) (subst H hosts_is (serves hosts J B line_mark explains asked s cache answer w serving))
 
   idle_next : Happens c line_mark (moment_asked (fields text)) answer → IsInTurn (Idle latest) text answer → Next
   idle_next (unchanged j st h) turn = still (h ∙ none) j (quiet hosts J B line_mark latest answer c.stage j (h ∙ none) st (same-hosts hosts J B latest c.stage held stands))
@@ -98,7 +98,7 @@ module _ (hosts J B : List ℕ) (c : ConversationValue) (text : List ℕ) (answe
   idle_next (set configuration lines given one at own says kind st j t h) turn =
       let up = setting-up hosts J B latest c.stage held configuration lines at stands in
       setting_next configuration lines _ _ st j t (h ∙ none) up.1 (set-more configuration J B given one own says kind up.2)
-  idle_next (begun given q s cache free own asked at opens serving) turn = begun_next given q s cache (asked_in given q own asked) at opens serving turn
+  idle_next (begun given explains q s cache free own asked at opens serving) turn = begun_next given explains q s cache (asked_in given q own asked) at opens serving turn
   idle_next (cancelled r some j h) turn = apart _ r none some
   idle_next (opened r given head some closed own says e) turn = apart _ r none some
   idle_next (recorded r given section found reply some closed own says e) turn = apart _ r none some
@@ -133,7 +133,7 @@ module _ (hosts J B : List ℕ) (c : ConversationValue) (text : List ℕ) (answe
       → Feeds own_mark c.stage told k.waiting outcome answer → NextOwn answer
   fed outcome told way request_is sent_is feeds =
       let feeds : Feeds own_mark (Serving s cache) told k.waiting outcome answer = subst (λ x. Feeds own_mark x told k.waiting outcome answer) at feeds in
-      let is = told-of own_mark s told (Looks feeds.0) feeds.1 answer feeds.3 in
+      let is = told-of own_mark [] s told (Looks feeds.0) feeds.1 answer feeds.3 in
       let N : ℕ → Type 0 = λ n. StandsAt hosts (J ++ answer.journal) (B ++ block_of own_mark answer) (turn_of own_mark answer.held n) answer.stage answer.held in
       let H : List ℕ → Type 0 = λ h. StandsAt h (J ++ answer.journal) (B ++ block_of own_mark answer) (turn_of own_mark answer.held latest) answer.stage answer.held in
       subst H (sym (ap (λ x. hosts_after hosts x) is.stage_is)) (subst N (sym b.latest_is) (feed hosts J B latest s cache k own_mark b outcome told answer way request_is sent_is feeds))
@@ -173,7 +173,7 @@ module _ (hosts J B : List ℕ) (c : ConversationValue) (text : List ℕ) (answe
   own_next (unchanged j st h) is_over = kept k b j st (h ∙ mine)
   own_next (more_hosts configuration lines more up st j h) is_over = two_stages configuration lines s cache c.stage at up
   own_next (set configuration lines given one up own says kind st j t h) is_over = two_stages configuration lines s cache c.stage at up
-  own_next (begun given q t before none own asked m opens serving) is_over = apart _ k none mine
+  own_next (begun given explains q t before none own asked m opens serving) is_over = apart _ k none mine
   own_next (cancelled r some j h) is_over =
       let over : is_empty answer.journal ≡ false = subst (IsOver answer) h is_over in
       absurd (let clash : true ≡ false = ap is_empty (sym j) ∙ over in cc)
@@ -196,8 +196,8 @@ unchanged_stage : (c : ConversationValue) (text : List ℕ) (answer : Answer) (s
 unchanged_stage c text answer s cache at none (unchanged j st h) begins = st
 unchanged_stage c text answer s cache at none (more_hosts configuration lines more up st j h) begins = two_stages configuration lines s cache c.stage at up
 unchanged_stage c text answer s cache at none (set configuration lines given one up own says kind st j t h) begins = two_stages configuration lines s cache c.stage at up
-unchanged_stage c text answer s cache at none (begun given q t before free own asked m opens serving) begins =
-    let told = told-of (mark_of text) t (just_begun q) serving.0 serving.1 answer serving.3 in
+unchanged_stage c text answer s cache at none (begun given explains q t before free own asked m opens serving) begins =
+    let told = told-of (mark_of text) serving.3 t (just_begun q explains) serving.0 serving.1 answer serving.5 in
     absurd (let clash : false ≡ true = ap₂ (λ h j. is_some h || not (is_empty j)) (sym begins.0) (sym begins.1) ∙ told.some in cc)
 unchanged_stage c text answer s cache at none (cancelled r some j h) begins = apart _ r none some
 unchanged_stage c text answer s cache at none (opened r given head some closed own says e) begins = apart _ r none some

@@ -52,8 +52,8 @@ pub data Happens (c : ConversationValue) (mark : List ℕ) (moment : Option ℕ)
   more_hosts : (configuration : ConfigurationValue) (lines more : List ℕ) → c.stage ≡ Setting configuration lines → answer.stage ≡ Setting configuration more → answer.journal ≡ [] → answer.held ≡ request_at mark c.requests → Happens c mark moment answer
   set : (configuration : ConfigurationValue) (lines : List ℕ) (given : List (List ℕ)) (one : OneSetting) → c.stage ≡ Setting configuration lines → AreFields given → IsSaid false given (Ok (line.Configuration one)) → IsNoMode one
       → answer.stage ≡ Setting (with_setting one configuration) lines → answer.journal ≡ fields_text given → answer.text ≡ [] → answer.held ≡ request_at mark c.requests → Happens c mark moment answer
-  begun : (given : List (List ℕ)) (q : RequestValue) (s : Settings) (cache : CacheValue) → request_at mark c.requests ≡ None → AreFields given → IsAsked given (Ok q) → moment ≡ moment_at given
-      → IsOpened c.stage (moment_of q) (Ok (s, cache)) → Serves mark q s cache answer → Happens c mark moment answer
+  begun : (given : List (List ℕ)) (explains : Bool) (q : RequestValue) (s : Settings) (cache : CacheValue) → request_at mark c.requests ≡ None → AreFields given → IsAsked given (Ok q) → moment ≡ moment_at given
+      → IsOpened c.stage (moment_of q) (Ok (s, cache)) → Serves mark explains q s cache answer → Happens c mark moment answer
   cancelled : (r : InFlightValue) → request_at mark c.requests ≡ Some r → answer.journal ≡ [] → answer.held ≡ None → Happens c mark moment answer
   opened : (r : InFlightValue) (given : List (List ℕ)) (head : ReplyHead) → request_at mark c.requests ≡ Some r → r.reply ≡ None → AreFields given → ((b : Bool) → IsSaid b given (Ok (line.Reply head)))
       → answer ≡ keeps c mark (record { begun = with_line r.begun given; waiting = r.waiting; reply = Some (record { query = head.query; message = opened_response head }) }) → Happens c mark moment answer
@@ -129,20 +129,20 @@ module _ (c : ConversationValue) (mark : List ℕ) (moment : Option ℕ) (answer
 
   -- ---- requests
 
-  begins_by : (given : List (List ℕ)) (q : RequestValue) → request_at mark c.requests ≡ None → AreFields given → IsAsked given (Ok q) → moment ≡ moment_at given → (over : Result (Settings × CacheValue) ConversationFault) → IsOpened c.stage (moment_of q) over
-      → MatchResult over (λ o. Serves mark q o.0 o.1 answer) (λ f. answer ≡ refused c mark (of_line f)) → Happens c mark moment answer
-  begins_by given q none own asked at (Ok o) is serves = begun given q o.0 o.1 none own asked at is serves
-  begins_by given q none own asked at (Err f) is e = refuses (of_line f) e
+  begins_by : (given : List (List ℕ)) (explains : Bool) (q : RequestValue) → request_at mark c.requests ≡ None → AreFields given → IsAsked given (Ok q) → moment ≡ moment_at given → (over : Result (Settings × CacheValue) ConversationFault) → IsOpened c.stage (moment_of q) over
+      → MatchResult over (λ o. Serves mark explains q o.0 o.1 answer) (λ f. answer ≡ refused c mark (of_line f)) → Happens c mark moment answer
+  begins_by given explains q none own asked at (Ok o) is serves = begun given explains q o.0 o.1 none own asked at is serves
+  begins_by given explains q none own asked at (Err f) is e = refuses (of_line f) e
 
-  asked_by : (given : List (List ℕ)) → request_at mark c.requests ≡ None → AreFields given → moment ≡ moment_at given → (asked : Result RequestValue RefusalValue) → IsAsked given asked → MatchResult asked (λ q. Begins c mark q answer) (λ f. answer ≡ refused c mark f) → Happens c mark moment answer
-  asked_by given none own at (Ok q) is (over, opens, serves) = begins_by given q none own is at over opens serves
-  asked_by given none own at (Err f) is e = refuses f e
+  asked_by : (given : List (List ℕ)) (explains : Bool) → request_at mark c.requests ≡ None → AreFields given → moment ≡ moment_at given → (asked : Result RequestValue RefusalValue) → IsAsked given asked → MatchResult asked (λ q. Begins c mark explains q answer) (λ f. answer ≡ refused c mark f) → Happens c mark moment answer
+  asked_by given explains none own at (Ok q) is (over, opens, serves) = begins_by given explains q none own is at over opens serves
+  asked_by given explains none own at (Err f) is e = refuses f e
 
-  request_by : (given : List (List ℕ)) → AreFields given → moment ≡ moment_at given → (o : Option InFlightValue) → request_at mark c.requests ≡ o
-      → MatchOption o ((asked : Result RequestValue RefusalValue) × IsAsked given asked × MatchResult asked (λ q. Begins c mark q answer) (λ f. answer ≡ refused c mark f)) (λ r. answer ≡ refused c mark (of_line fault.MarkInUse))
+  request_by : (given : List (List ℕ)) (explains : Bool) → AreFields given → moment ≡ moment_at given → (o : Option InFlightValue) → request_at mark c.requests ≡ o
+      → MatchOption o ((asked : Result RequestValue RefusalValue) × IsAsked given asked × MatchResult asked (λ q. Begins c mark explains q answer) (λ f. answer ≡ refused c mark f)) (λ r. answer ≡ refused c mark (of_line fault.MarkInUse))
       → Happens c mark moment answer
-  request_by given own at None none (asked, is, rest) = asked_by given none own at asked is rest
-  request_by given own at (Some r) some e = refuses (of_line fault.MarkInUse) e
+  request_by given explains own at None none (asked, is, rest) = asked_by given explains none own at asked is rest
+  request_by given explains own at (Some r) some e = refuses (of_line fault.MarkInUse) e
 
   -- ---- outcomes
 
@@ -222,8 +222,8 @@ module _ (c : ConversationValue) (mark : List ℕ) (moment : Option ℕ) (answer
   verb_by : (w : List ℕ) (behind : List (List ℕ)) → AreFields (w ∷ behind) → (is_text (codes "explain") w ≡ true → moment ≡ moment_at behind) → (is_text (codes "explain") w ≡ false → moment ≡ moment_at (w ∷ behind)) → AnswersVerb c mark (verb_named w) behind (w ∷ behind) answer → Happens c mark moment answer
   verb_by w behind own explained plain is =
       let P : Option Verb → Type 0 = λ v. AnswersVerb c mark v behind (w ∷ behind) answer in
-      pick P (is_text (codes "explain") w) (Some verb.Explain) _ is (λ h a. request_by behind own.1 (explained h) (request_at mark c.requests) refl a) (λ h0 is.
-      pick P (is_text (codes "at") w) (Some verb.At) _ is (λ h a. request_by (w ∷ behind) own (plain h0) (request_at mark c.requests) refl a) (λ h1 is.
+      pick P (is_text (codes "explain") w) (Some verb.Explain) _ is (λ h a. request_by behind true own.1 (explained h) (request_at mark c.requests) refl a) (λ h0 is.
+      pick P (is_text (codes "at") w) (Some verb.At) _ is (λ h a. request_by (w ∷ behind) false own (plain h0) (request_at mark c.requests) refl a) (λ h1 is.
       pick P (is_text (codes "reply") w) (Some verb.Reply) _ is (λ h a. flight verb.Reply (λ r at x. by_first (codes "reply") w behind r h (reply_by r behind at) own x) a) (λ h2 is.
       pick P (is_text (codes "answer") w) (Some verb.Record) _ is (λ h a. flight verb.Record (λ r at x. by_line (codes "answer") w behind r h (answer_by r behind at) own x) a) (λ h3 is.
       pick P (is_text (codes "authority") w) (Some verb.Record) _ is (λ h a. flight verb.Record (λ r at x. by_line (codes "authority") w behind r h (authority_by r behind at) own x) a) (λ h4 is.

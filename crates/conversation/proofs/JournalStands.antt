@@ -227,8 +227,8 @@ module _ (hosts J B : List ℕ) (s : Settings) (asked : Request) (asks : List Ex
       let T : List ℕ → Type 0 = λ b. IsServing hosts (J ++ (begun.told ++ request_text (request_of asked))) (B ++ b) (moment_of (request_of asked)) s cache in
       subst P (sym stage_is) (subst Q (sym held_is) (subst R own (subst T told serving)))
 
-  pub proceed : (call : Call) → HasCall s (request_of asked) call → (progress : CallProgressValue) (cache : CacheValue) → RequestSoFar s (request_of asked) start call asks progress cache → (answer : Answer) → Tells mark s begun (Looks progress) cache answer → IsNext answer
-  proceed call call_is (CallWaits x) cache far answer e =
+  pub proceed : (call : Call) → HasCall s (request_of asked) call → (progress : CallProgressValue) (cache : CacheValue) → RequestSoFar s (request_of asked) start call asks progress cache → (answer : Answer) (explained : List ℕ) → Tells mark explained s begun (Looks progress) cache answer → IsNext answer
+  proceed call call_is (CallWaits x) cache far answer explained e =
       let busy : IsBusy hosts J B (moment_of (request_of asked)) s cache (asking begun x) = record {
         asked = asked;
         asks = asks;
@@ -244,7 +244,7 @@ module _ (hosts J B : List ℕ) (s : Settings) (asked : Request) (asks : List Ex
       let P : List ℕ → Type 0 = λ j. IsBusy hosts j (B ++ []) (moment_of (request_of asked)) s cache (asking begun x) in
       let Q : List ℕ → Type 0 = λ b. IsBusy hosts J b (moment_of (request_of asked)) s cache (asking begun x) in
       subst IsNext (sym e) (subst P (sym (append-nil J)) (subst Q (sym (append-nil B)) busy))
-  proceed call call_is (CallIsDone result) cache far answer (live, e) =
+  proceed call call_is (CallIsDone result) cache far answer explained (live, e) =
       let up = looked_up s (request_of asked) start call far.parts result cache call_is far.whole in
       let block = step_text (request_of asked) (map (λ x. x.query) asks) up.reply in
       let same : request_text begun.request ++ sent_text begun.sent ++ result_text begun.request result ≡ block =
@@ -252,8 +252,8 @@ module _ (hosts J B : List ℕ) (s : Settings) (asked : Request) (asks : List Ex
       ended cache answer block (ap (λ a. a.stage) e) (ap (λ a. a.held) e) (ap (λ a. a.journal) e) (ap (λ a. a.text) e ∙ looked_up-block mark begun result ∙ ap (λ x. mark ++ 32 ∷ (x ++ 10 ∷ [])) same)
       (over hosts J B s asked asks begun.told start far.parts up.reply cache w far.asks_are up.served (up.ends ∙ live))
 
-  pub clear-proceed : asks ≡ [] → (cache : CacheValue) → ComesTo s (request_of asked) start Clears cache → (answer : Answer) → Tells mark s begun Clears cache answer → IsNext answer
-  clear-proceed none cache comes answer e =
+  pub clear-proceed : asks ≡ [] → (cache : CacheValue) → ComesTo s (request_of asked) start Clears cache → (answer : Answer) (explained : List ℕ) → Tells mark explained s begun Clears cache answer → IsNext answer
+  clear-proceed none cache comes answer explained e =
       let block = step_text (request_of asked) (map (λ x. x.query) asks) (Cleared (Ok tt)) in
       let same : request_text begun.request ++ sent_text [] ++ codes "  cleared\n" ≡ block = ap₂ (λ q xs. request_text q ++ sent_text (map (λ x. x.query) xs) ++ codes "  cleared\n") request_is (sym none) in
       ended cache answer block (ap (λ a. a.stage) e) (ap (λ a. a.held) e) (ap (λ a. a.journal) e) (ap (λ a. a.text) e ∙ clear-block mark begun.request ∙ ap (λ x. mark ++ 32 ∷ (x ++ 10 ∷ [])) same)

@@ -225,18 +225,18 @@ feed hosts J B latest s cache r mark b outcome begun answer w request_is sent_is
     let now_is : r.waiting.sub.now ≡ moment_of q = b.far.sub.now_is in
     let goes : ResumesCall (call_context_at s (moment_of q)) r.waiting outcome cache progress after = subst (λ n. ResumesCall (call_context_at s n) r.waiting outcome cache progress after) now_is resumes in
     let far : RequestSoFar s q b.start b.call (b.asks ++ x ∷ []) progress after = resumed (call_context_at s (moment_of q)) (WholeCall s q b.start b.call) b.asks r.waiting cache b.far outcome progress after goes in
-    proceed hosts J B s b.asked (b.asks ++ x ∷ []) b.start mark begun w request_is (sent_is ∙ b.sent_are ∙ sym (map-append (λ y. y.query) b.asks (x ∷ []))) b.call b.call_is progress after far answer tells
+    proceed hosts J B s b.asked (b.asks ++ x ∷ []) b.start mark begun w request_is (sent_is ∙ b.sent_are ∙ sym (map-append (λ y. y.query) b.asks (x ∷ []))) b.call b.call_is progress after far answer [] tells
 
 -- what is told of a request that was begun
 pub record IsTold (s : Settings) (cache : CacheValue) (answer : Answer) : Type 0 where
   pub stage_is : answer.stage ≡ Serving s cache
   pub some : (is_some answer.held || not (is_empty answer.journal)) ≡ true
 
-pub told-of : (mark : List ℕ) (s : Settings) (begun : BegunValue) (came : Came) (cache : CacheValue) (answer : Answer) → Tells mark s begun came cache answer → IsTold s cache answer
-told-of mark s begun (Looks (CallWaits w)) cache answer e = subst (λ a. IsTold s cache a) (sym e) (record { stage_is = refl; some = refl })
-told-of mark s begun (Looks (CallIsDone result)) cache answer (live, e) =
+pub told-of : (mark explained : List ℕ) (s : Settings) (begun : BegunValue) (came : Came) (cache : CacheValue) (answer : Answer) → Tells mark explained s begun came cache answer → IsTold s cache answer
+told-of mark explained s begun (Looks (CallWaits w)) cache answer e = subst (λ a. IsTold s cache a) (sym e) (record { stage_is = refl; some = refl })
+told-of mark explained s begun (Looks (CallIsDone result)) cache answer (live, e) =
     subst (λ a. IsTold s cache a) (sym e) (record { stage_is = refl; some = ap not (some-behind begun.told (request_text begun.request) (some_request begun.request)) })
-told-of mark s begun Clears cache answer e =
+told-of mark explained s begun Clears cache answer e =
     subst (λ a. IsTold s cache a) (sym e) (record { stage_is = refl; some = ap not (some-behind begun.told (request_text begun.request) (some_request begun.request)) })
 
 -- ---- whose request is in flight
@@ -360,14 +360,14 @@ underway hosts J B latest (Serving t before) held asked s cache is opens order w
     let Q : CacheValue → Type 0 = λ x. IsServing hosts J B latest s x in
     begin-next hosts J B latest s cache asked (subst Q (sym (ap (λ p. p.1) same)) (subst P (sym (ap (λ p. p.0) same)) is)) order writable
 
-pub serves : (hosts J B mark : List ℕ) (asked : Request) (s : Settings) (cache : CacheValue) (answer : Answer) → IsUnderWay hosts J B s asked [] [] cache None → Serves mark (request_of asked) s cache answer
+pub serves : (hosts J B mark : List ℕ) (explains : Bool) (asked : Request) (s : Settings) (cache : CacheValue) (answer : Answer) → IsUnderWay hosts J B s asked [] [] cache None → Serves mark explains (request_of asked) s cache answer
     → StandsAt hosts (J ++ answer.journal) (B ++ block_of mark answer) (turn_of mark answer.held (moment_of (request_of asked))) answer.stage answer.held
-serves hosts J B mark asked s cache answer w (Looks progress, after, comes, tells) =
+serves hosts J B mark explains asked s cache answer w (Looks progress, after, comes, explained, starts, tells) =
     let begun = begun_call s (request_of asked) cache progress after (not-out progress tells) comes in
-    proceed hosts J B s asked [] cache mark (just_begun (request_of asked)) w refl refl begun.call begun.call_is progress after begun.far answer tells
+    proceed hosts J B s asked [] cache mark (just_begun (request_of asked) explains) w refl refl begun.call begun.call_is progress after begun.far answer explained tells
   where
-    not-out : (p : CallProgressValue) → Tells mark s (just_begun (request_of asked)) (Looks p) after answer → NotOut p
+    not-out : (p : CallProgressValue) → Tells mark explained s (just_begun (request_of asked) explains) (Looks p) after answer → NotOut p
     not-out (CallWaits x) t = tt
     not-out (CallIsDone result) (live, e) = live
-serves hosts J B mark asked s cache answer w (Clears, after, comes, tells) =
-    clear-proceed hosts J B s asked [] cache mark (just_begun (request_of asked)) w refl refl refl after comes answer tells
+serves hosts J B mark explains asked s cache answer w (Clears, after, comes, explained, starts, tells) =
+    clear-proceed hosts J B s asked [] cache mark (just_begun (request_of asked) explains) w refl refl refl after comes answer explained tells

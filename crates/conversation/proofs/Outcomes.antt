@@ -173,7 +173,7 @@ kept_for before mid after mark key r kept Kind (Ok heard) found key_is lines sta
     let stands : Stands mark (keeps mid mark kept) mid after = subst (λ k. Stands k (keeps mid k kept) mid after) key_is stands in (
       keeps before mark kept,
       λ q is. let same : r ≡ q = let h : Some r ≡ Some q = found ∙ is in cc in subst (λ x. Kind x (keeps before mark kept)) same kind,
-      record { text_is = says.text_is; journal_is = says.journal_is; last_is = says.last_is },
+      record { explained_is = says.explained_is; text_is = says.text_is; journal_is = says.journal_is; last_is = says.last_is },
       record {
         lines_are = stands.lines_are ∙ lines;
         stage_is = stands.stage_is ∙ stage;
@@ -186,10 +186,10 @@ kept_for before mid after mark key r kept Kind (Err e) found key_is lines stage 
   requests_are = subst (λ c. PutsSome mark before.requests c.requests) (sym same) (None, taken);
 }
 
-pub keeps_told : (before after : ConversationValue) (key : List ℕ) (r : InFlightValue) (heard : Heard) → string_bytes heard.text ≡ [] → string_bytes heard.journal ≡ [] → heard.is_last ≡ false
+pub keeps_told : (before after : ConversationValue) (key : List ℕ) (r : InFlightValue) (heard : Heard) → string_bytes heard.explained ≡ [] → string_bytes heard.text ≡ [] → string_bytes heard.journal ≡ [] → heard.is_last ≡ false
     → after.lines ≡ before.lines → after.stage ≡ before.stage → Puts key (Some r) before.requests after.requests → IsKept before key r (Ok heard) after
-keeps_told before after key r heard text journal last lines stage puts =
-    (record { text_is = text; journal_is = journal; last_is = last }, record { lines_are = lines; stage_is = stage; requests_are = puts })
+keeps_told before after key r heard explained text journal last lines stage puts =
+    (record { explained_is = explained; text_is = text; journal_is = journal; last_is = last }, record { lines_are = lines; stage_is = stage; requests_are = puts })
 
 pub kept_out : (before after : ConversationValue) (key : List ℕ) (r : InFlightValue) (result : Result Heard AllocError) → IsErr result → after ≡ before → IsKept before key r result after
 kept_out before after key r (Ok heard) out same = absurd (let h = out in cc)

@@ -1,5 +1,5 @@
 -- What is told of a request over a resolver.
-use Rattle.std.proofs.Common.{◌≡◌, ◌≢◌, ◌∙◌, ◌⊎◌, ℕ, Bool, true, false, List, [], ◌∷◌, ◌++◌, Option, None, Some, Result, Ok, Err, IfOk, IsErr, OnErr, OnOk, string_bytes, refl, sym, ap, subst, inl, inr}
+use Rattle.std.proofs.Common.{◌≡◌, ◌≢◌, ◌∙◌, ◌⊎◌, ℕ, Bool, true, false, List, [], ◌∷◌, ◌++◌, Option, None, Some, Result, Ok, Err, IfOk, IsErr, OnErr, OnOk, string_bytes, refl, sym, ap, subst, append-nil, inl, inr}
 use Rattle.std.specs.declared.alloc.AllocError.{AllocError}
 use Rattle.hickory_proto_core.specs.Handles.{OutcomeValue}
 use Rattle.std.specs.declared.net.IpAddr.{IpAddr}
@@ -18,10 +18,12 @@ use Rattle.hickory_resolver_model.specs.Resolver.{ResolverValue, settings}
 use Rattle.hickory_resolver_model.specs.Run.{RequestValue, Lookup, LookupIp, Settings, address_call, call_context_at}
 use Rattle.hickory_resolver_theorems.specs.ResumingCalls.{WaitingCallValue, CallProgressValue, CallWaits, CallIsDone, RunsOutAtStart, StartsCall}
 use Rattle.conversation.specs.Answers.{Answer, Came, Clears, ComesTo, Feeds, Looks, Serves, Tells, asking, just_begun}
+use Rattle.conversation.specs.Explaining.{IsStartExplained, alias_text}
 use Rattle.conversation.specs.Hearing.{IsBegunOver, IsFedOut, Says}
 use Rattle.conversation.specs.State.{BegunValue, InFlightValue, Puts, Requests, Serving, Stage, request_at}
 use Rattle.conversation.specs.Telling.{IsBlock, IsClearBlock, IsGiven, IsTold, PutsSome, stage_by}
-use Rattle.conversation.specs.Texts.{send_text}
+use Rattle.replay.specs.Output.{request_text}
+use Rattle.conversation.specs.Texts.{clear_text, send_text}
 use Rattle.conversation.specs.declared.heard.Heard.{Heard}
 use Rattle.conversation.proofs.Held.{some_stays}
 
@@ -29,10 +31,12 @@ use Rattle.conversation.proofs.Held.{some_stays}
 
 pub told_waits : (mark : List ℕ) (s : Settings) (begun : BegunValue) (w : WaitingCallValue) (cache : CacheValue) (heard : Heard) (before after : Requests) (question : Query) (options : DnsRequestOptions)
     → question ≡ w.sub.hop.query → options ≡ s.request_options
+    → string_bytes heard.explained ≡ alias_text mark begun.explains w
     → string_bytes heard.text ≡ send_text mark question options → string_bytes heard.journal ≡ [] → heard.is_last ≡ false
-    → Puts mark (Some (asking begun w)) before after → IsTold mark (Tells mark s begun (Looks (CallWaits w)) cache) (Ok heard) before after
-told_waits mark s begun w cache heard before after question options asks by text journal last puts = (
+    → Puts mark (Some (asking begun w)) before after → IsTold mark (Tells mark [] s begun (Looks (CallWaits w)) cache) (Ok heard) before after
+told_waits mark s begun w cache heard before after question options asks by explained text journal last puts = (
   record {
+    explained = alias_text mark begun.explains w;
     text = send_text mark w.sub.hop.query s.request_options;
     journal = [];
     is_last = false;
@@ -40,7 +44,7 @@ told_waits mark s begun w cache heard before after question options asks by text
     held = Some (asking begun w);
   },
   refl,
-  record { text_is = text ∙ ap (λ q. send_text mark q options) asks ∙ ap (send_text mark w.sub.hop.query) by; journal_is = journal; last_is = last },
+  record { explained_is = explained; text_is = text ∙ ap (λ q. send_text mark q options) asks ∙ ap (send_text mark w.sub.hop.query) by; journal_is = journal; last_is = last },
   puts,
 )
 
@@ -55,50 +59,93 @@ kept_asking mark key begun now w question result before after key_is asks now_is
     (subst (λ b. OnOk result (Puts key (Some (record { begun = b; waiting = w; reply = None })) before after)) now_asks puts)
 
 pub told_done : (mark : List ℕ) (s : Settings) (begun : BegunValue) (found : LookupResult) (cache : CacheValue) (result : Result Heard AllocError) (before after : Requests)
-    → IfOk result (IsBlock mark begun found) → Puts mark None before after → IsTold mark (Tells mark s begun (Looks (CallIsDone found)) cache) result before after
+    → IfOk result (IsBlock mark begun cache found) → Puts mark None before after → IsTold mark (Tells mark [] s begun (Looks (CallIsDone found)) cache) result before after
 told_done mark s begun found cache (Ok heard) before after block puts =
-    (record { text = _; journal = _; is_last = false; stage = Serving s cache; held = None }, (block.remembered, refl), record { text_is = block.text_is; journal_is = block.journal_is; last_is = block.last_is }, puts)
+    (record { explained = _; text = _; journal = _; is_last = false; stage = Serving s cache; held = None }, (block.remembered, refl), record { explained_is = block.explained_is; text_is = block.text_is; journal_is = block.journal_is; last_is = block.last_is }, puts)
 told_done mark s begun found cache (Err e) before after block puts = (None, puts)
 
 pub told_cleared : (mark : List ℕ) (s : Settings) (begun : BegunValue) (cache : CacheValue) (result : Result Heard AllocError) (before after : Requests)
-    → IfOk result (IsClearBlock mark begun) → Puts mark None before after → IsTold mark (Tells mark s begun Clears cache) result before after
+    → IfOk result (IsClearBlock mark begun) → Puts mark None before after → IsTold mark (Tells mark [] s begun Clears cache) result before after
 told_cleared mark s begun cache (Ok heard) before after block puts =
-    (record { text = _; journal = _; is_last = false; stage = Serving s cache; held = None }, refl, record { text_is = block.text_is; journal_is = block.journal_is; last_is = block.last_is }, puts)
+    (record { explained = _; text = _; journal = _; is_last = false; stage = Serving s cache; held = None }, refl, record { explained_is = block.explained_is; text_is = block.text_is; journal_is = block.journal_is; last_is = block.last_is }, puts)
 told_cleared mark s begun cache (Err e) before after block puts = (None, puts)
 
-tells_stage : (mark : List ℕ) (s : Settings) (begun : BegunValue) (came : Came) (cache : CacheValue) (answer : Answer) → Tells mark s begun came cache answer → answer.stage ≡ Serving s cache
-tells_stage mark s begun (Looks (CallWaits w)) cache answer is = ap (λ a. a.stage) is
-tells_stage mark s begun (Looks (CallIsDone found)) cache answer is = ap (λ a. a.stage) is.1
-tells_stage mark s begun Clears cache answer is = ap (λ a. a.stage) is
+tells_stage : (mark : List ℕ) (start : List ℕ) (s : Settings) (begun : BegunValue) (came : Came) (cache : CacheValue) (answer : Answer) → Tells mark start s begun came cache answer → answer.stage ≡ Serving s cache
+tells_stage mark start s begun (Looks (CallWaits w)) cache answer is = ap (λ a. a.stage) is
+tells_stage mark start s begun (Looks (CallIsDone found)) cache answer is = ap (λ a. a.stage) is.1
+tells_stage mark start s begun Clears cache answer is = ap (λ a. a.stage) is
 
 -- ---- over a resolver
 
 same_settings : {H : Type 0} (before after : ResolverValue H) → KeepsAllButCache before after → settings after ≡ settings before
 same_settings before after same = ap settings same
 
-pub begun_told : {H : Type 0} (mark : List ℕ) (request : RequestValue) (came : Came) (r left : ResolverValue H) (result : Result Heard AllocError) (before after : Requests)
+-- what is told goes on behind a start
+behind : (mark start : List ℕ) (s : Settings) (begun : BegunValue) (came : Came) (cache : CacheValue) (answer : Answer)
+    → Tells mark [] s begun came cache answer
+    → Tells mark start s begun came cache (record answer { explained = start ++ answer.explained })
+behind mark start s begun (Looks (CallWaits w)) cache answer is = ap (λ a. record a { explained = start ++ a.explained }) is
+behind mark start s begun (Looks (CallIsDone found)) cache answer is =
+    (is.0, ap (λ a. record a { explained = start ++ a.explained }) is.1)
+behind mark start s begun Clears cache answer is =
+    ap (λ a. record a { explained = start ++ a.explained }) is ∙ ap (λ x. record {
+      explained = x;
+      text = clear_text mark begun.request;
+      journal = begun.told ++ request_text begun.request;
+      is_last = false;
+      stage = Serving s cache;
+      held = None;
+    }) (append-nil start)
+
+pub begun_told : {H : Type 0} (mark start : List ℕ) (explains : Bool) (request : RequestValue) (came : Came) (r left : ResolverValue H) (told heard : Heard) (before after : Requests)
     → ComesTo (settings r) request r.client.cache came left.client.cache → KeepsAllButCache r left
-    → IsTold mark (Tells mark (settings left) (just_begun request) came left.client.cache) result before after
-    → IsGiven mark (Serves mark request (settings r) r.client.cache) (IsBegunOver (settings r) r.client.cache request) result (stage_by left) before after
-begun_told mark request came r left (Ok heard) before after comes same (answer, tells, says, puts) =
+    → IsStartExplained mark explains (settings r) r.client.cache request start
+    → heard ≡ record told { explained = heard.explained } → string_bytes heard.explained ≡ start ++ string_bytes told.explained
+    → IsTold mark (Tells mark [] (settings left) (just_begun request explains) came left.client.cache) (Ok told) before after
+    → IsGiven mark (Serves mark explains request (settings r) r.client.cache) (IsBegunOver (settings r) r.client.cache request) (Ok heard) (stage_by left) before after
+begun_told mark start explains request came r left told heard before after comes same starts others explained_is (answer, tells, says, puts) =
     let kept = same_settings r left same in
-    let told : Tells mark (settings r) (just_begun request) came left.client.cache answer = subst (λ s. Tells mark s (just_begun request) came left.client.cache answer) kept tells in
-    (answer, (came, left.client.cache, comes, told), says, sym (tells_stage mark (settings left) (just_begun request) came left.client.cache answer tells), puts)
-begun_told mark request came r left (Err e) before after comes same some =
+    let begun = just_begun request explains in
+    let tells_here : Tells mark [] (settings r) begun came left.client.cache answer = subst (λ s. Tells mark [] s begun came left.client.cache answer) kept tells in
+    let whole = record answer { explained = start ++ answer.explained } in (
+      whole,
+      (came, left.client.cache, comes, start, starts, behind mark start (settings r) begun came left.client.cache answer tells_here),
+      record {
+        explained_is = explained_is ∙ ap (λ x. start ++ x) says.explained_is;
+        text_is = ap (λ h. string_bytes h.text) others ∙ says.text_is;
+        journal_is = ap (λ h. string_bytes h.journal) others ∙ says.journal_is;
+        last_is = ap (λ h. h.is_last) others ∙ says.last_is;
+      },
+      sym (tells_stage mark [] (settings left) begun came left.client.cache answer tells),
+      puts,
+    )
+
+-- the request was begun, and memory ran out
+pub begun_out : {H : Type 0} (mark : List ℕ) (explains : Bool) (request : RequestValue) (came : Came) (r left : ResolverValue H) (result : Result Heard AllocError) (before after : Requests)
+    → ComesTo (settings r) request r.client.cache came left.client.cache → KeepsAllButCache r left → IsErr result
+    → PutsSome mark before after
+    → IsGiven mark (Serves mark explains request (settings r) r.client.cache) (IsBegunOver (settings r) r.client.cache request) result (stage_by left) before after
+begun_out mark explains request came r left (Ok heard) before after comes same out some = absurd (let h = out in cc)
+begun_out mark explains request came r left (Err e) before after comes same out some =
     (inr (came, left.client.cache, comes, ap (λ s. Serving s left.client.cache) (same_settings r left same)), some)
 
-pub begun_none : {H : Type 0} (mark : List ℕ) (request : RequestValue) (r left : ResolverValue H) (result : Result Heard AllocError) (requests : Requests) → IsErr result → left ≡ r
-    → IsGiven mark (Serves mark request (settings r) r.client.cache) (IsBegunOver (settings r) r.client.cache request) result (stage_by left) requests requests
-begun_none mark request r left (Ok heard) requests out same = absurd (let h = out in cc)
-begun_none mark request r left (Err e) requests out same = (inl (ap stage_by same), some_stays mark requests)
+-- of what is told, the requests are left so
+pub some_told : (mark : List ℕ) (Kind : Answer → Type 0) (result : Result Heard AllocError) (before after : Requests) → IsTold mark Kind result before after → PutsSome mark before after
+some_told mark Kind (Ok heard) before after (answer, kind, says, puts) = (answer.held, puts)
+some_told mark Kind (Err e) before after some = some
+
+pub begun_none : {H : Type 0} (mark : List ℕ) (explains : Bool) (request : RequestValue) (r left : ResolverValue H) (result : Result Heard AllocError) (requests : Requests) → IsErr result → left ≡ r
+    → IsGiven mark (Serves mark explains request (settings r) r.client.cache) (IsBegunOver (settings r) r.client.cache request) result (stage_by left) requests requests
+begun_none mark explains request r left (Ok heard) requests out same = absurd (let h = out in cc)
+begun_none mark explains request r left (Err e) requests out same = (inl (ap stage_by same), some_stays mark requests)
 
 pub fed_told : {H : Type 0} (mark : List ℕ) (begun : BegunValue) (w : WaitingCallValue) (outcome : OutcomeValue) (progress : CallProgressValue) (r left : ResolverValue H) (result : Result Heard AllocError) (before after : Requests)
-    → ResumesAt w outcome r progress left → IsTold mark (Tells mark (settings left) begun (Looks progress) left.client.cache) result before after
+    → ResumesAt w outcome r progress left → IsTold mark (Tells mark [] (settings left) begun (Looks progress) left.client.cache) result before after
     → IsGiven mark (Feeds mark (stage_by r) begun w outcome) (IsFedOut (stage_by r) w outcome) result (stage_by left) before after
 fed_told mark begun w outcome progress r left (Ok heard) before after resumed (answer, tells, says, puts) =
     let kept = same_settings r left resumed.others_stay in
-    let told : Tells mark (settings r) begun (Looks progress) left.client.cache answer = subst (λ s. Tells mark s begun (Looks progress) left.client.cache answer) kept tells in
-    (answer, (progress, left.client.cache, resumed.resumes, told), says, sym (tells_stage mark (settings left) begun (Looks progress) left.client.cache answer tells), puts)
+    let told : Tells mark [] (settings r) begun (Looks progress) left.client.cache answer = subst (λ s. Tells mark [] s begun (Looks progress) left.client.cache answer) kept tells in
+    (answer, (progress, left.client.cache, resumed.resumes, told), says, sym (tells_stage mark [] (settings left) begun (Looks progress) left.client.cache answer tells), puts)
 fed_told mark begun w outcome progress r left (Err e) before after resumed some =
     ((progress, left.client.cache, resumed.resumes, ap (λ s. Serving s left.client.cache) (same_settings r left resumed.others_stay)), some)
 
@@ -127,5 +174,5 @@ looks_up_host text now progress r left (address, spells, name, read, inr (memory
 
 -- how far the code's call came
 pub told_as : (mark : List ℕ) (s : Settings) (begun : BegunValue) (progress now : CallProgress) (cache : CacheValue) (result : Result Heard AllocError) (before after : Requests) → progress ≡ now
-    → IsTold mark (Tells mark s begun (Looks (call_progress_of now)) cache) result before after → IsTold mark (Tells mark s begun (Looks (call_progress_of progress)) cache) result before after
-told_as mark s begun progress now cache result before after same told = subst (λ p. IsTold mark (Tells mark s begun (Looks (call_progress_of p)) cache) result before after) (sym same) told
+    → IsTold mark (Tells mark [] s begun (Looks (call_progress_of now)) cache) result before after → IsTold mark (Tells mark [] s begun (Looks (call_progress_of progress)) cache) result before after
+told_as mark s begun progress now cache result before after same told = subst (λ p. IsTold mark (Tells mark [] s begun (Looks (call_progress_of p)) cache) result before after) (sym same) told

@@ -34,6 +34,7 @@ use Rattle.replay_script.specs.declared.fail_line.FailureKind.{FailureKind}
 use Rattle.replay_script.specs.declared.record_line.Section.{Section}
 use Rattle.replay_script.specs.declared.reply_line.ReplyHead.{ReplyHead}
 use Rattle.replay_script.specs.declared.script.OpenReply.{OpenReply}
+use Rattle.conversation.specs.Explaining.{IsStartExplained, alias_text, stored_text}
 use Rattle.conversation.specs.Faults.{RefusalValue, hosts_fault, of_line, unknown}
 use Rattle.conversation.specs.Lines.{IsAsked, IsScriptLine, mark_or_none, verb_named, word_named}
 use Rattle.conversation.specs.State.{BegunValue, ConversationValue, InFlightValue, Setting, Serving, Stage, request_at}
@@ -45,9 +46,11 @@ use Rattle.conversation.specs.declared.reading.Verb.TheVariants as verb
 use Rattle.conversation.specs.declared.reading.Word.{Word}
 use Rattle.conversation.specs.declared.reading.Word.TheVariants as word
 
--- what a line is answered: the lines that go out and those for the journal, whether it is the last; and what stands
--- after it: what is set, or the resolver, and the request of the line's mark, where there is one
+-- what a line is answered: the lines that go out, those that say how a request comes about before them, and those for
+-- the journal, whether it is the last; and what stands after it: what is set, or the resolver, and the request of the
+-- line's mark, where there is one
 pub record Answer : Type 0 where
+  pub explained : List ℕ
   pub text : List ℕ
   pub journal : List ℕ
   pub is_last : Bool
@@ -57,6 +60,7 @@ pub record Answer : Type 0 where
 -- nothing is said, and nothing changes
 abbrev pub nothing : ConversationValue → List ℕ → Answer
 nothing c mark = record {
+  explained = [];
   text = [];
   journal = [];
   is_last = false;
@@ -160,24 +164,27 @@ asking begun w = record {
 }
 
 -- a question is to be sent; or the request is over, and the journal has the lines of its outcomes before its own; where
--- memory ran out, there is no answer
-abbrev pub Tells : List ℕ → Settings → BegunValue → Came → CacheValue → Answer → Type 0
-Tells mark s begun (Looks (CallWaits w)) cache answer = answer ≡ record {
+-- memory ran out, there is no answer. Before what is explained stands this start
+abbrev pub Tells : List ℕ → List ℕ → Settings → BegunValue → Came → CacheValue → Answer → Type 0
+Tells mark start s begun (Looks (CallWaits w)) cache answer = answer ≡ record {
+  explained = start ++ alias_text mark begun.explains w;
   text = send_text mark w.sub.hop.query s.request_options;
   journal = [];
   is_last = false;
   stage = Serving s cache;
   held = Some (asking begun w);
 }
-Tells mark s begun (Looks (CallIsDone result)) cache answer =
+Tells mark start s begun (Looks (CallIsDone result)) cache answer =
     (is_out_of_memory result ≡ false) × (answer ≡ record {
+      explained = start ++ stored_text mark begun cache;
       text = looked_up_text mark begun result;
       journal = begun.told ++ request_text begun.request;
       is_last = false;
       stage = Serving s cache;
       held = None;
     })
-Tells mark s begun Clears cache answer = answer ≡ record {
+Tells mark start s begun Clears cache answer = answer ≡ record {
+  explained = start;
   text = clear_text mark begun.request;
   journal = begun.told ++ request_text begun.request;
   is_last = false;
@@ -186,25 +193,28 @@ Tells mark s begun Clears cache answer = answer ≡ record {
 }
 
 -- a request for which nothing was sent
-abbrev pub just_begun : RequestValue → BegunValue
-just_begun request = record { request = request; sent = []; told = [] }
+abbrev pub just_begun : RequestValue → Bool → BegunValue
+just_begun request explains = record { request = request; explains = explains; sent = []; told = [] }
 
-abbrev pub Serves : List ℕ → RequestValue → Settings → CacheValue → Answer → Type 0
-Serves mark request s cache answer =
+abbrev pub Serves : List ℕ → Bool → RequestValue → Settings → CacheValue → Answer → Type 0
+Serves mark explains request s cache answer =
     (came : Came) × (after : CacheValue) × ComesTo s request cache came after
-    × Tells mark s (just_begun request) came after answer
+    × (start : List ℕ) × IsStartExplained mark explains s cache request start
+    × Tells mark start s (just_begun request explains) came after answer
 
-abbrev pub Begins : ConversationValue → List ℕ → RequestValue → Answer → Type 0
-Begins c mark request answer =
+abbrev pub Begins : ConversationValue → List ℕ → Bool → RequestValue → Answer → Type 0
+Begins c mark explains request answer =
     (opened : Result (Settings × CacheValue) ConversationFault) × IsOpened c.stage (moment_of request) opened
-    × MatchResult opened (λ over. Serves mark request over.0 over.1 answer) (λ f. answer ≡ refused c mark (of_line f))
+    × MatchResult opened (λ over. Serves mark explains request over.0 over.1 answer)
+    (λ f. answer ≡ refused c mark (of_line f))
 
 -- a mark that is in use is refused; else the request is read
-abbrev pub AnswersRequest : ConversationValue → List ℕ → List (List ℕ) → Answer → Type 0
-AnswersRequest c mark given answer =
+abbrev pub AnswersRequest : ConversationValue → List ℕ → Bool → List (List ℕ) → Answer → Type 0
+AnswersRequest c mark explains given answer =
     MatchOption (request_at mark c.requests)
     ((asked : Result RequestValue RefusalValue) × IsAsked given asked
-    × MatchResult asked (λ request. Begins c mark request answer) (λ refusal. answer ≡ refused c mark refusal))
+    × MatchResult asked (λ request. Begins c mark explains request answer)
+    (λ refusal. answer ≡ refused c mark refusal))
     (λ r. answer ≡ refused c mark (of_line fault.MarkInUse))
 
 -- ---- outcomes
@@ -219,7 +229,7 @@ Feeds mark (Setting configuration hosts) begun w outcome answer = ⊥
 Feeds mark (Serving s cache) begun w outcome answer =
     (progress : CallProgressValue) × (after : CacheValue)
     × ResumesCall (call_context_at s w.sub.now) w outcome cache progress after
-    × Tells mark s begun (Looks progress) after answer
+    × Tells mark [] s begun (Looks progress) after answer
 
 -- the open reply is whole, and fed
 abbrev pub FeedsReply : List ℕ → Stage → InFlightValue → Answer → Type 0
@@ -310,8 +320,8 @@ AnswersOutcome c mark v behind given answer =
 
 abbrev pub AnswersVerb : ConversationValue → List ℕ → Option Verb → List (List ℕ) → List (List ℕ) → Answer → Type 0
 AnswersVerb c mark None behind given answer = answer ≡ refused c mark (unknown given)
-AnswersVerb c mark (Some verb.At) behind given answer = AnswersRequest c mark given answer
-AnswersVerb c mark (Some verb.Explain) behind given answer = AnswersRequest c mark behind answer
+AnswersVerb c mark (Some verb.At) behind given answer = AnswersRequest c mark false given answer
+AnswersVerb c mark (Some verb.Explain) behind given answer = AnswersRequest c mark true behind answer
 AnswersVerb c mark (Some v) behind given answer = AnswersOutcome c mark v behind given answer
 
 abbrev pub AnswersMarked : ConversationValue → List ℕ → List (List ℕ) → Answer → Type 0

@@ -25,6 +25,7 @@ Answers c text answer =
 
 -- the answer is said
 pub record Says (answer : Answer) (heard : Heard) : Type 0 where
+  pub explained_is : string_bytes heard.explained ≡ answer.explained
   pub text_is : string_bytes heard.text ≡ answer.text
   pub journal_is : string_bytes heard.journal ≡ answer.journal
   pub last_is : heard.is_last ≡ answer.is_last

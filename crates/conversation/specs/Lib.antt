@@ -1,4 +1,5 @@
 pub mod Answers
+pub mod Explaining
 pub mod Faults
 pub mod Hearing
 pub mod Journal

@@ -1,5 +1,5 @@
 -- A conversation: what is set before the first request; from then on a resolver; and the requests in flight.
-use Rattle.std.specs.Prelude.{◌≡◌, ◌+◌, ◌-◌, ◌^◌, ℕ, List, [], ◌∷◌, ◌++◌, map, min, String, string_bytes, Option, None, Some, if◌then◌else◌}
+use Rattle.std.specs.Prelude.{◌≡◌, ◌+◌, ◌-◌, ◌^◌, ℕ, Bool, List, [], ◌∷◌, ◌++◌, map, min, String, string_bytes, Option, None, Some, if◌then◌else◌}
 use Rattle.std.specs.Global.{Global}
 use Rattle.std.specs.Map.{lookup}
 use Rattle.std.specs.Str.{bytes_eq}
@@ -16,9 +16,11 @@ use Rattle.conversation.specs.declared.in_flight.Begun.{Begun}
 use Rattle.conversation.specs.declared.in_flight.InFlight.{InFlight}
 use Rattle.conversation.specs.declared.state.State.{State}
 
--- a request, the questions that were sent for it, and the lines of what came back, as a script has them
+-- a request, whether it asks how it comes about, the questions that were sent for it, and the lines of what came back,
+-- as a script has them
 pub record BegunValue : Type 0 where
   pub request : RequestValue
+  pub explains : Bool
   pub sent : List Query
   pub told : List ℕ
 
@@ -67,7 +69,12 @@ counted c = record c { lines = next_line c.lines }
 -- ---- the code's conversation
 
 abbrev pub begun_of : Begun → BegunValue
-begun_of b = record { request = request_of b.request; sent = b.sent.items; told = string_bytes b.told }
+begun_of b = record {
+  request = request_of b.request;
+  explains = b.explains;
+  sent = b.sent.items;
+  told = string_bytes b.told;
+}
 
 abbrev pub in_flight_of : InFlight → InFlightValue
 in_flight_of r = record { begun = begun_of r.begun; waiting = r.waiting; reply = r.reply }

@@ -17,6 +17,7 @@ use Rattle.replay.specs.Output.{request_text}
 use Rattle.replay_script.specs.Configuration.{ConfigurationValue}
 use Rattle.conversation.specs.Answers as answers
 use Rattle.conversation.specs.Answers.{Answer, Feeds, IsOpened, Serves, config_of, keeps, refused}
+use Rattle.conversation.specs.Explaining.{stored_text}
 use Rattle.conversation.specs.Faults.{RefusalValue, is_memory, of_line, out_of_memory}
 use Rattle.conversation.specs.Hearing.{IsBegunOver, IsFedOut, IsLeft, Says, Stands}
 use Rattle.conversation.specs.State.{BegunValue, ConversationValue, InFlightValue, Puts, Requests, Serving, Setting, Stage, request_at}
@@ -37,13 +38,17 @@ abbrev pub PutsSome : List ℕ → Requests → Requests → Type 0
 PutsSome mark before after = (held : Option InFlightValue) × Puts mark held before after
 
 -- the lines that go out, and those for the journal
-pub record IsBlock (mark : List ℕ) (begun : BegunValue) (found : LookupResult) (heard : Heard) : Type 0 where
+pub record IsBlock
+    (mark : List ℕ) (begun : BegunValue) (cache : CacheValue) (found : LookupResult) (heard : Heard)
+    : Type 0 where
+  pub explained_is : string_bytes heard.explained ≡ stored_text mark begun cache
   pub remembered : is_out_of_memory found ≡ false
   pub text_is : string_bytes heard.text ≡ looked_up_text mark begun found
   pub journal_is : string_bytes heard.journal ≡ begun.told ++ request_text begun.request
   pub last_is : heard.is_last ≡ false
 
 pub record IsClearBlock (mark : List ℕ) (begun : BegunValue) (heard : Heard) : Type 0 where
+  pub explained_is : string_bytes heard.explained ≡ []
   pub text_is : string_bytes heard.text ≡ clear_text mark begun.request
   pub journal_is : string_bytes heard.journal ≡ begun.told ++ request_text begun.request
   pub last_is : heard.is_last ≡ false
@@ -83,6 +88,7 @@ set_so c configuration hosts = record c { stage = Setting configuration hosts }
 
 -- a setting is told to the journal
 pub record IsSettingTold (given : List (List ℕ)) (heard : Heard) : Type 0 where
+  pub explained_is : string_bytes heard.explained ≡ []
   pub text_is : string_bytes heard.text ≡ []
   pub journal_is : string_bytes heard.journal ≡ fields_text given
   pub last_is : heard.is_last ≡ false
@@ -157,11 +163,12 @@ IsOpening before now (Err fault) after =
     (IsOpened before.stage now (Err fault) ⊎ (fault ≡ out_of_memory)) × (after ≡ before)
 
 -- a request is begun over the resolver that is there
-abbrev pub IsServing : ConversationValue → List ℕ → RequestValue → Result Heard AllocError → ConversationValue → Type 0
-IsServing before mark request (Ok heard) after =
+abbrev pub IsServing : ConversationValue → List ℕ → Bool → RequestValue → Result Heard AllocError → ConversationValue
+    → Type 0
+IsServing before mark explains request (Ok heard) after =
     (s : Settings) × (cache : CacheValue) × (before.stage ≡ Serving s cache) × (answer : Answer)
-    × Serves mark request s cache answer × Says answer heard × Stands mark answer before after
-IsServing before mark request (Err error) after =
+    × Serves mark explains request s cache answer × Says answer heard × Stands mark answer before after
+IsServing before mark explains request (Err error) after =
     (after.lines ≡ before.lines) × PutsSome mark before.requests after.requests
     × ((after.stage ≡ before.stage)
     ⊎ ((s : Settings) × (cache : CacheValue) × (before.stage ≡ Serving s cache)

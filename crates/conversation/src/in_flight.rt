@@ -11,10 +11,13 @@ use hickory_resolver::{Request, WaitingCall};
 use replay_script::OpenReply;
 use std::alloc::{AllocError, Global};
 
-/// A request, the questions that were sent for it, and the lines of what came back, as a script has them.
+/// A request, whether it asks how it comes about, the questions that were sent for it, and the lines of what came back,
+/// as a script has them.
 #[derive(Drop)]
 pub struct Begun {
     pub request: Request,
+    /// Whether it asks how it comes about.
+    pub explains: bool,
     pub sent: Vec<Query>,
     pub told: String,
 }
@@ -29,11 +32,12 @@ pub struct InFlight {
 
 impl Begun {
     /// A request for which nothing was sent.
-    pub fn new(alloc: Global, request: Request) -> Begun
-        ensures { begun_of result ≡ just_begun (request_of request) }
+    pub fn new(alloc: Global, request: Request, explains: bool) -> Begun
+        ensures { begun_of result ≡ just_begun (request_of request) explains }
     {
         Begun {
             request,
+            explains,
             sent: Vec::new(alloc),
             told: String::new(alloc),
         }

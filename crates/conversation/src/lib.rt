@@ -3,6 +3,7 @@
 #![tactic(auto)]
 
 pub mod conversation;
+mod explaining;
 pub mod fault;
 pub mod heard;
 mod in_flight;

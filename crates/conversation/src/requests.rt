@@ -1,5 +1,5 @@
 //! Requests over a resolver: they begin, go on and end.
-ghost use Rattle.std.specs.Prelude.{◌≡◌, IfOk, IfSome, OnErr, OnOk, None, Some, string_bytes};
+ghost use Rattle.std.specs.Prelude.{◌≡◌, [], IfOk, IfSome, OnErr, OnOk, None, Some, string_bytes};
 ghost use Rattle.std.specs.Option.{option_map};
 ghost use Rattle.hickory_resolver.specs.CallProgress.{call_progress_of};
 ghost use Rattle.hickory_resolver.specs.Requests.{request_of};
@@ -10,11 +10,12 @@ ghost use Rattle.conversation.specs.Hearing.{IsBegunOver, IsFedOut};
 ghost use Rattle.conversation.specs.State.{Puts, begun_of, in_flight_of, request_at, requests_of};
 ghost use Rattle.conversation.specs.Telling.{IsBlock, IsClearBlock, IsGiven, IsTold, came_of, stage_by};
 
+use crate::explaining::{explained_start, push_alias, push_stored};
 use crate::heard::Heard;
 use crate::in_flight::{Begun, InFlight};
 use crate::writing::{told_block, told_clear, told_question};
 use hickory_proto_core::{NetError, Outcome, ScriptHandle};
-use hickory_resolver::{CallProgress, Lookup, Request, Resolver, WaitingCall};
+use hickory_resolver::{CallProgress, Lookup, Request, Resolver, ResponseCache, WaitingCall};
 use std::alloc::{AllocError, Global};
 use std::collections::HashMap;
 
@@ -34,15 +35,20 @@ pub fn begin(
     requests: &mut HashMap<String, InFlight>,
     mark: &str,
     request: Request,
+    explains: bool,
 ) -> Result<Heard, AllocError>
     ensures { IsGiven mark.now
-        (Serves mark.now (request_of request) (settings resolver.old) resolver.old.client.cache)
+        (Serves mark.now explains (request_of request) (settings resolver.old) resolver.old.client.cache)
         (IsBegunOver (settings resolver.old) resolver.old.client.cache (request_of request))
         result (stage_by resolver.new) (requests_of requests.old.entries) (requests_of requests.new.entries) }
 {
+    let mut start = explained_start(alloc, resolver, mark, &request, explains)?;
     let came = ask(resolver, &request)?;
-    let begun = Begun::new(alloc, request);
-    tell(alloc, resolver, requests, mark, begun, came)
+    let begun = Begun::new(alloc, request, explains);
+    let mut heard = tell(alloc, resolver, requests, mark, begun, came)?;
+    start.push_str(heard.explained.as_str())?;
+    heard.explained = start;
+    Ok(heard)
 }
 
 // Tells how far a request came.
@@ -55,7 +61,7 @@ fn tell(
     came: Came,
 ) -> Result<Heard, AllocError>
     ensures { IsTold mark.now
-        (Tells mark.now (settings resolver.now) (begun_of begun) (came_of came) resolver.now.client.cache)
+        (Tells mark.now [] (settings resolver.now) (begun_of begun) (came_of came) resolver.now.client.cache)
         result (requests_of requests.old.entries) (requests_of requests.new.entries) }
 {
     match came {
@@ -124,18 +130,22 @@ fn settle(
     progress: CallProgress,
 ) -> Result<Heard, AllocError>
     ensures { IsTold mark.now
-        (Tells mark.now (settings resolver.now) (begun_of begun) (Looks (call_progress_of progress))
+        (Tells mark.now [] (settings resolver.now) (begun_of begun) (Looks (call_progress_of progress))
         resolver.now.client.cache)
         result (requests_of requests.old.entries) (requests_of requests.new.entries) }
 {
     match progress {
         CallProgress::Waiting(waiting) => {
             let options = resolver.request_options();
-            let heard = told_question(alloc, mark, waiting.question(), options)?;
+            let mut heard = told_question(alloc, mark, waiting.question(), options)?;
+            push_alias(&mut heard.explained, mark, begun.explains, &waiting)?;
             keep(alloc, requests, mark, begun, waiting)?;
             Ok(heard)
         }
-        CallProgress::Done(found) => finish(alloc, requests, mark, &begun, &found),
+        CallProgress::Done(found) => {
+            let cache = resolver.client().cache();
+            finish(alloc, cache, requests, mark, &begun, &found)
+        }
     }
 }
 
@@ -197,19 +207,22 @@ pub fn take(requests: &mut HashMap<String, InFlight>, mark: &str) -> Option<(Str
 // Tells what a look-up came to.
 fn finish(
     alloc: Global,
+    cache: &ResponseCache,
     requests: &mut HashMap<String, InFlight>,
     mark: &str,
     begun: &Begun,
     found: &Result<Lookup, NetError>,
 ) -> Result<Heard, AllocError>
-    ensures told { IfOk result (IsBlock mark.now (begun_of begun.now) found.now) }
+    ensures told { IfOk result (IsBlock mark.now (begun_of begun.now) cache.now found.now) }
     ensures forgotten { Puts mark.now None (requests_of requests.old.entries) (requests_of requests.new.entries) }
 {
     forget(requests, mark);
     if matches!(found, Err(NetError::OutOfMemory)) {
         return Err(AllocError);
     }
-    told_block(alloc, mark, begun, found)
+    let mut heard = told_block(alloc, mark, begun, found)?;
+    push_stored(&mut heard.explained, mark, begun, cache)?;
+    Ok(heard)
 }
 
 // Tells that a clear was done.

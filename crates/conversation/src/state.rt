@@ -260,35 +260,40 @@ impl State {
             result (conversation_of self.new) }
     {
         match verb {
-            Verb::At => self.begin(mark, fields),
-            Verb::Explain => self.begin(mark, behind),
+            Verb::At => self.begin(mark, false, fields),
+            Verb::Explain => self.begin(mark, true, behind),
             _ => self.hear_of(mark, verb, behind, fields),
         }
     }
 
     // A request begins, unless its mark is in use.
-    fn begin(&mut self, mark: &str, fields: &[&str]) -> Result<Heard, AllocError>
+    fn begin(&mut self, mark: &str, explains: bool, fields: &[&str]) -> Result<Heard, AllocError>
         ensures { let before = conversation_of self.old in IsAnswered before mark.now
-            (AnswersRequest before mark.now (texts fields.now))
+            (AnswersRequest before mark.now explains (texts fields.now))
             result (conversation_of self.new) }
     {
         if self.requests.contains_key(mark) {
             return self.refuse(mark, &Refusal::of_line(ConversationFault::MarkInUse));
         }
         match read_request(self.alloc, fields) {
-            Ok(request) => self.begin_request(mark, request),
+            Ok(request) => self.begin_request(mark, explains, request),
             Err(refusal) => self.refuse(mark, &refusal),
         }
     }
 
     // A request begins. At the first one the resolver is made.
-    fn begin_request(&mut self, mark: &str, request: Request) -> Result<Heard, AllocError>
+    fn begin_request(
+        &mut self,
+        mark: &str,
+        explains: bool,
+        request: Request,
+    ) -> Result<Heard, AllocError>
         ensures { let before = conversation_of self.old in IsAnswered before mark.now
-            (Begins before mark.now (request_of request))
+            (Begins before mark.now explains (request_of request))
             result (conversation_of self.new) }
     {
         match self.open(request.moment()) {
-            Ok(()) => self.serve(mark, request),
+            Ok(()) => self.serve(mark, explains, request),
             Err(fault) => self.refuse(mark, &Refusal::of_line(fault)),
         }
     }
@@ -334,13 +339,21 @@ impl State {
     }
 
     // A request begins over the resolver that is there.
-    fn serve(&mut self, mark: &str, request: Request) -> Result<Heard, AllocError>
-        ensures { IsServing (conversation_of self.old) mark.now (request_of request) result (conversation_of self.new) }
+    fn serve(&mut self, mark: &str, explains: bool, request: Request) -> Result<Heard, AllocError>
+        ensures { IsServing (conversation_of self.old) mark.now explains (request_of request) result
+            (conversation_of self.new) }
     {
         let Some(resolver) = &mut self.resolver else {
             return Err(AllocError);
         };
-        begin(self.alloc, resolver, &mut self.requests, mark, request)
+        begin(
+            self.alloc,
+            resolver,
+            &mut self.requests,
+            mark,
+            request,
+            explains,
+        )
     }
 
     // A line for a request in flight.

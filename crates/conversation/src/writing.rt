@@ -17,11 +17,13 @@ use std::alloc::{AllocError, Global};
 
 /// Nothing goes out.
 pub fn told_nothing(alloc: Global) -> Heard
+    ensures explained { string_bytes result.explained ≡ [] }
     ensures text { string_bytes result.text ≡ [] }
     ensures journal { string_bytes result.journal ≡ [] }
     ensures last { result.is_last ≡ false }
 {
     Heard {
+        explained: String::new(alloc),
         text: String::new(alloc),
         journal: String::new(alloc),
         is_last: false,
@@ -30,11 +32,13 @@ pub fn told_nothing(alloc: Global) -> Heard
 
 /// Nothing goes out, and the conversation is over.
 pub fn told_last(alloc: Global) -> Heard
+    ensures explained { string_bytes result.explained ≡ [] }
     ensures text { string_bytes result.text ≡ [] }
     ensures journal { string_bytes result.journal ≡ [] }
     ensures last { result.is_last ≡ true }
 {
     Heard {
+        explained: String::new(alloc),
         text: String::new(alloc),
         journal: String::new(alloc),
         is_last: true,
@@ -43,11 +47,13 @@ pub fn told_last(alloc: Global) -> Heard
 
 // A text goes out, and nothing is told to the journal.
 fn told_text(alloc: Global, text: String) -> Heard
+    ensures explained { string_bytes result.explained ≡ [] }
     ensures text { string_bytes result.text ≡ string_bytes text }
     ensures journal { string_bytes result.journal ≡ [] }
     ensures last { result.is_last ≡ false }
 {
     Heard {
+        explained: String::new(alloc),
         text,
         journal: String::new(alloc),
         is_last: false,
@@ -61,6 +67,7 @@ pub fn told_fault(
     line: u64,
     refusal: &Refusal<'_>,
 ) -> Result<Heard, AllocError>
+    ensures explained { IfOk result (λ h. string_bytes h.explained ≡ []) }
     ensures text { IfOk result (λ h. string_bytes h.text ≡ fault_text mark.now line refusal.now) }
     ensures journal { IfOk result (λ h. string_bytes h.journal ≡ []) }
     ensures last { IfOk result (λ h. h.is_last ≡ false) }
@@ -84,6 +91,7 @@ fn push_field(text: &mut String, field: Option<&str>) -> Result<(), AllocError>
 
 /// The line of a request that is cancelled.
 pub fn told_cancel(alloc: Global, mark: &str) -> Result<Heard, AllocError>
+    ensures explained { IfOk result (λ h. string_bytes h.explained ≡ []) }
     ensures text { IfOk result (λ h. string_bytes h.text ≡ cancelled_text mark.now) }
     ensures journal { IfOk result (λ h. string_bytes h.journal ≡ []) }
     ensures last { IfOk result (λ h. h.is_last ≡ false) }
@@ -99,6 +107,7 @@ pub fn told_question(
     question: &Query,
     options: DnsRequestOptions,
 ) -> Result<Heard, AllocError>
+    ensures explained { IfOk result (λ h. string_bytes h.explained ≡ []) }
     ensures text { IfOk result (λ h. string_bytes h.text ≡ send_text mark.now question.now options) }
     ensures journal { IfOk result (λ h. string_bytes h.journal ≡ []) }
     ensures last { IfOk result (λ h. h.is_last ≡ false) }
@@ -116,6 +125,7 @@ pub fn told_block(
     begun: &Begun,
     found: &Result<Lookup, NetError>,
 ) -> Result<Heard, AllocError>
+    ensures explained { IfOk result (λ h. string_bytes h.explained ≡ []) }
     ensures text { IfOk result (λ h. string_bytes h.text ≡ looked_up_text mark.now (begun_of begun.now) found.now) }
     ensures journal { IfOk result (λ h. string_bytes h.journal
         ≡ (begun_of begun.now).told ++ request_text (begun_of begun.now).request) }
@@ -129,6 +139,7 @@ pub fn told_block(
 
 /// The block of a clear, and an empty line.
 pub fn told_clear(alloc: Global, mark: &str, begun: &Begun) -> Result<Heard, AllocError>
+    ensures explained { IfOk result (λ h. string_bytes h.explained ≡ []) }
     ensures text { IfOk result (λ h. string_bytes h.text ≡ clear_text mark.now (begun_of begun.now).request) }
     ensures journal { IfOk result (λ h. string_bytes h.journal
         ≡ (begun_of begun.now).told ++ request_text (begun_of begun.now).request) }
@@ -142,6 +153,7 @@ pub fn told_clear(alloc: Global, mark: &str, begun: &Begun) -> Result<Heard, All
 
 /// A setting is told to the journal.
 pub fn told_setting(alloc: Global, fields: &[&str]) -> Result<Heard, AllocError>
+    ensures explained { IfOk result (λ h. string_bytes h.explained ≡ []) }
     ensures text { IfOk result (λ h. string_bytes h.text ≡ []) }
     ensures journal { IfOk result (λ h. string_bytes h.journal ≡ fields_text (texts fields.now)) }
     ensures last { IfOk result (λ h. h.is_last ≡ false) }

@@ -1,10 +1,13 @@
 pub mod CallProgress
 pub mod CallSteps
+pub mod Explaining
 pub mod Listening
 pub mod Replies
 pub mod Serving
 pub mod Starting
 pub mod Transcripts
+pub use Rattle.hickory_resolver_cache.specs.Times
+pub use Rattle.hickory_resolver_client.specs.Contexts
 pub use Rattle.hickory_resolver_lookup.specs.Requests
 pub use Rattle.hickory_resolver_model.specs.AliasWalk
 pub use Rattle.hickory_resolver_model.specs.Attempts

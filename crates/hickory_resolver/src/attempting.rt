@@ -71,8 +71,8 @@ pub enum Step {
 }
 
 impl Sought {
-    // The types that are looked up for a name.
-    fn types(self) -> Types
+    /// The types that are looked up for a name.
+    pub fn types(self) -> Types
         ensures { types_value result ≡ types_of self }
     {
         let (v4, v6) = (RecordType::A, RecordType::AAAA);
@@ -87,8 +87,8 @@ impl Sought {
         }
     }
 
-    // Whether the table of hosts is asked for every name.
-    fn asks_hosts_for_all(self) -> bool
+    /// Whether the table of hosts is asked for every name.
+    pub fn asks_hosts_for_all(self) -> bool
         ensures { result ≡ asks_for_all self }
     {
         matches!(self, Sought::Addresses(_))
@@ -106,8 +106,8 @@ impl Sought {
 }
 
 impl Types {
-    // The type that is looked up first.
-    fn first(self) -> RecordType
+    /// The type that is looked up first.
+    pub fn first(self) -> RecordType
         ensures { result ≡ first_type (types_value self) }
     {
         match self {
@@ -287,10 +287,10 @@ fn look_up<H: DnsHandle, S: BuildHasher, T: BuildHasher>(
     }
 }
 
-// Whether the table of hosts is not looked at, or it is known at once that it has nothing for a question: it has no
-// names. Of a question for PTR records that is never known, since the table first reads which address its name
-// stands for.
-fn skips_hosts<T: BuildHasher>(looked: bool, hosts: &Hosts<T>, question: &Query) -> bool
+/// Whether the table of hosts is not looked at, or it is known at once that it has nothing for a question: it has no
+/// names. Of a question for PTR records that is never known, since the table first reads which address its name
+/// stands for.
+pub fn skips_hosts<T: BuildHasher>(looked: bool, hosts: &Hosts<T>, question: &Query) -> bool
     ensures none { IsTrue result → (now : ℕ) → (looked ≡ false) ⊎ IsStatic question.now now hosts.now None }
     ensures asked { result ≡ false → looked ≡ true }
 {

@@ -3,6 +3,7 @@
 
 mod attempting;
 mod calling;
+pub mod explaining;
 mod keeping;
 pub mod listener;
 mod literals;
@@ -67,6 +68,7 @@ pub use config::{
     OpportunisticEncryptionConfig, ProtocolConfig, ResolveHosts, ResolverConfig, ResolverOpts,
     ServerGroup, ServerGroupIter, ServerOrderingStrategy, cloudflare, google, quad9,
 };
+pub use explaining::{Answerer, Attempted};
 pub use hosts::{Hosts, HostsError, Watched};
 pub use listener::{Heard, Listener};
 pub use lookup::Lookup;

@@ -10,14 +10,17 @@ ghost use Rattle.hickory_resolver_model.specs.Attempts.{attempts};
 ghost use Rattle.hickory_resolver_model.specs.Calls.{last_resort, literal_at_last};
 ghost use Rattle.hickory_resolver_model.specs.Options.{request_options_of};
 ghost use Rattle.hickory_resolver_model.specs.Resolver.{AnswersCall, AnswersHost, after_clear_lookup, settings};
-ghost use Rattle.hickory_resolver_model.specs.Run.{Attempt, address_call, address_plan, drop_each};
+ghost use Rattle.hickory_resolver_model.specs.Run.{Attempt, LookupIp, address_call, address_plan, drop_each};
 ghost use Rattle.hickory_resolver_theorems.specs.CallFacts.{KeepsWhatIsKnown, PromisesHost, PromisesName};
 ghost use Rattle.hickory_resolver.specs.CallProgress.{call_progress_of};
-ghost use Rattle.hickory_resolver.specs.CallSteps.{plan_value};
+ghost use Rattle.hickory_resolver.specs.CallSteps.{asks_for_all, plan_value, types_of};
+ghost use Rattle.hickory_resolver.specs.Explaining.{Explains, ExplainsNamed};
+ghost use Rattle.hickory_resolver_lookup.specs.Requests.{request_of};
 ghost use Rattle.hickory_resolver.specs.Starting.{ResumesAt, StartsAt, StartsHost, StartsName};
 
 use crate::attempting::Sought;
 use crate::calling::{resume, start};
+use crate::explaining::{Attempted, answered, planned};
 use crate::literals::{as_addresses, literal_at_once};
 use crate::lookup_future::LookupFuture;
 use crate::lookup_ip_future::LookupIpFuture;
@@ -32,7 +35,7 @@ use hickory_resolver_cache::ResponseCache;
 use hickory_resolver_client::CachingClient;
 use hickory_resolver_config::{LookupIpStrategy, ResolverConfig, ResolverOpts};
 use hickory_resolver_hosts::Hosts;
-use hickory_resolver_lookup::{Lookup, LookupIp};
+use hickory_resolver_lookup::{Lookup, LookupIp, Request};
 use std::alloc::{AllocError, Global};
 use std::fmt;
 use std::hash::{BuildHasher, BuildHasherDefault, FoldHasher};
@@ -185,6 +188,33 @@ impl<H: DnsHandle, S: BuildHasher> Resolver<H, S> {
         match host.into_name(self.alloc()) {
             Ok(name) => self.start_host(address, name, now),
             Err(fault) => CallProgress::Done(self.literal_or_fault(address, fault, now)),
+        }
+    }
+
+    /// What a request attempts at its moment, and who would answer it as things stand: the names in the order in which
+    /// they are attempted, each with the types that may be looked up for it. The call ends with the first name that
+    /// has answers, and looks a second family of addresses up only where its strategy says so. What is no name, an
+    /// address that is answered at once and a clear attempt nothing. Nothing is looked up, and nothing changes.
+    pub fn explain(&self, request: &Request) -> Result<Vec<Attempted>, AllocError>
+        ensures { IfOk result (λ list. Explains (settings self.now) self.now.client.cache (request_of request.now)
+            list.items) }
+    {
+        match request {
+            Request::Lookup {
+                name,
+                record_type,
+                now,
+            } => {
+                let name = name.as_str().into_name(self.alloc());
+                self.explain_names(name, Sought::Records(*record_type), *now)
+            }
+            Request::LookupIp { host, now } => self.explain_host(host.as_str(), *now),
+            Request::ClearLookup {
+                name: _,
+                record_type: _,
+                now: _,
+            } => Ok(Vec::new(self.alloc())),
+            Request::Clear { now: _ } => Ok(Vec::new(self.alloc())),
         }
     }
 
@@ -459,6 +489,39 @@ impl<H: DnsHandle, S: BuildHasher> Resolver<H, S> {
         ensures { result ≡ self.now.options.ip_strategy }
     {
         self.options.ip_strategy
+    }
+
+    // What a look-up of the addresses of a host attempts.
+    fn explain_host(&self, host: &str, now: u64) -> Result<Vec<Attempted>, AllocError>
+        ensures { IfOk result (λ list. Explains (settings self.now) self.now.client.cache (LookupIp host.now now)
+            list.items) }
+    {
+        let name = host.into_name(self.alloc());
+        if host.to_ip().is_some() && self.options.ndots <= 4 {
+            return Ok(Vec::new(self.alloc()));
+        }
+        self.explain_names(name, Sought::Addresses(self.ip_strategy()), now)
+    }
+
+    // What a call attempts for what was read as a name. What is none attempts nothing.
+    fn explain_names(
+        &self,
+        name: Result<Name, NameError>,
+        sought: Sought,
+        now: u64,
+    ) -> Result<Vec<Attempted>, AllocError>
+        ensures { IfOk result (λ list. ExplainsNamed (settings self.now) self.now.client.cache now (types_of sought)
+            (asks_for_all sought) name list.items) }
+    {
+        match name {
+            Ok(name) => {
+                let names = self.attempts(name)?;
+                let planned = planned(self.alloc(), &names, sought)?;
+                answered(self.alloc(), planned, self.client.cache(), &self.hosts, now)
+            }
+            Err(NameError::OutOfMemory) => Err(AllocError),
+            Err(_) => Ok(Vec::new(self.alloc())),
+        }
     }
 
     fn alloc(&self) -> Global {

@@ -1,5 +1,7 @@
 //! A call that waits for what comes back to a question.
 ghost use Rattle.std.specs.Prelude.{◌≡◌};
+ghost use Rattle.std.specs.Option.{option_copied};
+ghost use Rattle.hickory_resolver_client.specs.Contexts.{first_passed};
 
 use crate::attempting::Attempt;
 use hickory_proto_core::{NetError, Query};
@@ -50,6 +52,14 @@ impl WaitingCall {
         ensures { result.now ≡ self.now.sub.hop.query }
     {
         self.sub.question()
+    }
+
+    /// The question of the name and type that are attempted, where aliases led from it to the one that is to be sent.
+    /// None where it is itself to be sent.
+    pub fn aliased(&self) -> Option<&Query>
+        ensures { option_copied result ≡ first_passed self.now.sub.passed }
+    {
+        self.sub.aliased()
     }
 
     /// The moment of its start (seconds).

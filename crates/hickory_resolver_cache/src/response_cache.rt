@@ -3,6 +3,7 @@ ghost use Rattle.std.specs.Prelude.{◌≡◌, ◌≤◌, ◌<◌, [], length, f
 ghost use Rattle.std.specs.Option.{option_map};
 ghost use Rattle.hickory_resolver_model.specs.Cache.{CacheValue, IsCache, IsGot, IsGotUntil, IsNewest, NeverLater, OutlivesNoAnswer, current, is_for, without_query, entry_of, not_after, not_after_current, insert_entry, store, store_clamped, store_until};
 ghost use Rattle.hickory_resolver_cache.specs.Outcome.{kept_entry};
+ghost use Rattle.hickory_resolver_cache.specs.Times.{times_of};
 ghost use Rattle.hickory_resolver_cache.specs.Turns.{shown, shown_entry};
 
 use crate::entry::{CacheEntry, entry_of};
@@ -182,6 +183,15 @@ impl<S: BuildHasher> ResponseCache<S> {
         let entry = self.current(query, now)?;
         let outcome = entry.aged_result(self.allocator(), now);
         Some((outcome, entry.valid_until))
+    }
+
+    /// When the question's current entry was stored, and its deadline: the last moment at which it is current
+    /// (seconds). None without a current entry. Takes no memory.
+    pub fn current_times(&self, query: &Query, now: u64) -> Option<(u64, u64)>
+        ensures { result ≡ option_map times_of (current query.now now self.now.entries) }
+    {
+        let entry = self.current(query, now)?;
+        Some((entry.original_time, entry.valid_until))
     }
 
     /// Drops every entry. Takes no memory.

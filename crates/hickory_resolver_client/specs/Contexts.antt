@@ -1,8 +1,9 @@
 -- A client without its handle, and how far its look-ups come.
-use Rattle.std.specs.Prelude.{ℕ, Bool}
+use Rattle.std.specs.Prelude.{ℕ, Bool, List, [], ◌∷◌, Option, None, Some}
+use Rattle.hickory_proto_core.specs.declared.query.Query.{Query}
 use Rattle.hickory_resolver_model.specs.Cache.{CacheValue}
 use Rattle.hickory_resolver_model.specs.Hops.{LookupContext}
-use Rattle.hickory_resolver_model.specs.Resuming.{ProgressValue, Waits, IsDone}
+use Rattle.hickory_resolver_model.specs.Resuming.{PassedValue, ProgressValue, Waits, IsDone}
 use Rattle.hickory_resolver_client.specs.declared.waiting.Progress.{Progress}
 use Rattle.hickory_resolver_client.specs.declared.waiting.Progress.TheVariants.{Waiting, Done}
 
@@ -20,3 +21,8 @@ context_of core now =
 abbrev pub progress_of : Progress → ProgressValue
 progress_of (Waiting w) = Waits w
 progress_of (Done result) = IsDone result
+
+-- the first of some passed questions, where there is one
+abbrev pub first_passed : List PassedValue → Option Query
+first_passed [] = None
+first_passed (p ∷ ps) = Some p.query

@@ -1,5 +1,7 @@
 //! A look-up that waits for what comes back to a question.
 ghost use Rattle.std.specs.Prelude.{◌≡◌, ◌≤◌, length};
+ghost use Rattle.std.specs.Option.{option_copied};
+ghost use Rattle.hickory_resolver_client.specs.Contexts.{first_passed};
 
 use crate::verdict::Hop;
 use hickory_proto_core::{NetError, Query};
@@ -61,6 +63,17 @@ impl Waiting {
         ensures few { length self.now.passed ≤ 7 }
     {
         &self.hop.query
+    }
+
+    /// The question of the look-up, where aliases led from it to the one that is to be sent (RFC 1034, section 3.6.2).
+    /// None where it is itself to be sent.
+    pub fn aliased(&self) -> Option<&Query>
+        ensures { option_copied result ≡ first_passed self.now.passed }
+    {
+        match self.passed.as_slice() {
+            [first, ..] => Some(&first.query),
+            [] => None,
+        }
     }
 
     /// The moment of its start (seconds).

@@ -72,6 +72,7 @@ fn answer<W: Write, J: Write>(
     match conversation.hear(line) {
         Ok(heard) => {
             write_whole(journal, heard.journal.as_bytes())?;
+            write_whole(writer, heard.explained.as_bytes())?;
             write_whole(writer, heard.text.as_bytes())?;
             Ok(heard.is_last)
         }

@@ -14,18 +14,18 @@ use Rattle.conversation.proofs.state.State.begin.Goals as goal
 pub returns-then-contains_key : goal.returns-then-contains_key
 returns-then-contains_key c =
     let s = c.args.self.now in
-    refused_for (conversation_of s) c.args.mark.now c.of_line.result (of_line fault.MarkInUse) (λ answer. AnswersRequest (conversation_of s) c.args.mark.now (texts c.args.fields.now) answer) c.refuse.result c.refuse.ensures c.of_line.ensures
-    (λ told. mark_used (conversation_of s) c.args.mark.now (texts c.args.fields.now) (is_held c.args.mark.now s.requests.entries c.contains_key.result c.contains_key.ensures ∙ c.if-contains_key.true))
+    refused_for (conversation_of s) c.args.mark.now c.of_line.result (of_line fault.MarkInUse) (λ answer. AnswersRequest (conversation_of s) c.args.mark.now c.args.explains (texts c.args.fields.now) answer) c.refuse.result c.refuse.ensures c.of_line.ensures
+    (λ told. mark_used (conversation_of s) c.args.mark.now c.args.explains (texts c.args.fields.now) (is_held c.args.mark.now s.requests.entries c.contains_key.result c.contains_key.ensures ∙ c.if-contains_key.true))
 
 pub returns-in-Ok : goal.returns-in-Ok
 returns-in-Ok c =
     let s = c.args.self.now in
-    answered_as (conversation_of s) (conversation_of c.begin_request.new.self) c.args.mark.now (λ answer. Begins (conversation_of s) c.args.mark.now (request_of c.in-Ok.request) answer) (λ answer. AnswersRequest (conversation_of s) c.args.mark.now (texts c.args.fields.now) answer) c.begin_request.result
-    (λ answer kind. asks (conversation_of s) c.args.mark.now (texts c.args.fields.now) answer (Ok (request_of c.in-Ok.request)) (is_held c.args.mark.now s.requests.entries c.contains_key.result c.contains_key.ensures ∙ c.if-contains_key.false) c.in-Ok.ensures kind)
+    answered_as (conversation_of s) (conversation_of c.begin_request.new.self) c.args.mark.now (λ answer. Begins (conversation_of s) c.args.mark.now c.args.explains (request_of c.in-Ok.request) answer) (λ answer. AnswersRequest (conversation_of s) c.args.mark.now c.args.explains (texts c.args.fields.now) answer) c.begin_request.result
+    (λ answer kind. asks (conversation_of s) c.args.mark.now c.args.explains (texts c.args.fields.now) answer (Ok (request_of c.in-Ok.request)) (is_held c.args.mark.now s.requests.entries c.contains_key.result c.contains_key.ensures ∙ c.if-contains_key.false) c.in-Ok.ensures kind)
     c.begin_request.ensures
 
 pub returns-in-Err : goal.returns-in-Err
 returns-in-Err c =
     let s = c.args.self.now in
-    refused_for (conversation_of s) c.args.mark.now c.in-Err.refusal c.in-Err.refusal (λ answer. AnswersRequest (conversation_of s) c.args.mark.now (texts c.args.fields.now) answer) c.refuse-in-Err.result c.refuse-in-Err.ensures refl
-    (λ told. asks_fault (conversation_of s) c.args.mark.now (texts c.args.fields.now) c.in-Err.refusal (is_held c.args.mark.now s.requests.entries c.contains_key.result c.contains_key.ensures ∙ c.if-contains_key.false) c.in-Err.ensures told)
+    refused_for (conversation_of s) c.args.mark.now c.in-Err.refusal c.in-Err.refusal (λ answer. AnswersRequest (conversation_of s) c.args.mark.now c.args.explains (texts c.args.fields.now) answer) c.refuse-in-Err.result c.refuse-in-Err.ensures refl
+    (λ told. asks_fault (conversation_of s) c.args.mark.now c.args.explains (texts c.args.fields.now) c.in-Err.refusal (is_held c.args.mark.now s.requests.entries c.contains_key.result c.contains_key.ensures ∙ c.if-contains_key.false) c.in-Err.ensures told)

@@ -5,8 +5,8 @@ use Rattle.conversation.proofs.state.State.begin_request.Goals as goal
 
 pub returns-in-Ok : goal.returns-in-Ok
 returns-in-Ok c =
-    began (conversation_of c.args.self.now) (conversation_of c.open.new.self) (conversation_of c.serve.new.self) c.args.mark.now (request_of c.args.request) c.moment.result c.serve.result c.moment.ensures c.in-Ok.ensures c.serve.ensures
+    began (conversation_of c.args.self.now) (conversation_of c.open.new.self) (conversation_of c.serve.new.self) c.args.mark.now c.args.explains (request_of c.args.request) c.moment.result c.serve.result c.moment.ensures c.in-Ok.ensures c.serve.ensures
 
 pub returns-in-Err : goal.returns-in-Err
 returns-in-Err c =
-    not_begun (conversation_of c.args.self.now) (conversation_of c.open.new.self) c.args.mark.now (request_of c.args.request) c.moment.result c.in-Err.fault c.of_line.result c.refuse.result c.moment.ensures c.in-Err.ensures c.of_line.ensures c.refuse.ensures
+    not_begun (conversation_of c.args.self.now) (conversation_of c.open.new.self) c.args.mark.now c.args.explains (request_of c.args.request) c.moment.result c.in-Err.fault c.of_line.result c.refuse.result c.moment.ensures c.in-Err.ensures c.of_line.ensures c.refuse.ensures

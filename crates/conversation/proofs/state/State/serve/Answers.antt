@@ -8,10 +8,10 @@ use Rattle.conversation.proofs.Beginnings.{not_served, served}
 use Rattle.conversation.proofs.state.State.serve.Goals as goal
 
 pub returns-in_default : goal.returns-in_default
-returns-in_default c = not_served (conversation_of c.args.self.now) c.args.mark.now (request_of c.args.request) _
+returns-in_default c = not_served (conversation_of c.args.self.now) c.args.mark.now c.args.explains (request_of c.args.request) _
 
 pub returns : goal.returns
 returns c =
     let s = c.args.self.now in
-    served (conversation_of s) (record (conversation_of s) { stage = stage_by c.begin.new.resolver; requests = requests_of c.begin.new.requests.entries }) c.args.mark.now (request_of c.args.request) (settings c.in-Some.resolver) c.in-Some.resolver.client.cache c.begin.result (stage_by c.begin.new.resolver)
+    served (conversation_of s) (record (conversation_of s) { stage = stage_by c.begin.new.resolver; requests = requests_of c.begin.new.requests.entries }) c.args.mark.now c.args.explains (request_of c.args.request) (settings c.in-Some.resolver) c.in-Some.resolver.client.cache c.begin.result (stage_by c.begin.new.resolver)
     (ap (λ (r : Option (ResolverValue (List OutcomeValue))). stage_of s.configuration s.hosts.items r) c.in-Some.is) refl refl c.begin.ensures

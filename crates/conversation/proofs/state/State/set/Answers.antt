@@ -8,7 +8,7 @@ pub returns-in-Ok : goal.returns-in-Ok
 returns-in-Ok c =
     let s = c.args.self.now in
     record {
-      told = record { text_is = c.in_ok-heard.ensures.text; journal_is = c.in_ok-heard.ensures.journal; last_is = c.in_ok-heard.ensures.last };
+      told = record { explained_is = c.in_ok-heard.ensures.explained; text_is = c.in_ok-heard.ensures.text; journal_is = c.in_ok-heard.ensures.journal; last_is = c.in_ok-heard.ensures.last };
       set = ap (λ (x : Stage). record (conversation_of s) { stage = x }) (setting_stage c.set.new.self s.hosts.items s.resolver c.requires ∙ ap (λ (k : ConfigurationValue). Setting k s.hosts.items) c.in-Ok.ensures.ok);
       unchanged = tt;
     }
