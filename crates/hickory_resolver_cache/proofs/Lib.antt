@@ -7,4 +7,5 @@ mod Renumbered
 mod Stored
 mod Spelled
 mod Laws
+mod Apart
 mod KeptEntries

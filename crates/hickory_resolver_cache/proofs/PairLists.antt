@@ -19,6 +19,10 @@ pub all-map : {X Y : Type 0} (P : Y → Type 0) (f : X → Y) (xs : List X) → 
 all-map P f [] h = h
 all-map P f (x ∷ xs) h = (h.0, all-map P f xs h.1)
 
+pub all-unmap : {X Y : Type 0} (P : Y → Type 0) (f : X → Y) (xs : List X) → AllByRecursion P (map f xs) → AllByRecursion (λ x. P (f x)) xs
+all-unmap P f [] h = h
+all-unmap P f (x ∷ xs) h = (h.0, all-unmap P f xs h.1)
+
 pub all-map_at : {X Y : Type 0} (P : Y → Type 0) (f : X → Y) (xs : List X) (x : X) (ys : List X) → AllByRecursion P (map f (xs ++ x ∷ ys)) → P (f x)
 all-map_at P f [] x ys h = h.0
 all-map_at P f (z ∷ xs) x ys h = all-map_at P f xs x ys h.1

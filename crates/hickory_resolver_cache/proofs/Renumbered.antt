@@ -20,6 +20,7 @@ use Rattle.hickory_resolver_cache.specs.declared.kept.Kept.{Kept}
 use Rattle.hickory_proto_core.specs.declared.query.Query.{Query}
 use Rattle.hickory_resolver_model.specs.Bounds.{ConfigValue}
 use Rattle.hickory_resolver_model.specs.Cache.{OutlivesNoAnswer}
+use Rattle.hickory_resolver_cache.proofs.Laws.{AreApart}
 use Rattle.hickory_resolver_cache.proofs.Listed.{listed-same}
 use Rattle.hickory_resolver_cache.proofs.Store.{kept-empty}
 use Rattle.hickory_resolver_cache.proofs.TurnOrder.{numbers-push, placed-push}
@@ -241,6 +242,7 @@ kept-same capacity next after ps rs new h same = record {
 pub sound-same : (config : ConfigValue) (capacity next after : ℕ) (ps rs : List Pair) {old : Order} (new : Order) → IsSound config capacity next ps old → IsSameList ps next rs after new → IsSound config capacity after rs new
 sound-same config capacity next after ps rs new h same = record {
   kept = kept-same capacity next after ps rs new h.kept same;
+  apart = subst AreApart (sym same.entries_are) h.apart;
   timely = subst (AllByRecursion (OutlivesNoAnswer config)) (sym same.entries_are) h.timely;
 }
 

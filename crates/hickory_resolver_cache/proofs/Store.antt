@@ -2,7 +2,7 @@
 use Rattle.std.proofs.Common.{◌≡◌, ℕ, ◌+◌, ◌<◌, ◌≤◌, suc, zero, Bool, true, false, not, cond, ◌==◌, ◌||◌, nat_lt, nat_eq, List, [], ◌∷◌, ◌++◌, map, length, fold, min, Option, None, Some, refl, sym, ap, ap₂, ◌∙◌, subst, arith, ◌⊎◌, inl, inr, if◌then◌else◌, is_some, remove, length-append, le-leb}
 use Rattle.std.proofs.lemmas.Bool.{eqb-true, eq-eqb, ne_eqb, cases_lt, cases_eq, false≢true, lt-leb, lt-ltb, le-ltb, or_left}
 use Rattle.std.proofs.lemmas.List.{map-append, length-map}
-use Rattle.std.proofs.lemmas.List.Sorted.{IsPermutation-map, length_permutation}
+use Rattle.std.proofs.lemmas.List.Sorted.{IsPermutation-map, IsPermutation-sym, length_permutation}
 use Rattle.std.proofs.lemmas.Map.{NonePasses}
 use Rattle.std.proofs.lemmas.Map.Entries.{none_past_head, place_from_lookup}
 use Rattle.std.proofs.lemmas.Map.Keys.{IsDistinct-head, IsDistinct-tail}
@@ -402,8 +402,12 @@ keys-entries : (ps : List Pair) → map (λ e. e.query) (map stored_entry ps) �
 keys-entries [] = refl
 keys-entries (p ∷ ps) = ap (λ l. p.0 ∷ l) (keys-entries ps)
 
-pub apart-entries : (next : ℕ) (ps : List Pair) → IsNumbered next ps → IsDistinct query_eq (keys_of ps) → IsDistinct query_eq (map (λ e. e.query) (entries_of ps next))
-apart-entries next ps h apart = subst (IsDistinct query_eq) (sym (keys-entries (in_order ps next))) (keys-in_order next ps h apart)
+-- the pairs are for different questions, as the entries are
+pub apart-pairs : (next : ℕ) (ps : List Pair) → IsNumbered next ps → IsDistinct query_eq (map (λ e. e.query) (entries_of ps next)) → IsDistinct query_eq (keys_of ps)
+apart-pairs next ps h apart =
+    distinct_permutation query_equiv (keys_of (in_order ps next)) (keys_of ps)
+    (IsPermutation-sym (keys_of ps) (keys_of (in_order ps next)) (IsPermutation-map (λ p. p.0) ps (in_order ps next) (in_order-permutes next ps h)))
+    (subst (IsDistinct query_eq) (keys-entries (in_order ps next)) apart)
 
 -- ---- a whole store
 pub entries-insert_entry : (capacity next : ℕ) (ps rs : List Pair) (p : Pair) (o : Option Turn) {order : Order} → IsKept capacity next ps order → p.1.number ≡ next → MakesRoom capacity next p.0 ps o → Gone o ps rs → 0 < capacity

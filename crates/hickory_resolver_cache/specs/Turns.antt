@@ -91,6 +91,7 @@ pub record IsKept (capacity next : ℕ) (ps : List Pair) (order : Order) : Type 
 -- what holds of every cache
 pub record IsSound (config : ConfigValue) (capacity next : ℕ) (ps : List Pair) (order : Order) : Type 0 where
   pub kept : IsKept capacity next ps order
+  pub apart : IsDistinct query_eq (map (λ e. e.query) (entries_of ps next))
   pub timely : AllByRecursion (OutlivesNoAnswer config) (entries_of ps next)
 
 -- The pairs may stand in another order and have other numbers: the list of entries is the same, and so is how

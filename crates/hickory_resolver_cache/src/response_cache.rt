@@ -119,8 +119,6 @@ impl<S: BuildHasher> ResponseCache<S> {
             (IsSome (entry_of self.old.config query outcome now)
             → IfSome (find (is_for query) self.new.entries) (λ e. e.valid_until ≤ limit)) }
     {
-        // `len` is called for its clause that there are no more entries than there may be.
-        let _len = self.len();
         match self.entry_of(query, outcome, now)? {
             Some(entry) => self.insert_entry(entry.not_after(limit)),
             None => Ok(()),
@@ -149,8 +147,6 @@ impl<S: BuildHasher> ResponseCache<S> {
         ensures no_later { OnOk result
             (IsTrue clamp_valid_until → NeverLater query now self.old.entries self.new.entries) }
     {
-        // `len` is called for its clause that the entries are for different questions.
-        let _len = self.len();
         let Some(entry) = self.entry_of(query, outcome, now)? else {
             return Ok(());
         };
@@ -228,7 +224,9 @@ impl<S: BuildHasher> ResponseCache<S> {
     }
 
     /// The allocator that its collections take their memory from.
-    pub fn allocator(&self) -> Global {
+    pub fn allocator(&self) -> Global
+        ensures cache { IsCache self.now.config self.now.capacity self.now.entries }
+    {
         *self.index.allocator()
     }
 
@@ -261,6 +259,7 @@ impl<S: BuildHasher> ResponseCache<S> {
         ensures entry { IfOk result (λ entry. entry ≡ kept_entry self.now query outcome now) }
         ensures err { IsOkUnless result NetError.OutOfMemory }
         ensures not_kept { IsNone (kept_entry self.now query outcome now) → IsOk result }
+        ensures cache { IsCache self.now.config self.now.capacity self.now.entries }
     {
         if self.capacity == 0 {
             return Ok(None);
@@ -314,8 +313,6 @@ impl<S: BuildHasher> ResponseCache<S> {
         ensures { option_map shown (option_copied result)
             ≡ option_map shown_entry (current query.now now self.now.entries) }
     {
-        // `len` is called for its clause that the questions are unique.
-        let _len = self.index.len();
         let kept = self.index.get(query)?;
         if now <= kept.valid_until {
             Some(kept)

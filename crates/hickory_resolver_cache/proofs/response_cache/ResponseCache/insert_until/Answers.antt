@@ -27,4 +27,4 @@ returns-in-Some-clause-within g c =
 
 pub returns-in-None-clause-within : goal.returns-in-None-clause-within
 returns-in-None-clause-within g c =
-    within-none c.args.self.now c.args.query c.args.outcome c.args.now c.args.limit c.len-len.ensures.cache.short (sym c.in-None.is ∙ c.in_ok-entry.ensures.entry)
+    within-none c.args.self.now c.args.query c.args.outcome c.args.now c.args.limit c.in_ok-entry.ensures.cache.short (sym c.in-None.is ∙ c.in_ok-entry.ensures.entry)

@@ -1,6 +1,7 @@
 use Rattle.std.proofs.Common.{◌∙◌, sym, ap, subst, length, arith}
 use Rattle.hickory_resolver_model.specs.Cache.{CacheValue, IsCache}
-use Rattle.hickory_resolver_cache.proofs.Store.{length-entries, apart-entries}
+use Rattle.hickory_resolver_cache.proofs.Apart.{sound-cache}
+use Rattle.hickory_resolver_cache.proofs.Store.{length-entries}
 use Rattle.hickory_resolver_cache.proofs.response_cache.ResponseCache.len.Goals as goal
 
 pub returns-clause-len : goal.returns-clause-len
@@ -17,11 +18,4 @@ returns-clause-within g c =
 
 pub returns-clause-cache : goal.returns-clause-cache
 returns-clause-cache g c =
-    let next = c.self.inside.next_number in
-    let ps = c.self.inside.index.entries in
-    let kept = c.self.invariant.kept in
-    subst (λ (v : CacheValue). IsCache v.config v.capacity v.entries) c.self.view_is (record {
-      short = let n = length-entries next ps kept.numbers in let s = kept.short in omega (arith, n, s);
-      apart = apart-entries next ps kept.numbers c.len.ensures.unique;
-      timely = c.self.invariant.timely;
-    })
+    subst (λ (v : CacheValue). IsCache v.config v.capacity v.entries) c.self.view_is (sound-cache c.self.invariant)

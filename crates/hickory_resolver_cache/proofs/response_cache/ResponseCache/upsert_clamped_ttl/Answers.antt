@@ -7,7 +7,7 @@ use Rattle.hickory_resolver_cache.proofs.Timely.{timely-entry, timely-limited}
 use Rattle.hickory_resolver_cache.proofs.response_cache.ResponseCache.upsert_clamped_ttl.Goals as goal
 
 pub returns-in_default-clause-no_later : goal.returns-in_default-clause-no_later
-returns-in_default-clause-no_later g c _ = never_later-same c.args.query c.args.now c.args.self.now.entries c.len-len.ensures.cache.apart
+returns-in_default-clause-no_later g c _ = never_later-same c.args.query c.args.now c.args.self.now.entries c.in_ok-entry.ensures.cache.apart
 
 pub insert_entry-requires : goal.insert_entry-requires
 insert_entry-requires g c =
@@ -35,5 +35,5 @@ returns-then-clamp_valid_until-clause-no_later g c =
     let some = kept_entry-some old c.args.query c.args.outcome c.args.now c.in-Some.entry (sym c.in-Some.is ∙ c.in_ok-entry.ensures.entry) in
     let own = entry_of-query old.config c.args.query c.args.outcome c.args.now c.in-Some.entry some.1 in
     on_ok_weaker c.insert_entry.result
-    (λ stored _. never_later-stored old.capacity c.args.now c.args.query old.entries c.insert_entry.new.self.entries c.in-Some.entry c.len-len.ensures.cache.apart own (ap (λ v. v.entries) stored ∙ ap (λ e. insert_entry old.capacity old.entries e) c.not_after_current-entry.ensures))
+    (λ stored _. never_later-stored old.capacity c.args.now c.args.query old.entries c.insert_entry.new.self.entries c.in-Some.entry c.in_ok-entry.ensures.cache.apart own (ap (λ v. v.entries) stored ∙ ap (λ e. insert_entry old.capacity old.entries e) c.not_after_current-entry.ensures))
     c.insert_entry.ensures.ok
