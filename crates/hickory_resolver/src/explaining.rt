@@ -43,7 +43,11 @@ pub struct Planned {
 }
 
 /// The questions that a call may attempt for these names, in order.
-pub fn planned(alloc: Global, names: &[Name], sought: Sought) -> Result<Vec<Planned>, AllocError>
+pub fn plan_questions(
+    alloc: Global,
+    names: &[Name],
+    sought: Sought,
+) -> Result<Vec<Planned>, AllocError>
     ensures { IfOk result (λ list. planned_values list.items
         ≡ names_questions (types_of sought) (asks_for_all sought) names.now) }
 {
@@ -97,7 +101,7 @@ fn push(
 }
 
 /// Who answers these questions at a moment (seconds), as things stand.
-pub fn answered<S: BuildHasher, T: BuildHasher>(
+pub fn find_answerers<S: BuildHasher, T: BuildHasher>(
     alloc: Global,
     planned: Vec<Planned>,
     cache: &ResponseCache<S>,
@@ -108,7 +112,7 @@ pub fn answered<S: BuildHasher, T: BuildHasher>(
 {
     let mut list = Vec::with_capacity(alloc, planned.len())?;
     for it in planned {
-        let answerer = answerer(&it, cache, hosts, now)?;
+        let answerer = find_answerer(&it, cache, hosts, now)?;
         list.push(Attempted {
             question: it.question,
             answerer,
@@ -118,7 +122,7 @@ pub fn answered<S: BuildHasher, T: BuildHasher>(
 }
 
 // Who answers a question.
-fn answerer<S: BuildHasher, T: BuildHasher>(
+fn find_answerer<S: BuildHasher, T: BuildHasher>(
     planned: &Planned,
     cache: &ResponseCache<S>,
     hosts: &Hosts<T>,

@@ -20,7 +20,7 @@ ghost use Rattle.hickory_resolver.specs.Starting.{ResumesAt, StartsAt, StartsHos
 
 use crate::attempting::Sought;
 use crate::calling::{resume, start};
-use crate::explaining::{Attempted, answered, planned};
+use crate::explaining::{Attempted, find_answerers, plan_questions};
 use crate::literals::{as_addresses, literal_at_once};
 use crate::lookup_future::LookupFuture;
 use crate::lookup_ip_future::LookupIpFuture;
@@ -516,8 +516,8 @@ impl<H: DnsHandle, S: BuildHasher> Resolver<H, S> {
         match name {
             Ok(name) => {
                 let names = self.attempts(name)?;
-                let planned = planned(self.alloc(), &names, sought)?;
-                answered(self.alloc(), planned, self.client.cache(), &self.hosts, now)
+                let planned = plan_questions(self.alloc(), &names, sought)?;
+                find_answerers(self.alloc(), planned, self.client.cache(), &self.hosts, now)
             }
             Err(NameError::OutOfMemory) => Err(AllocError),
             Err(_) => Ok(Vec::new(self.alloc())),

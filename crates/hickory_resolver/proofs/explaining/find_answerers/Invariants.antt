@@ -1,6 +1,6 @@
 use Rattle.hickory_resolver.specs.Explaining.{planned_values}
 use Rattle.hickory_resolver.proofs.Explaining.{SoFar}
-use Rattle.hickory_resolver.proofs.explaining.answered.Given as goal
+use Rattle.hickory_resolver.proofs.explaining.find_answerers.Given as goal
 
 abbrev pub invariant-loop-it : goal.invariant-loop-it
 invariant-loop-it g l =

@@ -2,7 +2,7 @@ use Rattle.std.proofs.Common.{◌≡◌, ◌++◌, drop}
 use Rattle.std.specs.List.{flat_map}
 use Rattle.hickory_resolver.specs.CallSteps.{asks_for_all, types_of}
 use Rattle.hickory_resolver.specs.Explaining.{name_questions, planned_values}
-use Rattle.hickory_resolver.proofs.explaining.planned.Given as goal
+use Rattle.hickory_resolver.proofs.explaining.plan_questions.Given as goal
 
 abbrev pub invariant-loop-name : goal.invariant-loop-name
 invariant-loop-name l =
