@@ -104,8 +104,6 @@ impl<H: DnsHandle, S: BuildHasher> CachingClient<H, S> {
     ) -> Result<Lookup, NetError>
         ensures { IsPromisedLookup H.step options now self.old query result self.new }
     {
-        // `len` is called for its clause on what holds of every cache.
-        let _len = self.core.cache().len();
         let mut progress = self.core.start(query, now);
         loop {
             match progress {

@@ -3,7 +3,7 @@ ghost use Rattle.std.specs.Prelude.{◌≡◌, ◌≤◌, ◌∷◌, [], length,
 ghost use Rattle.hickory_proto_core.specs.ResponseKind.{ResponseKind, Answer, IsClassified};
 ghost use Rattle.hickory_proto_core.specs.declared.net_error.NetError.TheVariants.{Dns};
 ghost use Rattle.hickory_proto_core.specs.declared.net_error.DnsError.TheVariants.{NoRecordsFound};
-ghost use Rattle.hickory_resolver_model.specs.Cache.{last_moment, without_query};
+ghost use Rattle.hickory_resolver_model.specs.Cache.{IsCache, last_moment, without_query};
 ghost use Rattle.hickory_resolver_model.specs.Lookup.{found_lookup};
 ghost use Rattle.hickory_resolver_model.specs.Hops.{store_of};
 ghost use Rattle.hickory_resolver_model.specs.Resuming.{Starts, Resumes, ComesTo};
@@ -98,6 +98,7 @@ impl<S: BuildHasher> CachingCore<S> {
     pub fn start(&mut self, query: Query, now: u64) -> Progress
         ensures starts { Starts (context_of self.old now) query (progress_of result) self.new.cache }
         ensures stays { self.new.preserve_intermediates ≡ self.old.preserve_intermediates }
+        ensures cache { IsCache self.old.cache.config self.old.cache.capacity self.old.cache.entries }
     {
         let alloc = self.cache.allocator();
         let hop = Hop {

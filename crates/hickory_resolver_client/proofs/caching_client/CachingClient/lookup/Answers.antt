@@ -34,5 +34,5 @@ loop-progress-preserved g c =
 pub returns-in-Done : goal.returns-in-Done
 returns-in-Done g c =
     let is = rw c.in-Done.is at c.loop-progress.invariant in
-    let cache = subst (λ (k : CacheValue). IsCache k.config k.capacity k.entries) (c.cache.ensures ∙ ap (λ v. v.cache) c.self.view_is) c.len-len.ensures.cache in
+    let cache = subst (λ (k : CacheValue). IsCache k.config k.capacity k.entries) (ap (λ v. v.cache) c.self.view_is) c.start-progress.ensures.cache in
     promised_lookup g.H.DnsHandle.step c.args.options c.args.now _ c.args.query _ _ cache is
