@@ -7,6 +7,7 @@ ghost use Rattle.hickory_proto_core.specs.codes.record_type.RecordType.TheVarian
 ghost use Rattle.hickory_proto_core.specs.names.name_error.NameError.{NameError};
 ghost use Rattle.hickory_resolver_config.specs.ResolverConfig.{default_options};
 ghost use Rattle.hickory_resolver_model.specs.Attempts.{attempts};
+ghost use Rattle.hickory_resolver_model.specs.Cache.{IsCache};
 ghost use Rattle.hickory_resolver_model.specs.Calls.{last_resort, literal_at_last};
 ghost use Rattle.hickory_resolver_model.specs.Options.{request_options_of};
 ghost use Rattle.hickory_resolver_model.specs.Resolver.{AnswersCall, AnswersHost, after_clear_lookup, settings};
@@ -125,8 +126,6 @@ impl<H: DnsHandle, S: BuildHasher> Resolver<H, S> {
     ) -> Result<Lookup, NetError>
         ensures { PromisesName H.step (N.into_name_gives name) record_type now self.old result self.new }
     {
-        // `len` is called for its clause on what holds of every cache.
-        let _len = self.client.cache().len();
         let name = name.into_name(self.alloc())?;
         let mut names = self.attempts(name)?;
         names.reverse();
@@ -151,8 +150,6 @@ impl<H: DnsHandle, S: BuildHasher> Resolver<H, S> {
     pub fn lookup_ip<N: IntoName>(&mut self, host: N, now: u64) -> Result<LookupIp, NetError>
         ensures { PromisesHost H.step (N.to_ip_gives host) (N.into_name_gives host) now self.old result self.new }
     {
-        // `len` is called for its clause on what holds of every cache.
-        let _len = self.client.cache().len();
         let address = host.to_ip();
         match host.into_name(self.alloc()) {
             Ok(name) => self.lookup_host(address, name, now),
@@ -524,8 +521,12 @@ impl<H: DnsHandle, S: BuildHasher> Resolver<H, S> {
         }
     }
 
-    fn alloc(&self) -> Global {
-        *self.config.search.allocator()
+    // The allocator that its cache takes its memory from.
+    fn alloc(&self) -> Global
+        ensures cache { IsCache self.now.client.cache.config self.now.client.cache.capacity
+            self.now.client.cache.entries }
+    {
+        self.client.cache().allocator()
     }
 }
 
