@@ -1,7 +1,7 @@
 pub mod Answering
 pub mod CallSteps
 pub mod DrivenCalls
-pub mod Explaining
+pub mod Explained
 pub mod FirstCaches
 pub mod KeptSteps
 pub mod LastPlaces

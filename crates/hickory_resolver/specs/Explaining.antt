@@ -77,13 +77,16 @@ ExplainsCall s cache now (AtOnce answer) attempted = attempted ≡ []
 ExplainsCall s cache now (Attempt name plan) attempted =
     ExplainsNamed s cache now plan.types plan.hosts_for_all (Ok name) attempted
 
+abbrev pub ExplainsHost : Settings → CacheValue → List ℕ → ℕ → List Attempted → Type 0
+ExplainsHost s cache text now attempted =
+    (address : Option IpAddr) × IsReadAddress text address × (name : Result NameValue NameError)
+    × IsReadName text name × ExplainsCall s cache now (address_call s address name now) attempted
+
 -- a clear attempts nothing
 abbrev pub Explains : Settings → CacheValue → RequestValue → List Attempted → Type 0
 Explains s cache (Lookup text t now) attempted =
     (name : Result NameValue NameError) × IsReadName text name × ExplainsCall s cache now (name_call t name) attempted
-Explains s cache (LookupIp text now) attempted =
-    (address : Option IpAddr) × IsReadAddress text address × (name : Result NameValue NameError)
-    × IsReadName text name × ExplainsCall s cache now (address_call s address name now) attempted
+Explains s cache (LookupIp text now) attempted = ExplainsHost s cache text now attempted
 Explains s cache (ClearLookup text t now) attempted = attempted ≡ []
 Explains s cache (Clear now) attempted = attempted ≡ []
 

@@ -1,10 +1,7 @@
 //! What a request attempts, and who answers it as things stand.
-ghost use Rattle.std.specs.Prelude.{◌≡◌, ◌++◌, ℕ, Bool, IfOk, OnOk, IsTrue, List, map};
-ghost use Rattle.hickory_resolver_model.specs.Calls.{CallContext};
-ghost use Rattle.hickory_resolver_model.specs.Cache.{CacheValue};
-ghost use Rattle.hickory_resolver_model.specs.Hosts.{Host};
+ghost use Rattle.std.specs.Prelude.{◌≡◌, ◌∷◌, ◌++◌, [], IfOk, OnOk};
 ghost use Rattle.hickory_resolver_model.specs.Lookup.{question_of};
-ghost use Rattle.hickory_resolver.specs.CallSteps.{asks_for_all, types_of, types_value};
+ghost use Rattle.hickory_resolver.specs.CallSteps.{asks_for_all, types_of};
 ghost use Rattle.hickory_resolver.specs.Explaining.{AreAnswered, IsAnsweredBy, answered_by_client, name_questions, names_questions, planned_value, planned_values};
 
 use crate::attempting::{Sought, Types, skips_hosts};

@@ -11,11 +11,11 @@ ghost use Rattle.hickory_resolver_model.specs.Cache.{IsCache};
 ghost use Rattle.hickory_resolver_model.specs.Calls.{last_resort, literal_at_last};
 ghost use Rattle.hickory_resolver_model.specs.Options.{request_options_of};
 ghost use Rattle.hickory_resolver_model.specs.Resolver.{AnswersCall, AnswersHost, after_clear_lookup, settings};
-ghost use Rattle.hickory_resolver_model.specs.Run.{Attempt, LookupIp, address_call, address_plan, drop_each};
+ghost use Rattle.hickory_resolver_model.specs.Run.{Attempt, address_call, address_plan, drop_each};
 ghost use Rattle.hickory_resolver_theorems.specs.CallFacts.{KeepsWhatIsKnown, PromisesHost, PromisesName};
 ghost use Rattle.hickory_resolver.specs.CallProgress.{call_progress_of};
 ghost use Rattle.hickory_resolver.specs.CallSteps.{asks_for_all, plan_value, types_of};
-ghost use Rattle.hickory_resolver.specs.Explaining.{Explains, ExplainsNamed};
+ghost use Rattle.hickory_resolver.specs.Explaining.{Explains, ExplainsHost, ExplainsNamed};
 ghost use Rattle.hickory_resolver_lookup.specs.Requests.{request_of};
 ghost use Rattle.hickory_resolver.specs.Starting.{ResumesAt, StartsAt, StartsHost, StartsName};
 
@@ -490,8 +490,7 @@ impl<H: DnsHandle, S: BuildHasher> Resolver<H, S> {
 
     // What a look-up of the addresses of a host attempts.
     fn explain_host(&self, host: &str, now: u64) -> Result<Vec<Attempted>, AllocError>
-        ensures { IfOk result (λ list. Explains (settings self.now) self.now.client.cache (LookupIp host.now now)
-            list.items) }
+        ensures { IfOk result (λ list. ExplainsHost (settings self.now) self.now.client.cache host.now now list.items) }
     {
         let name = host.into_name(self.alloc());
         if host.to_ip().is_some() && self.options.ndots <= 4 {

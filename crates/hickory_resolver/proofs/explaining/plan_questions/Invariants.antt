@@ -6,5 +6,5 @@ use Rattle.hickory_resolver.proofs.explaining.plan_questions.Given as goal
 
 abbrev pub invariant-loop-name : goal.invariant-loop-name
 invariant-loop-name l =
-    planned_values l.list.items ++ flat_map (name_questions (types_of l.sought) (asks_for_all l.sought)) (drop l.name-index l.name-items)
-    ≡ planned_values l.initial.list.items ++ flat_map (name_questions (types_of l.sought) (asks_for_all l.sought)) l.name-items
+    planned_values l.list.items ++ flat_map (name_questions (types_of l.fn.sought) (asks_for_all l.fn.sought)) (drop l.name-index l.rest)
+    ≡ planned_values l.initial.list.items ++ flat_map (name_questions (types_of l.fn.sought) (asks_for_all l.fn.sought)) l.rest

@@ -59,3 +59,4 @@ module _ (s : Settings) (cache : CacheValue) (now : ℕ) where
   explains_host (Some address) (Ok name) attempted (inr many) is =
       subst (λ b. ExplainsCall s cache now (if b then AtOnce (Ok (literal_at_once name address now))
       else Attempt name (address_plan s.strategy (Some (literal_at_last address now)))) attempted) (sym many) is
+  explains_host (Some address) (Ok name) attempted (inl none) is = absurd (let h = none in cc)
