@@ -9,11 +9,11 @@ LINES = [
     "a reply NOERROR www.example.com. A",
     "a answer www.example.com. 60 IN A 192.0.2.1",
     "a done",
-    "b at 130 lookup www.example.com. A",
+    "b explain at 130 lookup www.example.com. A",
     "c at 130 lookup_ip 192.0.2.7",
     "d at 140 lookup late.example. A",
     "d fail timeout late.example. A",
-    "e at 150 lookup gone.example. A",
+    "e explain at 150 lookup gone.example. A",
     "e cancel",
     "f at 155 clear_lookup www.example.com. A",
     "g at 158 clear",
@@ -44,9 +44,24 @@ def over(state, mark, text):
     return text, state._replace(waiting=state.waiting - {mark})
 
 
+def explained(state, mark, rest):
+    """How a request is explained when it begins."""
+    moment, _, name, _ = rest.split()
+    who = f"cache {int(moment) - 100} until 160" if state.is_kept and mark == "b" else "upstream"
+    return f"{mark} explain attempt {name} IN A {who}\n"
+
+
 def served(state, number):
     """What a line is answered where there is memory, and the state behind it."""
     mark, verb, rest = (LINES[number].split(" ", 2) + [""])[:3]
+    if verb == "explain":
+        rest = rest.removeprefix("at ")
+        told, left = served_as(state, number, mark, "at", rest)
+        return explained(state, mark, rest) + told, left
+    return served_as(state, number, mark, verb, rest)
+
+
+def served_as(state, number, mark, verb, rest):
     if mark == "option":
         return "", state
     if verb != "at" and mark not in state.waiting:
