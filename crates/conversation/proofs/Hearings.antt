@@ -76,11 +76,11 @@ pub marked_none : (c : ConversationValue) (mark : List ℕ) (fs : List (Bor (Lis
 marked_none c mark [] refusal result none is same = refused_for c mark refusal (unknown []) (λ answer. AnswersMarked c mark [] answer) result is same (λ told. refl)
 marked_none c mark (f ∷ fs) refusal result none is same = absurd (omega arith)
 
-pub fields_none : (c : ConversationValue) (fs : List (Bor (List ℕ))) (heard : Heard) → length fs ≡ 0 → string_bytes heard.text ≡ [] → string_bytes heard.journal ≡ [] → heard.is_last ≡ false
+pub fields_none : (c : ConversationValue) (fs : List (Bor (List ℕ))) (heard : Heard) → length fs ≡ 0 → string_bytes heard.explained ≡ [] → string_bytes heard.text ≡ [] → string_bytes heard.journal ≡ [] → heard.is_last ≡ false
     → IsAnswered c (mark_in (texts fs)) (λ answer. AnswersFields c (texts fs) answer) (Ok heard) c
-fields_none c [] heard none told journal last =
-    answered_by c c (codes "-") (λ answer. answer ≡ nothing c (codes "-")) heard (nothing c (codes "-")) refl told journal last (stays c (codes "-") (nothing c (codes "-")) refl refl)
-fields_none c (f ∷ fs) heard none told journal last = absurd (omega arith)
+fields_none c [] heard none explained told journal last =
+    answered_by c c (codes "-") (λ answer. answer ≡ nothing c (codes "-")) heard (nothing c (codes "-")) refl explained told journal last (stays c (codes "-") (nothing c (codes "-")) refl refl)
+fields_none c (f ∷ fs) heard none explained told journal last = absurd (omega arith)
 
 -- ---- by its text
 
@@ -106,14 +106,14 @@ match_false true P Q e q = absurd (let h = e in cc)
 match_false false P Q e q = q
 
 -- a line that says nothing
-pub skipped_told : (c : ConversationValue) (text : List ℕ) (heard : Heard) → is_skipped text ≡ true → string_bytes heard.text ≡ [] → string_bytes heard.journal ≡ [] → heard.is_last ≡ false
+pub skipped_told : (c : ConversationValue) (text : List ℕ) (heard : Heard) → is_skipped text ≡ true → string_bytes heard.explained ≡ [] → string_bytes heard.text ≡ [] → string_bytes heard.journal ≡ [] → heard.is_last ≡ false
     → IsAnswered c (mark_of text) (λ answer. Answers c text answer) (Ok heard) c
-skipped_told c text heard skipped told journal last =
+skipped_told c text heard skipped explained told journal last =
     let none = nothing c (codes "-") in
     subst (λ m. IsAnswered c m (λ answer. Answers c text answer) (Ok heard) c) (mark_skipped text skipped)
     (answered_by c c (codes "-") (λ answer. Answers c text answer) heard none
     (match_true (is_skipped text) (none ≡ none) (MatchBool (list_all is_allowed text) (AnswersFields c (fields text) none) (none ≡ refused c (codes "-") (of_line (fault.Script script.BadByte)))) skipped refl)
-    told journal last (stays c (codes "-") none refl refl))
+    explained told journal last (stays c (codes "-") none refl refl))
 
 pub text_told : (before after : ConversationValue) (text : List ℕ) (result : Result Heard AllocError) → is_skipped text ≡ false → list_all is_allowed text ≡ true
     → IsAnswered before (mark_in (fields text)) (λ answer. AnswersFields before (fields text) answer) result after → IsAnswered before (mark_of text) (λ answer. Answers before text answer) result after

@@ -32,10 +32,10 @@ use Rattle.conversation.proofs.Settings.{refused_for, when_false, when_true}
 
 -- ---- a request is cancelled
 
-pub cancel_told : (before after : ConversationValue) (mark : List ℕ) (heard : Heard) → string_bytes heard.text ≡ cancelled_text mark → string_bytes heard.journal ≡ [] → heard.is_last ≡ false
+pub cancel_told : (before after : ConversationValue) (mark : List ℕ) (heard : Heard) → string_bytes heard.explained ≡ [] → string_bytes heard.text ≡ cancelled_text mark → string_bytes heard.journal ≡ [] → heard.is_last ≡ false
     → after.lines ≡ before.lines → after.stage ≡ before.stage → Puts mark None before.requests after.requests → IsAnswered before mark (λ answer. answer ≡ cancelled before mark) (Ok heard) after
-cancel_told before after mark heard text journal last lines stage puts =
-    answered_by before after mark (λ answer. answer ≡ cancelled before mark) heard (cancelled before mark) refl text journal last
+cancel_told before after mark heard explained text journal last lines stage puts =
+    answered_by before after mark (λ answer. answer ≡ cancelled before mark) heard (cancelled before mark) refl explained text journal last
     (record { lines_are = lines; stage_is = stage; requests_are = puts })
 
 pub cancels_held : (before after : ConversationValue) (mark : List ℕ) (given : List (List ℕ)) (result : Result Heard AllocError) → is_empty given ≡ true

@@ -71,12 +71,12 @@ serving_stage configuration hosts (Some r) e = (settings r, r.client.cache, refl
 
 -- ---- the end
 
-pub ended : (c : ConversationValue) (mark : List ℕ) (given : List (List ℕ)) (heard : Heard) → is_empty given ≡ true → string_bytes heard.text ≡ [] → string_bytes heard.journal ≡ [] → heard.is_last ≡ true
+pub ended : (c : ConversationValue) (mark : List ℕ) (given : List (List ℕ)) (heard : Heard) → is_empty given ≡ true → string_bytes heard.explained ≡ [] → string_bytes heard.text ≡ [] → string_bytes heard.journal ≡ [] → heard.is_last ≡ true
     → IsAnswered c mark (λ answer. answer ≡ ends c mark given) (Ok heard) c
-ended c mark given heard none text journal last =
+ended c mark given heard none explained text journal last =
     answered_by c c mark (λ answer. answer ≡ ends c mark given) heard (record (nothing c mark) { is_last = true })
     (when_true (is_empty given) (record (nothing c mark) { is_last = true }) (refused c mark (of_line (fault.Script script.FieldCount))) none)
-    text journal last (stays c mark (record (nothing c mark) { is_last = true }) refl refl)
+    explained text journal last (stays c mark (record (nothing c mark) { is_last = true }) refl refl)
 
 pub not_ended : (c : ConversationValue) (mark : List ℕ) (given : List (List ℕ)) → is_empty given ≡ false → refused c mark (of_line (fault.Script script.FieldCount)) ≡ ends c mark given
 not_ended c mark given some = when_false (is_empty given) (record (nothing c mark) { is_last = true }) (refused c mark (of_line (fault.Script script.FieldCount))) some
@@ -91,13 +91,13 @@ hosts_more hosts line given e = ap (λ l. hosts ++ l) e ∙ sym (append_assoc ho
 
 pub hosts_added : (before after : ConversationValue) (mark : List ℕ) (given : List (List ℕ)) (configuration : ConfigurationValue) (hosts now : List ℕ) (heard : Heard)
     → before.stage ≡ Setting configuration hosts → after ≡ record before { stage = Setting configuration now } → now ≡ with_hosts hosts given
-    → string_bytes heard.text ≡ [] → string_bytes heard.journal ≡ [] → heard.is_last ≡ false
+    → string_bytes heard.explained ≡ [] → string_bytes heard.text ≡ [] → string_bytes heard.journal ≡ [] → heard.is_last ≡ false
     → IsAnswered before mark (λ answer. answer ≡ adds_hosts before mark before.stage given) (Ok heard) after
-hosts_added before after mark given configuration hosts now heard was is added text journal last =
+hosts_added before after mark given configuration hosts now heard was is added explained text journal last =
     answered_by before after mark (λ answer. answer ≡ adds_hosts before mark before.stage given) heard
     (record (nothing before mark) { stage = Setting configuration (with_hosts hosts given) })
     (subst (λ x. record (nothing before mark) { stage = Setting configuration (with_hosts hosts given) } ≡ adds_hosts before mark x given) (sym was) refl)
-    text journal last
+    explained text journal last
     (record {
       lines_are = ap (λ c. c.lines) is;
       stage_is = ap (λ c. c.stage) is ∙ ap (λ lines. Setting configuration lines) added;
@@ -141,7 +141,7 @@ setting_taken before after mark given configuration hosts said chosen (Ok heard)
     answered_by before after mark (λ answer. answer ≡ sets before mark configuration hosts given (Ok said)) heard
     (sets before mark configuration hosts given (Ok (line.Configuration chosen)))
     (ap (λ x. sets before mark configuration hosts given (Ok x)) (sym is))
-    told.text_is told.journal_is told.last_is
+    told.explained_is told.text_is told.journal_is told.last_is
     (record {
       lines_are = ap (λ c. c.lines) set;
       stage_is = ap (λ c. c.stage) set;

@@ -84,11 +84,11 @@ same_settings before after same = ap settings same
 behind : (mark start : List ℕ) (s : Settings) (begun : BegunValue) (came : Came) (cache : CacheValue) (answer : Answer)
     → Tells mark [] s begun came cache answer
     → Tells mark start s begun came cache (record answer { explained = start ++ answer.explained })
-behind mark start s begun (Looks (CallWaits w)) cache answer is = ap (λ a. record a { explained = start ++ a.explained }) is
+behind mark start s begun (Looks (CallWaits w)) cache answer is = ap (λ (a : Answer). record a { explained = start ++ a.explained }) is
 behind mark start s begun (Looks (CallIsDone found)) cache answer is =
-    (is.0, ap (λ a. record a { explained = start ++ a.explained }) is.1)
+    (is.0, ap (λ (a : Answer). record a { explained = start ++ a.explained }) is.1)
 behind mark start s begun Clears cache answer is =
-    ap (λ a. record a { explained = start ++ a.explained }) is ∙ ap (λ x. record {
+    ap (λ (a : Answer). record a { explained = start ++ a.explained }) is ∙ ap (λ (x : List ℕ). record {
       explained = x;
       text = clear_text mark begun.request;
       journal = begun.told ++ request_text begun.request;

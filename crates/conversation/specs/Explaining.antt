@@ -15,11 +15,7 @@ use Rattle.hickory_resolver.specs.declared.explaining.Answerer.TheVariants as by
 use Rattle.hickory_resolver.specs.declared.explaining.Attempted.{Attempted}
 use Rattle.conversation.specs.State.{BegunValue}
 
--- MARK `explain` and what stands behind it
-abbrev pub line_text : List ℕ → List ℕ → List ℕ
-line_text mark behind = mark ++ codes " explain " ++ behind ++ codes "\n"
-
--- ---- `attempt` NAME CLASS TYPE, and who answers as things stand when the request begins
+-- ---- MARK `explain attempt` NAME CLASS TYPE, and who answers as things stand when the request begins
 
 -- the age of an entry and its deadline (seconds)
 abbrev pub answerer_text : Answerer → List ℕ
@@ -30,7 +26,7 @@ answerer_text by.Upstream = codes "upstream"
 
 abbrev pub attempted_text : List ℕ → Attempted → List ℕ
 attempted_text mark a =
-    line_text mark (codes "attempt " ++ question_text a.question ++ codes " " ++ answerer_text a.answerer)
+    mark ++ codes " explain attempt " ++ question_text a.question ++ codes " " ++ answerer_text a.answerer ++ codes "\n"
 
 abbrev pub attempts_text : List ℕ → List Attempted → List ℕ
 attempts_text mark attempted = flat_map (attempted_text mark) attempted
@@ -40,24 +36,24 @@ IsStartExplained mark false s cache request text = text ≡ []
 IsStartExplained mark true s cache request text =
     (attempted : List Attempted) × Explains s cache request attempted × (text ≡ attempts_text mark attempted)
 
--- ---- `alias` NAME CLASS TYPE `to` NAME CLASS TYPE, before the question that aliases led to is sent
+-- ---- MARK `explain alias` NAME CLASS TYPE `to` NAME CLASS TYPE, before the question that aliases led to is sent
 
 abbrev pub alias_line : List ℕ → Query → Option Query → List ℕ
 alias_line mark question None = []
 alias_line mark question (Some first) =
-    line_text mark (codes "alias " ++ question_text first ++ codes " to " ++ question_text question)
+    mark ++ codes " explain alias " ++ question_text first ++ codes " to " ++ question_text question ++ codes "\n"
 
 abbrev pub alias_text : List ℕ → Bool → WaitingCallValue → List ℕ
 alias_text mark explains w =
     if explains then alias_line mark w.sub.hop.query (first_passed w.sub.passed) else []
 
--- ---- `stored` NAME CLASS TYPE `until` MOMENT, when the request is over: for each question that was sent for it, the
--- deadline of what the cache has for it now
+-- ---- MARK `explain stored` NAME CLASS TYPE `until` MOMENT, when the request is over: for each question that was sent
+-- for it, the deadline of what the cache has for it now
 
 abbrev pub stored_line : List ℕ → Query → Option ℕ → List ℕ
 stored_line mark question None = []
 stored_line mark question (Some until) =
-    line_text mark (codes "stored " ++ question_text question ++ codes " until " ++ decimal until)
+    mark ++ codes " explain stored " ++ question_text question ++ codes " until " ++ decimal until ++ codes "\n"
 
 abbrev pub deadline : CacheValue → ℕ → Query → Option ℕ
 deadline cache now question = option_map (λ e. e.valid_until) (current question now cache.entries)

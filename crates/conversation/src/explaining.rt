@@ -131,9 +131,16 @@ fn push_stored_line(
         ≡ string_bytes text.old ++ stored_line mark.now question.now deadline) }
 {
     match deadline {
-        Some(until) => write!(text, "{mark} explain stored {question} until {until}\n"),
+        Some(until) => push_until(text, mark, question, until),
         None => Ok(()),
     }
+}
+
+fn push_until(text: &mut String, mark: &str, question: &Query, until: u64) -> Result<(), AllocError>
+    ensures { OnOk result (string_bytes text.new
+        ≡ string_bytes text.old ++ stored_line mark.now question.now (Some until)) }
+{
+    write!(text, "{mark} explain stored {question} until {until}\n")
 }
 
 // The last moment (seconds) at which what the cache has for a question is current.

@@ -42,4 +42,4 @@ returns c =
     hosts_added (conversation_of s) (record (conversation_of s) { stage = stage_of s.configuration c.extend_from_slice.new.self.items s.resolver }) c.args.mark.now given s.configuration s.hosts.items c.extend_from_slice.new.self.items c.told_nothing.result
     (setting_stage s.configuration s.hosts.items s.resolver unset) (ap (λ (x : Stage). record (conversation_of s) { stage = x }) (setting_stage s.configuration c.extend_from_slice.new.self.items s.resolver unset))
     (c.in_ok-extend_from_slice.ensures.items ∙ ap (λ (line : List ℕ). s.hosts.items ++ line) c.as_bytes.ensures.value ∙ hosts_more s.hosts.items (string_bytes c.push_fields.new.text) given (c.in_ok-push_fields.ensures ∙ ap (λ (line : List ℕ). line ++ fields_text given) c.in_ok-line.ensures.ok))
-    c.told_nothing.ensures.text c.told_nothing.ensures.journal c.told_nothing.ensures.last
+    c.told_nothing.ensures.explained c.told_nothing.ensures.text c.told_nothing.ensures.journal c.told_nothing.ensures.last

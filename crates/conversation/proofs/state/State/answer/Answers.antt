@@ -6,7 +6,7 @@ use Rattle.conversation.proofs.state.State.answer.Goals as goal
 
 pub returns-then-is_skipped : goal.returns-then-is_skipped
 returns-then-is_skipped c =
-    skipped_told (conversation_of c.args.self.now) c.args.line.now c.told_nothing.result (sym c.is_skipped.ensures ∙ c.if-is_skipped.true) c.told_nothing.ensures.text c.told_nothing.ensures.journal c.told_nothing.ensures.last
+    skipped_told (conversation_of c.args.self.now) c.args.line.now c.told_nothing.result (sym c.is_skipped.ensures ∙ c.if-is_skipped.true) c.told_nothing.ensures.explained c.told_nothing.ensures.text c.told_nothing.ensures.journal c.told_nothing.ensures.last
 
 pub returns-in-Ok : goal.returns-in-Ok
 returns-in-Ok c =

@@ -10,7 +10,7 @@ use Rattle.conversation.proofs.state.State.end.Goals as goal
 
 pub returns-then-is_empty : goal.returns-then-is_empty
 returns-then-is_empty c =
-    ended (conversation_of c.args.self.now) c.args.mark.now (texts c.args.fields.now) c.told_last.result (empty_texts c.args.fields.now ∙ sym c.is_empty.ensures ∙ c.if-is_empty.true) c.told_last.ensures.text c.told_last.ensures.journal c.told_last.ensures.last
+    ended (conversation_of c.args.self.now) c.args.mark.now (texts c.args.fields.now) c.told_last.result (empty_texts c.args.fields.now ∙ sym c.is_empty.ensures ∙ c.if-is_empty.true) c.told_last.ensures.explained c.told_last.ensures.text c.told_last.ensures.journal c.told_last.ensures.last
 
 pub returns : goal.returns
 returns c =

@@ -9,4 +9,4 @@ returns-in-len1-up c = worded_by (conversation_of c.args.self.now) (conversation
 pub returns-in-empty : goal.returns-in-empty
 returns-in-empty c =
     let none : length c.args.fields.now ≡ 0 = omega arith in
-    fields_none (conversation_of c.args.self.now) c.args.fields.now c.told_nothing.result none c.told_nothing.ensures.text c.told_nothing.ensures.journal c.told_nothing.ensures.last
+    fields_none (conversation_of c.args.self.now) c.args.fields.now c.told_nothing.result none c.told_nothing.ensures.explained c.told_nothing.ensures.text c.told_nothing.ensures.journal c.told_nothing.ensures.last

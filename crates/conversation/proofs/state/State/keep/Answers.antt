@@ -23,5 +23,5 @@ pub returns : goal.returns
 returns c =
     let s = conversation_of c.args.self.now in
     let kept : InFlightValue = record { begun = with_line (begun_of c.args.begun) (texts c.args.fields.now); waiting = c.args.waiting; reply = Some c.args.reply } in
-    keeps_told s (record s { requests = requests_of c.put.new.requests.entries }) (string_bytes c.args.key) kept c.told_nothing.result c.told_nothing.ensures.text c.told_nothing.ensures.journal c.told_nothing.ensures.last refl refl
+    keeps_told s (record s { requests = requests_of c.put.new.requests.entries }) (string_bytes c.args.key) kept c.told_nothing.result c.told_nothing.ensures.explained c.told_nothing.ensures.text c.told_nothing.ensures.journal c.told_nothing.ensures.last refl refl
     (subst (λ (b : BegunValue). Puts (string_bytes c.args.key) (Some (record { begun = b; waiting = c.args.waiting; reply = Some c.args.reply })) s.requests (requests_of c.put.new.requests.entries)) c.in_ok-add_line.ensures c.in_ok-put.ensures.kept)
