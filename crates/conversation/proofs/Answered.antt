@@ -1,14 +1,14 @@
 -- What is answered: from the part that answers to the whole.
-use Rattle.std.proofs.Common.{◌≡◌, ◌∙◌, ◌⊎◌, ℕ, Bool, true, false, List, Option, None, Some, [], Result, Ok, Err, IfOk, IsErr, string_bytes, refl, sym, ap, subst, inl, inr}
+use Rattle.std.proofs.Common.{◌≡◌, ℕ, false, List, [], Result, Ok, Err, IfOk, IsErr, string_bytes, refl, sym, subst, inl}
 use Rattle.std.specs.declared.alloc.AllocError.{AllocError}
 use Rattle.conversation.specs.Answers.{Answer, refused}
 use Rattle.conversation.specs.Faults.{RefusalValue, is_memory}
-use Rattle.conversation.specs.Hearing.{Says, Stands}
-use Rattle.conversation.specs.State.{ConversationValue, InFlightValue, Puts, Requests, Stage, request_at}
+use Rattle.conversation.specs.Hearing.{Stands}
+use Rattle.conversation.specs.State.{ConversationValue, Puts, request_at}
 use Rattle.conversation.specs.Texts.{fault_text}
-use Rattle.conversation.specs.Telling.{IsAnswered, IsRefused, PutsSome, RanOut}
+use Rattle.conversation.specs.Telling.{IsAnswered, IsRefused, RanOut}
 use Rattle.conversation.specs.declared.heard.Heard.{Heard}
-use Rattle.conversation.proofs.Held.{puts_again, puts_same, some_again, some_stays}
+use Rattle.conversation.proofs.Held.{puts_same, some_stays}
 
 -- nothing changed
 pub stays : (c : ConversationValue) (mark : List ℕ) (answer : Answer) → c.stage ≡ answer.stage → answer.held ≡ request_at mark c.requests → Stands mark answer c c

@@ -1,9 +1,8 @@
 -- A request begins; at the first one the resolver is made.
-use Rattle.std.proofs.Common.{◌≡◌, ◌∙◌, ◌⊎◌, ℕ, Bool, true, false, List, [], ◌∷◌, Option, None, Some, Result, Ok, Err, MatchOption, MatchResult, refl, sym, ap, subst, inl, inr}
+use Rattle.std.proofs.Common.{◌≡◌, ◌∙◌, ◌⊎◌, ℕ, Bool, true, false, List, [], Option, None, Some, Result, Ok, Err, MatchOption, MatchResult, refl, sym, ap, subst, inl, inr}
 use Rattle.std.specs.Option.{is_some}
 use Rattle.std.specs.Prelude.{IsOk, IsSome, OnOk}
 use Rattle.std.specs.declared.alloc.AllocError.{AllocError}
-use Rattle.hickory_proto_core.specs.Handles.{OutcomeValue}
 use Rattle.hickory_resolver.specs.Reading.{IsBytesRead}
 use Rattle.hickory_resolver.specs.hosts.hosts_error.HostsError.{HostsError}
 use Rattle.hickory_resolver_model.specs.Bounds.{bounds_fault}
@@ -13,11 +12,11 @@ use Rattle.hickory_resolver_model.specs.Options.{bounds_of}
 use Rattle.hickory_resolver_model.specs.Run.{RequestValue, Settings, first_cache, moment_of, settings_of}
 use Rattle.replay_script.specs.Configuration.{ConfigurationValue}
 use Rattle.replay_script.specs.declared.fault.ScriptFault.TheVariants as script
-use Rattle.conversation.specs.Answers.{Answer, AnswersRequest, Begins, IsFirst, IsOpened, Serves, config_of, refused}
+use Rattle.conversation.specs.Answers.{Answer, AnswersRequest, Begins, IsOpened, Serves, config_of, refused}
 use Rattle.conversation.specs.Faults.{RefusalValue, hosts_fault, is_memory, of_line, out_of_memory}
-use Rattle.conversation.specs.Hearing.{IsBegunOver, IsLeft, Says, Stands}
+use Rattle.conversation.specs.Hearing.{IsBegunOver, Says, Stands}
 use Rattle.conversation.specs.Lines.{IsAsked}
-use Rattle.conversation.specs.State.{ConversationValue, InFlightValue, Puts, Requests, Setting, Serving, Stage, request_at}
+use Rattle.conversation.specs.State.{ConversationValue, Puts, Setting, Serving, Stage, request_at}
 use Rattle.conversation.specs.Telling.{IsAnswered, IsGiven, IsOpening, IsRefused, IsServing, PutsSome, RanOut, stage_over}
 use Rattle.conversation.specs.declared.fault.ConversationFault.{ConversationFault}
 use Rattle.conversation.specs.declared.fault.ConversationFault.TheVariants as fault

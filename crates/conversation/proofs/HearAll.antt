@@ -1,9 +1,9 @@
 -- Lines that are heard one after another.
-use Rattle.std.proofs.Common.{◌≡◌, ◌∙◌, ◌<◌, ◌≤◌, ◌+◌, ℕ, zero, suc, Bool, true, false, List, [], ◌∷◌, ◌++◌, length, get_or, map, take, drop, take_all, flat_map, Option, None, Some, Result, Ok, Err, MatchBool, Bor, string_bytes, refl, sym, ap, ap₂, subst, append_assoc, append-nil, arith}
+use Rattle.std.proofs.Common.{◌≡◌, ◌∙◌, ◌<◌, ◌≤◌, ◌+◌, ℕ, zero, suc, Bool, true, false, List, [], ◌∷◌, ◌++◌, length, get_or, map, take, drop, take_all, flat_map, Option, Some, Ok, MatchBool, Bor, string_bytes, refl, sym, ap, ap₂, subst, append_assoc, append-nil, arith}
 use Rattle.replay.specs.ScriptRun.{IsReplayed}
 use Rattle.replay_script.specs.Words.{texts}
 use Rattle.conversation.specs.Answers.{Answer}
-use Rattle.conversation.specs.Hearing.{AllSay, AreHeard, IsHeard, Says, silent}
+use Rattle.conversation.specs.Hearing.{AllSay, AreHeard, IsHeard, Says}
 use Rattle.conversation.specs.Journal.{IsScriptHeard, blocks_of, hosts_stood, journal_of}
 use Rattle.conversation.specs.State.{ConversationValue}
 use Rattle.conversation.specs.declared.heard.Heard.{Heard}

@@ -1,5 +1,5 @@
 -- A line is heard: from its words to the whole of it.
-use Rattle.std.proofs.Common.{◌≡◌, ◌∙◌, ◌≤◌, ℕ, Bool, true, false, cond, List, [], ◌∷◌, codes, length, get_or, take, drop, take_all, ◌-◌, Option, None, Some, Result, Ok, Err, MatchBool, Bor, string_bytes, refl, sym, ap, subst, arith}
+use Rattle.std.proofs.Common.{◌≡◌, ◌∙◌, ◌≤◌, ℕ, Bool, true, false, cond, List, [], ◌∷◌, codes, length, get_or, take, drop, take_all, ◌-◌, Option, None, Some, Result, Ok, Err, MatchBool, Bor, string_bytes, refl, sym, subst, arith}
 use Rattle.std.specs.List.{list_all}
 use Rattle.std.specs.declared.alloc.AllocError.{AllocError}
 use Rattle.replay_script.specs.Fields.{fields, is_allowed, is_skipped}
@@ -7,10 +7,10 @@ use Rattle.replay_script.specs.Words.{texts}
 use Rattle.replay_script.specs.declared.fault.ScriptFault.TheVariants as script
 use Rattle.conversation.specs.Answers.{Answer, AnswersFields, AnswersMarked, AnswersOutcome, AnswersVerb, AnswersWord, nothing, refused}
 use Rattle.conversation.specs.Faults.{RefusalValue, of_line, unknown}
-use Rattle.conversation.specs.Hearing.{Answers, IsHeard, IsLeft, RunsOut, Says, Stands}
+use Rattle.conversation.specs.Hearing.{Answers, IsHeard, IsLeft}
 use Rattle.conversation.specs.Lines.{mark_in, mark_of, mark_or_none, verb_named, word_named}
-use Rattle.conversation.specs.State.{ConversationValue, Puts, counted, request_at}
-use Rattle.conversation.specs.Telling.{IsAnswered, IsRefused, PutsSome, RanOut}
+use Rattle.conversation.specs.State.{ConversationValue, Puts, counted}
+use Rattle.conversation.specs.Telling.{IsAnswered, IsRefused, RanOut}
 use Rattle.conversation.specs.declared.fault.ConversationFault.TheVariants as fault
 use Rattle.conversation.specs.declared.heard.Heard.{Heard}
 use Rattle.conversation.specs.declared.reading.Verb.{Verb}

@@ -1,5 +1,5 @@
 -- What goes out of a conversation with one request at a time is what a replay of its journal writes.
-use Rattle.std.proofs.Common.{◌≡◌, ◌∙◌, ◌⊎◌, ◌≤◌, ◌||◌, ◌+◌, ℕ, zero, suc, Bool, true, false, cond, not, List, [], ◌∷◌, ◌++◌, length, map, flat_map, Option, None, Some, Result, Ok, Err, MatchBool, MatchOption, refl, sym, ap, ap₂, subst, arith, append_assoc}
+use Rattle.std.proofs.Common.{◌≡◌, ◌∙◌, ◌≤◌, ◌||◌, ℕ, Bool, true, false, cond, not, List, [], ◌∷◌, ◌++◌, map, Option, None, Some, Ok, Err, MatchBool, refl, sym, ap, ap₂, subst, append_assoc}
 use Rattle.std.proofs.lemmas.List.{append-nil}
 use Rattle.std.specs.Cmp.Lexicographic.{same_text}
 use Rattle.std.specs.Option.{is_some, option_map}
@@ -9,14 +9,13 @@ use Rattle.hickory_proto_core.specs.Handles.{OutcomeValue}
 use Rattle.hickory_proto_core.specs.Records.{RecordValue}
 use Rattle.hickory_proto_core.specs.ResponseKind.{is_empty}
 use Rattle.hickory_resolver_lookup.specs.Requests.{request_of}
-use Rattle.hickory_resolver_lookup.specs.declared.request.Request.{Request}
 use Rattle.hickory_resolver_model.specs.Bounds.{bounds_fault}
 use Rattle.hickory_resolver_model.specs.Cache.{CacheValue}
 use Rattle.hickory_resolver_model.specs.Options.{bounds_of}
 use Rattle.hickory_resolver_model.specs.Run.{RequestValue, Settings, first_cache, moment_of, settings_of}
 use Rattle.hickory_proto_core.specs.Handles.{ScriptStep}
 use Rattle.hickory_proto_core.specs.declared.recorded.Exchange.{Exchange}
-use Rattle.replay.specs.ScriptRun.{IsReplayed, IsScriptTold, IsTable, IsTableTold, IsTold, first_moment}
+use Rattle.replay.specs.ScriptRun.{IsReplayed, IsTable, IsTableTold, IsTold, first_moment}
 use Rattle.replay_script.specs.Configuration.{ConfigurationValue, configured}
 use Rattle.replay_script.specs.FailLine.{error_of}
 use Rattle.replay_script.specs.Fields.{fields}
@@ -24,27 +23,27 @@ use Rattle.replay_script.specs.Line.{IsSaid}
 use Rattle.replay_script.specs.Reader.{ReaderValue, answered}
 use Rattle.replay_script.specs.Reader as read
 use Rattle.replay_script.specs.ReplyLine.{opened_response}
-use Rattle.replay_script.specs.Script.{IsWhole, script_of, AreRead, requests_of, settings_of as settings_in, outcomes_of as outcomes_said}
+use Rattle.replay_script.specs.Script.{AreRead, requests_of, settings_of as settings_in, outcomes_of as outcomes_said}
 use Rattle.replay_script.specs.declared.fail_line.Failure.{Failure}
 use Rattle.replay_script.specs.declared.record_line.Section.{Section}
 use Rattle.replay_script.specs.declared.reply_line.ReplyHead.{ReplyHead}
 use Rattle.replay_script.specs.declared.script.OpenReply.{OpenReply}
 use Rattle.replay_script.specs.declared.line.Line.{Line}
 use Rattle.replay_script.specs.declared.line.Line.TheVariants as line
-use Rattle.conversation.specs.Answers.{Answer, Feeds, IsOpened, Looks, Serves, Came, config_of, just_begun, keeps, with_line}
+use Rattle.conversation.specs.Answers.{Answer, Feeds, IsOpened, Looks, Serves, config_of, just_begun, keeps, with_line}
 use Rattle.conversation.specs.Hearing.{AreHeard, Answers, Stands, silent}
 use Rattle.conversation.specs.Journal.{AreInTurn, BeginsNone, Busy, CanServe, Idle, IsInTurn, IsNoEarlier, IsOver, IsScriptOfBlocks, Turn, block_of, blocks_of, hosts_after, hosts_stood, journal_of, later, moment_asked, moment_at, moment_begun, next_turn, turn_of}
 use Rattle.conversation.specs.Lines.{mark_of}
-use Rattle.conversation.specs.State.{BegunValue, ConversationValue, InFlightValue, Puts, Requests, Serving, Setting, Stage, counted, request_at}
+use Rattle.conversation.specs.State.{BegunValue, ConversationValue, InFlightValue, Puts, Serving, Setting, Stage, counted, request_at}
 use Rattle.conversation.specs.Texts.{fields_text}
 use Rattle.conversation.proofs.JournalTexts.{AreFields, lines-whole, whole_lines}
 use Rattle.conversation.proofs.JournalRuns.{HasRun, none_run, run-told}
 use Rattle.conversation.proofs.JournalSaid.{IsAskedIn, asked_in}
 use Rattle.conversation.proofs.JournalRequests.{IsWritable}
-use Rattle.conversation.proofs.JournalScript.{IsScript, fresh, from_ok, none_script}
+use Rattle.conversation.proofs.JournalScript.{IsScript, fresh, none_script}
 use Rattle.conversation.proofs.JournalHappens.{Happens, begun, cancelled, done, failed, happens, more_hosts, opened, recorded, set, unchanged}
-use Rattle.conversation.proofs.JournalStands.{IsBusy, IsGot, IsServing, IsSetUp, IsSettingUp, IsUnderWay, StandsAt, outcomes_in, outcomes_of}
-use Rattle.conversation.proofs.JournalSteps.{IsHeld, IsOpening, IsTold as IsToldOf, NextIdle, feed, held-idle, held-other, held-own, no-block, no-text, none-begun, opening, quiet, same-hosts, serves, set-more, setting-up, some-begun, told-of, underway, way-done, way-failure, way-record, way-reply}
+use Rattle.conversation.proofs.JournalStands.{IsBusy, IsGot, IsSetUp, IsSettingUp, IsUnderWay, StandsAt, outcomes_in, outcomes_of}
+use Rattle.conversation.proofs.JournalSteps.{IsHeld, NextIdle, feed, held-idle, held-other, held-own, no-block, no-text, none-begun, opening, quiet, same-hosts, serves, set-more, setting-up, some-begun, told-of, underway, way-done, way-failure, way-record, way-reply}
 
 -- no request, and one
 apart : {X : Type 0} (o : Option InFlightValue) (r : InFlightValue) → o ≡ None → o ≡ Some r → X

@@ -1,23 +1,22 @@
 -- A request that is begun, and fed until it is over, is one that is served.
-use Rattle.std.proofs.Common.{◌≡◌, ◌≢◌, ◌∙◌, ◌⊎◌, ℕ, Bool, true, false, List, [], ◌∷◌, ◌++◌, map, length, Option, None, Some, Result, Ok, Err, refl, sym, ap, subst, inl, inr}
-use Rattle.std.specs.declared.net.IpAddr.{IpAddr}
+use Rattle.std.proofs.Common.{◌≡◌, ◌≢◌, ◌⊎◌, ℕ, true, false, List, [], Result, Ok, Err, refl, ap, subst, inl, inr}
 use Rattle.hickory_proto_core.specs.Name.{NameValue}
 use Rattle.hickory_proto_core.specs.NameDecided.{IsReading}
 use Rattle.hickory_proto_core.specs.NameText.{HasFault}
-use Rattle.hickory_proto_core.specs.NameGiven.{IsReadName, IsReadAddress}
+use Rattle.hickory_proto_core.specs.NameGiven.{IsReadName}
 use Rattle.hickory_proto_core.specs.declared.recorded.Exchange.{Exchange}
 use Rattle.hickory_proto_core.specs.names.name_error.NameError.{NameError}
 use Rattle.hickory_proto_core.specs.names.name_error.NameError.TheVariants as name_error
 use Rattle.hickory_proto_core.specs.declared.net_error.NetError.TheVariants.{OutOfMemory}
 use Rattle.hickory_resolver_model.specs.Cache.{CacheValue}
-use Rattle.hickory_resolver_model.specs.Calls.{IsAnsweredFor, SubLookup, asks_of_sub_lookups, is_out_of_memory}
+use Rattle.hickory_resolver_model.specs.Calls.{IsAnsweredFor, SubLookup, is_out_of_memory}
 use Rattle.hickory_resolver_model.specs.Lookup.{LookupResult}
-use Rattle.hickory_resolver_model.specs.Run.{RequestValue, Lookup, LookupIp, ClearLookup, Clear, Settings, GivenName, IsGivenBy, Call, AtOnce, Attempt, IsCall, IsServed, StepReply, LookedUp, LookedUpIp, Cleared, address_call, after_clear, answers_at, call_context_at, ends_run, moment_of, name_call}
-use Rattle.hickory_resolver_theorems.specs.CallsAlone.{CallSoFar, IsCallDoneAlone, IsCallSentAlone, CallRelation}
-use Rattle.hickory_resolver_theorems.specs.ResumingCalls.{CallProgressValue, CallWaits, CallIsDone, RunsOutAtStart, StartsCall, WaitingCallValue}
+use Rattle.hickory_resolver_model.specs.Run.{RequestValue, Lookup, LookupIp, ClearLookup, Clear, Settings, GivenName, IsGivenBy, Call, IsCall, IsServed, StepReply, LookedUp, LookedUpIp, Cleared, address_call, answers_at, call_context_at, ends_run, moment_of, name_call}
+use Rattle.hickory_resolver_theorems.specs.CallsAlone.{CallSoFar, CallRelation}
+use Rattle.hickory_resolver_theorems.specs.ResumingCalls.{CallProgressValue, CallWaits, CallIsDone, StartsCall}
 use Rattle.hickory_resolver_theorems.proofs.CallsAlone.{started_call}
 use Rattle.replay.specs.Output.{reply_text, result_text}
-use Rattle.conversation.specs.Answers.{Came, Looks, Clears, ComesTo}
+use Rattle.conversation.specs.Answers.{Looks, Clears, ComesTo}
 
 -- the call of a request
 abbrev pub HasCall : Settings → RequestValue → Call → Type 0

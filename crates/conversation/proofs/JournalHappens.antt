@@ -1,5 +1,5 @@
 -- What a line that is answered does.
-use Rattle.std.proofs.Common.{◌≡◌, ◌∙◌, ◌⊎◌, ℕ, Bool, true, false, cond, List, [], ◌∷◌, ◌++◌, codes, Option, None, Some, Result, Ok, Err, MatchBool, MatchOption, MatchResult, refl, sym, ap, subst, inl, inr}
+use Rattle.std.proofs.Common.{◌≡◌, ◌∙◌, ℕ, Bool, true, false, cond, List, [], ◌∷◌, codes, Option, None, Some, Result, Ok, Err, MatchBool, MatchOption, MatchResult, refl, sym, ap, subst}
 use Rattle.std.specs.List.{list_all}
 use Rattle.std.specs.Option.{is_some, option_map}
 use Rattle.hickory_proto_core.specs.Codes.{is_text}
@@ -24,11 +24,11 @@ use Rattle.replay_script.specs.declared.reply_line.ReplyHead.{ReplyHead}
 use Rattle.replay_script.specs.declared.script.OpenReply.{OpenReply}
 use Rattle.replay_script.specs.declared.setting.Setting.{Setting as OneSetting}
 use Rattle.replay_script.specs.declared.setting.Setting.TheVariants as setting
-use Rattle.conversation.specs.Answers.{Answer, AnswersDone, AnswersFields, AnswersFirstLine, AnswersFor, AnswersLine, AnswersMarked, AnswersOutcome, AnswersRequest, AnswersSetting, AnswersVerb, AnswersWord, Begins, Feeds, FeedsReply, IsOpened, Serves, Takes, adds_hosts, cancels, ends, keeps, nothing, refused, sets, with_hosts, with_line}
+use Rattle.conversation.specs.Answers.{Answer, AnswersFields, AnswersFirstLine, AnswersFor, AnswersLine, AnswersMarked, AnswersOutcome, AnswersSetting, AnswersVerb, AnswersWord, Begins, Feeds, FeedsReply, IsOpened, Serves, Takes, adds_hosts, cancels, keeps, nothing, refused, sets, with_hosts, with_line}
 use Rattle.conversation.specs.Hearing.{Answers}
 use Rattle.conversation.specs.Journal.{moment_asked, moment_at, moment_behind}
 use Rattle.conversation.specs.Faults.{RefusalValue, of_line, refusal_of, unknown}
-use Rattle.conversation.specs.Lines.{IsAsked, IsScriptLine, mark_by, mark_in, mark_of, said_of, verb_named, word_named}
+use Rattle.conversation.specs.Lines.{IsAsked, mark_by, mark_in, mark_of, said_of, verb_named, word_named}
 use Rattle.conversation.specs.State.{ConversationValue, InFlightValue, Setting, Serving, Stage, request_at}
 use Rattle.conversation.specs.Texts.{fields_text}
 use Rattle.conversation.specs.declared.fault.ConversationFault.{ConversationFault}

@@ -1,5 +1,5 @@
 -- The text of a request is a line of a script that asks it again.
-use Rattle.std.proofs.Common.{◌≡◌, ◌∙◌, ◌⊎◌, ℕ, ◌<◌, ◌^◌, ◌&&◌, Bool, true, false, cond, List, [], ◌∷◌, ◌++◌, length, drop, codes, ◌==◌, nat_lt, nat_eq, Option, None, Some, Result, Ok, Err, refl, sym, ap, ap₂, subst, arith, append_assoc, inl, inr}
+use Rattle.std.proofs.Common.{◌≡◌, ◌∙◌, ℕ, ◌<◌, ◌^◌, ◌&&◌, Bool, true, false, cond, List, [], ◌∷◌, ◌++◌, length, drop, codes, ◌==◌, nat_lt, nat_eq, Option, None, Some, Result, Ok, Err, refl, sym, ap, subst, arith, append_assoc}
 use Rattle.std.proofs.lemmas.Bool.{and_parts, and_from, ltb-true}
 use Rattle.std.proofs.lemmas.Bool.Decides.{nat_tests}
 use Rattle.std.proofs.lemmas.Grind.{common_steps}
@@ -17,9 +17,9 @@ use Rattle.hickory_proto_core.specs.codes.record_type.RecordType.{RecordType}
 use Rattle.hickory_proto_core.specs.codes.record_type.RecordType.TheVariants as type
 use Rattle.hickory_resolver_model.specs.Run.{RequestValue, Lookup, LookupIp, ClearLookup, Clear, moment_of}
 use Rattle.replay_script.specs.Fields.{is_allowed, is_plain}
-use Rattle.replay_script.specs.RequestLine.{asked_by, request_asked, lookup_asked, host_asked, clear_lookup_asked, clear_asked, name_and_type}
+use Rattle.replay_script.specs.RequestLine.{asked_by, request_asked, lookup_asked, host_asked, clear_lookup_asked, clear_asked}
 use Rattle.replay_script.specs.Words.{◌>>=◌, number_field}
-use Rattle.replay_script.specs.Faults.{LineFaultValue, wrong_field, wrong_line}
+use Rattle.replay_script.specs.Faults.{LineFaultValue, wrong_field}
 use Rattle.replay_script.specs.declared.fault.ScriptFault.TheVariants as fault
 use Rattle.replay.specs.Output.{request_text}
 use Rattle.conversation.specs.Texts.{fields_behind}

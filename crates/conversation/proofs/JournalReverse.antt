@@ -1,26 +1,26 @@
 -- The text of the arpa name of an address is a field of a line.
-use Rattle.std.proofs.Common.{◌≡◌, ◌∙◌, ◌⊎◌, ◌<◌, ◌≤◌, ◌+◌, ◌*◌, ◌/◌, ◌%◌, ◌^◌, ◌&&◌, ◌||◌, ◌==◌, ℕ, zero, suc, Bool, true, false, cond, List, [], ◌∷◌, ◌++◌, Some, length, map, reverse, take, replicate, codes, nat_lt, refl, sym, ap, ap₂, subst, arith, append_assoc, inl, inr, length-append}
+use Rattle.std.proofs.Common.{◌≡◌, ◌∙◌, ◌<◌, ◌≤◌, ◌*◌, ◌/◌, ◌%◌, ◌^◌, ℕ, zero, suc, Bool, true, false, cond, List, [], ◌∷◌, ◌++◌, Some, length, map, reverse, take, replicate, codes, refl, sym, ap, ap₂, subst, arith, inl, inr, length-append}
 use Rattle.std.proofs.lemmas.Bool.{and_parts, and_from}
 use Rattle.std.proofs.lemmas.Bool.Decides.{nat_tests}
 use Rattle.std.proofs.lemmas.Grind.{common_steps}
-use Rattle.std.proofs.lemmas.Fmt.{digits_decimal, decimal_is_IsNumeral}
+use Rattle.std.proofs.lemmas.Fmt.{digits_decimal}
 use Rattle.std.proofs.lemmas.Int.Digits.{digits_value-lt}
 use Rattle.std.proofs.lemmas.List.{reverse-append, length-reverse}
 use Rattle.std.proofs.lemmas.Fmt.{length-decimal-le}
 use Rattle.std.specs.Char.{digit_char, is_ascii_alphanumeric, is_ascii_digit}
 use Rattle.std.specs.Fmt.{decimal}
-use Rattle.std.specs.List.{AllByRecursion, join_with_byte, list_all}
+use Rattle.std.specs.List.{AllByRecursion, list_all}
 use Rattle.std.specs.Net.Addr.{ipv4_octets, ipv6_octets, ipv6_segments, octets_of, segments_of}
-use Rattle.std.specs.Net.Grammar.{IsColonHex, IsDotted, IsElided, IsGroupsAfter}
+use Rattle.std.specs.Net.Grammar.{IsColonHex, IsDotted, IsGroupsAfter}
 use Rattle.std.specs.Str.{all_ascii_digits}
 use Rattle.std.specs.declared.net.IpAddr.{IpAddr}
 use Rattle.std.specs.declared.net.IpAddr.TheVariants.{V4, V6}
-use Rattle.hickory_proto_core.specs.Arpa.{arpa_name, hex_label, net_labels, nibbles_of, whole_net}
+use Rattle.hickory_proto_core.specs.Arpa.{arpa_name, hex_label, nibbles_of, whole_net}
 use Rattle.hickory_proto_core.specs.DecimalLaws.{decimals}
 use Rattle.hickory_proto_core.specs.NameGiven.{IsReadAddress}
 use Rattle.hickory_proto_core.specs.NameText.{labels_text, name_text, piece_text, printed, printed_label, written_text}
 use Rattle.hickory_proto_core.specs.NameText as name
-use Rattle.replay_script.specs.Fields.{is_allowed, is_blank, is_plain}
+use Rattle.replay_script.specs.Fields.{is_allowed, is_plain}
 use Rattle.conversation.proofs.JournalTexts.{IsField, all_allowed-append}
 
 -- letters and digits

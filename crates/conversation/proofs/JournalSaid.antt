@@ -1,26 +1,19 @@
 -- What the first word of a line says of what the line says.
-use Rattle.std.proofs.Common.{◌≡◌, ◌∙◌, ◌⊎◌, ℕ, Bool, true, false, cond, List, [], ◌∷◌, ◌++◌, codes, Option, None, Some, Result, Ok, Err, MatchBool, MatchOption, MatchResult, refl, sym, ap, subst, append_assoc}
-use Rattle.std.proofs.lemmas.List.{append-nil}
+use Rattle.std.proofs.Common.{◌≡◌, ◌∙◌, ℕ, Bool, true, false, List, [], ◌∷◌, codes, Option, None, Some, Result, Ok, Err, MatchBool, MatchOption, MatchResult, refl, sym, ap, subst}
 use Rattle.std.specs.Cmp.Lexicographic.{same_text}
-use Rattle.std.specs.Fmt.{decimal}
-use Rattle.hickory_proto_core.specs.Codes.{is_text, type_code, type_text}
-use Rattle.hickory_proto_core.specs.Records.{RecordValue}
+use Rattle.hickory_proto_core.specs.Codes.{is_text}
 use Rattle.hickory_resolver_lookup.specs.Requests.{request_of}
 use Rattle.hickory_resolver_lookup.specs.declared.request.Request.{Request}
-use Rattle.hickory_resolver_model.specs.Run.{RequestValue, Lookup, LookupIp, ClearLookup, Clear}
-use Rattle.replay_script.specs.FailLine.{IsFailure}
-use Rattle.replay_script.specs.Line.{IsDirected, IsSaid, IsRead, IsRequestLine, IsRecordLine, IsFailureLine, directive_named}
+use Rattle.hickory_resolver_model.specs.Run.{RequestValue, Lookup}
+use Rattle.replay_script.specs.Line.{IsDirected, IsSaid, IsRead, IsRequestLine, IsRecordLine, directive_named}
 use Rattle.replay_script.specs.ReplyLine.{reply_of}
 use Rattle.replay_script.specs.RequestLine.{request_asked, IsRequest}
-use Rattle.replay_script.specs.Setting.{setting_of}
 use Rattle.replay_script.specs.Words.{◌>>=◌}
-use Rattle.replay_script.specs.declared.fail_line.Failure.{Failure}
-use Rattle.replay_script.specs.Faults.{LineFaultValue, wrong_field, wrong_line}
+use Rattle.replay_script.specs.Faults.{LineFaultValue, wrong_field}
 use Rattle.replay_script.specs.declared.fault.ScriptFault.TheVariants as fault
 use Rattle.replay_script.specs.declared.line.Line.{Line}
 use Rattle.replay_script.specs.declared.line.Line.TheVariants as line
 use Rattle.replay_script.specs.declared.record_line.Section.{Section}
-use Rattle.replay_script.specs.declared.reply_line.ReplyHead.{ReplyHead}
 use Rattle.replay_script.specs.declared.setting.Setting.{Setting}
 use Rattle.std.proofs.Handle.{handle}
 use Rattle.std.proofs.StringFromBytes.{spelled}
@@ -40,7 +33,7 @@ use Rattle.hickory_resolver_model.specs.Run.{moment_of}
 use Rattle.conversation.specs.Journal.{moment_at}
 use Rattle.conversation.specs.Faults.{RefusalValue, refusal_of}
 use Rattle.conversation.specs.Lines.{IsAsked, IsPointer, IsReverse, IsScriptRequest, is_reverse, pointer_of, request_in, said_of}
-use Rattle.conversation.proofs.JournalTexts.{AreFields, IsField, line_of, line-read, whole_lines}
+use Rattle.conversation.proofs.JournalTexts.{AreFields, line_of, line-read}
 use Rattle.conversation.proofs.JournalRequests.{IsMoment, IsWritable, asked-again, asked-fields, asked_fields, number-below, typed-PTR, writable}
 
 -- the word that a text is

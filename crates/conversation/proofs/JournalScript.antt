@@ -1,16 +1,12 @@
 -- The lines of a journal are read as a script, when one more line comes.
-use Rattle.std.proofs.Common.{◌≡◌, ◌∙◌, ◌≤◌, ◌+◌, ℕ, Bool, true, false, length, codes, List, [], ◌∷◌, ◌++◌, nat_lt, map, Option, None, Some, Result, Ok, Err, MatchResult, refl, sym, ap, subst, arith, append_assoc}
+use Rattle.std.proofs.Common.{◌≡◌, ◌≤◌, ◌+◌, ℕ, Bool, true, false, length, codes, List, [], ◌∷◌, ◌++◌, nat_lt, None, Some, Result, Ok, Err, MatchResult, refl, sym, ap, subst, arith}
 use Rattle.std.proofs.lemmas.Bool.Decides.{nat_tests}
-use Rattle.std.proofs.lemmas.List.{append-nil, map-append}
 use Rattle.std.specs.List.{list_all}
-use Rattle.hickory_proto_core.specs.Handles.{OutcomeValue}
 use Rattle.hickory_proto_core.specs.Records.{RecordValue}
-use Rattle.hickory_proto_core.specs.declared.query.Query.{Query}
 use Rattle.hickory_resolver_lookup.specs.Requests.{request_of}
 use Rattle.hickory_resolver_lookup.specs.declared.request.Request.{Request}
 use Rattle.hickory_resolver_model.specs.Run.{RequestValue, moment_of}
-use Rattle.replay_script.specs.Configuration.{ConfigurationValue, configured, with_setting}
-use Rattle.replay_script.specs.FailLine.{error_of}
+use Rattle.replay_script.specs.Configuration.{configured, with_setting}
 use Rattle.replay_script.specs.Fields.{is_allowed}
 use Rattle.replay_script.specs.Line.{IsRead, IsSaid}
 use Rattle.replay_script.specs.Reader.{ReaderValue, Keeps, answered, failure_outcome, opened}
@@ -28,7 +24,7 @@ use Rattle.replay_script.specs.declared.script.OpenReply.{OpenReply}
 use Rattle.replay_script.specs.declared.setting.Setting.{Setting}
 use Rattle.replay_script.specs.declared.setting.Setting.TheVariants as setting
 use Rattle.replay_script.proofs.Said.{keeps-configuration, keeps-failure, keeps-record, keeps-reply, keeps-request}
-use Rattle.conversation.specs.Texts.{fields_behind, fields_text}
+use Rattle.conversation.specs.Texts.{fields_text}
 use Rattle.conversation.proofs.JournalTexts.{AreAllowed, AreFields, IsField, allowed-append, line-allowed, line-read, line_of, whole_lines}
 use Rattle.conversation.proofs.JournalRequests.{IsWritable, asked-fields, asked_fields}
 use Rattle.conversation.proofs.JournalSaid.{request-read}

@@ -1,45 +1,39 @@
 -- What stands of a conversation with one request at a time, and of its journal: requests that were run, and the one that
 -- is under way.
-use Rattle.std.proofs.Common.{◌≡◌, ◌∙◌, ◌⊎◌, ◌≤◌, ◌+◌, ◌-◌, ℕ, zero, suc, Bool, true, false, cond, not, List, [], ◌∷◌, ◌++◌, length, map, take, drop, codes, Option, None, Some, Result, Ok, Err, MatchBool, MatchOption, MatchResult, refl, sym, ap, ap₂, subst, inl, inr, arith, append_assoc, length-append}
-use Rattle.std.proofs.lemmas.List.{append-nil, map-append}
+use Rattle.std.proofs.Common.{◌≡◌, ◌∙◌, ◌≤◌, ◌+◌, ◌-◌, ℕ, suc, false, List, [], ◌∷◌, ◌++◌, length, map, take, drop, codes, Option, None, Some, Ok, refl, sym, ap, ap₂, subst, arith, append_assoc, length-append}
+use Rattle.std.proofs.lemmas.List.{append-nil}
 use Rattle.std.specs.Ffi.{without_last}
-use Rattle.std.specs.Option.{is_some}
-use Rattle.std.specs.Str.{bytes_eq}
 use Rattle.hickory_proto_core.specs.Handles.{OutcomeValue}
 use Rattle.hickory_proto_core.specs.ResponseKind.{is_empty}
 use Rattle.hickory_proto_core.specs.declared.query.Query.{Query}
 use Rattle.hickory_proto_core.specs.declared.recorded.Exchange.{Exchange}
-use Rattle.hickory_resolver.specs.hosts.hosts_error.HostsError.{HostsError}
-use Rattle.hickory_resolver.specs.Reading.{IsBytesRead}
 use Rattle.hickory_resolver_lookup.specs.Requests.{request_of}
 use Rattle.hickory_resolver_lookup.specs.declared.request.Request.{Request}
 use Rattle.hickory_resolver_model.specs.Bounds.{bounds_fault}
 use Rattle.hickory_resolver_model.specs.Cache.{CacheValue}
-use Rattle.hickory_resolver_model.specs.Calls.{SubLookup, asks_of_sub_lookups, is_out_of_memory}
+use Rattle.hickory_resolver_model.specs.Calls.{SubLookup, asks_of_sub_lookups}
 use Rattle.hickory_resolver_model.specs.Hosts.{Host}
 use Rattle.hickory_resolver_model.specs.Lookup.{LookupResult}
 use Rattle.hickory_resolver_model.specs.Options.{bounds_of}
 use Rattle.hickory_resolver_model.specs.Run.{RequestValue, Lookup, LookupIp, ClearLookup, Clear, Settings, Call, IsServed, StepReply, Cleared, answers_at, call_context_at, ends_run, first_cache, moment_of, settings_of}
 use Rattle.hickory_resolver_model.specs.Run as run
-use Rattle.hickory_resolver_theorems.specs.CallsAlone.{CallSoFar, IsCallDoneAlone, IsCallSentAlone}
-use Rattle.hickory_resolver_theorems.specs.ResumingCalls.{CallProgressValue, CallWaits, CallIsDone, ResumesCall, WaitingCallValue}
-use Rattle.hickory_resolver_theorems.proofs.CallsAlone as alone
-use Rattle.replay.specs.Output.{reply_text, request_text, result_text, sent_text, step_text}
+use Rattle.hickory_resolver_theorems.specs.ResumingCalls.{CallProgressValue, CallWaits, CallIsDone}
+use Rattle.replay.specs.Output.{request_text, result_text, sent_text, step_text}
 use Rattle.replay.specs.ScriptRun.{IsTable, first_moment}
 use Rattle.replay_script.specs.Configuration.{ConfigurationValue}
 use Rattle.replay_script.specs.Reader.{ReaderValue, opened}
 use Rattle.replay_script.specs.declared.line.Line.{Line}
 use Rattle.replay_script.specs.declared.line.Line.TheVariants as line
 use Rattle.replay_script.specs.declared.script.OpenReply.{OpenReply}
-use Rattle.conversation.specs.Answers.{Answer, AreHosts, Clears, Came, ComesTo, IsFirst, IsOpened, Looks, Tells, asking, config_of, just_begun}
+use Rattle.conversation.specs.Answers.{Answer, Clears, ComesTo, Looks, Tells, asking, config_of}
 use Rattle.conversation.specs.Journal.{Idle, Busy, Turn, block_of, turn_of}
 use Rattle.conversation.specs.State.{BegunValue, InFlightValue, Setting, Serving, Stage}
 use Rattle.conversation.specs.Texts.{clear_text, looked_up_text}
 use Rattle.conversation.proofs.JournalTexts.{line_of, whole_lines, whole_lines-append}
 use Rattle.conversation.proofs.JournalRequests.{IsWritable, asked_fields, request-text}
-use Rattle.conversation.proofs.JournalRuns.{HasRun, none_run, run-more}
-use Rattle.conversation.proofs.JournalScript.{IsScript, from_ok, more-request}
-use Rattle.conversation.proofs.JournalCalls.{HasCall, IsBegunCall, IsLookedUp, NotOut, RequestSoFar, WholeCall, begun_call, cleared, looked_up}
+use Rattle.conversation.proofs.JournalRuns.{HasRun, run-more}
+use Rattle.conversation.proofs.JournalScript.{IsScript, more-request}
+use Rattle.conversation.proofs.JournalCalls.{HasCall, RequestSoFar, cleared, looked_up}
 
 -- ---- blocks
 

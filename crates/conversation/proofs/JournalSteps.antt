@@ -1,11 +1,10 @@
 -- A line after another: what stands of the conversation and of its journal.
-use Rattle.std.proofs.Common.{◌≡◌, ◌∙◌, ◌⊎◌, ◌≤◌, ◌||◌, ◌+◌, ℕ, zero, suc, Bool, true, false, cond, not, List, [], ◌∷◌, ◌++◌, length, map, take, drop, Option, None, Some, Result, Ok, Err, MatchBool, MatchOption, refl, sym, ap, ap₂, subst, arith, append_assoc}
+use Rattle.std.proofs.Common.{◌≡◌, ◌∙◌, ◌≤◌, ◌||◌, ◌+◌, ℕ, zero, suc, Bool, true, false, cond, not, List, [], ◌∷◌, ◌++◌, length, drop, Option, None, Some, Result, Ok, Err, MatchOption, refl, sym, ap, ap₂, subst, arith, append_assoc}
 use Rattle.std.proofs.lemmas.Bool.{and_from, eq-eqb}
 use Rattle.std.proofs.lemmas.List.{append-nil, map-append}
-use Rattle.std.proofs.lemmas.Slice.Eq.{bytes_eq-Decides}
 use Rattle.std.specs.Cmp.Lexicographic.{same_text}
 use Rattle.std.specs.Ffi.{without_last}
-use Rattle.std.specs.Option.{is_some, option_map}
+use Rattle.std.specs.Option.{is_some}
 use Rattle.std.specs.Str.{bytes_eq}
 use Rattle.hickory_proto_core.specs.Handles.{OutcomeValue}
 use Rattle.hickory_proto_core.specs.Records.{RecordValue}
@@ -20,7 +19,7 @@ use Rattle.hickory_resolver_model.specs.Bounds.{bounds_fault}
 use Rattle.hickory_resolver_model.specs.Cache.{CacheValue}
 use Rattle.hickory_resolver_model.specs.Hosts.{Host}
 use Rattle.hickory_resolver_model.specs.Options.{bounds_of}
-use Rattle.hickory_resolver_model.specs.Run.{RequestValue, Settings, call_context_at, first_cache, moment_of, settings_of}
+use Rattle.hickory_resolver_model.specs.Run.{Settings, call_context_at, first_cache, moment_of, settings_of}
 use Rattle.hickory_resolver_theorems.specs.ResumingCalls.{CallProgressValue, CallWaits, CallIsDone, ResumesCall}
 use Rattle.hickory_resolver_theorems.proofs.CallsAlone.{resumed}
 use Rattle.replay.specs.Output.{request_text}
@@ -28,20 +27,18 @@ use Rattle.replay_script.specs.Configuration.{ConfigurationValue, with_setting}
 use Rattle.replay_script.specs.FailLine.{error_of}
 use Rattle.replay_script.specs.Fields.{fields}
 use Rattle.replay_script.specs.Line.{IsSaid}
-use Rattle.replay_script.specs.Reader.{ReaderValue, answered, opened}
+use Rattle.replay_script.specs.Reader.{answered, opened}
 use Rattle.replay_script.specs.ReplyLine.{opened_response}
 use Rattle.replay_script.specs.Script.{has_reply}
 use Rattle.replay_script.specs.declared.fail_line.Failure.{Failure}
-use Rattle.replay_script.specs.declared.line.Line.{Line}
 use Rattle.replay_script.specs.declared.line.Line.TheVariants as line
 use Rattle.replay_script.specs.declared.record_line.Section.{Section}
 use Rattle.replay_script.specs.declared.reply_line.ReplyHead.{ReplyHead}
 use Rattle.replay_script.specs.declared.script.OpenReply.{OpenReply}
 use Rattle.replay_script.specs.declared.setting.Setting.{Setting as OneSetting}
-use Rattle.conversation.specs.Answers.{Answer, AreHosts, Came, Clears, Feeds, IsFirst, IsOpened, Looks, Serves, Tells, config_of, just_begun, keeps, with_line}
-use Rattle.conversation.specs.Journal.{BeginsNone, Busy, Idle, IsInTurn, IsNoEarlier, IsOver, Turn, block_of, hosts_after, later, moment_asked, moment_at, moment_begun, next_turn, turn_of}
-use Rattle.conversation.specs.Lines.{mark_of}
-use Rattle.conversation.specs.State.{BegunValue, ConversationValue, InFlightValue, Puts, Requests, Serving, Setting, Stage, request_at}
+use Rattle.conversation.specs.Answers.{Answer, AreHosts, Came, Clears, Feeds, IsFirst, IsOpened, Looks, Serves, Tells, config_of, just_begun}
+use Rattle.conversation.specs.Journal.{Busy, Idle, Turn, block_of, hosts_after, moment_asked, moment_begun, turn_of}
+use Rattle.conversation.specs.State.{BegunValue, InFlightValue, Puts, Requests, Serving, Setting, Stage, request_at}
 use Rattle.conversation.specs.Texts.{fields_text}
 use Rattle.replay.specs.ScriptRun.{first_moment}
 use Rattle.replay_script.specs.declared.fault.ScriptFault.TheVariants as script
@@ -50,11 +47,10 @@ use Rattle.conversation.specs.declared.fault.ConversationFault.TheVariants as fa
 use Rattle.conversation.proofs.JournalTexts.{AreFields, whole_lines, whole_lines-append}
 use Rattle.conversation.proofs.JournalRequests.{IsWritable}
 use Rattle.conversation.proofs.JournalRuns.{HasRun, none_run}
-use Rattle.conversation.proofs.JournalSaid.{IsAskedIn, asked_in}
 use Rattle.conversation.proofs.JournalScript.{IsScript, from_ok, more-failure, more-record, more-reply, more-setting, written, written-text}
-use Rattle.conversation.proofs.JournalCalls.{HasCall, NotOut, RequestSoFar, WholeCall, begun_call}
+use Rattle.conversation.proofs.JournalCalls.{NotOut, RequestSoFar, WholeCall, begun_call}
 use Rattle.conversation.proofs.JournalHappens.{IsNoMode}
-use Rattle.conversation.proofs.JournalStands.{IsBusy, IsGot, IsNext, IsServing, IsSetUp, IsSettingUp, IsUnderWay, StandsAt, clear-proceed, outcomes_in, outcomes_of, proceed, some-behind, some_request}
+use Rattle.conversation.proofs.JournalStands.{IsBusy, IsServing, IsSetUp, IsSettingUp, IsUnderWay, StandsAt, clear-proceed, outcomes_in, outcomes_of, proceed, some-behind, some_request}
 
 -- ---- a request is begun
 

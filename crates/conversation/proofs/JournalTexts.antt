@@ -1,11 +1,11 @@
 -- Lines that are written with one blank between two fields, and end with LF: they are cut and read as they were.
-use Rattle.std.proofs.Common.{◌≡◌, ◌∙◌, ◌⊎◌, ℕ, zero, suc, ◌<◌, ◌+◌, ◌-◌, Bool, true, false, cond, not, List, [], ◌∷◌, ◌++◌, length, filter, find, flat_map, codes, slice_index, get_or, ◌==◌, nat_lt, Option, None, Some, Result, Ok, Err, MatchBool, MatchResult, refl, sym, ap, ap₂, subst, arith, append_assoc}
+use Rattle.std.proofs.Common.{◌≡◌, ◌∙◌, ℕ, zero, suc, ◌<◌, ◌-◌, Bool, true, false, cond, not, List, [], ◌∷◌, ◌++◌, length, filter, find, slice_index, ◌==◌, nat_lt, None, Some, Result, Ok, Err, MatchBool, refl, sym, ap, ap₂, subst, arith, append_assoc}
 use Rattle.std.proofs.lemmas.Bool.{and_parts, and_from, eqb-true}
 use Rattle.std.proofs.lemmas.Bool.Decides.{nat_tests}
 use Rattle.std.proofs.lemmas.Grind.{common_steps}
 use Rattle.std.proofs.lemmas.List.{append-nil}
-use Rattle.std.proofs.lemmas.List.Splits.{slice_split_at, slice_split_none, slice_split-cons_yes, slice_split-cons_no, length-slice_split}
-use Rattle.std.specs.List.{All, AllByRecursion, list_all, slice_split, onto_first}
+use Rattle.std.proofs.lemmas.List.Splits.{slice_split-cons_no, length-slice_split}
+use Rattle.std.specs.List.{AllByRecursion, list_all, slice_split, onto_first}
 use Rattle.std.specs.Str.Lines.{lines, lines_of_parts, strip_carriage_return}
 use Rattle.replay_script.specs.Fields.{fields, is_allowed, is_blank, is_plain, is_skipped}
 use Rattle.replay_script.specs.Line.{IsRead, IsSaid, directive_named}
@@ -13,7 +13,7 @@ use Rattle.replay_script.specs.Faults.{LineFaultValue, wrong_field, wrong_line}
 use Rattle.replay_script.specs.declared.fault.ScriptFault.TheVariants as fault
 use Rattle.replay_script.specs.declared.line.Line.{Line}
 use Rattle.replay_script.specs.declared.line.Line.TheVariants as line
-use Rattle.conversation.specs.Texts.{fields_behind, fields_text}
+use Rattle.conversation.specs.Texts.{fields_behind}
 
 -- ---- lines
 

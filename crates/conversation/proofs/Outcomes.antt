@@ -1,12 +1,11 @@
 -- What comes back for a request in flight, and a request that is cancelled.
-use Rattle.std.proofs.Common.{◌≡◌, ◌∙◌, ◌⊎◌, ℕ, Bool, true, false, cond, List, [], ◌∷◌, ◌++◌, codes, length, ◌==◌, Option, None, Some, Result, Ok, Err, IfOk, IsErr, OnErr, OnOk, MatchBool, MatchOption, Bor, string_bytes, refl, sym, ap, subst, inl, inr}
+use Rattle.std.proofs.Common.{◌≡◌, ◌∙◌, ◌⊎◌, ℕ, Bool, true, false, List, [], Option, None, Some, Result, Ok, Err, IsErr, MatchBool, MatchOption, string_bytes, refl, sym, ap, subst, inl, inr}
 use Rattle.std.specs.Option.{is_some, option_map}
 use Rattle.std.specs.declared.alloc.AllocError.{AllocError}
 use Rattle.hickory_proto_core.specs.Handles.{OutcomeValue}
 use Rattle.hickory_proto_core.specs.ResponseKind.{is_empty}
 use Rattle.hickory_proto_core.specs.declared.net_error.NetError.{NetError}
 use Rattle.hickory_resolver_theorems.specs.ResumingCalls.{WaitingCallValue}
-use Rattle.replay_script.specs.Words.{texts}
 use Rattle.replay_script.specs.declared.fault.ScriptFault.TheVariants as script
 use Rattle.hickory_proto_core.specs.Records.{RecordValue}
 use Rattle.replay_script.specs.declared.fail_line.Failure.{Failure}
@@ -15,19 +14,19 @@ use Rattle.replay_script.specs.declared.line.Line.TheVariants as line
 use Rattle.replay_script.specs.declared.record_line.Section.{Section}
 use Rattle.replay_script.specs.declared.reply_line.ReplyHead.{ReplyHead}
 use Rattle.replay_script.specs.declared.script.OpenReply.{OpenReply}
-use Rattle.conversation.specs.Answers.{Answer, AnswersDone, AnswersFirstLine, AnswersFor, AnswersLine, AnswersOutcome, EndsReply, Feeds, FeedsReply, Takes, cancelled, cancels, keeps, nothing, refused, with_line}
+use Rattle.conversation.specs.Answers.{Answer, AnswersDone, AnswersFirstLine, AnswersFor, AnswersLine, AnswersOutcome, EndsReply, Feeds, FeedsReply, Takes, cancelled, cancels, keeps, refused, with_line}
 use Rattle.conversation.specs.Faults.{RefusalValue, is_memory, of_line, unknown}
-use Rattle.conversation.specs.Hearing.{IsFedOut, IsLeft, Says, Stands}
+use Rattle.conversation.specs.Hearing.{IsFedOut, IsLeft, Stands}
 use Rattle.conversation.specs.Lines.{IsScriptLine}
-use Rattle.conversation.specs.State.{BegunValue, ConversationValue, InFlightValue, Puts, Requests, Serving, Stage, request_at}
-use Rattle.conversation.specs.Telling.{HasReply, IsAnswered, IsFed, IsForRequest, IsGiven, IsKept, IsOfOutcome, IsRefused, OfRequest, PutsSome, RanOut}
+use Rattle.conversation.specs.State.{BegunValue, ConversationValue, InFlightValue, Puts, Requests, Stage, request_at}
+use Rattle.conversation.specs.Telling.{HasReply, IsAnswered, IsFed, IsForRequest, IsGiven, IsKept, IsOfOutcome, IsRefused, OfRequest, PutsSome}
 use Rattle.conversation.specs.Texts.{cancelled_text}
 use Rattle.conversation.specs.declared.fault.ConversationFault.TheVariants as fault
 use Rattle.conversation.specs.declared.heard.Heard.{Heard}
 use Rattle.conversation.specs.declared.reading.Verb.{Verb}
 use Rattle.conversation.specs.declared.reading.Verb.TheVariants as verb
-use Rattle.conversation.proofs.Answered.{answered_as, answered_by, ran_out_here, stays}
-use Rattle.conversation.proofs.Held.{puts_again, puts_same, some_again, some_stays}
+use Rattle.conversation.proofs.Answered.{answered_as, answered_by}
+use Rattle.conversation.proofs.Held.{puts_again, some_again, some_stays}
 use Rattle.conversation.proofs.Settings.{refused_for, when_false, when_true}
 
 -- ---- a request is cancelled

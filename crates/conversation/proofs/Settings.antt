@@ -13,13 +13,12 @@ use Rattle.replay_script.specs.declared.fault.ScriptFault.TheVariants as script
 use Rattle.replay_script.specs.declared.line.Line.{Line}
 use Rattle.replay_script.specs.declared.line.Line.TheVariants as line
 use Rattle.replay_script.specs.declared.setting.Setting as setting
-use Rattle.conversation.specs.Answers.{Answer, AnswersSetting, adds_hosts, cancelled, cancels, ends, nothing, refused, sets, with_hosts}
+use Rattle.conversation.specs.Answers.{Answer, AnswersSetting, adds_hosts, ends, nothing, refused, sets, with_hosts}
 use Rattle.conversation.specs.Faults.{RefusalValue, is_memory, of_line, out_of_memory, unknown}
-use Rattle.conversation.specs.Hearing.{Says, Stands}
 use Rattle.conversation.specs.Lines.{IsScriptLine}
-use Rattle.conversation.specs.State.{ConversationValue, Puts, Requests, Setting, Serving, Stage, request_at, stage_of}
+use Rattle.conversation.specs.State.{ConversationValue, Puts, Setting, Serving, request_at, stage_of}
 use Rattle.conversation.specs.Telling.{IsAnswered, IsRefused, IsSettingTold, RanOut}
-use Rattle.conversation.specs.Texts.{cancelled_text, fields_text}
+use Rattle.conversation.specs.Texts.{fields_text}
 use Rattle.conversation.specs.declared.heard.Heard.{Heard}
 use Rattle.conversation.specs.declared.fault.ConversationFault.TheVariants as fault
 use Rattle.conversation.proofs.Answered.{answered_by, answered_refused, ran_out_here, stays}

@@ -1,14 +1,11 @@
 -- What is told of a request over a resolver.
-use Rattle.std.proofs.Common.{◌≡◌, ◌≢◌, ◌∙◌, ◌⊎◌, ℕ, Bool, true, false, List, [], ◌∷◌, ◌++◌, Option, None, Some, Result, Ok, Err, IfOk, IsErr, OnErr, OnOk, string_bytes, refl, sym, ap, subst, append-nil, inl, inr}
+use Rattle.std.proofs.Common.{◌≡◌, ◌∙◌, ◌⊎◌, ℕ, Bool, false, List, [], ◌∷◌, ◌++◌, None, Some, Result, Ok, Err, IfOk, IsErr, OnOk, string_bytes, refl, sym, ap, subst, append-nil, inl, inr}
 use Rattle.std.specs.declared.alloc.AllocError.{AllocError}
 use Rattle.hickory_proto_core.specs.Handles.{OutcomeValue}
-use Rattle.std.specs.declared.net.IpAddr.{IpAddr}
-use Rattle.hickory_proto_core.specs.Name.{NameValue}
 use Rattle.hickory_proto_core.specs.NameGiven.{IsReadName, IsReadAddress}
 use Rattle.hickory_proto_core.specs.codes.record_type.RecordType.{RecordType}
 use Rattle.hickory_proto_core.specs.declared.dns_request.DnsRequestOptions.{DnsRequestOptions}
 use Rattle.hickory_proto_core.specs.declared.query.Query.{Query}
-use Rattle.hickory_proto_core.specs.names.name_error.NameError.{NameError}
 use Rattle.hickory_resolver.specs.CallProgress.{call_progress_of}
 use Rattle.hickory_resolver.specs.declared.waiting_call.CallProgress.{CallProgress}
 use Rattle.hickory_resolver.specs.Starting.{KeepsAllButCache, ResumesAt, StartsHost, StartsName}
@@ -19,8 +16,8 @@ use Rattle.hickory_resolver_model.specs.Run.{RequestValue, Lookup, LookupIp, Set
 use Rattle.hickory_resolver_theorems.specs.ResumingCalls.{WaitingCallValue, CallProgressValue, CallWaits, CallIsDone, RunsOutAtStart, StartsCall}
 use Rattle.conversation.specs.Answers.{Answer, Came, Clears, ComesTo, Feeds, Looks, Serves, Tells, asking, just_begun}
 use Rattle.conversation.specs.Explaining.{IsStartExplained, alias_text}
-use Rattle.conversation.specs.Hearing.{IsBegunOver, IsFedOut, Says}
-use Rattle.conversation.specs.State.{BegunValue, InFlightValue, Puts, Requests, Serving, Stage, request_at}
+use Rattle.conversation.specs.Hearing.{IsBegunOver, IsFedOut}
+use Rattle.conversation.specs.State.{BegunValue, Puts, Requests, Serving}
 use Rattle.conversation.specs.Telling.{IsBlock, IsClearBlock, IsGiven, IsTold, PutsSome, stage_by}
 use Rattle.replay.specs.Output.{request_text}
 use Rattle.conversation.specs.Texts.{clear_text, send_text}

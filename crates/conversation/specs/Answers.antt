@@ -1,7 +1,6 @@
 -- What a line is answered, and what stands after it.
 use Rattle.std.specs.Prelude.{◌≡◌, ◌≢◌, ◌⊎◌, ℕ, Bool, true, false, List, [], ◌∷◌, ◌++◌, codes, Option, None, Some, Result, Ok, Err, MatchBool, MatchOption, MatchResult, if◌then◌else◌}
 use Rattle.std.specs.Option.{is_some, option_map}
-use Rattle.std.specs.List.{list_all}
 use Rattle.hickory_proto_core.specs.Handles.{OutcomeValue}
 use Rattle.hickory_proto_core.specs.Name.{NameValue}
 use Rattle.hickory_proto_core.specs.Records.{RecordValue}
@@ -14,13 +13,11 @@ use Rattle.hickory_resolver_model.specs.Bounds.{bounds_fault}
 use Rattle.hickory_resolver_model.specs.Cache.{CacheValue}
 use Rattle.hickory_resolver_model.specs.Calls.{is_out_of_memory}
 use Rattle.hickory_resolver_model.specs.Hosts.{Host}
-use Rattle.hickory_resolver_model.specs.Lookup.{LookupResult}
 use Rattle.hickory_resolver_model.specs.Options.{bounds_of}
 use Rattle.hickory_resolver_model.specs.Run.{RequestValue, Lookup, LookupIp, ClearLookup, Clear, Settings, settings_of, first_cache, moment_of, call_context_at, name_call, address_call, after_clear}
 use Rattle.hickory_resolver_theorems.specs.ResumingCalls.{WaitingCallValue, CallProgressValue, CallWaits, CallIsDone, StartsCall, RunsOutAtStart, ResumesCall}
 use Rattle.hickory_resolver.specs.Reading.{IsBytesRead}
 use Rattle.hickory_resolver.specs.hosts.hosts_error.HostsError.{HostsError}
-use Rattle.hickory_resolver.specs.hosts.hosts_error.HostsError.TheVariants as hosts
 use Rattle.hickory_resolver_config.specs.ResolverConfig.{ResolverConfigValue}
 use Rattle.replay.specs.Output.{request_text}
 use Rattle.replay_script.specs.Configuration.{ConfigurationValue, with_setting}

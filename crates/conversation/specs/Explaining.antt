@@ -1,11 +1,11 @@
 -- How a request comes about: the lines that go out before its others, where it asks for them.
-use Rattle.std.specs.Prelude.{◌≡◌, ℕ, Bool, true, false, List, [], ◌∷◌, ◌++◌, codes, Option, None, Some, if◌then◌else◌}
+use Rattle.std.specs.Prelude.{◌≡◌, ℕ, Bool, true, false, List, [], ◌++◌, codes, Option, None, Some, if◌then◌else◌}
 use Rattle.std.specs.Fmt.{decimal}
 use Rattle.std.specs.List.{flat_map}
 use Rattle.std.specs.Option.{option_map}
 use Rattle.hickory_proto_core.specs.Texts.{question_text}
 use Rattle.hickory_proto_core.specs.declared.query.Query.{Query}
-use Rattle.hickory_resolver_model.specs.Cache.{CacheValue, Entry, current}
+use Rattle.hickory_resolver_model.specs.Cache.{CacheValue, current}
 use Rattle.hickory_resolver_model.specs.Run.{RequestValue, Settings, moment_of}
 use Rattle.hickory_resolver_theorems.specs.ResumingCalls.{WaitingCallValue}
 use Rattle.hickory_resolver.specs.Explaining.{Explains}

@@ -1,6 +1,6 @@
 -- The journal of a conversation, as a script: what goes out of a conversation with one request at a time is what a
 -- replay of its journal writes, over the hosts that stood.
-use Rattle.std.specs.Prelude.{◌≡◌, ◌≤◌, ◌+◌, ◌||◌, ℕ, false, not, List, [], ◌∷◌, ◌++◌, length, map, drop, codes, string_bytes, Option, None, Some, Result, Ok, MatchBool, MatchOption, if◌then◌else◌}
+use Rattle.std.specs.Prelude.{◌≡◌, ◌≤◌, ◌+◌, ◌||◌, ℕ, false, not, List, [], ◌∷◌, ◌++◌, length, map, drop, codes, string_bytes, Option, None, Some, Ok, MatchBool, if◌then◌else◌}
 use Rattle.std.specs.Ffi.{without_last}
 use Rattle.std.specs.List.{flat_map}
 use Rattle.std.specs.Option.{is_some}

@@ -1,9 +1,8 @@
 -- What a line is about: its first word, its verb, and the request that it asks.
-use Rattle.std.specs.Prelude.{◌≡◌, ◌&&◌, ℕ, Bool, true, false, List, [], ◌∷◌, codes, Option, Some, None, if◌then◌else◌, Result, Ok, Err, MatchBool, MatchResult, MatchOption}
+use Rattle.std.specs.Prelude.{◌≡◌, ◌&&◌, ℕ, Bool, false, List, [], ◌∷◌, codes, Option, Some, None, if◌then◌else◌, Result, Ok, Err, MatchBool, MatchResult}
 use Rattle.std.specs.List.{list_all}
 use Rattle.std.specs.declared.net.IpAddr.{IpAddr}
 use Rattle.hickory_proto_core.specs.Codes.{is_text}
-use Rattle.hickory_proto_core.specs.Name.{NameValue}
 use Rattle.hickory_proto_core.specs.NameGiven.{IsReadAddress}
 use Rattle.hickory_proto_core.specs.NameText.{name_text}
 use Rattle.hickory_proto_core.specs.Arpa.{arpa_name, whole_net}

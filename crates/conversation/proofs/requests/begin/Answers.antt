@@ -1,7 +1,7 @@
 use Rattle.std.proofs.Common.{◌∙◌, ◌++◌, [], Ok, ap, refl, string_bytes, subst}
 use Rattle.hickory_resolver.specs.Requests.{request_of}
 use Rattle.hickory_resolver_model.specs.Resolver.{settings}
-use Rattle.conversation.specs.Answers.{Tells, just_begun}
+use Rattle.conversation.specs.Answers.{Tells}
 use Rattle.conversation.specs.State.{BegunValue, begun_of, requests_of}
 use Rattle.conversation.specs.Telling.{IsTold, came_of}
 use Rattle.conversation.specs.declared.heard.Heard.{Heard}

@@ -1,4 +1,4 @@
-use Rattle.std.proofs.Common.{◌∙◌, ap, subst, sym}
+use Rattle.std.proofs.Common.{◌∙◌, ap, sym}
 use Rattle.conversation.specs.Faults.{refusal_of}
 use Rattle.conversation.specs.State.{conversation_of}
 use Rattle.conversation.proofs.Hearings.{byte_said, read_told, skipped_told}

@@ -1,4 +1,4 @@
-use Rattle.std.proofs.Common.{◌∙◌, Ok, refl, sym}
+use Rattle.std.proofs.Common.{◌∙◌, Ok, refl}
 use Rattle.hickory_resolver.specs.Requests.{request_of}
 use Rattle.replay_script.specs.Words.{texts}
 use Rattle.conversation.specs.Answers.{AnswersRequest, Begins}

@@ -1,5 +1,4 @@
-use Rattle.std.proofs.Common.{Err, ap, refl}
-use Rattle.hickory_proto_core.specs.Handles.{OutcomeValue}
+use Rattle.std.proofs.Common.{ap, refl}
 use Rattle.replay_script.specs.FailLine.{error_of}
 use Rattle.replay_script.specs.Words.{texts}
 use Rattle.conversation.specs.State.{begun_of, conversation_of, in_flight_of, requests_of}

@@ -1,6 +1,4 @@
-use Rattle.std.proofs.Common.{subst, sym}
 use Rattle.replay_script.specs.Words.{texts}
-use Rattle.conversation.specs.Answers.{AnswersFor}
 use Rattle.conversation.specs.State.{conversation_of}
 use Rattle.conversation.specs.declared.reading.Verb.TheVariants as verb
 use Rattle.conversation.proofs.Outcomes.{cancel_for, is_first_line, of_verb}

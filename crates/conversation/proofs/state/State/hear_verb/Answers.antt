@@ -2,7 +2,6 @@ use Rattle.std.proofs.Common.{None, Some, refl}
 use Rattle.replay_script.specs.Words.{texts}
 use Rattle.conversation.specs.Answers.{AnswersVerb}
 use Rattle.conversation.specs.Faults.{unknown}
-use Rattle.conversation.specs.Lines.{verb_named}
 use Rattle.conversation.specs.State.{conversation_of}
 use Rattle.conversation.proofs.Hearings.{by_verb}
 use Rattle.conversation.proofs.Settings.{refused_for}

@@ -1,7 +1,6 @@
 use Rattle.replay_script.specs.Words.{texts}
 use Rattle.conversation.specs.Answers.{AnswersWord}
 use Rattle.conversation.specs.Faults.{unknown}
-use Rattle.conversation.specs.Lines.{mark_or_none}
 use Rattle.conversation.specs.State.{conversation_of}
 use Rattle.conversation.specs.declared.reading.Word.TheVariants as word
 use Rattle.std.proofs.Common.{refl}

@@ -1,8 +1,8 @@
-use Rattle.std.proofs.Common.{◌≡◌, List, Some, String, ap, refl, string_bytes, subst}
+use Rattle.std.proofs.Common.{List, Some, String, ap, refl, string_bytes, subst}
 use Rattle.std.specs.Global.{Global}
 use Rattle.replay_script.specs.Words.{texts}
 use Rattle.conversation.specs.Answers.{with_line}
-use Rattle.conversation.specs.State.{BegunValue, ConversationValue, InFlightValue, Puts, begun_of, conversation_of, requests_of}
+use Rattle.conversation.specs.State.{BegunValue, InFlightValue, Puts, begun_of, conversation_of, requests_of}
 use Rattle.conversation.specs.declared.in_flight.InFlight.{InFlight}
 use Rattle.conversation.proofs.Outcomes.{keeps_told, kept_out}
 use Rattle.conversation.proofs.state.State.keep.Goals as goal

@@ -1,5 +1,5 @@
 use Rattle.std.proofs.Common.{◌≡◌, false, rules}
-use Rattle.conversation.specs.State.{begun_of, conversation_of, in_flight_of, requests_of, stage_of}
+use Rattle.conversation.specs.State.{conversation_of}
 use Rattle.conversation.specs.Faults.{is_memory}
 use Rattle.conversation.proofs.Answered.{refused_told}
 use Rattle.conversation.proofs.state.State.refuse.Goals as goal

@@ -3,7 +3,7 @@ use Rattle.replay_script.specs.Words.{texts}
 use Rattle.conversation.specs.Answers.{sets}
 use Rattle.conversation.specs.Faults.{unknown}
 use Rattle.conversation.specs.State.{conversation_of}
-use Rattle.conversation.proofs.Settings.{not_set, refused_for, setting_stage, setting_taken}
+use Rattle.conversation.proofs.Settings.{not_set, refused_for, setting_taken}
 use Rattle.conversation.proofs.state.State.take_setting.Goals as goal
 
 pub returns-in-Configuration : goal.returns-in-Configuration
