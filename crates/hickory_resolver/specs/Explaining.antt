@@ -1,6 +1,6 @@
 -- What a request attempts, and who answers it as things stand: the names in the order in which they are attempted, each
 -- with the types that are looked up for it.
-use Rattle.std.specs.Prelude.{◌≡◌, ◌⊎◌, ◌-◌, ℕ, Bool, true, false, List, [], ◌∷◌, ◌++◌, map, Option, None, Some, Result, Ok, Err, if◌then◌else◌}
+use Rattle.std.specs.Prelude.{◌≡◌, ◌≢◌, ◌⊎◌, ◌-◌, ℕ, Bool, true, false, List, [], ◌∷◌, ◌++◌, map, Option, None, Some, Result, Ok, Err, if◌then◌else◌}
 use Rattle.std.specs.List.{flat_map}
 use Rattle.std.specs.declared.net.IpAddr.{IpAddr}
 use Rattle.hickory_proto_core.specs.Name.{NameValue}
@@ -8,6 +8,7 @@ use Rattle.hickory_proto_core.specs.NameGiven.{IsReadName, IsReadAddress}
 use Rattle.hickory_proto_core.specs.codes.record_type.RecordType.{RecordType}
 use Rattle.hickory_proto_core.specs.declared.query.Query.{Query}
 use Rattle.hickory_proto_core.specs.names.name_error.NameError.{NameError}
+use Rattle.hickory_proto_core.specs.names.name_error.NameError.TheVariants as name_fault
 use Rattle.hickory_resolver_model.specs.Attempts.{attempts}
 use Rattle.hickory_resolver_model.specs.Cache.{CacheValue, Entry, current}
 use Rattle.hickory_resolver_model.specs.Calls.{Plan, One, Both, Fallback}
@@ -64,12 +65,13 @@ AreAnswered now hosts cache qs attempted = ⊥
 
 -- ---- what a request attempts
 
--- what was read as a name, or is none, is attempted by a plan
+-- what was read as a name, or is none, is attempted by a plan; out of memory says nothing of the text
 abbrev pub ExplainsNamed : Settings → CacheValue → ℕ → Plan → Bool → Result NameValue NameError → List Attempted
     → Type 0
 ExplainsNamed s cache now plan hosts_for_all (Ok name) attempted =
     AreAnswered now s.hosts cache (names_questions plan hosts_for_all (attempts s.search name)) attempted
-ExplainsNamed s cache now plan hosts_for_all (Err fault) attempted = attempted ≡ []
+ExplainsNamed s cache now plan hosts_for_all (Err fault) attempted =
+    (fault ≢ name_fault.OutOfMemory) × (attempted ≡ [])
 
 -- what is answered at once attempts nothing
 abbrev pub ExplainsCall : Settings → CacheValue → ℕ → Call → List Attempted → Type 0
@@ -80,12 +82,14 @@ ExplainsCall s cache now (Attempt name plan) attempted =
 abbrev pub ExplainsHost : Settings → CacheValue → List ℕ → ℕ → List Attempted → Type 0
 ExplainsHost s cache text now attempted =
     (address : Option IpAddr) × IsReadAddress text address × (name : Result NameValue NameError)
-    × IsReadName text name × ExplainsCall s cache now (address_call s address name now) attempted
+    × IsReadName text name × (name ≢ Err name_fault.OutOfMemory)
+    × ExplainsCall s cache now (address_call s address name now) attempted
 
 -- a clear attempts nothing
 abbrev pub Explains : Settings → CacheValue → RequestValue → List Attempted → Type 0
 Explains s cache (Lookup text t now) attempted =
-    (name : Result NameValue NameError) × IsReadName text name × ExplainsCall s cache now (name_call t name) attempted
+    (name : Result NameValue NameError) × IsReadName text name × (name ≢ Err name_fault.OutOfMemory)
+    × ExplainsCall s cache now (name_call t name) attempted
 Explains s cache (LookupIp text now) attempted = ExplainsHost s cache text now attempted
 Explains s cache (ClearLookup text t now) attempted = attempted ≡ []
 Explains s cache (Clear now) attempted = attempted ≡ []

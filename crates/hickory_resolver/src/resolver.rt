@@ -493,6 +493,9 @@ impl<H: DnsHandle, S: BuildHasher> Resolver<H, S> {
         ensures { IfOk result (λ list. ExplainsHost (settings self.now) self.now.client.cache host.now now list.items) }
     {
         let name = host.into_name(self.alloc());
+        if matches!(name, Err(NameError::OutOfMemory)) {
+            return Err(AllocError);
+        }
         if host.to_ip().is_some() && self.options.ndots <= 4 {
             return Ok(Vec::new(self.alloc()));
         }
