@@ -140,8 +140,8 @@ def explained(cases, programs, server):
     cases.equal("explained: the question before its answer", told, [asked, record])
     question = "www.example.test. IN A"
     attempts = [line for line in lines if line.startswith("; attempt ")]
-    cases.equal("explained: who answers at first", attempts[:1], [f"; attempt {question}: the server is asked"])
-    again = re.fullmatch(rf"; attempt {re.escape(question)}: the cache has it, [0-5] seconds old", attempts[-1])
+    cases.equal("explained: who answers at first", attempts[:1], [f"; attempt {question}: the server would be asked"])
+    again = re.fullmatch(rf"; attempt {re.escape(question)}: the cache answers, kept [0-5] seconds ago", attempts[-1])
     cases.equal("explained: who answers then", (len(attempts), bool(again)), (2, True))
     kept = [line for line in lines if re.fullmatch(rf"; stored {re.escape(question)} until \d+", line)]
     cases.equal("explained: until when it is kept", len(kept), 1)
