@@ -5,7 +5,7 @@ from typing import NamedTuple
 WWW, SENT = "www.example.com. IN A", "rd edns 1232"
 LINES = [
     "option ndots 1",
-    "a at 100 lookup www.example.com. A",
+    "a explain at 100 lookup www.example.com. A",
     "a reply NOERROR www.example.com. A",
     "a answer www.example.com. 60 IN A 192.0.2.1",
     "a done",
@@ -81,7 +81,8 @@ def served_as(state, number, mark, verb, rest):
     if verb == "answer":
         return "", state
     if verb == "done":
-        return over(state._replace(replied=False, is_kept=True), mark, found(mark, 100, f"sent {WWW}"))
+        told = f"{mark} explain stored {WWW} until 160\n" + found(mark, 100, f"sent {WWW}")
+        return over(state._replace(replied=False, is_kept=True), mark, told)
     if verb == "cancel":
         return over(state, mark, f"{mark} cancelled\n")
     return over(state, mark, block(mark, "at 140 lookup late.example. A", "sent late.example. IN A", "err timeout"))
