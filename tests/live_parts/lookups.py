@@ -131,17 +131,16 @@ def misbehaviour(cases, programs, server):
 def explained(cases, programs, server):
     """Of a name that is looked up twice, a question is sent the first time. The seconds that are left may differ."""
     _, output, _ = resolve(programs, server, "--explain", "www.example.test", "A", "www.example.test", "A")
-    lines = output.splitlines()
-    asked = f"; {server.text} was asked for www.example.test. A IN: reply NOERROR"
-    record = "www.example.test. 60 IN A 192.0.2.1"
-    found = [lines.count(asked), lines.count("; no question was sent"), sum(not line.startswith(";") for line in lines)]
-    cases.equal("explained", found, [1, 1, 2])
-    told = [line for line in lines if line in (asked, record)][:2]
-    cases.equal("explained: the question before its answer", told, [asked, record])
     question = "www.example.test. IN A"
-    attempts = [line for line in lines if line.startswith("; attempt ")]
-    cases.equal("explained: who answers at first", attempts[:1], [f"; attempt {question}: the server would be asked"])
-    again = re.fullmatch(rf"; attempt {re.escape(question)}: the cache answers, kept [0-5] seconds ago", attempts[-1])
-    cases.equal("explained: who answers then", (len(attempts), bool(again)), (2, True))
-    kept = [line for line in lines if re.fullmatch(rf"; stored {re.escape(question)} until \d+", line)]
-    cases.equal("explained: until when it is kept", len(kept), 1)
+    told = [
+        f"; attempt {question}: the server would be asked",
+        f"; {server.text} was asked for www.example.test. A IN: reply NOERROR",
+        f"; stored {question} until N",
+        f"; {question} may be used for N seconds",
+        "www.example.test. N IN A 192.0.2.1",
+        f"; attempt {question}: the cache answers, kept N seconds ago",
+        "; no question was sent",
+        f"; {question} may be used for N seconds",
+        "www.example.test. N IN A 192.0.2.1",
+    ]
+    cases.equal("explained", [re.sub(r"(?<= )\d+(?= |$)", "N", line) for line in output.splitlines()], told)
