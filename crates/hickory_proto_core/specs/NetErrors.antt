@@ -8,29 +8,18 @@ use Rattle.hickory_proto_core.specs.Records.{RecordValue}
 use Rattle.hickory_proto_names.specs.declared.name_error.NameError.{NameError}
 use Rattle.hickory_proto_names.specs.declared.name_error.NameError.TheVariants as name_error
 use Rattle.hickory_proto_core.specs.declared.net_error.NetError.{NetError}
-use Rattle.hickory_proto_core.specs.declared.net_error.NetError.TheVariants.{Message, Timeout, Proto, Dns, NoOutcome, Bounds, OutOfMemory}
+use Rattle.hickory_proto_core.specs.declared.net_error.NetError.TheVariants.{Proto, Dns, OutOfMemory}
 use Rattle.hickory_proto_core.specs.declared.net_error.DnsError.{DnsError}
 use Rattle.hickory_proto_core.specs.declared.net_error.DnsError.TheVariants.{ResponseCode, NoRecordsFound}
 
 abbrev pub net_error_of : NameError → NetError
-net_error_of name_error.EmptyLabel = Proto name_error.EmptyLabel
-net_error_of name_error.LabelTooLong = Proto name_error.LabelTooLong
-net_error_of name_error.NameTooLong = Proto name_error.NameTooLong
-net_error_of name_error.BadCharacter = Proto name_error.BadCharacter
-net_error_of name_error.BadEscape = Proto name_error.BadEscape
-net_error_of name_error.NotArpa = Proto name_error.NotArpa
 net_error_of name_error.OutOfMemory = OutOfMemory
+net_error_of fault = Proto fault
 
 -- the negative answer that an error is, or else the error
 abbrev pub no_records_or : NetError → Result NoRecordsValue NetError
 no_records_or (Dns (NoRecordsFound none)) = Ok none
-no_records_or (Dns (ResponseCode code)) = Err (Dns (ResponseCode code))
-no_records_or (Message text) = Err (Message text)
-no_records_or Timeout = Err Timeout
-no_records_or (Proto error) = Err (Proto error)
-no_records_or NoOutcome = Err NoOutcome
-no_records_or (Bounds error) = Err (Bounds error)
-no_records_or OutOfMemory = Err OutOfMemory
+no_records_or error = Err error
 
 -- whether an error is a negative answer, and whether it says that the name does not exist
 abbrev pub is_no_records_found : NetError → Bool
@@ -53,9 +42,4 @@ dns_error_holds_memory (NoRecordsFound none) = true
 
 abbrev pub error_holds_memory : NetError → Bool
 error_holds_memory (Dns error) = dns_error_holds_memory error
-error_holds_memory (Message text) = false
-error_holds_memory Timeout = false
-error_holds_memory (Proto error) = false
-error_holds_memory NoOutcome = false
-error_holds_memory (Bounds error) = false
-error_holds_memory OutOfMemory = false
+error_holds_memory other = false

@@ -58,14 +58,7 @@ data_type (unknown_data code bytes) = type_of code
 abbrev pub address_of : RData → Option IpAddr
 address_of (A address) = Some (V4 address)
 address_of (AAAA address) = Some (V6 address)
-address_of (CNAME target) = None
-address_of (NS target) = None
-address_of (PTR target) = None
-address_of (SOA mname rname serial refresh retry expire minimum) = None
-address_of (SRV priority weight port target) = None
-address_of (MX preference exchange) = None
-address_of (TXT strings) = None
-address_of (Unknown code bytes) = None
+address_of other = None
 
 abbrev pub data_of_address : IpAddr → DataValue
 data_of_address (V4 address) = a_data (ipv4_octets address)
@@ -74,28 +67,12 @@ data_of_address (V6 address) = aaaa_data (ipv6_segments address)
 -- the time to live of negative answers that SOA data give (RFC 2308, section 4), and the server that NS data
 -- name. Data of an unknown kind give neither
 abbrev pub soa_minimum : DataValue → Option ℕ
-soa_minimum (a_data octets) = None
-soa_minimum (aaaa_data segments) = None
-soa_minimum (cname_data target) = None
-soa_minimum (ns_data target) = None
-soa_minimum (ptr_data target) = None
 soa_minimum (soa_data mname rname serial refresh retry expire minimum) = Some minimum
-soa_minimum (srv_data priority weight port target) = None
-soa_minimum (mx_data preference exchange) = None
-soa_minimum (txt_data strings) = None
-soa_minimum (unknown_data code bytes) = None
+soa_minimum other = None
 
 abbrev pub ns_target : DataValue → Option NameValue
-ns_target (a_data octets) = None
-ns_target (aaaa_data segments) = None
-ns_target (cname_data target) = None
 ns_target (ns_data target) = Some target
-ns_target (ptr_data target) = None
-ns_target (soa_data mname rname serial refresh retry expire minimum) = None
-ns_target (srv_data priority weight port target) = None
-ns_target (mx_data preference exchange) = None
-ns_target (txt_data strings) = None
-ns_target (unknown_data code bytes) = None
+ns_target other = None
 
 pub record RecordValue : Type 0 where
   pub name : NameValue
@@ -122,41 +99,28 @@ data_kind (txt_data strings) = 9
 data_kind (unknown_data code bytes) = 0
 
 abbrev pub data_names : DataValue → List NameValue
-data_names (a_data octets) = []
-data_names (aaaa_data segments) = []
 data_names (cname_data target) = target ∷ []
 data_names (ns_data target) = target ∷ []
 data_names (ptr_data target) = target ∷ []
 data_names (soa_data mname rname serial refresh retry expire minimum) = mname ∷ rname ∷ []
 data_names (srv_data priority weight port target) = target ∷ []
 data_names (mx_data preference exchange) = exchange ∷ []
-data_names (txt_data strings) = []
-data_names (unknown_data code bytes) = []
+data_names other = []
 
 abbrev pub data_numbers : DataValue → List ℕ
 data_numbers (a_data octets) = octets
 data_numbers (aaaa_data segments) = segments
-data_numbers (cname_data target) = []
-data_numbers (ns_data target) = []
-data_numbers (ptr_data target) = []
 data_numbers (soa_data mname rname serial refresh retry expire minimum) =
     serial ∷ refresh ∷ retry ∷ expire ∷ minimum ∷ []
 data_numbers (srv_data priority weight port target) = priority ∷ weight ∷ port ∷ []
 data_numbers (mx_data preference exchange) = preference ∷ []
-data_numbers (txt_data strings) = []
 data_numbers (unknown_data code bytes) = code ∷ []
+data_numbers other = []
 
 abbrev pub data_bytes : DataValue → List (List ℕ)
-data_bytes (a_data octets) = []
-data_bytes (aaaa_data segments) = []
-data_bytes (cname_data target) = []
-data_bytes (ns_data target) = []
-data_bytes (ptr_data target) = []
-data_bytes (soa_data mname rname serial refresh retry expire minimum) = []
-data_bytes (srv_data priority weight port target) = []
-data_bytes (mx_data preference exchange) = []
 data_bytes (txt_data strings) = strings
 data_bytes (unknown_data code bytes) = bytes ∷ []
+data_bytes other = []
 
 abbrev pub data_eq : DataValue → DataValue → Bool
 data_eq d e =

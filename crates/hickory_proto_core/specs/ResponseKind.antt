@@ -14,7 +14,7 @@ use Rattle.hickory_proto_codes.specs.declared.record_type.RecordType.TheVariants
 use Rattle.hickory_proto_codes.specs.declared.response_code.ResponseCode.TheVariants as response
 use Rattle.hickory_proto_core.specs.declared.query.Query.{Query}
 use Rattle.hickory_proto_core.specs.declared.net_error.NetError.{NetError}
-use Rattle.hickory_proto_core.specs.declared.net_error.NetError.TheVariants.{Message, Timeout, Proto, Dns, NoOutcome, Bounds, OutOfMemory}
+use Rattle.hickory_proto_core.specs.declared.net_error.NetError.TheVariants.{Dns, OutOfMemory}
 use Rattle.hickory_proto_core.specs.declared.net_error.DnsError.TheVariants.{ResponseCode, NoRecordsFound}
 
 abbrev pub record_type_code : RecordValue → ℕ
@@ -60,10 +60,10 @@ abbrev pub first_query : List Query → Query
 first_query [] = root_query
 first_query (q ∷ qs) = q
 
--- the records, where there are some
-abbrev pub section_or_none : List RecordValue → Option (List RecordValue)
-section_or_none [] = None
-section_or_none (r ∷ rs) = Some (r ∷ rs)
+-- a list, where it has something
+abbrev pub or_none : {A : Type 0} → List A → Option (List A)
+or_none [] = None
+or_none (x ∷ xs) = Some (x ∷ xs)
 
 -- the first SOA record
 abbrev pub first_soa : List RecordValue → Option RecordValue
@@ -93,19 +93,15 @@ forward_of additionals r =
 abbrev pub forwards_of : MessageValue → List ForwardValue
 forwards_of m = filter_map (forward_of m.additionals) m.authorities
 
-abbrev pub forwards_or_none : List ForwardValue → Option (List ForwardValue)
-forwards_or_none [] = None
-forwards_or_none (f ∷ fs) = Some (f ∷ fs)
-
 -- the negative answer that a response is
 abbrev pub negative_of : MessageValue → NoRecordsValue
 negative_of m = record {
   query = first_query m.queries;
   soa = first_soa m.authorities;
-  ns = forwards_or_none (forwards_of m);
+  ns = or_none (forwards_of m);
   negative_ttl = negative_ttl_of m;
   response_code = m.metadata.response_code;
-  authorities = section_or_none m.authorities;
+  authorities = or_none m.authorities;
 }
 
 pub data ResponseKind : Type 0 where
@@ -125,13 +121,7 @@ kind_of_response m =
 -- of an outcome: an error for want of records is a negative answer, and every other error a failure
 abbrev pub kind_of_error : NetError → ResponseKind
 kind_of_error (Dns (NoRecordsFound none)) = Negative none
-kind_of_error (Dns (ResponseCode code)) = Failed (Dns (ResponseCode code))
-kind_of_error (Message text) = Failed (Message text)
-kind_of_error Timeout = Failed Timeout
-kind_of_error (Proto error) = Failed (Proto error)
-kind_of_error NoOutcome = Failed NoOutcome
-kind_of_error (Bounds error) = Failed (Bounds error)
-kind_of_error OutOfMemory = Failed OutOfMemory
+kind_of_error error = Failed error
 
 abbrev pub kind_of : Result MessageValue NetError → ResponseKind
 kind_of (Ok response) = kind_of_response response

@@ -6,7 +6,7 @@ ghost use Rattle.hickory_proto_names.specs.Name.{NameValue};
 ghost use Rattle.hickory_proto_core.specs.Glue.{forward_from, glue_in};
 ghost use Rattle.hickory_proto_core.specs.Errors.{items_or_none};
 ghost use Rattle.hickory_proto_core.specs.Messages.{MessageValue};
-ghost use Rattle.hickory_proto_core.specs.ResponseKind.{contains_answer, answers_question, is_asked, first_soa, negative_ttl_of, forward_of, forwards_or_none, is_address_of, is_of_type, section_or_none, negative_of, kind_of_response, IsClassified};
+ghost use Rattle.hickory_proto_core.specs.ResponseKind.{contains_answer, answers_question, is_asked, first_soa, negative_ttl_of, forward_of, or_none, is_address_of, is_of_type, negative_of, kind_of_response, IsClassified};
 
 use crate::glue::Glue;
 use crate::message::Message;
@@ -190,7 +190,7 @@ fn no_records(response: DnsResponse) -> Result<NoRecords, NetError>
 
 // The records, where there are some.
 fn section_or_none(records: Vec<Record>) -> Option<Vec<Record>>
-    ensures { items_or_none result ≡ section_or_none records.items }
+    ensures { items_or_none result ≡ or_none records.items }
 {
     if records.is_empty() {
         None
@@ -206,7 +206,7 @@ fn name_servers(
 ) -> Result<Option<Vec<ForwardNSData>>, NetError>
     ensures ok { IfOk result
         (λ found. items_or_none found
-        ≡ forwards_or_none (filter_map (forward_of additionals.now) authorities.now.items)) }
+        ≡ or_none (filter_map (forward_of additionals.now) authorities.now.items)) }
     ensures err { IsOkUnless result NetError.OutOfMemory }
 {
     let alloc = *authorities.allocator();

@@ -71,13 +71,8 @@ impl<H: DnsHandle> DnsHandle for Recorded<H> {
         let query = request.query.clone()?;
         let outcome = self.handle.send(request);
         let copied = clone_outcome(&outcome);
-        match self.exchanges.push(Exchange { query, outcome }) {
-            Ok(()) => copied?,
-            Err(refused) => {
-                drop(copied);
-                Err(NetError::from(refused))
-            }
-        }
+        self.exchanges.push_reserved(Exchange { query, outcome });
+        copied?
     }
 }
 

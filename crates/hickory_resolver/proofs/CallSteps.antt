@@ -24,10 +24,10 @@ use Rattle.hickory_resolver_theorems.specs.ResumingCalls.{AttemptValue, CallProg
 use Rattle.hickory_resolver_theorems.specs.ResumingCalls.{GoesOn, by_hosts, waits, at_once, stopped, next_name}
 use Rattle.hickory_resolver_theorems.specs.ResumingCalls.{no_name, GoesOnAfter, StartsNames, with_result, at_next}
 use Rattle.hickory_resolver.specs.declared.attempting.Attempt.{Attempt}
-use Rattle.hickory_resolver.specs.CallSteps.{first_of, first_question, StepValue, Goes, Over, LooksUpOnce}
-use Rattle.hickory_resolver.specs.CallSteps.{ComesAfter, IsBegunWith, IsReady, IsReadyAfter, GoesFrom, again_for}
+use Rattle.hickory_resolver.specs.CallSteps.{first_of, first_question, CallStepValue, Goes, Over, LooksUpOnce}
+use Rattle.hickory_resolver.specs.CallSteps.{ComesAfter, IsBegunWith, IsReady, IsReadyAfter, GoesFrom, kept_name_for}
 use Rattle.hickory_resolver.specs.CallSteps.{types_of, attempt_value, first_type, results_so_far, second_of}
-use Rattle.hickory_resolver.specs.CallSteps.{count_again, turns_left, IsFewer}
+use Rattle.hickory_resolver.specs.CallSteps.{count_kept, turns_left, IsFewer}
 
 module _ (s : CallContext) where
   -- a call that is done with this result
@@ -40,36 +40,36 @@ module _ (s : CallContext) where
 
   -- a type was looked up
   module _ (a : AttemptValue) (t : RecordType) (next : next_type a.plan.types a.results ≡ Some t)
-      (before : CacheValue) (step : StepValue) (mid : CacheValue) where
-    pub looked_up : LooksUpOnce s a.looked a.name t before step mid → (end : CallProgressValue) (after : CacheValue)
+      (before : CacheValue) (step : CallStepValue) (mid : CacheValue) where
+    pub looked_up : LooksUpOnce s a.with_hosts a.name t before step mid → (end : CallProgressValue) (after : CacheValue)
         → ComesAfter s a step mid end after → GoesOn s a before end after
     looked_up (inl (progress, step_is, not_static, starts)) end after comes =
-        let P : StepValue → Type 0 = λ x. ComesAfter s a x mid end after in
+        let P : CallStepValue → Type 0 = λ x. ComesAfter s a x mid end after in
         by progress starts (subst P step_is comes)
       where
         by : (p : ProgressValue) → Starts (start_at s before) (question_of a.name t) p mid
             → GoesOnAfter s a p mid end after → GoesOn s a before end after
         by (Waits w) starts (end_is, after_is) =
-            let here : GoesOn s a before (CallWaits (record { attempt = a; sub = w })) mid =
+            let here : GoesOn s a before (CallWaits (record { attempt = a; lookup = w })) mid =
             waits (record { next = next; not_static = not_static; starts = starts }) in
             subst (λ e. GoesOn s a before e after) (sym end_is)
-            (subst (λ c. GoesOn s a before (CallWaits (record { attempt = a; sub = w })) c) (sym after_is) here)
+            (subst (λ c. GoesOn s a before (CallWaits (record { attempt = a; lookup = w })) c) (sym after_is) here)
         by (IsDone r) starts rest = at_once (record { next = next; not_static = not_static; starts = starts }) rest
     looked_up (inr (inl (found, step_is, asked, has, mid_is))) end after comes =
-        let P : StepValue → Type 0 = λ x. ComesAfter s a x mid end after in
+        let P : CallStepValue → Type 0 = λ x. ComesAfter s a x mid end after in
         let rest : GoesOn s (with_result a (Ok found)) mid end after = subst P step_is comes in
-        by_hosts (record { next = next; looked = asked; found = found; has = has; result_is = inl refl })
+        by_hosts (record { next = next; with_hosts = asked; found = found; has = has; result_is = inl refl })
         (subst (λ c. GoesOn s (with_result a (Ok found)) c end after) mid_is rest)
     looked_up (inr (inr (step_is, mid_is))) end after comes =
-        let P : StepValue → Type 0 = λ x. ComesAfter s a x mid end after in
+        let P : CallStepValue → Type 0 = λ x. ComesAfter s a x mid end after in
         let over : (end ≡ CallIsDone (Err OutOfMemory)) × (after ≡ mid) = subst P step_is comes in
         let takes : takes_memory a.plan.types a.results ≡ true =
         ap (λ o. is_some o || joins_results a.plan.types a.results) next in
         is_done a before (Err OutOfMemory) end after (stopped (inr (takes, refl)) refl) (over.0, over.1 ∙ mid_is)
 
   -- a look-up that waits was started with the name, at the moment of the call
-  module _ (looked : Bool) (name : NameValue) (t : RecordType) (before : CacheValue) (mid : CacheValue) where
-    pub looked_up_begun : (step : StepValue) → LooksUpOnce s looked name t before step mid
+  module _ (with_hosts : Bool) (name : NameValue) (t : RecordType) (before : CacheValue) (mid : CacheValue) where
+    pub looked_up_begun : (step : CallStepValue) → LooksUpOnce s with_hosts name t before step mid
         → (progress : ProgressValue) → step ≡ Goes progress → IsBegunWith name s.now progress
     looked_up_begun step (inl (p, step_is, not_static, starts)) progress is =
         let same : p ≡ progress = cc in
@@ -129,11 +129,11 @@ module _ (s : LookupContext) (w : WaitingValue) (now_is : s.now ≡ w.now) (outc
 -- ---- the code at a name
 
 module _ (s : CallContext) (from : AttemptValue) (a : Attempt) (name : NameValue)
-    (from_is : from ≡ attempt_value a name s.now) (again_is : a.again ≡ again_for (types_of a.sought) a.first name)
+    (from_is : from ≡ attempt_value a name s.now) (kept_is : a.kept_name ≡ kept_name_for (types_of a.sought) a.first name)
     (before : CacheValue) where
   -- a type of the name is looked up
   pub goes_by_look_up : (t : RecordType) → next_type from.plan.types from.results ≡ Some t
-      → (step : StepValue) (mid : CacheValue) → LooksUpOnce s from.looked from.name t before step mid
+      → (step : CallStepValue) (mid : CacheValue) → LooksUpOnce s from.with_hosts from.name t before step mid
       → GoesFrom s from before a s.now step mid
   goes_by_look_up t next step mid once = record {
     name = name;
@@ -142,11 +142,11 @@ module _ (s : CallContext) (from : AttemptValue) (a : Attempt) (name : NameValue
         (subst (λ x. ComesAfter s x step mid end after) (sym from_is) comes);
   }
     where
-      ready : (x : StepValue) → LooksUpOnce s from.looked from.name t before x mid → IsReadyAfter a name s.now x
+      ready : (x : CallStepValue) → LooksUpOnce s from.with_hosts from.name t before x mid → IsReadyAfter a name s.now x
       ready (Goes p) looks = record {
-        again_is = again_is;
+        kept_is = kept_is;
         begun = subst (λ (f : AttemptValue). IsBegunWith f.name s.now p) from_is
-            (looked_up_begun s from.looked from.name t before mid (Goes p) looks p refl);
+            (looked_up_begun s from.with_hosts from.name t before mid (Goes p) looks p refl);
       }
       ready (Over r) looks = tt
 
@@ -157,10 +157,10 @@ first_next (One t) = refl
 first_next (Both t u) = refl
 first_next (Fallback t u) = refl
 
-pub again_none : (plan : Plan) (r : LookupResult) (name : NameValue) → None ≡ again_for plan (Some r) name
-again_none (One t) r name = refl
-again_none (Both t u) r name = refl
-again_none (Fallback t u) r name = refl
+pub kept_none : (plan : Plan) (r : LookupResult) (name : NameValue) → None ≡ kept_name_for plan (Some r) name
+kept_none (One t) r name = refl
+kept_none (Both t u) r name = refl
+kept_none (Fallback t u) r name = refl
 
 -- a second type is looked up behind the first result alone
 pub one_before : (plan : Plan) (first : Option LookupResult) (latest : LookupResult) (t : RecordType)
@@ -212,29 +212,29 @@ module _ (s : CallContext) (old : Attempt) (latest : LookupResult) (name : NameV
   -- a second type is looked up
   pub goes_second : (other : NameValue) (t : RecordType) → Some (other, t)
       ≡ second_of name (next_type (types_of old.sought) (results_so_far old.first ++ latest ∷ [])) → (a : Attempt) → a
-      ≡ record old { again = None } → (step : StepValue) (mid : CacheValue)
-      → LooksUpOnce s a.looked other t before step mid
+      ≡ record old { kept_name = None } → (step : CallStepValue) (mid : CacheValue)
+      → LooksUpOnce s a.with_hosts other t before step mid
       → GoesFrom s (with_result (attempt_value old name s.now) latest) before (record a { first = Some latest }) s.now step mid
   goes_second other t is a a_is step mid =
-      let P : Attempt → Type 0 = λ m. LooksUpOnce s m.looked other t before step mid
+      let P : Attempt → Type 0 = λ m. LooksUpOnce s m.with_hosts other t before step mid
       → GoesFrom s (with_result (attempt_value old name s.now) latest) before (record m { first = Some latest }) s.now step mid in
       subst P (sym a_is) here
     where
-      here : LooksUpOnce s old.looked other t before step mid
+      here : LooksUpOnce s old.with_hosts other t before step mid
           → GoesFrom s (with_result (attempt_value old name s.now) latest) before
-          (record old { again = None; first = Some latest }) s.now step mid
+          (record old { kept_name = None; first = Some latest }) s.now step mid
       here once =
           let both = second_some name other (next_type (types_of old.sought) (results_so_far old.first ++ latest ∷ [])) t is in
           let none : old.first ≡ None = one_before (types_of old.sought) old.first latest t both.0 in
-          let N : NameValue → Type 0 = λ n. LooksUpOnce s old.looked n t before step mid in
+          let N : NameValue → Type 0 = λ n. LooksUpOnce s old.with_hosts n t before step mid in
           let from : AttemptValue = with_result (attempt_value old name s.now) latest in
-          goes_by_look_up s from (record old { again = None; first = Some latest }) name
+          goes_by_look_up s from (record old { kept_name = None; first = Some latest }) name
           (λ i. record from { results = results_so_far (none i) ++ latest ∷ [] })
-          (again_none (types_of old.sought) latest name) before t both.0 step mid (subst N both.1 once)
+          (kept_none (types_of old.sought) latest name) before t both.0 step mid (subst N both.1 once)
 
   -- no other type follows
   pub goes_on_end : None ≡ second_of name (next_type (types_of old.sought) (results_so_far old.first ++ latest ∷ []))
-      → (a : Attempt) → a ≡ record old { again = None } → (b : Attempt) (step : StepValue) (mid : CacheValue)
+      → (a : Attempt) → a ≡ record old { kept_name = None } → (b : Attempt) (step : CallStepValue) (mid : CacheValue)
       → (next_type (types_of a.sought) (results_so_far a.first ++ latest ∷ []) ≡ None
       → GoesFrom s (with_result (attempt_value a name s.now) latest) before b s.now step mid)
       → GoesFrom s (with_result (attempt_value old name s.now) latest) before b s.now step mid
@@ -268,7 +268,7 @@ module _ (s : CallContext) (old : Attempt) (latest : LookupResult) (name : NameV
 
     -- another name follows
     pub goes_next : stops reply ≡ false → (rest : List NameValue) (other : NameValue) → old.left.items
-        ≡ rest ++ other ∷ [] → (step : StepValue) (mid : CacheValue)
+        ≡ rest ++ other ∷ [] → (step : CallStepValue) (mid : CacheValue)
         → GoesFrom s (at_next at_end other (reverse rest)) before b s.now step mid → GoesFrom s at_end before b s.now step mid
     goes_next live rest other are step mid next =
         let turned : reverse old.left.items ≡ other ∷ reverse rest =
@@ -281,27 +281,27 @@ module _ (s : CallContext) (old : Attempt) (latest : LookupResult) (name : NameV
         }
 
 -- the name that was there once more is taken
-pub fewer_second : (old a : Attempt) (latest : LookupResult) (name : NameValue) → a ≡ record old { again = None }
-    → old.again ≡ Some name → (step : StepValue) → IsFewer step (turns_left (record a { first = Some latest })) (turns_left old)
-fewer_second old a latest name a_is again (Goes p) =
-    omega (arith, ap (λ (m : Attempt). turns_left m) a_is, ap (λ o. count_again o) again)
-fewer_second old a latest name a_is again (Over r) = tt
+pub fewer_second : (old a : Attempt) (latest : LookupResult) (name : NameValue) → a ≡ record old { kept_name = None }
+    → old.kept_name ≡ Some name → (step : CallStepValue) → IsFewer step (turns_left (record a { first = Some latest })) (turns_left old)
+fewer_second old a latest name a_is kept_name (Goes p) =
+    omega (arith, ap (λ (m : Attempt). turns_left m) a_is, ap (λ o. count_kept o) kept_name)
+fewer_second old a latest name a_is kept_name (Over r) = tt
 
 -- ---- the loop
 
 -- whatever a call comes to from here, it comes to from where the loop began
 pub record StillGoes
     (s : CallContext) (from : AttemptValue) (first : ProgressValue) (before : CacheValue) (a : Attempt) (now : ℕ)
-    (sub : ProgressValue) (mid : CacheValue)
+    (lookup : ProgressValue) (mid : CacheValue)
     : Type 0 where
   pub name : NameValue
-  pub ready : IsReady a name now sub
+  pub ready : IsReady a name now lookup
   pub goes : (end : CallProgressValue) (after : CacheValue)
-      → GoesOnAfter s (attempt_value a name now) sub mid end after → GoesOnAfter s from first before end after
+      → GoesOnAfter s (attempt_value a name now) lookup mid end after → GoesOnAfter s from first before end after
 
-pub still_first : (s : CallContext) (a : Attempt) (name : NameValue) (now : ℕ) (sub : ProgressValue)
-    (before : CacheValue) → IsReady a name now sub → StillGoes s (attempt_value a name now) sub before a now sub before
-still_first s a name now sub before ready = record { name = name; ready = ready; goes = λ end after comes. comes }
+pub still_first : (s : CallContext) (a : Attempt) (name : NameValue) (now : ℕ) (lookup : ProgressValue)
+    (before : CacheValue) → IsReady a name now lookup → StillGoes s (attempt_value a name now) lookup before a now lookup before
+still_first s a name now lookup before ready = record { name = name; ready = ready; goes = λ end after comes. comes }
 
 module _ (s : CallContext) (from : AttemptValue) (first : ProgressValue) (before : CacheValue) (a : Attempt) (now : ℕ) where
   pub still_next : (r : LookupResult) (mid : CacheValue) (still : StillGoes s from first before a now (IsDone r) mid)
@@ -323,35 +323,35 @@ module _ (s : CallContext) (from : AttemptValue) (first : ProgressValue) (before
 
   module _ (w : WaitingValue) (mid : CacheValue) (still : StillGoes s from first before a now (Waits w) mid) where
     pub still_waits : GoesOnAfter s from first before
-        (CallWaits (record { attempt = attempt_value a (first_question w).name w.now; sub = w })) mid
+        (CallWaits (record { attempt = attempt_value a (first_question w).name w.now; lookup = w })) mid
     still_waits =
         let same : attempt_value a (first_question w).name w.now ≡ attempt_value a still.name now =
         λ i. attempt_value a (still.ready.begun.0 i) (still.ready.begun.1 i) in
-        still.goes (CallWaits (record { attempt = attempt_value a (first_question w).name w.now; sub = w })) mid
-        (ap (λ (x : AttemptValue). CallWaits (record { attempt = x; sub = w })) same, refl)
+        still.goes (CallWaits (record { attempt = attempt_value a (first_question w).name w.now; lookup = w })) mid
+        (ap (λ (x : AttemptValue). CallWaits (record { attempt = x; lookup = w })) same, refl)
 
-    pub still_again : a.again ≡ again_for (types_of a.sought) a.first (first_question w).name
-    still_again = still.ready.again_is ∙ ap (λ n. again_for (types_of a.sought) a.first n) (sym still.ready.begun.0)
+    pub still_kept : a.kept_name ≡ kept_name_for (types_of a.sought) a.first (first_question w).name
+    still_kept = still.ready.kept_is ∙ ap (λ n. kept_name_for (types_of a.sought) a.first n) (sym still.ready.begun.0)
 
 -- ---- a call is started
 
-module _ (s : CallContext) (looked : Bool) where
+module _ (s : CallContext) (with_hosts : Bool) where
   -- a name is the first
   pub starts_names : (plan : CallPlan) (all left : List NameValue) (name : NameValue) → all ≡ left ++ name ∷ []
       → (before : CacheValue) (end : CallProgressValue) (after : CacheValue)
-      → GoesOn s (record { plan = plan; looked = looked; name = name; results = []; left = reverse left }) before end
-      after → StartsNames s plan looked (reverse all) before end after
+      → GoesOn s (record { plan = plan; with_hosts = with_hosts; name = name; results = []; left = reverse left }) before end
+      after → StartsNames s plan with_hosts (reverse all) before end after
   starts_names plan all left name are before end after goes =
       let turned : reverse all ≡ name ∷ reverse left = ap (λ ns. reverse ns) are ∙ reverse-append left (name ∷ []) in
-      subst (λ ns. StartsNames s plan looked ns before end after) (sym turned) goes
+      subst (λ ns. StartsNames s plan with_hosts ns before end after) (sym turned) goes
 
   -- there is none
   pub starts_none : (plan : CallPlan) (all : List NameValue) → all ≡ [] → (said : LookupResult)
       → Says plan.no_names said → (result : LookupResult) → IsLastReply plan.literal (λ x. x ≡ said) result
       → (before : CacheValue)
-      → StartsNames s plan looked (reverse all) before (CallIsDone result) before
+      → StartsNames s plan with_hosts (reverse all) before (CallIsDone result) before
   starts_none plan all none said says result last before =
-      subst (λ ns. StartsNames s plan looked ns before (CallIsDone result) before) (sym (ap (λ ns. reverse ns) none)) (
+      subst (λ ns. StartsNames s plan with_hosts ns before (CallIsDone result) before) (sym (ap (λ ns. reverse ns) none)) (
         result,
         last_known plan.literal (λ x. x ≡ said) (Says plan.no_names)
             (λ x is. subst (Says plan.no_names) (sym is) says) result last,

@@ -35,8 +35,28 @@ use Rattle.hickory_resolver_theorems.specs.Keeping.{IsServedOver}
 use Rattle.hickory_resolver_theorems.proofs.KeptCalls.{kept_request}
 use Rattle.hickory_resolver_theorems.proofs.PromisesHold.{promised_run}
 use Rattle.hickory_resolver.specs.Listening.{Hears, HearsAll}
-use Rattle.hickory_resolver.specs.Serving.{Answered, MakesStage, MakesRun, FailsToHear}
+use Rattle.hickory_resolver.specs.Serving.{Answered, MakesRun, FailsToHear}
 use Rattle.hickory_resolver.specs.Transcripts.{IsRunFrom}
+
+-- ---- a request makes a stage
+
+-- A request makes a stage of a run: these exchanges, which led the handle below and were kept, and this step.
+pub record MakesStage
+    {H : Type 0} (step : HandleStep H) (request : RequestValue) (before : ResolverValue (RecordedValue H))
+    (sent : List Exchange) (made : StepValue) (after : ResolverValue (RecordedValue H))
+    : Type 0 where
+  pub parts : List SubLookup
+  pub is : IsStage (settings before) (record {
+    request = request;
+    before = before.client.cache;
+    piece = sent;
+    parts = parts;
+    step = made;
+  }) after.client.cache
+  pub led : Leads step (settings before).request_options before.client.handle.handle sent after.client.handle.handle
+  pub exchanges_are : after.client.handle.exchanges ≡ before.client.handle.exchanges ++ sent
+  pub option_stays : after.client.preserve_intermediates ≡ before.client.preserve_intermediates
+  pub others_stay : after ≡ record before { client = after.client }
 
 -- ---- a request is answered
 

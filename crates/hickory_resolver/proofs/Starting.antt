@@ -79,15 +79,15 @@ module _ {H : Type 0} (before : ResolverValue H) where
   -- a call goes on
   pub resumed_at : (w : WaitingCallValue) (outcome : OutcomeValue) (hosts : List Host)
       (client after_client : ClientValue H) (progress : CallProgressValue) (after : ResolverValue H)
-      → hosts ≡ before.hosts → client ≡ before.client → ResumesCall (call_context_of client hosts w.sub.now) w outcome
+      → hosts ≡ before.hosts → client ≡ before.client → ResumesCall (call_context_of client hosts w.lookup.now) w outcome
       client.cache progress after_client.cache → KeepsHandle client after_client
       → after ≡ record before { client = after_client } → ResumesAt w outcome before progress after
   resumed_at w outcome hosts client after_client progress after hosts_are client_is resumes keeps after_is =
-      let P : List Host → Type 0 = λ hs. ResumesCall (call_context_of client hs w.sub.now) w outcome client.cache
+      let P : List Host → Type 0 = λ hs. ResumesCall (call_context_of client hs w.lookup.now) w outcome client.cache
       progress after_client.cache in
-      let C : ClientValue H → Type 0 = λ c. ResumesCall (call_context_of c before.hosts w.sub.now) w outcome c.cache
+      let C : ClientValue H → Type 0 = λ c. ResumesCall (call_context_of c before.hosts w.lookup.now) w outcome c.cache
       progress after_client.cache in
-      let A : ResolverValue H → Type 0 = λ r. ResumesCall (call_context_of before.client before.hosts w.sub.now) w
+      let A : ResolverValue H → Type 0 = λ r. ResumesCall (call_context_of before.client before.hosts w.lookup.now) w
       outcome before.client.cache progress r.client.cache in
       record {
         resumes = subst A (sym after_is) (subst C client_is (subst P hosts_are resumes));

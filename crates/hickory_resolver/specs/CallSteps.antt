@@ -21,8 +21,8 @@ use Rattle.hickory_resolver.specs.declared.attempting.Sought.TheVariants.{Record
 use Rattle.hickory_resolver.specs.declared.attempting.Types.{Types}
 use Rattle.hickory_resolver.specs.declared.attempting.Types.TheVariants as types
 use Rattle.hickory_resolver.specs.declared.attempting.Attempt.{Attempt}
-use Rattle.hickory_resolver.specs.declared.attempting.Step.{Step}
-use Rattle.hickory_resolver.specs.declared.attempting.Step.TheVariants as step
+use Rattle.hickory_resolver.specs.declared.attempting.CallStep.{CallStep}
+use Rattle.hickory_resolver.specs.declared.attempting.CallStep.TheVariants as step
 
 -- ---- what is looked up
 
@@ -59,12 +59,12 @@ first_type (Both t u) = t
 first_type (Fallback t u) = t
 
 -- the name once more, while the first type is looked up and a second one may follow
-abbrev pub again_for : Plan → Option LookupResult → NameValue → Option NameValue
-again_for (One t) first name = None
-again_for (Both t u) None name = Some name
-again_for (Both t u) (Some r) name = None
-again_for (Fallback t u) None name = Some name
-again_for (Fallback t u) (Some r) name = None
+abbrev pub kept_name_for : Plan → Option LookupResult → NameValue → Option NameValue
+kept_name_for (One t) first name = None
+kept_name_for (Both t u) None name = Some name
+kept_name_for (Both t u) (Some r) name = None
+kept_name_for (Fallback t u) None name = Some name
+kept_name_for (Fallback t u) (Some r) name = None
 
 abbrev pub results_so_far : Option LookupResult → List LookupResult
 results_so_far None = []
@@ -79,7 +79,7 @@ second_of name (Some t) = Some (name, t)
 abbrev pub attempt_value : Attempt → NameValue → ℕ → AttemptValue
 attempt_value a name now = record {
   plan = plan_value a.sought a.literal now;
-  looked = a.looked;
+  with_hosts = a.with_hosts;
   name = name;
   results = results_so_far a.first;
   left = reverse a.left.items;
@@ -100,29 +100,29 @@ first_question w = first_of w.passed w.hop.query
 -- ---- steps
 
 -- the look-up of a type came so far, or the call is over
-pub data StepValue : Type 0 where
-  Goes : ProgressValue → StepValue
-  Over : LookupResult → StepValue
+pub data CallStepValue : Type 0 where
+  Goes : ProgressValue → CallStepValue
+  Over : LookupResult → CallStepValue
 
-abbrev pub step_of : Step → StepValue
+abbrev pub step_of : CallStep → CallStepValue
 step_of (step.Goes progress) = Goes (progress_of progress)
 step_of (step.Over result) = Over result
 
 -- the table of hosts is not looked at, or has nothing
 abbrev pub IsNotStatic : CallContext → Bool → NameValue → RecordType → Type 0
-IsNotStatic s looked name t = (looked ≡ false) ⊎ IsStatic (question_of name t) s.now s.hosts None
+IsNotStatic s with_hosts name t = (with_hosts ≡ false) ⊎ IsStatic (question_of name t) s.now s.hosts None
 
 -- A type is looked up for a name: by the client, or the table of hosts has it, or memory runs out before.
-abbrev pub LooksUpOnce : CallContext → Bool → NameValue → RecordType → CacheValue → StepValue → CacheValue → Type 0
-LooksUpOnce s looked name t before step after =
-    ((progress : ProgressValue) × (step ≡ Goes progress) × IsNotStatic s looked name t
+abbrev pub LooksUpOnce : CallContext → Bool → NameValue → RecordType → CacheValue → CallStepValue → CacheValue → Type 0
+LooksUpOnce s with_hosts name t before step after =
+    ((progress : ProgressValue) × (step ≡ Goes progress) × IsNotStatic s with_hosts name t
     × Starts (start_at s before) (question_of name t) progress after)
-    ⊎ (((found : LookupValue) × (step ≡ Goes (IsDone (Ok found))) × (looked ≡ true)
+    ⊎ (((found : LookupValue) × (step ≡ Goes (IsDone (Ok found))) × (with_hosts ≡ true)
     × IsStatic (question_of name t) s.now s.hosts (Some found) × (after ≡ before))
     ⊎ ((step ≡ Over (Err OutOfMemory)) × (after ≡ before)))
 
 -- what a call comes to after a step, over the cache that the step left
-abbrev pub ComesAfter : CallContext → AttemptValue → StepValue → CacheValue → CallProgressValue → CacheValue → Type 0
+abbrev pub ComesAfter : CallContext → AttemptValue → CallStepValue → CacheValue → CallProgressValue → CacheValue → Type 0
 ComesAfter s a (Goes progress) mid end after = GoesOnAfter s a progress mid end after
 ComesAfter s a (Over result) mid end after = (end ≡ CallIsDone result) × (after ≡ mid)
 
@@ -133,29 +133,29 @@ IsBegunWith name now (Waits w) = ((first_question w).name ≡ name) × (w.now �
 IsBegunWith name now (IsDone result) = Unit {0}
 
 pub record IsReady (a : Attempt) (name : NameValue) (now : ℕ) (progress : ProgressValue) : Type 0 where
-  pub again_is : a.again ≡ again_for (types_of a.sought) a.first name
+  pub kept_is : a.kept_name ≡ kept_name_for (types_of a.sought) a.first name
   pub begun : IsBegunWith name now progress
 
-abbrev pub IsReadyAfter : Attempt → NameValue → ℕ → StepValue → Type 0
+abbrev pub IsReadyAfter : Attempt → NameValue → ℕ → CallStepValue → Type 0
 IsReadyAfter a name now (Goes progress) = IsReady a name now progress
 IsReadyAfter a name now (Over result) = Unit {0}
 
 -- how many times a type may be looked up yet, at most, after the one that came so far
-abbrev pub count_again : Option NameValue → ℕ
-count_again None = 0
-count_again (Some name) = 1
+abbrev pub count_kept : Option NameValue → ℕ
+count_kept None = 0
+count_kept (Some name) = 1
 
 abbrev pub turns_left : Attempt → ℕ
-turns_left a = 2 * length a.left.items + count_again a.again
+turns_left a = 2 * length a.left.items + count_kept a.kept_name
 
 -- a step that does not end the call leaves fewer
-abbrev pub IsFewer : StepValue → ℕ → ℕ → Type 0
+abbrev pub IsFewer : CallStepValue → ℕ → ℕ → Type 0
 IsFewer (Goes progress) fewer more = fewer < more
 IsFewer (Over result) fewer more = Unit {0}
 
 -- Whatever a call comes to after a step, it comes to from here.
 pub record GoesFrom
-    (s : CallContext) (from : AttemptValue) (before : CacheValue) (a : Attempt) (now : ℕ) (step : StepValue)
+    (s : CallContext) (from : AttemptValue) (before : CacheValue) (a : Attempt) (now : ℕ) (step : CallStepValue)
     (mid : CacheValue)
     : Type 0 where
   pub name : NameValue

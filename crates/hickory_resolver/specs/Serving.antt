@@ -2,9 +2,9 @@
 use Rattle.std.specs.Prelude.{◌≡◌, ◌⊎◌, List, [], ◌∷◌, ◌++◌}
 use Rattle.hickory_proto_core.specs.declared.recorded.Exchange.{Exchange}
 use Rattle.hickory_proto_core.specs.Handles.{HandleStep, Leads, RecordedValue}
-use Rattle.hickory_resolver_model.specs.Calls.{SubLookup, IsAnsweredFor, asks_of_sub_lookups}
+use Rattle.hickory_resolver_model.specs.Calls.{SubLookup, asks_of_sub_lookups}
 use Rattle.hickory_resolver_model.specs.Resolver.{ResolverValue, settings}
-use Rattle.hickory_resolver_model.specs.Run.{call_context_at, RequestValue, StepReply, StepValue, IsServed, IsStage, Run}
+use Rattle.hickory_resolver_model.specs.Run.{answers_at, RequestValue, StepReply, StepValue, IsServed, Run}
 use Rattle.hickory_resolver.specs.Listening.{Hears}
 
 -- A resolver answers a request: the exchanges of the request's sub-look-ups led its handle. Nothing but the
@@ -16,26 +16,8 @@ pub record Answered
   pub parts : List SubLookup
   pub led : Leads step (settings before).request_options before.client.handle (asks_of_sub_lookups parts)
       after.client.handle
-  pub served : IsServed (λ now. IsAnsweredFor (call_context_at (settings before) now)) (settings before)
+  pub served : IsServed (answers_at (settings before)) (settings before)
       before.client.cache request parts reply after.client.cache
-  pub option_stays : after.client.preserve_intermediates ≡ before.client.preserve_intermediates
-  pub others_stay : after ≡ record before { client = after.client }
-
--- A request makes a stage of a run: these exchanges, which led the handle below and were kept, and this step.
-pub record MakesStage
-    {H : Type 0} (step : HandleStep H) (request : RequestValue) (before : ResolverValue (RecordedValue H))
-    (sent : List Exchange) (made : StepValue) (after : ResolverValue (RecordedValue H))
-    : Type 0 where
-  pub parts : List SubLookup
-  pub is : IsStage (settings before) (record {
-    request = request;
-    before = before.client.cache;
-    piece = sent;
-    parts = parts;
-    step = made;
-  }) after.client.cache
-  pub led : Leads step (settings before).request_options before.client.handle.handle sent after.client.handle.handle
-  pub exchanges_are : after.client.handle.exchanges ≡ before.client.handle.exchanges ++ sent
   pub option_stays : after.client.preserve_intermediates ≡ before.client.preserve_intermediates
   pub others_stay : after ≡ record before { client = after.client }
 

@@ -49,6 +49,6 @@ pub record ResumesAt
     {H : Type 0} (w : WaitingCallValue) (outcome : OutcomeValue) (before : ResolverValue H)
     (progress : CallProgressValue) (after : ResolverValue H)
     : Type 0 where
-  pub resumes : ResumesCall (call_context_at (settings before) w.sub.now) w outcome before.client.cache progress
+  pub resumes : ResumesCall (call_context_at (settings before) w.lookup.now) w outcome before.client.cache progress
       after.client.cache
   pub others_stay : KeepsAllButCache before after

@@ -10,12 +10,12 @@ ghost use Rattle.hickory_resolver_model.specs.Client.{KeepsHandle};
 ghost use Rattle.hickory_resolver_model.specs.Hosts.{IsStatic};
 ghost use Rattle.hickory_resolver_model.specs.Resolver.{call_context_of};
 ghost use Rattle.hickory_resolver_theorems.specs.ResumingCalls.{with_result};
-ghost use Rattle.hickory_resolver.specs.CallSteps.{types_value, first_type, again_for, types_of, asks_for_all};
+ghost use Rattle.hickory_resolver.specs.CallSteps.{types_value, first_type, kept_name_for, types_of, asks_for_all};
 ghost use Rattle.hickory_resolver.specs.CallSteps.{no_names_of, results_so_far, LooksUpOnce, GoesFrom, IsFewer};
 ghost use Rattle.hickory_resolver.specs.CallSteps.{attempt_value, first_value, second_of, step_of, turns_left};
 
 use crate::literals::last_resort;
-use crate::results::{attempted, is_out_of_memory, stops};
+use crate::results::{attempt_result, is_out_of_memory, stops};
 use hickory_proto_core::{DnsHandle, Name, NetError, Query, RData, RecordType};
 use hickory_resolver_client::{CachingClient, Progress};
 use hickory_resolver_config::LookupIpStrategy;
@@ -52,9 +52,9 @@ pub struct Attempt {
     /// What stands in where no name has answers.
     pub literal: Option<RData>,
     /// Whether the table of hosts is asked for this name.
-    pub looked: bool,
+    pub with_hosts: bool,
     /// The name once more, where a second type may follow.
-    pub again: Option<Name>,
+    pub kept_name: Option<Name>,
     /// The result of the first type, where the second is looked up.
     pub first: Option<Result<Lookup, NetError>>,
     /// The names that are left, from the last to the next.
@@ -63,7 +63,7 @@ pub struct Attempt {
 
 /// What a step of a call comes to.
 #[derive(Drop)]
-pub enum Step {
+pub enum CallStep {
     /// A type of the name is looked up, and came so far.
     Goes(Progress),
     /// The call is over.
@@ -116,8 +116,8 @@ impl Types {
     }
 
     // The name once more, where a second type may follow.
-    fn again(self, name: &Name) -> Result<Option<Name>, NetError>
-        ensures ok { IfOk result (λ again. again ≡ again_for (types_value self) None name.now) }
+    fn kept_name(self, name: &Name) -> Result<Option<Name>, NetError>
+        ensures ok { IfOk result (λ kept_name. kept_name ≡ kept_name_for (types_value self) None name.now) }
         ensures err { IsOkUnless result OutOfMemory }
     {
         match self {
@@ -152,33 +152,33 @@ impl Attempt {
         client: &mut CachingClient<H, S>,
         hosts: &Hosts<T>,
         now: u64,
-    ) -> Step
+    ) -> CallStep
         ensures goes { GoesFrom (call_context_of client.old hosts.now now) (first_value self.old name now)
             client.old.cache self.new now (step_of result) client.new.cache }
         ensures left { self.new.left ≡ self.old.left }
         ensures stays { KeepsHandle client.old client.new }
     {
         let types = self.sought.types();
-        match types.again(&name) {
-            Ok(again) => {
+        match types.kept_name(&name) {
+            Ok(kept_name) => {
                 self.first = None;
-                self.again = again;
-                look_up(name, types.first(), self.looked, client, hosts, now)
+                self.kept_name = kept_name;
+                look_up(name, types.first(), self.with_hosts, client, hosts, now)
             }
-            Err(error) => Step::Over(Err(error)),
+            Err(error) => CallStep::Over(Err(error)),
         }
     }
 
     /// Goes on with the result of a type: the second type, the next name, or the end of the call.
-    pub fn go_on<H: DnsHandle, S: BuildHasher, T: BuildHasher>(
+    pub fn take_result<H: DnsHandle, S: BuildHasher, T: BuildHasher>(
         &mut self,
         latest: Result<Lookup, NetError>,
         client: &mut CachingClient<H, S>,
         hosts: &Hosts<T>,
         now: u64,
-    ) -> Step
+    ) -> CallStep
         ensures goes { (name : NameValue)
-            → self.old.again ≡ again_for (types_of self.old.sought) self.old.first name
+            → self.old.kept_name ≡ kept_name_for (types_of self.old.sought) self.old.first name
             → GoesFrom (call_context_of client.old hosts.now now)
             (with_result (attempt_value self.old name now) latest) client.old.cache self.new now
             (step_of result) client.new.cache }
@@ -188,7 +188,7 @@ impl Attempt {
         match self.second(&latest) {
             Some((name, second)) => {
                 self.first = Some(latest);
-                look_up(name, second, self.looked, client, hosts, now)
+                look_up(name, second, self.with_hosts, client, hosts, now)
             }
             None => self.end(latest, client, hosts, now),
         }
@@ -196,13 +196,13 @@ impl Attempt {
 
     // The name and the type that are looked up after this result, if any are.
     fn second(&mut self, latest: &Result<Lookup, NetError>) -> Option<(Name, RecordType)>
-        ensures second { (name : NameValue) → self.old.again ≡ again_for (types_of self.old.sought) self.old.first name
+        ensures second { (name : NameValue) → self.old.kept_name ≡ kept_name_for (types_of self.old.sought) self.old.first name
             → result ≡ second_of name (next_type (types_of self.old.sought)
             (results_so_far self.old.first ++ latest.now ∷ [])) }
-        ensures again { IfSome result (λ both. self.old.again ≡ Some both.0) }
-        ensures stays { self.new ≡ record self.old { again = None } }
+        ensures kept_name { IfSome result (λ both. self.old.kept_name ≡ Some both.0) }
+        ensures stays { self.new ≡ record self.old { kept_name = None } }
     {
-        match self.again.take() {
+        match self.kept_name.take() {
             Some(name) => match self.sought.types().second(latest) {
                 Some(second) => Some((name, second)),
                 None => None,
@@ -218,7 +218,7 @@ impl Attempt {
         client: &mut CachingClient<H, S>,
         hosts: &Hosts<T>,
         now: u64,
-    ) -> Step
+    ) -> CallStep
         ensures goes { (name : NameValue)
             → next_type (types_of self.old.sought) (results_so_far self.old.first ++ latest ∷ []) ≡ None
             → GoesFrom (call_context_of client.old hosts.now now)
@@ -227,19 +227,19 @@ impl Attempt {
         ensures fewer { IsFewer (step_of result) (turns_left self.new) (2 * length self.old.left.items) }
         ensures stays { KeepsHandle client.old client.new }
     {
-        let reply = attempted(self.sought.types(), self.first.take(), latest);
+        let reply = attempt_result(self.sought.types(), self.first.take(), latest);
         if stops(&reply) {
-            return Step::Over(reply);
+            return CallStep::Over(reply);
         }
         match self.left.pop() {
             Some(name) => {
                 drop(reply);
-                self.looked = self.sought.asks_hosts_for_all();
+                self.with_hosts = self.sought.asks_hosts_for_all();
                 self.begin(name, client, hosts, now)
             }
             None => {
                 let alloc = *self.left.allocator();
-                Step::Over(last_reply(alloc, self.literal.take(), reply, now))
+                CallStep::Over(last_reply(alloc, self.literal.take(), reply, now))
             }
         }
     }
@@ -267,34 +267,34 @@ pub fn last_reply(
 fn look_up<H: DnsHandle, S: BuildHasher, T: BuildHasher>(
     name: Name,
     record_type: RecordType,
-    looked: bool,
+    with_hosts: bool,
     client: &mut CachingClient<H, S>,
     hosts: &Hosts<T>,
     now: u64,
-) -> Step
-    ensures looks_up { LooksUpOnce (call_context_of client.old hosts.now now) looked name record_type
+) -> CallStep
+    ensures looks_up { LooksUpOnce (call_context_of client.old hosts.now now) with_hosts name record_type
         client.old.cache (step_of result) client.new.cache }
     ensures stays { KeepsHandle client.old client.new }
 {
     let question = Query::query(name, record_type);
-    if skips_hosts(looked, hosts, &question) {
-        return Step::Goes(client.start(question, now));
+    if skips_hosts(with_hosts, hosts, &question) {
+        return CallStep::Goes(client.start(question, now));
     }
     match hosts.lookup_static_host(&question, now) {
-        Ok(Some(found)) => Step::Goes(Progress::Done(Ok(found))),
-        Ok(None) => Step::Goes(client.start(question, now)),
-        Err(error) => Step::Over(Err(error)),
+        Ok(Some(found)) => CallStep::Goes(Progress::Done(Ok(found))),
+        Ok(None) => CallStep::Goes(client.start(question, now)),
+        Err(error) => CallStep::Over(Err(error)),
     }
 }
 
 /// Whether the table of hosts is not looked at, or it is known at once that it has nothing for a question: it has no
 /// names. Of a question for PTR records that is never known, since the table first reads which address its name
 /// stands for.
-pub fn skips_hosts<T: BuildHasher>(looked: bool, hosts: &Hosts<T>, question: &Query) -> bool
-    ensures none { IsTrue result → (now : ℕ) → (looked ≡ false) ⊎ IsStatic question.now now hosts.now None }
-    ensures asked { result ≡ false → looked ≡ true }
+pub fn skips_hosts<T: BuildHasher>(with_hosts: bool, hosts: &Hosts<T>, question: &Query) -> bool
+    ensures none { IsTrue result → (now : ℕ) → (with_hosts ≡ false) ⊎ IsStatic question.now now hosts.now None }
+    ensures asked { result ≡ false → with_hosts ≡ true }
 {
-    if !looked {
+    if !with_hosts {
         return true;
     }
     hosts.is_empty() && question.query_type != RecordType::PTR

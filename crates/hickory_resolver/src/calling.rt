@@ -8,7 +8,7 @@ ghost use Rattle.hickory_resolver_theorems.specs.ResumingCalls.{GoesOnAfter, Res
 ghost use Rattle.hickory_resolver.specs.CallProgress.{call_progress_of};
 ghost use Rattle.hickory_resolver.specs.CallSteps.{IsReady, attempt_value, plan_value};
 
-use crate::attempting::{Attempt, Sought, Step, last_reply};
+use crate::attempting::{Attempt, CallStep, Sought, last_reply};
 use crate::waiting_call::{CallProgress, WaitingCall};
 use hickory_proto_core::{DnsHandle, Name, Outcome, RData};
 use hickory_resolver_client::{CachingClient, Progress};
@@ -17,16 +17,16 @@ use std::hash::BuildHasher;
 
 /// Starts a call for names, from the last of the list to the first, at a moment (seconds). The flag says whether
 /// the table of hosts is asked for the first name that is attempted.
-pub fn start<H: DnsHandle, S: BuildHasher, T: BuildHasher>(
+pub fn start_names<H: DnsHandle, S: BuildHasher, T: BuildHasher>(
     mut names: Vec<Name>,
     sought: Sought,
     literal: Option<RData>,
-    looked: bool,
+    with_hosts: bool,
     client: &mut CachingClient<H, S>,
     hosts: &Hosts<T>,
     now: u64,
 ) -> CallProgress
-    ensures starts { StartsNames (call_context_of client.old hosts.now now) (plan_value sought literal now) looked
+    ensures starts { StartsNames (call_context_of client.old hosts.now now) (plan_value sought literal now) with_hosts
         (reverse names.items) client.old.cache (call_progress_of result) client.new.cache }
     ensures stays { KeepsHandle client.old client.new }
 {
@@ -37,31 +37,31 @@ pub fn start<H: DnsHandle, S: BuildHasher, T: BuildHasher>(
     let mut attempt = Attempt {
         sought,
         literal,
-        looked,
-        again: None,
+        with_hosts,
+        kept_name: None,
         first: None,
         left: names,
     };
     match attempt.begin(name, client, hosts, now) {
-        Step::Goes(progress) => go_on(attempt, progress, client, hosts, now),
-        Step::Over(result) => CallProgress::Done(result),
+        CallStep::Goes(progress) => go_on(attempt, progress, client, hosts, now),
+        CallStep::Over(result) => CallProgress::Done(result),
     }
 }
 
 /// Goes on with a call by what came back to its question.
-pub fn resume<H: DnsHandle, S: BuildHasher, T: BuildHasher>(
+pub fn resume_call<H: DnsHandle, S: BuildHasher, T: BuildHasher>(
     waiting: WaitingCall,
     outcome: Outcome,
     client: &mut CachingClient<H, S>,
     hosts: &Hosts<T>,
 ) -> CallProgress
-    ensures resumes { ResumesCall (call_context_of client.old hosts.now waiting.sub.now) waiting outcome
+    ensures resumes { ResumesCall (call_context_of client.old hosts.now waiting.lookup.now) waiting outcome
         client.old.cache (call_progress_of result) client.new.cache }
     ensures stays { KeepsHandle client.old client.new }
 {
-    let WaitingCall { attempt, sub } = waiting;
-    let now = sub.now();
-    let progress = client.resume(sub, outcome);
+    let WaitingCall { attempt, lookup } = waiting;
+    let now = lookup.now();
+    let progress = client.resume(lookup, outcome);
     go_on(attempt, progress, client, hosts, now)
 }
 
@@ -83,10 +83,13 @@ fn go_on<H: DnsHandle, S: BuildHasher, T: BuildHasher>(
     let mut progress = progress;
     loop {
         match progress {
-            Progress::Waiting(sub) => return CallProgress::Waiting(WaitingCall { attempt, sub }),
-            Progress::Done(result) => match attempt.go_on(result, client, hosts, now) {
-                Step::Goes(next) => progress = next,
-                Step::Over(result) => return CallProgress::Done(result),
+            Progress::Waiting(lookup) => return CallProgress::Waiting(WaitingCall {
+                attempt,
+                lookup,
+            }),
+            Progress::Done(result) => match attempt.take_result(result, client, hosts, now) {
+                CallStep::Goes(next) => progress = next,
+                CallStep::Over(result) => return CallProgress::Done(result),
             },
         }
     }

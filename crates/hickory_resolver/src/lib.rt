@@ -9,13 +9,13 @@ pub mod listener;
 mod literals;
 pub mod lookup_future;
 pub mod lookup_ip_future;
-mod recording;
 pub mod resolver;
 pub mod resolver_builder;
 mod results;
 pub mod runs;
 pub mod search;
 mod serve;
+mod serves;
 pub mod transcript;
 pub mod waiting_call;
 

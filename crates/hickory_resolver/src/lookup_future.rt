@@ -4,7 +4,7 @@ ghost use Rattle.hickory_resolver_model.specs.Resolver.{LooksUp};
 ghost use Rattle.hickory_resolver_model.specs.Run.{name_plan};
 
 use crate::attempting::Sought;
-use crate::calling::{resume, start};
+use crate::calling::{resume_call, start_names};
 use crate::waiting_call::{CallProgress, WaitingCall};
 use hickory_proto_core::{DnsHandle, DnsRequestOptions, Name, NetError, RecordType};
 use hickory_resolver_client::CachingClient;
@@ -32,13 +32,18 @@ impl LookupFuture {
     {
         let hosts: Hosts = Hosts::default(*names.allocator());
         let sought = Sought::Records(record_type);
-        let mut progress = start(names, sought, None, false, client, &hosts, now);
+        let mut progress = start_names(names, sought, None, false, client, &hosts, now);
         loop {
             match progress {
                 CallProgress::Waiting(waiting) => {
-                    let WaitingCall { attempt, sub } = waiting;
-                    let (sub, outcome) = client.ask(sub, options);
-                    progress = resume(WaitingCall { attempt, sub }, outcome, client, &hosts);
+                    let WaitingCall { attempt, lookup } = waiting;
+                    let (lookup, outcome) = client.ask(lookup, options);
+                    progress = resume_call(
+                        WaitingCall { attempt, lookup },
+                        outcome,
+                        client,
+                        &hosts,
+                    );
                 }
                 CallProgress::Done(result) => return result,
             }
@@ -58,13 +63,13 @@ impl LookupFuture {
             client.old result client.new }
     {
         let sought = Sought::Records(record_type);
-        let mut progress = start(names, sought, None, true, client, hosts, now);
+        let mut progress = start_names(names, sought, None, true, client, hosts, now);
         loop {
             match progress {
                 CallProgress::Waiting(waiting) => {
-                    let WaitingCall { attempt, sub } = waiting;
-                    let (sub, outcome) = client.ask(sub, options);
-                    progress = resume(WaitingCall { attempt, sub }, outcome, client, hosts);
+                    let WaitingCall { attempt, lookup } = waiting;
+                    let (lookup, outcome) = client.ask(lookup, options);
+                    progress = resume_call(WaitingCall { attempt, lookup }, outcome, client, hosts);
                 }
                 CallProgress::Done(result) => return result,
             }

@@ -7,7 +7,7 @@ ghost use Rattle.hickory_resolver_model.specs.Resolver.{LooksUp};
 ghost use Rattle.hickory_resolver_model.specs.Run.{address_plan};
 
 use crate::attempting::Sought;
-use crate::calling::{resume, start};
+use crate::calling::{resume_call, start_names};
 use crate::literals::as_addresses;
 use crate::waiting_call::{CallProgress, WaitingCall};
 use hickory_proto_core::{DnsHandle, DnsRequestOptions, Name, NetError, RData};
@@ -42,13 +42,13 @@ impl LookupIpFuture {
             true (reverse names.items) client.old result client.new }
     {
         let sought = Sought::Addresses(strategy);
-        let mut progress = start(names, sought, finally_ip_addr, true, client, hosts, now);
+        let mut progress = start_names(names, sought, finally_ip_addr, true, client, hosts, now);
         loop {
             match progress {
                 CallProgress::Waiting(waiting) => {
-                    let WaitingCall { attempt, sub } = waiting;
-                    let (sub, outcome) = client.ask(sub, options);
-                    progress = resume(WaitingCall { attempt, sub }, outcome, client, hosts);
+                    let WaitingCall { attempt, lookup } = waiting;
+                    let (lookup, outcome) = client.ask(lookup, options);
+                    progress = resume_call(WaitingCall { attempt, lookup }, outcome, client, hosts);
                 }
                 CallProgress::Done(result) => return as_addresses(result),
             }

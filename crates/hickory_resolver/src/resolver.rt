@@ -20,7 +20,7 @@ ghost use Rattle.hickory_resolver_lookup.specs.Requests.{request_of};
 ghost use Rattle.hickory_resolver.specs.Starting.{ResumesAt, StartsAt, StartsHost, StartsName};
 
 use crate::attempting::Sought;
-use crate::calling::{resume, start};
+use crate::calling::{resume_call, start_names};
 use crate::explaining::{Attempted, find_answerers, plan_questions};
 use crate::literals::{as_addresses, literal_at_once};
 use crate::lookup_future::LookupFuture;
@@ -222,7 +222,7 @@ impl<H: DnsHandle, S: BuildHasher> Resolver<H, S> {
     pub fn resume(&mut self, waiting: WaitingCall, outcome: Outcome) -> CallProgress
         ensures { ResumesAt waiting outcome self.old (call_progress_of result) self.new }
     {
-        resume(waiting, outcome, &mut self.client, &self.hosts)
+        resume_call(waiting, outcome, &mut self.client, &self.hosts)
     }
 
     /// `lookup` of PTR records, at a moment (seconds): of an address, the names that it has. A text is read as a
@@ -391,7 +391,7 @@ impl<H: DnsHandle, S: BuildHasher> Resolver<H, S> {
         match self.attempts(name) {
             Ok(mut names) => {
                 names.reverse();
-                start(
+                start_names(
                     names,
                     sought,
                     literal,

@@ -27,7 +27,7 @@ pub fn is_out_of_memory(attempt: &Result<Lookup, NetError>) -> bool
 }
 
 /// What an attempt at a name comes to, by the result of its last type and that of the one before.
-pub fn attempted(
+pub fn attempt_result(
     types: Types,
     first: Option<Result<Lookup, NetError>>,
     last: Result<Lookup, NetError>,

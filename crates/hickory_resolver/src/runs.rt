@@ -10,10 +10,10 @@ ghost use Rattle.hickory_resolver.specs.Transcripts.{IsNoRun, IsRunFrom};
 
 use crate::keeping::keep_steps;
 use crate::listener::{Heard, Listener};
-use crate::recording::resolver_over;
 use crate::resolver::Resolver;
 use crate::resolver_builder::first_cache;
 use crate::serve::serve_each;
+use crate::serves::resolver_over;
 use crate::transcript::Transcript;
 use hickory_proto_core::{DnsHandle, NetError, Recorded};
 use hickory_resolver_config::{ResolverConfig, ResolverOpts};
@@ -21,12 +21,13 @@ use hickory_resolver_hosts::Hosts;
 use hickory_resolver_lookup::Request;
 use std::hash::{BuildHasher, BuildHasherDefault, FoldHasher};
 
-/// Serves requests in order, from a new resolver on with this configuration, these options and this table of
-/// hosts, over this handle. Each request has a step: its moment, how many questions were sent for it, and
+/// Serves requests in order by a new resolver with this configuration, these options and this table of hosts, over
+/// this handle. Each request has a step: its moment, how many questions were sent for it, and
 /// what it is answered. A request that finds no memory is answered so, and is the last that is served.
 /// Options whose bounds on times to live are reversed are refused, before any memory is taken; where there
-/// is none for the steps the run is refused as out of memory. A run that is refused has asked nothing: its bounds
-/// are looked at, and room for its steps is taken, by functions that have no handle or leave it as it was.
+/// is none for the steps the run is refused as out of memory. A run that is refused has asked nothing, though no
+/// clause says so, since the handle is gone: its bounds are looked at, and room for its steps is taken, by functions that
+/// have no handle or leave it as it was.
 pub fn run<H: DnsHandle + Drop>(
     config: ResolverConfig,
     options: ResolverOpts,
@@ -67,8 +68,8 @@ pub fn run_with_hasher<H: DnsHandle + Drop, S: BuildHasher + Drop>(
     Ok(Transcript::new(steps, resolver))
 }
 
-/// As `run_with_hasher`, but no step is kept: this listener hears of each when it is made. Its error ends the run,
-/// which is refused as out of memory; questions may have been asked by then.
+/// As `run_with_hasher`, but no step is kept: this listener hears of each when it is made. An error of the listener
+/// ends the run, which is then out of memory; questions may have been asked by then.
 pub fn run_told<H: DnsHandle + Drop, S: BuildHasher + Drop, L: Listener + Drop>(
     config: ResolverConfig,
     options: ResolverOpts,
@@ -89,7 +90,7 @@ pub fn run_told<H: DnsHandle + Drop, S: BuildHasher + Drop, L: Listener + Drop>(
     Ok(Heard { resolver, listener })
 }
 
-// A resolver before its first request, over a handle that keeps what it sends. Takes no memory.
+// A resolver before its first request, over a handle that keeps what it sends and what came back. Takes no memory.
 fn first_resolver<H: DnsHandle + Drop, S: BuildHasher + Drop>(
     config: ResolverConfig,
     options: ResolverOpts,

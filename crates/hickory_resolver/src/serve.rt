@@ -1,4 +1,4 @@
-//! Requests that are served one by one, over a handle that keeps what it sends, and heard of.
+//! Requests that are served one by one, over a handle that keeps what it sends and what came back; a listener hears of each.
 ghost use Rattle.std.specs.Prelude.{List, OnErr, OnOk, map};
 ghost use Rattle.hickory_proto_core.specs.declared.recorded.Exchange.{Exchange};
 ghost use Rattle.hickory_resolver_model.specs.Run.{StepValue};
@@ -7,8 +7,8 @@ ghost use Rattle.hickory_resolver.specs.Listening.{HearsAll};
 ghost use Rattle.hickory_resolver.specs.Serving.{FailsToHear, MakesRun};
 
 use crate::listener::Listener;
-use crate::recording::{answer_by, upstream_of};
 use crate::resolver::Resolver;
+use crate::serves::{answer_by, upstream_of};
 use crate::transcript::Step;
 use hickory_proto_core::{DnsHandle, Recorded};
 use hickory_resolver_lookup::Request;

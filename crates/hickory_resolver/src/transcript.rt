@@ -3,8 +3,8 @@ ghost use Rattle.std.specs.Prelude.{◌≡◌};
 ghost use Rattle.hickory_resolver_model.specs.Run.{ends_run};
 ghost use Rattle.hickory_resolver.specs.Replies.{reply_of};
 
-use crate::recording::upstream_of;
 use crate::resolver::Resolver;
+use crate::serves::upstream_of;
 use hickory_proto_core::{DnsHandle, Exchange, NetError, Recorded};
 use hickory_resolver_lookup::{Lookup, LookupIp};
 use std::hash::{BuildHasher, BuildHasherDefault, FoldHasher};
@@ -55,7 +55,7 @@ impl Model for Step {
 }
 
 /// What a run came to: a step for each request that was served, in order, and the resolver after the last one.
-/// A caller lets go of the resolver, by `into_resolver`: the prover has no rule yet for a drop of the whole.
+/// Call `into_resolver`, and drop what it gives: the prover has no rule yet for a drop of the whole.
 #[derive(Drop)]
 pub struct Transcript<H: DnsHandle, S: BuildHasher = BuildHasherDefault<FoldHasher>> {
     steps: Vec<Step>,

@@ -18,23 +18,23 @@ use std::marker::Model;
 #[derive(Drop)]
 pub struct WaitingCall {
     pub(crate) attempt: Attempt,
-    pub(crate) sub: Waiting,
+    pub(crate) lookup: Waiting,
 }
 
 impl Model for WaitingCall {
     ghost use Rattle.std.specs.Prelude.{◌≡◌};
     ghost use Rattle.hickory_resolver_theorems.specs.ResumingCalls.{WaitingCallValue};
-    ghost use Rattle.hickory_resolver.specs.CallSteps.{again_for, attempt_value, first_question, types_of};
+    ghost use Rattle.hickory_resolver.specs.CallSteps.{kept_name_for, attempt_value, first_question, types_of};
 
     ghost Value = { WaitingCallValue };
 
     ghost view = { λ w. record {
-      attempt = attempt_value w.attempt (first_question w.sub).name w.sub.now;
-      sub = w.sub;
+      attempt = attempt_value w.attempt (first_question w.lookup).name w.lookup.now;
+      lookup = w.lookup;
     } };
 
-    ghost invariant = { λ w. w.attempt.again
-        ≡ again_for (types_of w.attempt.sought) w.attempt.first (first_question w.sub).name };
+    ghost invariant = { λ w. w.attempt.kept_name
+        ≡ kept_name_for (types_of w.attempt.sought) w.attempt.first (first_question w.lookup).name };
 }
 
 /// How far a call came.
@@ -49,23 +49,23 @@ pub enum CallProgress {
 impl WaitingCall {
     /// The question that is to be sent, with the options of the resolver (`Resolver::request_options`).
     pub fn question(&self) -> &Query
-        ensures { result.now ≡ self.now.sub.hop.query }
+        ensures { result.now ≡ self.now.lookup.hop.query }
     {
-        self.sub.question()
+        self.lookup.question()
     }
 
     /// The question of the name and type that are attempted, where aliases led from it to the one that is to be sent.
     /// None where it is itself to be sent.
     pub fn aliased(&self) -> Option<&Query>
-        ensures { option_copied result ≡ first_passed self.now.sub.passed }
+        ensures { option_copied result ≡ first_passed self.now.lookup.passed }
     {
-        self.sub.aliased()
+        self.lookup.aliased()
     }
 
     /// The moment of its start (seconds).
     pub fn now(&self) -> u64
-        ensures { result ≡ self.now.sub.now }
+        ensures { result ≡ self.now.lookup.now }
     {
-        self.sub.now()
+        self.lookup.now()
     }
 }

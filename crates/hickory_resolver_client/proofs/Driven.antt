@@ -15,9 +15,9 @@ use Rattle.hickory_resolver_model.specs.Bounds.{ConfigValue}
 use Rattle.hickory_resolver_model.specs.Cache.{CacheValue}
 use Rattle.hickory_resolver_model.specs.Lookup.{LookupResult}
 use Rattle.hickory_resolver_model.specs.Verdict.{Hop, first_hop, Verdict, Accepted, Alias, NoMatch, verdict}
-use Rattle.hickory_resolver_model.specs.Hops.{LookupContext, GoesUpstream, IsAliasHop, FollowsAliases, ChainEnd, Special, Hit, Asked, IsChainEnd, verdict_on, result_of_verdict, result_when_asked, result_of, alias_limit, end_limit, limit_of, result_until, is_kept, reply_of, asks_of, Store, earlier_store, earlier_stores, last_stores, stores_of, after_store, after_stores, HopList, IsCutShort}
-use Rattle.hickory_resolver_model.specs.Client.{ClientValue, start_of, IsLookup}
-use Rattle.hickory_resolver_model.specs.Resuming.{PassedValue, WaitingValue, ProgressValue, Waits, IsDone, passed_by, limit_back, stores_back, is_asked, stores_at, reply_at, TakesMemory, IsBeginning, EndsAs, ComesTo, Starts, FollowsAlias, IsEndedBy, Resumes}
+use Rattle.hickory_resolver_model.specs.Hops.{IsBeginning, LookupContext, GoesUpstream, IsAliasHop, FollowsAliases, ChainEnd, Special, Hit, Asked, IsChainEnd, verdict_on, result_of_verdict, result_when_asked, result_of, alias_limit, end_limit, limit_of, result_until, is_kept, reply_of, asks_of, Store, earlier_store, earlier_stores, last_stores, stores_of, after_store, after_stores, HopList, IsCutShort}
+use Rattle.hickory_resolver_model.specs.Client.{ClientValue, start_of, IsLookup, KeepsHandle}
+use Rattle.hickory_resolver_model.specs.Resuming.{PassedValue, WaitingValue, ProgressValue, Waits, IsDone, passed_by, limit_back, stores_back, is_asked, stores_at, reply_at, TakesMemory, EndsAs, ComesTo, Starts, FollowsAlias, IsEndedBy, Resumes}
 use Rattle.hickory_resolver_client.proofs.PassedStores.{unchanged}
 use Rattle.hickory_resolver_theorems.proofs.Lists.{all-append}
 
@@ -143,7 +143,7 @@ module _ {H : Type 0} (step : HandleStep H) (options : DnsRequestOptions) (now :
 
     cut_stores : (last : ChainEnd) → IsChainEnd s (length ps) hop last → is_kept (result_of s hop last) ≡ true → IsBeginning (stores_at s ps hop last) s.cache after.cache → IsCutShort s question (asks ++ asks_of hop last) after.cache
     cut_stores last ends kept b =
-        inl (record { hops = hops_of last ends; kept = kept; front = b.front; back = b.back; parts = b.parts ∙ stores_same s asks hop last; after_is = b.after_is })
+        inl (record { hops = hops_of last ends; kept = kept; begun = record { front = b.front; back = b.back; parts = b.parts ∙ stores_same s asks hop last; after_is = b.after_is } })
 
     cut_unasked : (last : ChainEnd) → is_asked last ≡ false → last_stores s hop last ≡ [] → IsChainEnd s (length ps) hop last → IsBeginning (stores_at s ps hop last) s.cache after.cache → (kept : Bool) → is_kept (result_of s hop last) ≡ kept → IsCutShort s question (asks ++ asks_of hop last) after.cache
     cut_unasked last unasked own ends b true kept = cut_stores last ends kept b
@@ -240,5 +240,30 @@ module _ {H : Type 0} (step : HandleStep H) (options : DnsRequestOptions) (now :
         let P : LookupContext → Type 0 = λ t. Resumes t w outcome progress after.cache in
         resumed_on progress (subst P (same_context w.now sent.now_is) resumes)
 
-    pub sent_fewer : (progress : ProgressValue) → Resumes (start_of client w.now) w outcome progress after.cache → left progress < left (Waits w)
-    sent_fewer progress resumes = fewer (start_of client w.now) w outcome progress after.cache (omega (arith, count_is, sent.few)) resumes
+  -- the same where the client gave the look-up back with what came back, and goes on with both
+  module _
+      (w : WaitingValue) (client : ClientValue H) (sent : IsSent step options now before question w client)
+      (given_back : WaitingValue) (same : given_back ≡ w) (outcome : OutcomeValue) (asked : ClientValue H) where
+    same_start : asked ≡ record client { handle = asked.handle } → start_of asked given_back.now ≡ start_of client w.now
+    same_start stays =
+        ap (λ (v : WaitingValue). start_of asked v.now) same ∙ ap (λ (c : ClientValue H). start_of c w.now) stays
+
+    module _ (stays : asked ≡ record client { handle = asked.handle }) (after : ClientValue H) (keeps : KeepsHandle asked after) where
+      option_stays : after.preserve_intermediates ≡ client.preserve_intermediates
+      option_stays = keeps.option_is ∙ ap (λ (c : ClientValue H). c.preserve_intermediates) stays
+
+      resumes_same : (progress : ProgressValue) → Resumes (start_of asked given_back.now) given_back outcome progress after.cache → Resumes (start_of client w.now) w outcome progress after.cache
+      resumes_same progress resumes =
+          let P : LookupContext → Type 0 = λ s. Resumes s given_back outcome progress after.cache in
+          let Q : WaitingValue → Type 0 = λ v. Resumes (start_of client w.now) v outcome progress after.cache in
+          subst Q same (subst P (same_start stays) resumes)
+
+      pub asked_fewer : (progress : ProgressValue) → Resumes (start_of asked given_back.now) given_back outcome progress after.cache → left progress < left (Waits w)
+      asked_fewer progress resumes =
+          fewer (start_of client w.now) w outcome progress after.cache
+          (omega (arith, ap length sent.passed_are ∙ length-map sent.asks (passed_of s), sent.few)) (resumes_same progress resumes)
+
+      pub asks_on : (progress : ProgressValue) → step client.handle (record { query = w.hop.query; options = options }) outcome asked.handle → Resumes (start_of asked given_back.now) given_back outcome progress after.cache → IsDriven step options now before question progress after
+      asks_on progress answered resumes =
+          let B : H → Type 0 = λ h. step client.handle (record { query = w.hop.query; options = options }) outcome h in
+          resumes_on w client sent outcome after (subst B (sym keeps.handle_is) answered) option_stays progress (resumes_same progress resumes)

@@ -1,6 +1,6 @@
 //! A client that asks an upstream through a cache.
 ghost use Rattle.std.specs.Prelude.{◌≡◌, []};
-ghost use Rattle.hickory_resolver_model.specs.Cache.{without_query};
+ghost use Rattle.hickory_resolver_model.specs.Cache.{IsCache, without_query};
 ghost use Rattle.hickory_resolver_model.specs.Client.{ClientValue, start_of, KeepsHandle, empty_cache};
 ghost use Rattle.hickory_resolver_model.specs.Resuming.{Starts, Resumes};
 ghost use Rattle.hickory_resolver_theorems.specs.CallFacts.{KeepsWhatIsKnown};
@@ -104,27 +104,12 @@ impl<H: DnsHandle, S: BuildHasher> CachingClient<H, S> {
     ) -> Result<Lookup, NetError>
         ensures { IsPromisedLookup H.step options now self.old query result self.new }
     {
-        let mut progress = self.core.start(query, now);
+        let mut progress = self.start(query, now);
         loop {
             match progress {
                 Progress::Waiting(waiting) => {
-                    let Waiting {
-                        moment,
-                        passed,
-                        hop,
-                    } = waiting;
-                    let Hop { query, preserved } = hop;
-                    let request = DnsRequest { query, options };
-                    let outcome = self.handle.send(&request);
-                    let waiting = Waiting {
-                        moment,
-                        passed,
-                        hop: Hop {
-                            query: request.query,
-                            preserved,
-                        },
-                    };
-                    progress = self.core.resume(waiting, outcome);
+                    let (waiting, outcome) = self.ask(waiting, options);
+                    progress = self.resume(waiting, outcome);
                 }
                 Progress::Done(result) => return result,
             }
@@ -135,6 +120,7 @@ impl<H: DnsHandle, S: BuildHasher> CachingClient<H, S> {
     pub fn start(&mut self, query: Query, now: u64) -> Progress
         ensures starts { Starts (start_of self.old now) query (progress_of result) self.new.cache }
         ensures stays { KeepsHandle self.old self.new }
+        ensures cache { IsCache self.old.cache.config self.old.cache.capacity self.old.cache.entries }
     {
         self.core.start(query, now)
     }

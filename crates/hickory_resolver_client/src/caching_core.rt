@@ -13,7 +13,7 @@ ghost use Rattle.hickory_resolver_client.specs.Steps.{NeverFailsNegative, Settle
 
 use crate::results::{
     alias_limit, classify, found_lookup, insert_negative, is_kept, lookup_of_hit, no_match,
-    result_until, store_back,
+    result_until, store_under_passed,
 };
 use crate::special_use::special_use_result;
 use crate::verdict::{Hop, Judged, Verdict, verdict_of};
@@ -172,17 +172,17 @@ impl<S: BuildHasher> CachingCore<S> {
         passed: Vec<Passed>,
         reply: Result<Lookup, NetError>,
         limit: u64,
-        asked: bool,
+        last_asked: bool,
         now: u64,
     ) -> Result<Lookup, NetError>
-        ensures finished { IsFinished passed.items reply limit asked now self.old.cache result self.new.cache }
+        ensures finished { IsFinished passed.items reply limit last_asked now self.old.cache result self.new.cache }
         ensures stays { self.new.preserve_intermediates ≡ self.old.preserve_intermediates }
     {
         if !is_kept(&reply) {
             return reply;
         }
-        let first_asked = asked || !passed.is_empty();
-        match store_back(&mut self.cache, passed, &reply, limit, now) {
+        let first_asked = last_asked || !passed.is_empty();
+        match store_under_passed(&mut self.cache, passed, &reply, limit, now) {
             Ok(limit) if first_asked => result_until(reply, limit),
             Ok(_) => reply,
             Err(error) => {

@@ -6,8 +6,8 @@ ghost use Rattle.hickory_proto_core.specs.declared.net_error.NetError.TheVariant
 ghost use Rattle.hickory_proto_core.specs.declared.net_error.DnsError.TheVariants.{NoRecordsFound};
 ghost use Rattle.hickory_resolver_model.specs.Cache.{last_moment};
 ghost use Rattle.hickory_resolver_model.specs.Lookup.{found_lookup};
-ghost use Rattle.hickory_resolver_model.specs.Hops.{no_match, hit_result, store_of, as_outcome, alias_deadline, result_until, is_kept, after_stores};
-ghost use Rattle.hickory_resolver_model.specs.Resuming.{limit_back, stores_back, IsBeginning};
+ghost use Rattle.hickory_resolver_model.specs.Hops.{IsBeginning, no_match, hit_result, store_of, as_outcome, alias_deadline, result_until, is_kept, after_stores};
+ghost use Rattle.hickory_resolver_model.specs.Resuming.{limit_back, stores_back};
 ghost use Rattle.hickory_resolver_client.specs.Special.{IsUnlessOut};
 
 use crate::waiting::Passed;
@@ -70,7 +70,7 @@ pub fn result_until(reply: Result<Lookup, NetError>, limit: u64) -> Result<Looku
 
 /// Keeps a result under each question that was passed, from the last to the first: each up to the lesser of its own
 /// limit and that of the hop after it. Gives the limit of the first hop.
-pub fn store_back<S: BuildHasher>(
+pub fn store_under_passed<S: BuildHasher>(
     cache: &mut ResponseCache<S>,
     mut passed: Vec<Passed>,
     reply: &Result<Lookup, NetError>,

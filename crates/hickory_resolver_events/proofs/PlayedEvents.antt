@@ -125,8 +125,8 @@ found (Some d ∷ table) (suc n) c calls e (front, back, are, rest) = let r = fo
         }
 
 -- after a call was fed, wherever it stands then
-placed-fly : (table : List (Option PendingCallValue)) (n : ℕ) (c : PendingCallValue) (calls : List PendingCallValue) (r : Found table n c calls) (sub : ProgressValue) (call : Call) (asks : List Exchange) (progress : CallProgressValue)
-    → AreInFlight (set table n (pending_after call asks progress)) (placed sub r.front (call_pending call asks progress) r.back)
+placed-fly : (table : List (Option PendingCallValue)) (n : ℕ) (c : PendingCallValue) (calls : List PendingCallValue) (r : Found table n c calls) (lookup : ProgressValue) (call : Call) (asks : List Exchange) (progress : CallProgressValue)
+    → AreInFlight (set table n (pending_after call asks progress)) (placed lookup r.front (call_pending call asks progress) r.back)
 placed-fly table n c calls r (Waits v) call asks (CallWaits w) =
     let d : PendingCallValue = record { call = call; asks = asks; waiting = w } in
     subst (AreInFlight (set table n (Some d))) (sym (append_assoc r.front (d ∷ []) r.back)) (r.put d r.front r.back refl)

@@ -26,7 +26,7 @@ use Rattle.hickory_resolver_events.specs.declared.events.EventReply.TheVariants.
 -- what is said of how far a call came: its result, or its question, where there is memory for a copy of it
 abbrev pub TellsProgress : CallProgressValue → EventReply → Type 0
 TellsProgress (CallWaits w) (Waits question) =
-    IfOk question (λ q. q ≡ w.sub.hop.query) × IsOkUnless question OutOfMemory
+    IfOk question (λ q. q ≡ w.lookup.hop.query) × IsOkUnless question OutOfMemory
 TellsProgress (CallIsDone result) (Done told) = told ≡ result
 TellsProgress progress reply = ⊥
 

@@ -20,17 +20,10 @@ pub data Counted : Type 0 where
 -- by its data, where the name reached owns it, and where the asked name does. Data of an unknown kind do not
 -- count
 abbrev pub counted_data : Bool → Bool → DataValue → Option Counted
-counted_data reached asked (a_data octets) = None
-counted_data reached asked (aaaa_data segments) = None
 counted_data reached asked (cname_data target) = if reached then Some (AliasTo target) else None
-counted_data reached asked (ns_data target) = None
-counted_data reached asked (ptr_data target) = None
-counted_data reached asked (soa_data mname rname serial refresh retry expire minimum) = None
 counted_data reached asked (srv_data priority weight port target) =
     if reached || asked then Some (Server target) else None
-counted_data reached asked (mx_data preference exchange) = None
-counted_data reached asked (txt_data strings) = None
-counted_data reached asked (unknown_data code bytes) = None
+counted_data reached asked other = None
 
 -- a CNAME counts where the name reached owns it, an SRV where that name or the asked one does
 abbrev pub counted : NameValue → NameValue → RecordValue → Option Counted

@@ -80,13 +80,7 @@ aged_negative seconds n = record n {
 
 abbrev pub aged_error : ℕ → NetError → NetError
 aged_error seconds (Dns (NoRecordsFound n)) = Dns (NoRecordsFound (aged_negative seconds n))
-aged_error seconds (Dns (ResponseCode code)) = Dns (ResponseCode code)
-aged_error seconds (Message text) = Message text
-aged_error seconds Timeout = Timeout
-aged_error seconds (Proto error) = Proto error
-aged_error seconds NoOutcome = NoOutcome
-aged_error seconds (Bounds error) = Bounds error
-aged_error seconds OutOfMemory = OutOfMemory
+aged_error seconds error = error
 
 abbrev pub aged_outcome : ℕ → OutcomeValue → OutcomeValue
 aged_outcome seconds (Ok m) = Ok (aged_message seconds m)
@@ -150,13 +144,7 @@ negative_entry config q n now =
 -- the entry that an outcome becomes, and none for an error other than a negative answer
 abbrev pub entry_of_error : ConfigValue → Query → NetError → ℕ → Option Entry
 entry_of_error config q (Dns (NoRecordsFound n)) now = Some (negative_entry config q n now)
-entry_of_error config q (Dns (ResponseCode code)) now = None
-entry_of_error config q (Message text) now = None
-entry_of_error config q Timeout now = None
-entry_of_error config q (Proto error) now = None
-entry_of_error config q NoOutcome now = None
-entry_of_error config q (Bounds error) now = None
-entry_of_error config q OutOfMemory now = None
+entry_of_error config q error now = None
 
 abbrev pub entry_of : ConfigValue → Query → OutcomeValue → ℕ → Option Entry
 entry_of config q (Ok m) now = Some (positive_entry config q m now)

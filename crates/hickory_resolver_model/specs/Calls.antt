@@ -41,9 +41,9 @@ pub record SubLookup : Type 0 where
 
 -- the table of hosts is looked at for this question, and has it; a copy may find no memory
 pub record IsAnsweredByHosts
-    (s : CallContext) (looked : Bool) (before : CacheValue) (p : SubLookup) (after : CacheValue)
+    (s : CallContext) (with_hosts : Bool) (before : CacheValue) (p : SubLookup) (after : CacheValue)
     : Type 0 where
-  pub asks_hosts : looked ≡ true
+  pub asks_hosts : with_hosts ≡ true
   pub found : LookupValue
   pub has : IsStatic p.question s.now s.hosts (Some found)
   pub result_is : (p.result ≡ Ok found) ⊎ (p.result ≡ Err OutOfMemory)
@@ -52,17 +52,14 @@ pub record IsAnsweredByHosts
 
 -- the table is not looked at, or has nothing, and the client's look-up is the hops'
 pub record IsAnsweredByClient
-    (s : CallContext) (looked : Bool) (before : CacheValue) (p : SubLookup) (after : CacheValue)
+    (s : CallContext) (with_hosts : Bool) (before : CacheValue) (p : SubLookup) (after : CacheValue)
     : Type 0 where
-  pub not_static : (looked ≡ false) ⊎ IsStatic p.question s.now s.hosts None
+  pub not_static : (with_hosts ≡ false) ⊎ IsStatic p.question s.now s.hosts None
   pub reply : IsReply (start_at s before) p.question p.asks p.result after
 
 abbrev pub IsAnsweredFrom : Source → CallContext → Bool → CacheValue → SubLookup → CacheValue → Type 0
-IsAnsweredFrom Static s looked before p after = IsAnsweredByHosts s looked before p after
-IsAnsweredFrom Client s looked before p after = IsAnsweredByClient s looked before p after
-
-abbrev pub IsAnswered : CallContext → Bool → CacheValue → SubLookup → CacheValue → Type 0
-IsAnswered s looked before p after = IsAnsweredFrom p.source s looked before p after
+IsAnsweredFrom Static s with_hosts before p after = IsAnsweredByHosts s with_hosts before p after
+IsAnsweredFrom Client s with_hosts before p after = IsAnsweredByClient s with_hosts before p after
 
 -- how a question of a call is answered, over the cache that the part before left; the flag says whether the
 -- hosts are looked at
@@ -71,7 +68,7 @@ SubLookupRelation = Bool → CacheValue → Query → SubLookup → CacheValue �
 
 -- by the table of hosts or by the client
 abbrev pub IsAnsweredFor : CallContext → SubLookupRelation
-IsAnsweredFor s looked before q p after = (p.question ≡ q) × IsAnswered s looked before p after
+IsAnsweredFor s with_hosts before q p after = (p.question ≡ q) × IsAnsweredFrom p.source s with_hosts before p after
 
 -- which types are looked up for a name: one; both; or the second where the first has no answers
 pub data Plan : Type 0 where
@@ -141,11 +138,11 @@ IsAttemptResult plan results result =
 -- these results.
 abbrev pub AreSubLookups : SubLookupRelation → Bool → NameValue → Plan → CacheValue → List LookupResult
     → List SubLookup → CacheValue → Type 0
-AreSubLookups Answers looked n plan before results [] after = after ≡ before
-AreSubLookups Answers looked n plan before results (p ∷ ps) after =
+AreSubLookups Answers with_hosts n plan before results [] after = after ≡ before
+AreSubLookups Answers with_hosts n plan before results (p ∷ ps) after =
     (t : RecordType) × (mid : CacheValue) × (next_type plan results ≡ Some t)
-    × Answers looked before (question_of n t) p mid
-    × AreSubLookups Answers looked n plan mid (results ++ p.result ∷ []) ps after
+    × Answers with_hosts before (question_of n t) p mid
+    × AreSubLookups Answers with_hosts n plan mid (results ++ p.result ∷ []) ps after
 
 abbrev pub results_of : List SubLookup → List LookupResult
 results_of parts = map (λ p. p.result) parts
@@ -153,10 +150,10 @@ results_of parts = map (λ p. p.result) parts
 -- An attempt at a name: its sub-look-ups, what it comes to by theirs, and the cache after it. Where memory ran
 -- out before a sub-look-up, nothing was asked for that one, and it is none of them.
 pub record IsAttempt
-    (Answers : SubLookupRelation) (looked : Bool) (before : CacheValue) (n : NameValue) (plan : Plan)
+    (Answers : SubLookupRelation) (with_hosts : Bool) (before : CacheValue) (n : NameValue) (plan : Plan)
     (parts : List SubLookup) (result : LookupResult) (after : CacheValue)
     : Type 0 where
-  pub are : AreSubLookups Answers looked n plan before [] parts after
+  pub are : AreSubLookups Answers with_hosts n plan before [] parts after
   pub result_is : IsAttemptResult plan (results_of parts) result
 
 -- an attempt after which no other is made
@@ -187,11 +184,11 @@ Says text _ = ⊥
 -- last resort or what came last: the result of the attempt before, or what is said where there is no name.
 abbrev pub AreAttempts : SubLookupRelation → CallPlan → Bool → CacheValue → List NameValue
     → (LookupResult → Type 0) → List SubLookup → LookupResult → CacheValue → Type 0
-AreAttempts Answers plan looked before [] IsLast parts result after =
+AreAttempts Answers plan with_hosts before [] IsLast parts result after =
     (parts ≡ []) × IsLastReply plan.literal IsLast result × (after ≡ before)
-AreAttempts Answers plan looked before (n ∷ ns) IsLast parts result after =
+AreAttempts Answers plan with_hosts before (n ∷ ns) IsLast parts result after =
     (front : List SubLookup) × (back : List SubLookup) × (r : LookupResult) × (mid : CacheValue)
-    × (parts ≡ front ++ back) × IsAttempt Answers looked before n plan.types front r mid
+    × (parts ≡ front ++ back) × IsAttempt Answers with_hosts before n plan.types front r mid
     × (((stops r ≡ true) × (back ≡ []) × (result ≡ r) × (after ≡ mid))
     ⊎ ((stops r ≡ false) × AreAttempts Answers plan plan.hosts_for_all mid ns (λ x. x ≡ r) back result after))
 

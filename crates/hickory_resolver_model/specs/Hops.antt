@@ -31,11 +31,10 @@ pub record LookupContext : Type 0 where
 abbrev pub GoesUpstream : LookupContext → Query → Type 0
 GoesUpstream s q = (special_use_result q s.now ≡ None) × (current q s.now s.cache.entries ≡ None)
 
--- what a response of the kind Answer is worth to a hop
+-- the verdict on a response of the kind Answer
 abbrev pub verdict_on : LookupContext → Hop → ResponseKind → Option Verdict
 verdict_on s hop (Answer response) = Some (verdict s.preserve_intermediates hop response)
-verdict_on s hop (Negative none) = None
-verdict_on s hop (Failed error) = None
+verdict_on s hop other = None
 
 -- a hop before the last: it was asked, and an alias to the next came back
 pub record IsAliasHop (s : LookupContext) (hop : Hop) (x : Exchange) (next : Hop) : Type 0 where
@@ -43,8 +42,8 @@ pub record IsAliasHop (s : LookupContext) (hop : Hop) (x : Exchange) (next : Hop
   pub asked : x.query ≡ hop.query
   pub alias : verdict_on s hop (kind_of x.outcome) ≡ Some (Alias next)
 
--- these exchanges lead by aliases from a hop to another. The first target of a service's SRV records is one, where no
--- CNAME counted
+-- these exchanges lead by aliases from a hop to another. The first target of a service's SRV records counts as an
+-- alias where no CNAME counted
 abbrev pub FollowsAliases : LookupContext → Hop → List Exchange → Hop → Type 0
 FollowsAliases s hop [] last = last ≡ hop
 FollowsAliases s hop (x ∷ xs) last = (next : Hop) × IsAliasHop s hop x next × FollowsAliases s next xs last
@@ -63,6 +62,17 @@ IsChainEnd s count hop (Hit entry) =
 IsChainEnd s count hop (Asked outcome) =
     GoesUpstream s hop.query
     × ((next : Hop) → verdict_on s hop (kind_of outcome) ≡ Some (Alias next) → count ≡ 7)
+
+-- ---- what a hop comes to that was asked, and what is stored under its question
+--
+-- what came back                            the result                           stored under the question
+-- an answer that is accepted                its records                          the answer, up to the limit of its CNAMEs
+-- an alias at the eighth question           no records                           nothing
+-- an answer without what was asked for      no records                           nothing
+-- a negative answer                         the negative answer                  the negative answer
+-- any other error                           the error                            nothing
+--
+-- An alias before the eighth question leads to the next hop.
 
 -- no such records, as a response without what was asked for says (RFC 2308, section 2.2)
 abbrev pub no_match : Query → MessageValue → NetError
@@ -100,9 +110,8 @@ result_of s hop (Asked outcome) = result_when_asked s hop (kind_of outcome)
 
 -- the exchange of the last hop, where it was asked
 abbrev pub asks_of : Hop → ChainEnd → List Exchange
-asks_of hop (Special reply) = []
-asks_of hop (Hit entry) = []
 asks_of hop (Asked outcome) = record { query = hop.query; outcome = outcome } ∷ []
+asks_of hop other = []
 
 -- ---- how long an alias lives: no longer than the CNAMEs on its way (RFC 2181, section 8; RFC 1034, section 3.6.2)
 
@@ -120,8 +129,7 @@ alias_deadline config now ttl =
 abbrev pub alias_limit : LookupContext → Query → ResponseKind → ℕ
 alias_limit s q (Answer response) =
     earliest (map (alias_deadline s.cache.config s.now) (walk_of q response.answers).alias_ttls)
-alias_limit s q (Negative none) = last_moment
-alias_limit s q (Failed error) = last_moment
+alias_limit s q other = last_moment
 
 -- the limit of a last hop: of a hit the deadline of its entry; where it was asked, until when the CNAMEs live that
 -- counted in what came back; a special name has none
@@ -182,9 +190,8 @@ stores_when_asked s hop (Negative none) =
 stores_when_asked s hop (Failed error) = []
 
 abbrev pub last_stores : LookupContext → Hop → ChainEnd → List Store
-last_stores s hop (Special reply) = []
-last_stores s hop (Hit entry) = []
 last_stores s hop (Asked outcome) = stores_when_asked s hop (kind_of outcome)
+last_stores s hop other = []
 
 -- what is stored under an earlier question: a result as a fresh response with its sections, and an error as
 -- it is
@@ -244,16 +251,20 @@ abbrev pub is_kept : LookupResult → Bool
 is_kept (Ok lookup) = true
 is_kept (Err error) = is_no_records_found error
 
+-- a beginning of some stores was made
+pub record IsBeginning (stores : List Store) (before after : CacheValue) : Type 0 where
+  pub front : List Store
+  pub back : List Store
+  pub parts : front ++ back ≡ stores
+  pub after_is : after ≡ after_stores front before
+
 -- memory ran out among the stores of a result that is kept: a beginning of them was made
 pub record IsCutInStores
     (s : LookupContext) (question : Query) (asks : List Exchange) (after : CacheValue)
     : Type 0 where
   pub hops : HopList s question asks
   pub kept : is_kept (result_of s hops.last_hop hops.last) ≡ true
-  pub front : List Store
-  pub back : List Store
-  pub parts : front ++ back ≡ stores_of s hops.passed hops.last_hop hops.last
-  pub after_is : after ≡ after_stores front s.cache
+  pub begun : IsBeginning (stores_of s hops.passed hops.last_hop hops.last) s.cache after
 
 -- memory ran out among the hops: first hops were asked, and nothing was stored. What came back to the last of them
 -- holds memory, so that there may have been none to copy it or to make something of it

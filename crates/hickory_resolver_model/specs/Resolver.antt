@@ -29,14 +29,14 @@ call_context_of client hosts now =
 -- looked at for the first name.
 pub record LooksUp
     {H : Type 0} (step : HandleStep H) (options : DnsRequestOptions) (hosts : List Host) (now : ℕ) (plan : CallPlan)
-    (looked : Bool) (names : List NameValue) (before : ClientValue H) (result : LookupResult)
+    (with_hosts : Bool) (names : List NameValue) (before : ClientValue H) (result : LookupResult)
     (after : ClientValue H)
     : Type 0 where
   pub parts : List SubLookup
   pub led : Leads step options before.handle (asks_of_sub_lookups parts) after.handle
   pub are : AreAttempts
       (IsAnsweredFor
-      (call_context_of before hosts now)) plan looked before.cache names
+      (call_context_of before hosts now)) plan with_hosts before.cache names
       (Says plan.no_names) parts result after.cache
   pub option_stays : after.preserve_intermediates ≡ before.preserve_intermediates
 
@@ -47,7 +47,7 @@ pub record ResolverValue (H : Type 0) : Type 0 where
   pub config : ResolverConfigValue
   pub options : OptionsValue
 
--- what a resolver is set to. Whether intermediate records are preserved its client knows
+-- what a resolver is set to. The client knows whether intermediate records are preserved
 abbrev pub settings : {H : Type 0} → ResolverValue H → Settings
 settings r =
     record (settings_of r.config r.options r.hosts) {

@@ -11,7 +11,7 @@ use Rattle.hickory_proto_core.specs.declared.net_error.NetError.TheVariants.{Out
 use Rattle.hickory_resolver_model.specs.Cache.{CacheValue}
 use Rattle.hickory_resolver_model.specs.Lookup.{LookupResult}
 use Rattle.hickory_resolver_model.specs.Verdict.{Hop, first_hop, Alias}
-use Rattle.hickory_resolver_model.specs.Hops.{LookupContext, GoesUpstream, IsAliasHop, ChainEnd, Special, Hit, Asked, IsChainEnd, verdict_on, result_of, asks_of, alias_limit, end_limit, result_until, reply_of, Store, earlier_store, last_stores, stores_of, after_stores, is_kept}
+use Rattle.hickory_resolver_model.specs.Hops.{IsBeginning, LookupContext, GoesUpstream, IsAliasHop, ChainEnd, Special, Hit, Asked, IsChainEnd, verdict_on, result_of, asks_of, alias_limit, end_limit, result_until, reply_of, Store, earlier_store, last_stores, stores_of, after_stores, is_kept}
 
 -- ---- one step: a look-up is started, or goes on with what came back
 
@@ -49,9 +49,8 @@ stores_back result now limit (p ∷ ps) =
 
 -- the last hop was asked
 abbrev pub is_asked : ChainEnd → Bool
-is_asked (Special reply) = false
-is_asked (Hit entry) = false
 is_asked (Asked outcome) = true
+is_asked other = false
 
 -- all stores of a look-up that ends at this hop: the hop's own, then those under the questions before it
 abbrev pub stores_at : LookupContext → List PassedValue → Hop → ChainEnd → List Store
@@ -71,13 +70,6 @@ abbrev pub TakesMemory : ChainEnd → Type 0
 TakesMemory (Special reply) = Unit {0}
 TakesMemory (Hit entry) = Unit {0}
 TakesMemory (Asked outcome) = (error : NetError) → kind_of outcome ≡ Failed error → ⊥
-
--- a beginning of some stores was made
-pub record IsBeginning (stores : List Store) (before after : CacheValue) : Type 0 where
-  pub front : List Store
-  pub back : List Store
-  pub parts : front ++ back ≡ stores
-  pub after_is : after ≡ after_stores front before
 
 -- a look-up ends at this hop, over the cache that stands now, with this result; where memory runs out, a beginning of
 -- its stores is made

@@ -138,7 +138,7 @@ address_call s (Some address) (Ok n) now =
     else Attempt n (address_plan s.strategy (Some (literal_at_last address now)))
 address_call s (Some address) (Err fault) now = AtOnce (Ok (literal_at_once no_name address now))
 
--- the reply, the sub-look-ups and the cache after a look-up, which are answered in this way
+-- the reply, the sub-look-ups and the cache after a look-up, where each sub-look-up is answered by the relation `Answers`
 abbrev pub IsCall : SubLookupRelation → Settings → CacheValue → Call → List SubLookup → LookupResult
     → CacheValue → Type 0
 IsCall Answers s before (AtOnce answer) parts reply after = (parts ≡ []) × (reply ≡ answer) × (after ≡ before)
@@ -158,7 +158,7 @@ abbrev pub after_clear : Settings → RecordType → Result NameValue NameError 
 after_clear s t (Ok n) cache = drop_each t (attempts s.search n) cache
 after_clear s t (Err fault) cache = cache
 
--- a request is served: its sub-look-ups, each of which is answered in this way, what it is answered, and the
+-- a request is served: its sub-look-ups, each answered by the relation `Answers`, what it is answered, and the
 -- cache after it
 abbrev pub IsServed : (ℕ → SubLookupRelation) → Settings → CacheValue → RequestValue → List SubLookup
     → StepReply → CacheValue → Type 0
@@ -194,7 +194,7 @@ pub record Stage : Type 0 where
   pub parts : List SubLookup
   pub step : StepValue
 
--- the request is served, its questions are answered in this way, and it asks exactly those of its piece
+-- the request is served, its sub-look-ups are answered by the relation `Answers`, and their exchanges are its piece
 pub record IsStageBy
     (Answers : ℕ → SubLookupRelation) (s : Settings) (stage : Stage) (after : CacheValue)
     : Type 0 where

@@ -150,13 +150,13 @@ no_alias_outlives s question asks result after (inr (out, inr cut)) = tt
 
 -- ---- a call, and a run
 
-pub part_limited : (t : CallContext) (looked : Bool) (before : CacheValue) (q : Query) (p : SubLookup) (after : CacheValue) → IsAnsweredFor t looked before q p after → LimitedSubLookup t looked before q p after
-part_limited t looked before q p after (for, is) = (for, by p.source is)
+pub part_limited : (t : CallContext) (with_hosts : Bool) (before : CacheValue) (q : Query) (p : SubLookup) (after : CacheValue) → IsAnsweredFor t with_hosts before q p after → LimitedSubLookup t with_hosts before q p after
+part_limited t with_hosts before q p after (for, is) = (for, by p.source is)
   where
-    by : (source : Source) → IsAnsweredFrom source t looked before p after → IsLimitedBy source t looked before p after
+    by : (source : Source) → IsAnsweredFrom source t with_hosts before p after → IsLimitedBy source t with_hosts before p after
     by Static is = is
     by Client is = (is, no_alias_outlives (start_at t before) p.question p.asks p.result after is.reply)
 
 pub run_limited : (s : Settings) (first : CacheValue) (requests : List RequestValue) (steps : List StepValue) (exchanges : List Exchange) (after : CacheValue) → (run : Run s first requests steps exchanges after) → RunOutlivesNoAlias s first requests steps exchanges after run
 run_limited s first requests steps exchanges after run =
-    stages-weaker (answers_at s) (λ now. LimitedSubLookup (call_context_at s now)) (λ now looked before q p end is. part_limited (call_context_at s now) looked before q p end is) s first requests run.stages after run.are
+    stages-weaker (answers_at s) (λ now. LimitedSubLookup (call_context_at s now)) (λ now with_hosts before q p end is. part_limited (call_context_at s now) with_hosts before q p end is) s first requests run.stages after run.are

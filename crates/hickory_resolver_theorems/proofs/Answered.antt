@@ -144,25 +144,25 @@ fallback-none t u v r on = by (has_answers r) refl on
     by false e k = e
 
 -- the sub-look-ups of an attempt that is not out of memory are each to be used as long as its result
-usable-attempt : (Answers : SubLookupRelation) (looked : Bool) (n : NameValue) (plan : Plan) (deadline : ℕ) (before : CacheValue) (ps : List SubLookup) (after : CacheValue) → AreSubLookups Answers looked n plan before [] ps after
+usable-attempt : (Answers : SubLookupRelation) (with_hosts : Bool) (n : NameValue) (plan : Plan) (deadline : ℕ) (before : CacheValue) (ps : List SubLookup) (after : CacheValue) → AreSubLookups Answers with_hosts n plan before [] ps after
     → is_out_of_memory (attempt_result plan (results_of ps)) ≡ false → IsUsable deadline (attempt_result plan (results_of ps)) → AreUsable deadline ps
-usable-attempt Answers looked n plan deadline before [] after are live usable = tt
-usable-attempt Answers looked n plan deadline before (p ∷ []) after are live usable = (usable, tt)
-usable-attempt Answers looked n (One t) deadline before (p ∷ q ∷ qs) after (a, b, next, is, (v, m, on, second, rest)) live usable = absurd (let clash : None ≡ Some v = on in cc)
-usable-attempt Answers looked n (Fallback t u) deadline before (p ∷ q ∷ []) after (a, b, next, is, (v, m, on, second, rest)) live usable =
+usable-attempt Answers with_hosts n plan deadline before [] after are live usable = tt
+usable-attempt Answers with_hosts n plan deadline before (p ∷ []) after are live usable = (usable, tt)
+usable-attempt Answers with_hosts n (One t) deadline before (p ∷ q ∷ qs) after (a, b, next, is, (v, m, on, second, rest)) live usable = absurd (let clash : None ≡ Some v = on in cc)
+usable-attempt Answers with_hosts n (Fallback t u) deadline before (p ∷ q ∷ []) after (a, b, next, is, (v, m, on, second, rest)) live usable =
     (usable-none deadline p.result (fallback-none t u v p.result on), (usable, tt))
-usable-attempt Answers looked n (Both t u) deadline before (p ∷ q ∷ []) after are live usable =
+usable-attempt Answers with_hosts n (Both t u) deadline before (p ∷ q ∷ []) after are live usable =
     let both = usable-both deadline p.result q.result live usable in
     (both.0, (both.1, tt))
-usable-attempt Answers looked n (Fallback t u) deadline before (p ∷ q ∷ x ∷ xs) after (a, b, next, is, (v, m, on, second, (w, k, more, third, rest))) live usable = absurd (let clash : None ≡ Some w = more in cc)
-usable-attempt Answers looked n (Both t u) deadline before (p ∷ q ∷ x ∷ xs) after (a, b, next, is, (v, m, on, second, (w, k, more, third, rest))) live usable = absurd (let clash : None ≡ Some w = more in cc)
+usable-attempt Answers with_hosts n (Fallback t u) deadline before (p ∷ q ∷ x ∷ xs) after (a, b, next, is, (v, m, on, second, (w, k, more, third, rest))) live usable = absurd (let clash : None ≡ Some w = more in cc)
+usable-attempt Answers with_hosts n (Both t u) deadline before (p ∷ q ∷ x ∷ xs) after (a, b, next, is, (v, m, on, second, (w, k, more, third, rest))) live usable = absurd (let clash : None ≡ Some w = more in cc)
 
-usable-result : (Answers : SubLookupRelation) (looked : Bool) (before : CacheValue) (n : NameValue) (plan : Plan) (ps : List SubLookup) (r : LookupResult) (after : CacheValue) (deadline : ℕ) → IsAttempt Answers looked before n plan ps r after
+usable-result : (Answers : SubLookupRelation) (with_hosts : Bool) (before : CacheValue) (n : NameValue) (plan : Plan) (ps : List SubLookup) (r : LookupResult) (after : CacheValue) (deadline : ℕ) → IsAttempt Answers with_hosts before n plan ps r after
     → is_out_of_memory r ≡ false → IsUsable deadline r → AreUsable deadline ps
-usable-result Answers looked before n plan ps r after deadline attempt live usable = by attempt.result_is
+usable-result Answers with_hosts before n plan ps r after deadline attempt live usable = by attempt.result_is
   where
     by : IsAttemptResult plan (results_of ps) r → AreUsable deadline ps
-    by (inl (over, e)) = usable-attempt Answers looked n plan deadline before ps after attempt.are (subst (λ x. is_out_of_memory x ≡ false) e live) (subst (IsUsable deadline) e usable)
+    by (inl (over, e)) = usable-attempt Answers with_hosts n plan deadline before ps after attempt.are (subst (λ x. is_out_of_memory x ≡ false) e live) (subst (IsUsable deadline) e usable)
     by (inr (takes, e)) = absurd (let clash : false ≡ true = sym live ∙ ap is_out_of_memory e in cc)
 
 or-false : (a b : Bool) → (a || b) ≡ false → (a ≡ false) × (b ≡ false)
@@ -170,10 +170,10 @@ or-false true b h = cc
 or-false false b h = (refl, h)
 
 -- the sub-look-ups of a call with an answer are each to be used as long as that
-usable-attempts : (Answers : SubLookupRelation) (plan : CallPlan) (looked : Bool) (before : CacheValue) (names : List NameValue) (last : LookupResult → Type 0) (parts : List SubLookup) (reply : LookupResult) (after : CacheValue)
-    → AreAttempts Answers plan looked before names last parts reply after → (l : LookupValue) → reply ≡ Ok l → AreUsable l.valid_until parts
-usable-attempts Answers plan looked before [] last parts reply after (none, fallback, same) l ok = subst (AreUsable l.valid_until) (sym none) tt
-usable-attempts Answers plan looked before (n ∷ ns) last parts reply after (front, back, result, mid, are, attempt, goes) l ok =
+usable-attempts : (Answers : SubLookupRelation) (plan : CallPlan) (with_hosts : Bool) (before : CacheValue) (names : List NameValue) (last : LookupResult → Type 0) (parts : List SubLookup) (reply : LookupResult) (after : CacheValue)
+    → AreAttempts Answers plan with_hosts before names last parts reply after → (l : LookupValue) → reply ≡ Ok l → AreUsable l.valid_until parts
+usable-attempts Answers plan with_hosts before [] last parts reply after (none, fallback, same) l ok = subst (AreUsable l.valid_until) (sym none) tt
+usable-attempts Answers plan with_hosts before (n ∷ ns) last parts reply after (front, back, result, mid, are, attempt, goes) l ok =
     subst (AreUsable l.valid_until) (sym are) (by goes (λ rest. usable-attempts Answers plan plan.hosts_for_all mid ns (λ x. x ≡ result) back reply after rest l ok))
   where
     by : ((stops result ≡ true) × (back ≡ []) × (reply ≡ result) × (after ≡ mid)) ⊎ ((stops result ≡ false) × AreAttempts Answers plan plan.hosts_for_all mid ns (λ x. x ≡ result) back reply after)
@@ -181,12 +181,12 @@ usable-attempts Answers plan looked before (n ∷ ns) last parts reply after (fr
     by (inl (stopped, none, e, same)) more =
         let is : Ok l ≡ result = sym ok ∙ e in
         all-append (λ p. IsUsable l.valid_until p.result) front back
-        (usable-result Answers looked before n plan.types front result mid l.valid_until attempt (sym (ap is_out_of_memory is)) (subst (IsUsable l.valid_until) is (usable-own l)))
+        (usable-result Answers with_hosts before n plan.types front result mid l.valid_until attempt (sym (ap is_out_of_memory is)) (subst (IsUsable l.valid_until) is (usable-own l)))
         (subst (AreUsable l.valid_until) (sym none) tt)
     by (inr (live, rest)) more =
         let both = or-false (has_answers result) (is_out_of_memory result) live in
         all-append (λ p. IsUsable l.valid_until p.result) front back
-        (usable-result Answers looked before n plan.types front result mid l.valid_until attempt both.1 (usable-none l.valid_until result both.0))
+        (usable-result Answers with_hosts before n plan.types front result mid l.valid_until attempt both.1 (usable-none l.valid_until result both.0))
         (more rest)
 
 -- ---- attempts
@@ -195,15 +195,15 @@ usable-attempts Answers plan looked before (n ∷ ns) last parts reply after (fr
 abbrev IsToldBy : CallPlan → List SubLookup → LookupResult → Type 0
 IsToldBy plan parts reply = ((l : LookupValue) × (plan.literal ≡ Some l) × (reply ≡ Ok l)) ⊎ AreGiven parts reply
 
-given-attempts : (Answers : SubLookupRelation) (plan : CallPlan) (looked : Bool) (before : CacheValue) (names : List NameValue) (last : LookupResult → Type 0) (earlier parts : List SubLookup) (reply : LookupResult) (after : CacheValue)
-    → ((x : LookupResult) → last x → AreGiven earlier x) → AreAttempts Answers plan looked before names last parts reply after → IsToldBy plan (earlier ++ parts) reply
-given-attempts Answers plan looked before [] last earlier parts reply after known (none, fallback, same) = by plan.literal refl fallback
+given-attempts : (Answers : SubLookupRelation) (plan : CallPlan) (with_hosts : Bool) (before : CacheValue) (names : List NameValue) (last : LookupResult → Type 0) (earlier parts : List SubLookup) (reply : LookupResult) (after : CacheValue)
+    → ((x : LookupResult) → last x → AreGiven earlier x) → AreAttempts Answers plan with_hosts before names last parts reply after → IsToldBy plan (earlier ++ parts) reply
+given-attempts Answers plan with_hosts before [] last earlier parts reply after known (none, fallback, same) = by plan.literal refl fallback
   where
     by : (o : Option LookupValue) → plan.literal ≡ o → IsLastReply o last reply → IsToldBy plan (earlier ++ parts) reply
     by None e is = inr (given-left earlier parts reply (known reply is))
     by (Some l) e (inl is) = inl (l, e, is)
     by (Some l) e (inr out) = inr (subst (AreGiven (earlier ++ parts)) (sym out) tt)
-given-attempts Answers plan looked before (n ∷ ns) last earlier parts reply after known (front, back, result, mid, are, attempt, goes) =
+given-attempts Answers plan with_hosts before (n ∷ ns) last earlier parts reply after known (front, back, result, mid, are, attempt, goes) =
     by goes (λ rest. given-attempts Answers plan plan.hosts_for_all mid ns (λ x. x ≡ result) (earlier ++ front) back reply after (λ x e. subst (AreGiven (earlier ++ front)) (sym e) (given-right earlier front result first)) rest)
   where
     first : AreGiven front result

@@ -15,7 +15,7 @@ use Rattle.hickory_resolver_model.specs.Hosts.{Host, IsStatic}
 use Rattle.hickory_resolver_model.specs.Calls.{CallContext, start_at, SubLookup, SubLookupRelation, next_type, CallPlan, Says, AreAttempts, asks_of_sub_lookups}
 use Rattle.hickory_resolver_model.specs.Resuming.{WaitingValue, ProgressValue, Waits, IsDone, Resumes}
 use Rattle.hickory_resolver_model.specs.Run.{Settings, Call, AtOnce, Attempt, IsCall, drop_each}
-use Rattle.hickory_resolver_theorems.specs.CallsAlone.{IsRestOfCall, LeadsToWhole}
+use Rattle.hickory_resolver_theorems.proofs.SentAlone.{IsRestOfCall, LeadsToWhole}
 use Rattle.hickory_resolver_theorems.specs.Covered.{Dated, dated_exchanges}
 use Rattle.hickory_resolver_theorems.specs.Interleaved.{PendingValue, DoneValue, WorldValue, world_of, EventValue, Started, Fed, Dropped, ClearedOfAll, ClearedOf, asks_with, caches_with, Happens, Happen, ended_by, received_by, ended_in, received_in}
 use Rattle.hickory_resolver_theorems.specs.InterleavedCalls.{PendingCallValue, DoneCallValue, CallWorldValue, call_world_of, call_context_over, CallEventValue, CallStarted, CallFed, CallDropped, AllCleared, NameCleared, HostsReplaced, exchange_with, call_pending, call_done, placed, CallHappens, CallsHappen, calls_ended_by, calls_received_by, calls_received_in, tables_by, tables_in, IsQuestionOf, IsStartedIn, IsAskedIn, IsPromisedAmong, InterleavedSubLookup, IsPromisedCallEnd, IsPromisedCallInterleaving}
@@ -47,12 +47,12 @@ happen-more preserve first [] mid event after e happens = (after, subst (λ w. H
 happen-more preserve first (one ∷ events) mid event after (next, is, rest) happens = (next, is, happen-more preserve next events mid event after rest happens)
 
 -- a look-up that waits on has the moment of its start
-pub now-stays : (s : LookupContext) (w : WaitingValue) (outcome : OutcomeValue) (sub : WaitingValue) (after : CacheValue) → Resumes s w outcome (Waits sub) after → sub.now ≡ s.now
-now-stays s w outcome sub after (inl f) = elim f.goes_on [
+pub now-stays : (s : LookupContext) (w : WaitingValue) (outcome : OutcomeValue) (lookup : WaitingValue) (after : CacheValue) → Resumes s w outcome (Waits lookup) after → lookup.now ≡ s.now
+now-stays s w outcome lookup after (inl f) = elim f.goes_on [
   | inl comes ↦ ap (λ (v : WaitingValue). v.now) comes.1
   | inr out ↦ let clash = out.0 in cc
 ]
-now-stays s w outcome sub after (inr e) = let clash = e.progress_is in cc
+now-stays s w outcome lookup after (inr e) = let clash = e.progress_is in cc
 
 received-fed : (before : List EventValue) (event : EventValue) (after : List EventValue) (received own : List Dated) → received_in before ≡ received → received_by event ≡ own → received_in after ≡ [] → received_in ((before ++ event ∷ []) ++ after) ≡ received ++ own
 received-fed before event after received own e k none =
@@ -105,20 +105,20 @@ module _ (s : Settings) (empty : CacheValue) (none : empty.entries ≡ []) where
 
   -- a call in flight is this one
   abbrev IsThisCall : Call → ℕ → PendingCallValue → Type 0
-  IsThisCall call now c = (c.call ≡ call) × (c.waiting.sub.now ≡ now)
+  IsThisCall call now c = (c.call ≡ call) × (c.waiting.lookup.now ≡ now)
 
   -- what is known of a call in flight and of the look-up for which it waits
   record IsKnownCall (tables : List (List Host)) (lookups : List EventValue) (c : PendingCallValue) (p : PendingValue) : Type 0 where
-    same : p.waiting ≡ c.waiting.sub
+    same : p.waiting ≡ c.waiting.lookup
     hosts : List Host
     stood : Contains tables hosts
     asked_type : RecordType
     next : next_type c.waiting.attempt.plan.types c.waiting.attempt.results ≡ Some asked_type
     question_is : p.question ≡ question_of c.waiting.attempt.name asked_type
-    not_static : (c.waiting.attempt.looked ≡ false) ⊎ IsStatic (question_of c.waiting.attempt.name asked_type) c.waiting.sub.now hosts None
+    not_static : (c.waiting.attempt.with_hosts ≡ false) ⊎ IsStatic (question_of c.waiting.attempt.name asked_type) c.waiting.lookup.now hosts None
     done : List SubLookup
     asks_are : c.asks ≡ asks_of_sub_lookups done ++ p.asks
-    leads : Leads tables lookups c.call c.waiting.sub.now done c.waiting.attempt
+    leads : Leads tables lookups c.call c.waiting.lookup.now done c.waiting.attempt
     within : Within c.call c.waiting.attempt
 
   known-later : (tables others : List (List Host)) (lookups more : List EventValue) (c : PendingCallValue) (p : PendingValue) → IsFront tables others → IsFront lookups more → IsKnownCall tables lookups c p → IsKnownCall others more c p
@@ -132,7 +132,7 @@ module _ (s : Settings) (empty : CacheValue) (none : empty.entries ≡ []) where
     not_static = is.not_static;
     done = is.done;
     asks_are = is.asks_are;
-    leads = leads-later tables others lookups more c.call c.waiting.sub.now is.done c.waiting.attempt f g is.leads;
+    leads = leads-later tables others lookups more c.call c.waiting.lookup.now is.done c.waiting.attempt f g is.leads;
     within = is.within;
   }
 
@@ -182,11 +182,11 @@ module _ (s : Settings) (empty : CacheValue) (none : empty.entries ≡ []) where
     leads-found : (lookups : List EventValue) (done : List SubLookup) (a : AttemptValue) (t : RecordType) (result : LookupResult) → FindsStatic ctx a t result → Leads tables lookups call now done a → Leads tables lookups call now (done ++ static a t result ∷ []) (with_result a result)
     leads-found lookups done a t result f leads T L h k =
         more_done (Answers T L now) (IsCall (Answers T L now) s empty call) done a t empty empty (static a t result) f.next
-        (refl, (hosts, contains-front tables T hosts stood h, record { asks_hosts = f.looked; found = f.found; has = f.has; result_is = f.result_is; nothing_asked = refl; unchanged = refl }))
+        (refl, (hosts, contains-front tables T hosts stood h, record { asks_hosts = f.with_hosts; found = f.found; has = f.has; result_is = f.result_is; nothing_asked = refl; unchanged = refl }))
         (leads T L h k)
 
     -- a look-up of the client ended
-    leads-ended : (lookups more : List EventValue) (done : List SubLookup) (a : AttemptValue) (t : RecordType) (d : DoneValue) → next_type a.plan.types a.results ≡ Some t → ((a.looked ≡ false) ⊎ IsStatic (question_of a.name t) now hosts None) → d.question ≡ question_of a.name t → d.now ≡ now
+    leads-ended : (lookups more : List EventValue) (done : List SubLookup) (a : AttemptValue) (t : RecordType) (d : DoneValue) → next_type a.plan.types a.results ≡ Some t → ((a.with_hosts ≡ false) ⊎ IsStatic (question_of a.name t) now hosts None) → d.question ≡ question_of a.name t → d.now ≡ now
         → IsFront lookups more → IsPromisedAmong preserve empty more d → Leads tables lookups call now done a → Leads tables more call now (done ++ by_client a t d.asks d.result ∷ []) (with_result a d.result)
     leads-ended lookups more done a t d next not_static question_is now_is g among leads T L h k =
         more_done (Answers T L now) (IsCall (Answers T L now) s empty call) done a t empty empty (by_client a t d.asks d.result) next (
@@ -264,7 +264,7 @@ module _ (s : Settings) (empty : CacheValue) (none : empty.entries ≡ []) where
         subst (λ xs. Gone lookups xs progress after ps) (asks-append done p ∙ ap (λ xs. asks_of_sub_lookups done ++ xs) unasked ∙ append-nil (asks_of_sub_lookups done)) g
 
     gone-waits : (lookups : List EventValue) (done : List SubLookup) (a : AttemptValue) (t : RecordType) (w : WaitingValue) (before after : CacheValue) (ps : List PendingValue) → Happen preserve (world_of empty) lookups (record { cache = before; pending = ps }) → Leads tables lookups call now done a → Within call a → StartsSub ctx a t before (Waits w) after
-        → Gone lookups (asks_of_sub_lookups done) (CallWaits (record { attempt = a; sub = w })) after ps
+        → Gone lookups (asks_of_sub_lookups done) (CallWaits (record { attempt = a; lookup = w })) after ps
     gone-waits lookups done a t w before after ps happened leads within started =
         let q = question_of a.name t in
         let p : PendingValue = record { question = q; asks = []; caches = []; cache = before; waiting = w } in
@@ -283,7 +283,7 @@ module _ (s : Settings) (empty : CacheValue) (none : empty.entries ≡ []) where
               asked_type = t;
               next = started.next;
               question_is = refl;
-              not_static = subst (λ n. (a.looked ≡ false) ⊎ IsStatic q n hosts None) (sym now_is) started.not_static;
+              not_static = subst (λ n. (a.with_hosts ≡ false) ⊎ IsStatic q n hosts None) (sym now_is) started.not_static;
               done = done;
               asks_are = sym (append-nil (asks_of_sub_lookups done));
               leads = subst (λ n. Leads tables (lookups ++ event ∷ []) call n done a) (sym now_is) (leads-later tables tables lookups (lookups ++ event ∷ []) call now done a (front-self tables) (front-more lookups (event ∷ [])) leads);
@@ -353,7 +353,7 @@ module _ (s : Settings) (empty : CacheValue) (none : empty.entries ≡ []) where
         subst (λ c. Gone tables hosts stood (Attempt n plan) now lookups [] progress c ps) (sym same)
         (subst (λ g. Gone tables hosts stood (Attempt n plan) now lookups [] g before ps) (sym done) (gone-done tables hosts stood (Attempt n plan) now lookups [] result before ps happened is))
     by_names n plan (name ∷ names) e more =
-        goes tables hosts stood (Attempt n plan) now (record { plan = plan; looked = true; name = name; results = []; left = names }) before progress after lookups [] ps happened
+        goes tables hosts stood (Attempt n plan) now (record { plan = plan; with_hosts = true; name = name; results = []; left = names }) before progress after lookups [] ps happened
         (λ T L h k parts r end rest.
         subst (λ ns. AreAttempts (Answers T L now) plan true empty ns (Says plan.no_names) parts r end) (sym e)
         (attempts_of (Answers T L now) plan true name names empty (Says plan.no_names) parts r end rest))
@@ -371,13 +371,13 @@ module _ (s : Settings) (empty : CacheValue) (none : empty.entries ≡ []) where
 
   -- a call in flight was started
   abbrev IsBegun : List CallEventValue → PendingCallValue → Type 0
-  IsBegun events c = IsStartedIn events c.call c.waiting.sub.now
+  IsBegun events c = IsStartedIn events c.call c.waiting.lookup.now
 
   started-later : (events more : List CallEventValue) (call : Call) (now : ℕ) → IsStartedIn events call now → IsStartedIn (events ++ more) call now
   started-later events more call now (progress, has) = (progress, contains-front events (events ++ more) (CallStarted call now progress) has (front-more events more))
 
   begun-later : (events more : List CallEventValue) (cs : List PendingCallValue) → AllByRecursion (IsBegun events) cs → AllByRecursion (IsBegun (events ++ more)) cs
-  begun-later events more cs all = all-weaker (IsBegun events) (IsBegun (events ++ more)) (λ c h. started-later events more c.call c.waiting.sub.now h) cs all
+  begun-later events more cs all = all-weaker (IsBegun events) (IsBegun (events ++ more)) (λ c h. started-later events more c.call c.waiting.lookup.now h) cs all
 
   asked-later : (events more : List CallEventValue) (d : DoneValue) → IsAskedIn s events d → IsAskedIn s (events ++ more) d
   asked-later events more d (call, started, is) = (call, started-later events more call d.now started, is)
@@ -402,7 +402,7 @@ module _ (s : Settings) (empty : CacheValue) (none : empty.entries ≡ []) where
   asked-fed before event after events all = subst (λ ls. AllByRecursion (IsAskedIn s events) (ended_in ls)) (sym (append_assoc before (event ∷ []) after)) all
 
   this-begun : (events : List CallEventValue) (call : Call) (now : ℕ) → IsStartedIn events call now → (c : PendingCallValue) → IsThisCall call now c → IsBegun events c
-  this-begun events call now started c (same, now_is) = subst (λ k. IsStartedIn events k c.waiting.sub.now) (sym same) (subst (IsStartedIn events call) (sym now_is) started)
+  this-begun events call now started c (same, now_is) = subst (λ k. IsStartedIn events k c.waiting.lookup.now) (sym same) (subst (IsStartedIn events call) (sym now_is) started)
 
   own-begun : (events : List CallEventValue) (call : Call) (now : ℕ) → IsStartedIn events call now → (cs : List PendingCallValue) → AllByRecursion (IsThisCall call now) cs → AllByRecursion (IsBegun events) cs
   own-begun events call now started cs own = all-weaker (IsThisCall call now) (IsBegun events) (this-begun events call now started) cs own
@@ -453,8 +453,8 @@ module _ (s : Settings) (empty : CacheValue) (none : empty.entries ≡ []) where
       abbrev now_events : List CallEventValue
       now_events = events ++ now_event ∷ []
 
-      abbrev own_begun : IsStartedIn now_events c.call c.waiting.sub.now
-      own_begun = started-later events (now_event ∷ []) c.call c.waiting.sub.now others_begun.1
+      abbrev own_begun : IsStartedIn now_events c.call c.waiting.lookup.now
+      own_begun = started-later events (now_event ∷ []) c.call c.waiting.lookup.now others_begun.1
 
       abbrev p : PendingValue
       p = around.own
@@ -473,28 +473,28 @@ module _ (s : Settings) (empty : CacheValue) (none : empty.entries ≡ []) where
           ap (λ l. l ++ x ∷ []) k.asks_are ∙ append_assoc (asks_of_sub_lookups k.done) p.asks (x ∷ [])
           ∙ ap (λ (v : WaitingValue). asks_of_sub_lookups k.done ++ (p.asks ++ record { query = v.hop.query; outcome = outcome } ∷ [])) (sym k.same)
 
-      received_now : dated_exchanges p.waiting.now (record { query = p.waiting.hop.query; outcome = outcome } ∷ []) ≡ dated_exchanges c.waiting.sub.now (x ∷ [])
+      received_now : dated_exchanges p.waiting.now (record { query = p.waiting.hop.query; outcome = outcome } ∷ []) ≡ dated_exchanges c.waiting.lookup.now (x ∷ [])
       received_now = ap (λ (v : WaitingValue). dated_exchanges v.now (record { query = v.hop.query; outcome = outcome } ∷ [])) k.same
 
       abbrev step : CallContext
-      step = call_context_over s c.waiting.sub.now before.hosts
+      step = call_context_over s c.waiting.lookup.now before.hosts
 
-      resumes_own : (sub : ProgressValue) (mid : CacheValue) → Resumes (start_at step before.cache) c.waiting.sub outcome sub mid → Resumes (start_at (call_context_over s p.waiting.now before.hosts) before.cache) p.waiting outcome sub mid
-      resumes_own sub mid resumes = let P : WaitingValue → Type 0 = λ v. Resumes (start_at (call_context_over s v.now before.hosts) before.cache) v outcome sub mid in subst P (sym k.same) resumes
+      resumes_own : (lookup : ProgressValue) (mid : CacheValue) → Resumes (start_at step before.cache) c.waiting.lookup outcome lookup mid → Resumes (start_at (call_context_over s p.waiting.now before.hosts) before.cache) p.waiting outcome lookup mid
+      resumes_own lookup mid resumes = let P : WaitingValue → Type 0 = λ v. Resumes (start_at (call_context_over s v.now before.hosts) before.cache) v outcome lookup mid in subst P (sym k.same) resumes
 
       -- its look-up waits on
-      waits-good : (sub : WaitingValue) (mid : CacheValue) → Resumes (start_at step before.cache) c.waiting.sub outcome (Waits sub) mid → (progress : CallProgressValue) → GoesOnAfter step c.waiting.attempt (Waits sub) mid progress after.cache → after.hosts ≡ before.hosts
-          → after.calls ≡ front ++ call_pending c.call (c.asks ++ x ∷ []) progress ++ back → GoodStep now_events tables (received ++ dated_exchanges c.waiting.sub.now (x ∷ [])) (call_done c.call c.waiting.sub.now (c.asks ++ x ∷ []) progress) after
-      waits-good sub mid resumes progress (is, cache_is) hosts_is calls_is =
-          let w : WaitingCallValue = record { attempt = c.waiting.attempt; sub = sub } in
-          let own : PendingValue = record { question = p.question; asks = asks_with p outcome; caches = caches_with p; cache = before.cache; waiting = sub } in
+      waits-good : (lookup : WaitingValue) (mid : CacheValue) → Resumes (start_at step before.cache) c.waiting.lookup outcome (Waits lookup) mid → (progress : CallProgressValue) → GoesOnAfter step c.waiting.attempt (Waits lookup) mid progress after.cache → after.hosts ≡ before.hosts
+          → after.calls ≡ front ++ call_pending c.call (c.asks ++ x ∷ []) progress ++ back → GoodStep now_events tables (received ++ dated_exchanges c.waiting.lookup.now (x ∷ [])) (call_done c.call c.waiting.lookup.now (c.asks ++ x ∷ []) progress) after
+      waits-good lookup mid resumes progress (is, cache_is) hosts_is calls_is =
+          let w : WaitingCallValue = record { attempt = c.waiting.attempt; lookup = lookup } in
+          let own : PendingValue = record { question = p.question; asks = asks_with p outcome; caches = caches_with p; cache = before.cache; waiting = lookup } in
           let next : PendingCallValue = record { call = c.call; asks = c.asks ++ x ∷ []; waiting = w } in
-          let event = Fed p outcome (Waits sub) in
+          let event = Fed p outcome (Waits lookup) in
           let all = good.lookups ++ event ∷ [] in
           let pending = around.first ++ own ∷ around.rest in
           let second : WorldValue = record { cache = mid; pending = pending } in
-          let happens : Happens preserve first event second = (around.first, around.rest, around.are, resumes_own (Waits sub) mid resumes, sym (append_assoc around.first (own ∷ []) around.rest)) in
-          let now_is : sub.now ≡ c.waiting.sub.now = now-stays (start_at step before.cache) c.waiting.sub outcome sub mid resumes in
+          let happens : Happens preserve first event second = (around.first, around.rest, around.are, resumes_own (Waits lookup) mid resumes, sym (append_assoc around.first (own ∷ []) around.rest)) in
+          let now_is : lookup.now ≡ c.waiting.lookup.now = now-stays (start_at step before.cache) c.waiting.lookup outcome lookup mid resumes in
           let later : (cs : List PendingCallValue) (ps : List PendingValue) → Match tables good.lookups cs ps → Match tables all cs ps = match-later tables tables good.lookups all (front-self tables) (front-more good.lookups (event ∷ [])) in
           let known : IsKnownCall tables all next own = record {
             same = refl;
@@ -503,11 +503,11 @@ module _ (s : Settings) (empty : CacheValue) (none : empty.entries ≡ []) where
             asked_type = k.asked_type;
             next = k.next;
             question_is = k.question_is;
-            not_static = subst (λ n. (c.waiting.attempt.looked ≡ false) ⊎ IsStatic (question_of c.waiting.attempt.name k.asked_type) n k.hosts None) (sym now_is) k.not_static;
+            not_static = subst (λ n. (c.waiting.attempt.with_hosts ≡ false) ⊎ IsStatic (question_of c.waiting.attempt.name k.asked_type) n k.hosts None) (sym now_is) k.not_static;
             done = k.done;
             asks_are = asks_now;
             leads = subst (λ n. Leads tables all c.call n k.done c.waiting.attempt) (sym now_is)
-                (leads-later tables tables good.lookups all c.call c.waiting.sub.now k.done c.waiting.attempt (front-self tables) (front-more good.lookups (event ∷ [])) k.leads);
+                (leads-later tables tables good.lookups all c.call c.waiting.lookup.now k.done c.waiting.attempt (front-self tables) (front-more good.lookups (event ∷ [])) k.leads);
             within = k.within;
           } in
           let calls : after.calls ≡ front ++ next ∷ back = subst (λ g. after.calls ≡ front ++ call_pending c.call (c.asks ++ x ∷ []) g ++ back) is calls_is ∙ append_assoc front (next ∷ []) back in
@@ -524,14 +524,14 @@ module _ (s : Settings) (empty : CacheValue) (none : empty.entries ≡ []) where
               begun_in = subst (AllByRecursion (IsBegun now_events)) (sym calls)
                   (all-append (IsBegun now_events) front (next ∷ back) (begun-later events (now_event ∷ []) front others_begun.0) (subst (IsStartedIn now_events c.call) (sym now_is) own_begun, begun-later events (now_event ∷ []) back others_begun.2));
             };
-            ends = subst (λ g. AllByRecursion (IsPromisedCallEnd s empty tables all) (call_done c.call c.waiting.sub.now (c.asks ++ x ∷ []) g)) (sym is) tt;
+            ends = subst (λ g. AllByRecursion (IsPromisedCallEnd s empty tables all) (call_done c.call c.waiting.lookup.now (c.asks ++ x ∷ []) g)) (sym is) tt;
           }
 
       -- its look-up is done
-      done-good : (result : LookupResult) (mid : CacheValue) → Resumes (start_at step before.cache) c.waiting.sub outcome (IsDone result) mid → (progress : CallProgressValue) → GoesOnAfter step c.waiting.attempt (IsDone result) mid progress after.cache → after.hosts ≡ before.hosts
-          → after.calls ≡ (front ++ back) ++ call_pending c.call (c.asks ++ x ∷ []) progress → GoodStep now_events tables (received ++ dated_exchanges c.waiting.sub.now (x ∷ [])) (call_done c.call c.waiting.sub.now (c.asks ++ x ∷ []) progress) after
+      done-good : (result : LookupResult) (mid : CacheValue) → Resumes (start_at step before.cache) c.waiting.lookup outcome (IsDone result) mid → (progress : CallProgressValue) → GoesOnAfter step c.waiting.attempt (IsDone result) mid progress after.cache → after.hosts ≡ before.hosts
+          → after.calls ≡ (front ++ back) ++ call_pending c.call (c.asks ++ x ∷ []) progress → GoodStep now_events tables (received ++ dated_exchanges c.waiting.lookup.now (x ∷ [])) (call_done c.call c.waiting.lookup.now (c.asks ++ x ∷ []) progress) after
       done-good result mid resumes progress more hosts_is calls_is =
-          let now = c.waiting.sub.now in
+          let now = c.waiting.lookup.now in
           let a = c.waiting.attempt in
           let d : DoneValue = record { question = p.question; now = p.waiting.now; asks = asks_with p outcome; caches = caches_with p; result = result } in
           let event = Fed p outcome (IsDone result) in
@@ -556,7 +556,7 @@ module _ (s : Settings) (empty : CacheValue) (none : empty.entries ≡ []) where
               lookups = all;
               pending = pending ++ g.new;
               happened = g.happened;
-              received_is = received-fed good.lookups event g.more received (dated_exchanges c.waiting.sub.now (x ∷ [])) good.received_is received_now g.nothing;
+              received_is = received-fed good.lookups event g.more received (dated_exchanges c.waiting.lookup.now (x ∷ [])) good.received_is received_now g.nothing;
               stood = subst (Contains tables) (sym hosts_is) good.stood;
               known = subst (λ cs. Match tables all cs (pending ++ g.new)) (sym calls_is) (match-append tables all (front ++ back) (call_pending c.call (c.asks ++ x ∷ []) progress) pending g.new others g.known);
               asked = asked;
@@ -638,8 +638,8 @@ module _ (s : Settings) (empty : CacheValue) (none : empty.entries ≡ []) where
   clears-each t (n ∷ ns) cache pending = (record { cache = without_query cache (question_of n t); pending = pending }, refl, clears-each t ns (without_query cache (question_of n t)) pending)
 
   fed-good : (events : List CallEventValue) (tables : List (List Host)) (received : List Dated) (before : CallWorldValue) (good : Good events tables received before) (c : PendingCallValue) (outcome : OutcomeValue) (progress : CallProgressValue) (after : CallWorldValue) → CallHappens s before (CallFed c outcome progress) after
-      → GoodStep (events ++ CallFed c outcome progress ∷ []) tables (received ++ dated_exchanges c.waiting.sub.now (exchange_with c outcome ∷ [])) (call_done c.call c.waiting.sub.now (c.asks ++ exchange_with c outcome ∷ []) progress) after
-  fed-good events tables received before good c outcome progress after (front, back, calls, (sub, mid, resumes, more), hosts_is, calls_is) = by sub resumes more calls_is
+      → GoodStep (events ++ CallFed c outcome progress ∷ []) tables (received ++ dated_exchanges c.waiting.lookup.now (exchange_with c outcome ∷ [])) (call_done c.call c.waiting.lookup.now (c.asks ++ exchange_with c outcome ∷ []) progress) after
+  fed-good events tables received before good c outcome progress after (front, back, calls, (lookup, mid, resumes, more), hosts_is, calls_is) = by lookup resumes more calls_is
     where
       around : IsAround tables good.lookups front c back good.pending
       around = match-around tables good.lookups front c back good.pending (subst (λ cs. Match tables good.lookups cs good.pending) calls good.known)
@@ -650,9 +650,9 @@ module _ (s : Settings) (empty : CacheValue) (none : empty.entries ≡ []) where
           let rest = all-back (IsBegun events) front (c ∷ back) all in
           (all-front (IsBegun events) front (c ∷ back) all, rest.0, rest.1)
 
-      by : (sub : ProgressValue) → Resumes (start_at (call_context_over s c.waiting.sub.now before.hosts) before.cache) c.waiting.sub outcome sub mid → GoesOnAfter (call_context_over s c.waiting.sub.now before.hosts) c.waiting.attempt sub mid progress after.cache
-          → after.calls ≡ placed sub front (call_pending c.call (c.asks ++ exchange_with c outcome ∷ []) progress) back
-          → GoodStep (events ++ CallFed c outcome progress ∷ []) tables (received ++ dated_exchanges c.waiting.sub.now (exchange_with c outcome ∷ [])) (call_done c.call c.waiting.sub.now (c.asks ++ exchange_with c outcome ∷ []) progress) after
+      by : (lookup : ProgressValue) → Resumes (start_at (call_context_over s c.waiting.lookup.now before.hosts) before.cache) c.waiting.lookup outcome lookup mid → GoesOnAfter (call_context_over s c.waiting.lookup.now before.hosts) c.waiting.attempt lookup mid progress after.cache
+          → after.calls ≡ placed lookup front (call_pending c.call (c.asks ++ exchange_with c outcome ∷ []) progress) back
+          → GoodStep (events ++ CallFed c outcome progress ∷ []) tables (received ++ dated_exchanges c.waiting.lookup.now (exchange_with c outcome ∷ [])) (call_done c.call c.waiting.lookup.now (c.asks ++ exchange_with c outcome ∷ []) progress) after
       by (Waits w) resumes more calls_is = waits-good events tables received before good after c outcome front back around (CallFed c outcome progress) begun w mid resumes progress more hosts_is calls_is
       by (IsDone result) resumes more calls_is = done-good events tables received before good after c outcome front back around (CallFed c outcome progress) begun result mid resumes progress more hosts_is calls_is
 

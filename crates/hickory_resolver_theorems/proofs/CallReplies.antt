@@ -78,49 +78,49 @@ module _ (s : Settings) (empty : CacheValue) (tables : List (List Host)) (lookup
     abbrev Answers : SubLookupRelation
     Answers = InterleavedSubLookup s empty tables lookups now
 
-    lookup-fresh : (looked : Bool) (p : SubLookup) → IsInterleavedLookup s empty tables lookups now looked p → IsFreshFor empty.config (received_in lookups) p.question now p.result
-    lookup-fresh looked p is =
+    lookup-fresh : (with_hosts : Bool) (p : SubLookup) → IsInterleavedLookup s empty tables lookups now with_hosts p → IsFreshFor empty.config (received_in lookups) p.question now p.result
+    lookup-fresh with_hosts p is =
         let d = is.lookup in
         let own = done-fresh d is.promised in
         let asked = subst (λ q. IsFreshFor empty.config (received_in lookups) q d.now d.result) is.question_is own in
         let dated = subst (λ n. IsFreshFor empty.config (received_in lookups) p.question n d.result) is.now_is asked in
         subst (λ r. IsFreshFor empty.config (received_in lookups) p.question now r) is.result_is dated
 
-    part-fresh : (looked : Bool) (before : CacheValue) (q : Query) (p : SubLookup) (after : CacheValue) → Answers looked before q p after → IsFreshSubLookup empty.config (λ code. received_in lookups) now p
-    part-fresh looked before q p after (for, is) = by p.source refl is
+    part-fresh : (with_hosts : Bool) (before : CacheValue) (q : Query) (p : SubLookup) (after : CacheValue) → Answers with_hosts before q p after → IsFreshSubLookup empty.config (λ code. received_in lookups) now p
+    part-fresh with_hosts before q p after (for, is) = by p.source refl is
       where
-        by : (source : Source) → p.source ≡ source → IsInterleavedFrom source s empty tables lookups now looked before p after → IsFreshSubLookup empty.config (λ code. received_in lookups) now p
+        by : (source : Source) → p.source ≡ source → IsInterleavedFrom source s empty tables lookups now with_hosts before p after → IsFreshSubLookup empty.config (λ code. received_in lookups) now p
         by Static e part = λ client. absurd (let clash : Static ≡ Client = sym e ∙ client in cc)
-        by Client e (own, same) = λ client zero. lookup-fresh looked p own zero
+        by Client e (own, same) = λ client zero. lookup-fresh with_hosts p own zero
 
-    part-few : (looked : Bool) (before : CacheValue) (q : Query) (p : SubLookup) (after : CacheValue) → Answers looked before q p after → length p.asks ≤ 8
-    part-few looked before q p after (for, is) = by p.source is
+    part-few : (with_hosts : Bool) (before : CacheValue) (q : Query) (p : SubLookup) (after : CacheValue) → Answers with_hosts before q p after → length p.asks ≤ 8
+    part-few with_hosts before q p after (for, is) = by p.source is
       where
-        by : (source : Source) → IsInterleavedFrom source s empty tables lookups now looked before p after → length p.asks ≤ 8
+        by : (source : Source) → IsInterleavedFrom source s empty tables lookups now with_hosts before p after → length p.asks ≤ 8
         by Static (hosts, stood, part) = omega (arith, ap length part.nothing_asked)
         by Client (own, same) = subst (λ xs. length xs ≤ 8) own.asks_are own.promised.promised.few
 
     -- a part is out of memory, or the cacheless resolver's
     abbrev PartAlike : TableValue → Bool → CacheValue → Query → SubLookup → CacheValue → Type 0
-    PartAlike table looked before q p after = (is_out_of_memory p.result ≡ true) ⊎ CachelessSubLookupOver table s tables now looked before q p after
+    PartAlike table with_hosts before q p after = (is_out_of_memory p.result ≡ true) ⊎ CachelessSubLookupOver table s tables now with_hosts before q p after
 
-    part-alike : (table : TableValue) → IsSeenBy table s.preserve_intermediates (received_in lookups) (ended_in lookups) → (looked : Bool) (before : CacheValue) (q : Query) (p : SubLookup) (after : CacheValue) → Answers looked before q p after → PartAlike table looked before q p after
-    part-alike table seen looked before q p after (for, is) = by p.source is
+    part-alike : (table : TableValue) → IsSeenBy table s.preserve_intermediates (received_in lookups) (ended_in lookups) → (with_hosts : Bool) (before : CacheValue) (q : Query) (p : SubLookup) (after : CacheValue) → Answers with_hosts before q p after → PartAlike table with_hosts before q p after
+    part-alike table seen with_hosts before q p after (for, is) = by p.source is
       where
-        meant : (own : IsInterleavedLookup s empty tables lookups now looked p) → after ≡ before → IsMeant table own.lookup → PartAlike table looked before q p after
+        meant : (own : IsInterleavedLookup s empty tables lookups now with_hosts p) → after ≡ before → IsMeant table own.lookup → PartAlike table with_hosts before q p after
         meant own same (inl out) = inl (ap is_out_of_memory (sym own.result_is ∙ out))
         meant own same (inr (n, means)) =
             let asked = subst (λ x. ResolvesTo table x (reply_core own.lookup.result) n) (own.question_is ∙ for) means in
-            let cacheless : IsCachelessSubLookup table (call_context_over s now own.hosts) looked q p = record {
+            let cacheless : IsCachelessSubLookup table (call_context_over s now own.hosts) with_hosts q p = record {
               reply = reply_core p.result;
               length_is = n;
-              not_static = subst (λ x. (looked ≡ false) ⊎ IsStatic x now own.hosts None) for own.not_static;
+              not_static = subst (λ x. (with_hosts ≡ false) ⊎ IsStatic x now own.hosts None) for own.not_static;
               means = subst (λ r. ResolvesTo table q (reply_core r) n) own.result_is asked;
               result_is = refl;
             } in
             inr (own.hosts, own.stood, (for, inr (cacheless, same)))
 
-        by : (source : Source) → IsInterleavedFrom source s empty tables lookups now looked before p after → PartAlike table looked before q p after
+        by : (source : Source) → IsInterleavedFrom source s empty tables lookups now with_hosts before p after → PartAlike table with_hosts before q p after
         by Static (hosts, stood, part) = inr (hosts, stood, (for, inl part))
         by Client (own, same) = meant own same (done-meant own.lookup own.promised table seen)
 
@@ -148,7 +148,7 @@ module _ (s : Settings) (empty : CacheValue) (tables : List (List Host)) (lookup
 
         by : IsCallBy (Answers d.now) s empty d.call is.parts d.result empty → (d.result ≡ Err OutOfMemory) ⊎ IsCall Cacheless s empty d.call is.parts d.result empty
         by (inl call) =
-            on (call-unless (Answers d.now) Cacheless (λ c. Unit {0}) (λ p. Unit {0}) (λ c. c) (λ looked before q p after holds own answered. (part-alike d.now table seen_by looked before q p after answered, tt))
+            on (call-unless (Answers d.now) Cacheless (λ c. Unit {0}) (λ p. Unit {0}) (λ c. c) (λ with_hosts before q p after holds own answered. (part-alike d.now table seen_by with_hosts before q p after answered, tt))
             s empty d.call is.parts d.result empty tt (has-all (λ p. Unit {0}) is.parts (λ p h. tt)) call).0
         by (inr (none, e, same)) = inl e
 
@@ -180,11 +180,11 @@ replies_promised s empty first none events event before after happen happens =
 
 -- ---- one reply without a cache
 
-one-table : (table : TableValue) (s : Settings) (hosts : List Host) (now : ℕ) (looked : Bool) (before : CacheValue) (q : Query) (p : SubLookup) (after : CacheValue) → CachelessSubLookupOver table s (hosts ∷ []) now looked before q p after → CachelessSubLookup table (call_context_over s now hosts) looked before q p after
-one-table table s hosts now looked before q p after (found, has, is) = by (contains-to_recursion (hosts ∷ []) found has)
+one-table : (table : TableValue) (s : Settings) (hosts : List Host) (now : ℕ) (with_hosts : Bool) (before : CacheValue) (q : Query) (p : SubLookup) (after : CacheValue) → CachelessSubLookupOver table s (hosts ∷ []) now with_hosts before q p after → CachelessSubLookup table (call_context_over s now hosts) with_hosts before q p after
+one-table table s hosts now with_hosts before q p after (found, has, is) = by (contains-to_recursion (hosts ∷ []) found has)
   where
-    by : (found ≡ hosts) ⊎ ⊥ → CachelessSubLookup table (call_context_over s now hosts) looked before q p after
-    by (inl e) = subst (λ h. CachelessSubLookup table (call_context_over s now h) looked before q p after) e is
+    by : (found ≡ hosts) ⊎ ⊥ → CachelessSubLookup table (call_context_over s now hosts) with_hosts before q p after
+    by (inl e) = subst (λ h. CachelessSubLookup table (call_context_over s now h) with_hosts before q p after) e is
     by (inr never) = absurd never
 
 pub one_cacheless_call : (table : TableValue) (s : Settings) (empty : CacheValue) (hosts : List Host) (now : ℕ) (call : Call) → IsOneCachelessCall table s empty hosts now call

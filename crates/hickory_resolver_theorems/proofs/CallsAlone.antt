@@ -13,7 +13,7 @@ use Rattle.hickory_resolver_model.specs.Calls.{CallContext, start_at, SubLookup,
 use Rattle.hickory_resolver_model.specs.Resuming.{WaitingValue, ProgressValue, Waits, IsDone}
 use Rattle.hickory_resolver_model.specs.Run.{Settings, Call, AtOnce, Attempt, IsCall, RanOutBeforeAsking}
 use Rattle.hickory_resolver_theorems.specs.ResumingCalls.{AttemptValue, WaitingCallValue, CallProgressValue, with_result, at_next, FindsStatic, StartsSub, GoesOn, by_hosts, waits, at_once, stopped, next_name, no_name, StartsNames, StartsCall, RunsOutAtStart, GoesOnAfter, ResumesCall}
-use Rattle.hickory_resolver_theorems.specs.CallsAlone.{LookupSoFar, IsRestOfCall, CallRelation, LeadsToWhole, IsCallSentAlone, IsCallDoneAlone, CallSoFar}
+use Rattle.hickory_resolver_theorems.proofs.SentAlone.{LookupSoFar, IsRestOfCall, CallRelation, LeadsToWhole, IsCallSentAlone, IsCallDoneAlone, CallSoFar}
 use Rattle.hickory_resolver_theorems.proofs.RestOfCall.{asks-append, by_client, static, rest_stopped, attempts_of, rest_next, rest_none, more_done}
 use Rattle.hickory_resolver_theorems.proofs.LookupsAlone.{lookup_started, lookup_resumed}
 
@@ -25,20 +25,20 @@ module _ (s : CallContext) where
 
     found_done : (done : List SubLookup) (a : AttemptValue) (t : RecordType) (result : LookupResult) (before : CacheValue) → FindsStatic s a t result → LeadsToWhole (IsAnsweredFor s) IsWhole done a before → LeadsToWhole (IsAnsweredFor s) IsWhole (done ++ static a t result ∷ []) (with_result a result) before
     found_done done a t result before f whole =
-        more_done (IsAnsweredFor s) IsWhole done a t before before (static a t result) f.next (refl, record { asks_hosts = f.looked; found = f.found; has = f.has; result_is = f.result_is; nothing_asked = refl; unchanged = refl }) whole
+        more_done (IsAnsweredFor s) IsWhole done a t before before (static a t result) f.next (refl, record { asks_hosts = f.with_hosts; found = f.found; has = f.has; result_is = f.result_is; nothing_asked = refl; unchanged = refl }) whole
 
-    started_wait : (done : List SubLookup) (a : AttemptValue) (t : RecordType) (w : WaitingValue) (before after : CacheValue) → StartsSub s a t before (Waits w) after → LeadsToWhole (IsAnsweredFor s) IsWhole done a before → IsCallSentAlone s IsWhole (asks_of_sub_lookups done) (record { attempt = a; sub = w }) after
+    started_wait : (done : List SubLookup) (a : AttemptValue) (t : RecordType) (w : WaitingValue) (before after : CacheValue) → StartsSub s a t before (Waits w) after → LeadsToWhole (IsAnsweredFor s) IsWhole done a before → IsCallSentAlone s IsWhole (asks_of_sub_lookups done) (record { attempt = a; lookup = w }) after
     started_wait done a t w before after started whole =
-        let sub = lookup_started (start_at s before) (question_of a.name t) (Waits w) after started.starts in
-        let P : CacheValue → Type 0 = λ c. IsCallSentAlone s IsWhole (asks_of_sub_lookups done) (record { attempt = a; sub = w }) c in
+        let lookup = lookup_started (start_at s before) (question_of a.name t) (Waits w) after started.starts in
+        let P : CacheValue → Type 0 = λ c. IsCallSentAlone s IsWhole (asks_of_sub_lookups done) (record { attempt = a; lookup = w }) c in
         let Q : CacheValue → Type 0 = λ c. LookupSoFar (start_at s before) (question_of a.name t) [] (Waits w) c in
-        subst P (sym sub.unchanged) (record {
+        subst P (sym lookup.unchanged) (record {
           done = done;
           sent = [];
           asked_type = t;
           next = started.next;
           not_static = started.not_static;
-          sub = subst Q sub.unchanged sub;
+          lookup = subst Q lookup.unchanged lookup;
           asks_are = sym (append-nil (asks_of_sub_lookups done));
           rest = whole;
         })
@@ -66,14 +66,14 @@ module _ (s : CallContext) where
 
   -- ---- a call is started
 
-  pub started : (plan : CallPlan) (looked : Bool) (names : List NameValue) (first : CacheValue) (progress : CallProgressValue) (after : CacheValue) → StartsNames s plan looked names first progress after
-      → CallSoFar s (λ parts result end. AreAttempts (IsAnsweredFor s) plan looked first names (Says plan.no_names) parts result end) [] progress after
-  started plan looked [] first progress after (result, reply, done, e) =
-      let IsWhole : CallRelation = λ parts result end. AreAttempts (IsAnsweredFor s) plan looked first [] (Says plan.no_names) parts result end in
+  pub started : (plan : CallPlan) (with_hosts : Bool) (names : List NameValue) (first : CacheValue) (progress : CallProgressValue) (after : CacheValue) → StartsNames s plan with_hosts names first progress after
+      → CallSoFar s (λ parts result end. AreAttempts (IsAnsweredFor s) plan with_hosts first names (Says plan.no_names) parts result end) [] progress after
+  started plan with_hosts [] first progress after (result, reply, done, e) =
+      let IsWhole : CallRelation = λ parts result end. AreAttempts (IsAnsweredFor s) plan with_hosts first [] (Says plan.no_names) parts result end in
       subst (λ p. CallSoFar s IsWhole [] p after) (sym done) (record { parts = []; asks_are = refl; whole = (refl, reply, e) })
-  started plan looked (name ∷ names) first progress after more =
-      goes_on (λ parts result end. AreAttempts (IsAnsweredFor s) plan looked first (name ∷ names) (Says plan.no_names) parts result end)
-      (record { plan = plan; looked = looked; name = name; results = []; left = names }) first progress after [] (attempts_of (IsAnsweredFor s) plan looked name names first (Says plan.no_names)) more
+  started plan with_hosts (name ∷ names) first progress after more =
+      goes_on (λ parts result end. AreAttempts (IsAnsweredFor s) plan with_hosts first (name ∷ names) (Says plan.no_names) parts result end)
+      (record { plan = plan; with_hosts = with_hosts; name = name; results = []; left = names }) first progress after [] (attempts_of (IsAnsweredFor s) plan with_hosts name names first (Says plan.no_names)) more
 
   pub started_call : (settings : Settings) (call : Call) (first : CacheValue) (progress : CallProgressValue) (after : CacheValue) → StartsCall s settings call first progress after → CallSoFar s (IsCall (IsAnsweredFor s) settings first call) [] progress after
   started_call settings (AtOnce answer) first progress after (done, e) =
@@ -88,7 +88,7 @@ module _ (s : CallContext) where
 
   module _ (IsWhole : CallRelation) (asks : List Exchange) (w : WaitingCallValue) (cache : CacheValue) (far : IsCallSentAlone s IsWhole asks w cache) (outcome : OutcomeValue) where
     abbrev came : Exchange
-    came = record { query = w.sub.hop.query; outcome = outcome }
+    came = record { query = w.lookup.hop.query; outcome = outcome }
 
     abbrev sent : List Exchange
     sent = far.sent ++ came ∷ []
@@ -99,17 +99,17 @@ module _ (s : CallContext) where
     asks_now : asks_of_sub_lookups far.done ++ sent ≡ asks ++ came ∷ []
     asks_now = sym (append_assoc (asks_of_sub_lookups far.done) far.sent (came ∷ [])) ∙ ap (λ xs. xs ++ came ∷ []) (sym far.asks_are)
 
-    resumed_by : (sub : ProgressValue) (mid : CacheValue) → LookupSoFar (start_at s cache) question sent sub mid → (progress : CallProgressValue) (after : CacheValue) → GoesOnAfter s w.attempt sub mid progress after → CallSoFar s IsWhole (asks ++ came ∷ []) progress after
-    resumed_by (Waits sub) mid still progress after (is, e) =
+    resumed_by : (lookup : ProgressValue) (mid : CacheValue) → LookupSoFar (start_at s cache) question sent lookup mid → (progress : CallProgressValue) (after : CacheValue) → GoesOnAfter s w.attempt lookup mid progress after → CallSoFar s IsWhole (asks ++ came ∷ []) progress after
+    resumed_by (Waits lookup) mid still progress after (is, e) =
         let P : CacheValue → Type 0 = λ c. CallSoFar s IsWhole (asks ++ came ∷ []) progress c in
-        let Q : CacheValue → Type 0 = λ c. LookupSoFar (start_at s cache) question sent (Waits sub) c in
+        let Q : CacheValue → Type 0 = λ c. LookupSoFar (start_at s cache) question sent (Waits lookup) c in
         subst P (sym (e ∙ still.unchanged)) (subst (λ p. CallSoFar s IsWhole (asks ++ came ∷ []) p cache) (sym is) (record {
           done = far.done;
           sent = sent;
           asked_type = far.asked_type;
           next = far.next;
           not_static = far.not_static;
-          sub = subst Q still.unchanged still;
+          lookup = subst Q still.unchanged still;
           asks_are = sym asks_now;
           rest = far.rest;
         }))
@@ -120,5 +120,5 @@ module _ (s : CallContext) where
         (more_done (IsAnsweredFor s) IsWhole far.done w.attempt far.asked_type cache mid p far.next (refl, record { not_static = far.not_static; reply = reply }) far.rest) more)
 
     pub resumed : (progress : CallProgressValue) (after : CacheValue) → ResumesCall s w outcome cache progress after → CallSoFar s IsWhole (asks ++ came ∷ []) progress after
-    resumed progress after (sub, mid, resumes, more) =
-        resumed_by sub mid (lookup_resumed (start_at s cache) question far.sent w.sub cache far.sub outcome mid sub resumes) progress after more
+    resumed progress after (lookup, mid, resumes, more) =
+        resumed_by lookup mid (lookup_resumed (start_at s cache) question far.sent w.lookup cache far.lookup outcome mid lookup resumes) progress after more

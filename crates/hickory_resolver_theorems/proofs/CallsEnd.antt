@@ -12,7 +12,7 @@ use Rattle.hickory_resolver_model.specs.Hops.{LookupContext}
 use Rattle.hickory_resolver_model.specs.Calls.{CallContext, start_at, Plan, One, Both, Fallback, next_type}
 use Rattle.hickory_resolver_model.specs.Resuming.{PassedValue, WaitingValue, ProgressValue, Waits, IsDone, passed_by, ComesTo, Resumes}
 use Rattle.hickory_resolver_theorems.specs.ResumingCalls.{AttemptValue, WaitingCallValue, CallProgressValue, CallWaits, CallIsDone, with_result, at_next, GoesOn, by_hosts, waits, at_once, stopped, next_name, no_name, GoesOnAfter, ResumesCall}
-use Rattle.hickory_resolver_theorems.specs.CallsAlone.{passed_of, CallRelation, IsCallSentAlone}
+use Rattle.hickory_resolver_theorems.proofs.SentAlone.{passed_of, CallRelation, IsCallSentAlone}
 
 -- ---- a look-up of the client
 
@@ -42,7 +42,7 @@ turns a = length a.left + length a.left + (2 - length a.results)
 
 -- how many questions it may send yet, at most
 abbrev pub call_left : CallProgressValue → ℕ
-call_left (CallWaits w) = 8 * turns w.attempt - length w.sub.passed
+call_left (CallWaits w) = 8 * turns w.attempt - length w.lookup.passed
 call_left (CallIsDone result) = 0
 
 fewer_turns : (a : AttemptValue) (r : LookupResult) → turns (with_result a r) ≤ turns a
@@ -70,15 +70,15 @@ one_result (Fallback a b) [] t e = omega arith
 one_result (Fallback a b) (r ∷ []) t e = omega arith
 one_result (Fallback a b) (r ∷ k ∷ rs) t e = let clash : None ≡ Some t = e in cc
 
-module _ (s : CallContext) (w : WaitingCallValue) (few : length w.sub.passed ≤ 7) (open_turn : length w.attempt.results ≤ 1) where
-  fewer_by : (sub : ProgressValue) (mid : CacheValue) (progress : CallProgressValue) (after : CacheValue) → lookup_left sub < lookup_left (Waits w.sub) → GoesOnAfter s w.attempt sub mid progress after → call_left progress < call_left (CallWaits w)
-  fewer_by (Waits sub) mid progress after less (is, e) = subst (λ p. call_left p < call_left (CallWaits w)) (sym is) (omega (arith, few, open_turn, less))
+module _ (s : CallContext) (w : WaitingCallValue) (few : length w.lookup.passed ≤ 7) (open_turn : length w.attempt.results ≤ 1) where
+  fewer_by : (lookup : ProgressValue) (mid : CacheValue) (progress : CallProgressValue) (after : CacheValue) → lookup_left lookup < lookup_left (Waits w.lookup) → GoesOnAfter s w.attempt lookup mid progress after → call_left progress < call_left (CallWaits w)
+  fewer_by (Waits lookup) mid progress after less (is, e) = subst (λ p. call_left p < call_left (CallWaits w)) (sym is) (omega (arith, few, open_turn, less))
   fewer_by (IsDone result) mid progress after less more =
       omega (arith, few, open_turn, length-append w.attempt.results (result ∷ []), few_left s (with_result w.attempt result) mid progress after more)
 
 -- each outcome leaves fewer
 pub fewer_call : (s : CallContext) (IsWhole : CallRelation) (asks : List Exchange) (w : WaitingCallValue) (cache : CacheValue) → IsCallSentAlone s IsWhole asks w cache → (outcome : OutcomeValue) (progress : CallProgressValue) (after : CacheValue) → ResumesCall s w outcome cache progress after → call_left progress < call_left (CallWaits w)
-fewer_call s IsWhole asks w cache far outcome progress after (sub, mid, resumes, more) =
-    let count : length w.sub.passed ≡ length far.sent = ap length far.sub.passed_are ∙ length-map far.sent (passed_of (start_at s cache)) in
-    let few : length w.sub.passed ≤ 7 = omega (arith, count, far.sub.few) in
-    fewer_by s w few (one_result w.attempt.plan.types w.attempt.results far.asked_type far.next) sub mid progress after (fewer_lookup (start_at s cache) w.sub outcome sub mid few resumes) more
+fewer_call s IsWhole asks w cache far outcome progress after (lookup, mid, resumes, more) =
+    let count : length w.lookup.passed ≡ length far.sent = ap length far.lookup.passed_are ∙ length-map far.sent (passed_of (start_at s cache)) in
+    let few : length w.lookup.passed ≤ 7 = omega (arith, count, far.lookup.few) in
+    fewer_by s w few (one_result w.attempt.plan.types w.attempt.results far.asked_type far.next) lookup mid progress after (fewer_lookup (start_at s cache) w.lookup outcome lookup mid few resumes) more

@@ -25,16 +25,16 @@ use Rattle.hickory_resolver_theorems.proofs.UnlessOut.{call-unless}
 abbrev pub IsCallDriven : CallContext → CallProgressValue → CacheValue → List Exchange → LookupResult → CacheValue → Type 0
 IsCallDriven t progress cache [] result after = (progress ≡ CallIsDone result) × (after ≡ cache)
 IsCallDriven t (CallWaits w) cache (x ∷ xs) result after =
-    (w.sub.now ≡ t.now) × (x.query ≡ w.sub.hop.query) × (next : CallProgressValue) × (mid : CacheValue) × ResumesCall t w x.outcome cache next mid × IsCallDriven t next mid xs result after
+    (w.lookup.now ≡ t.now) × (x.query ≡ w.lookup.hop.query) × (next : CallProgressValue) × (mid : CacheValue) × ResumesCall t w x.outcome cache next mid × IsCallDriven t next mid xs result after
 IsCallDriven t (CallIsDone early) cache (x ∷ xs) result after = ⊥
 
 -- a question is answered by the table of hosts, or by a look-up of the client that ends with all its stores
 abbrev pub IsWholeFrom : Source → CallContext → Bool → CacheValue → SubLookup → CacheValue → Type 0
-IsWholeFrom Static t looked before p after = IsAnsweredByHosts t looked before p after
-IsWholeFrom Client t looked before p after = ((looked ≡ false) ⊎ IsStatic p.question t.now t.hosts None) × IsWhole (start_at t before) p.question p.asks p.result after
+IsWholeFrom Static t with_hosts before p after = IsAnsweredByHosts t with_hosts before p after
+IsWholeFrom Client t with_hosts before p after = ((with_hosts ≡ false) ⊎ IsStatic p.question t.now t.hosts None) × IsWhole (start_at t before) p.question p.asks p.result after
 
 abbrev pub WholeSubLookup : CallContext → SubLookupRelation
-WholeSubLookup t looked before q p after = (p.question ≡ q) × IsWholeFrom p.source t looked before p after
+WholeSubLookup t with_hosts before q p after = (p.question ≡ q) × IsWholeFrom p.source t with_hosts before p after
 
 asks-append : (ps qs : List SubLookup) → asks_of_sub_lookups (ps ++ qs) ≡ asks_of_sub_lookups ps ++ asks_of_sub_lookups qs
 asks-append [] qs = refl
@@ -42,10 +42,10 @@ asks-append (p ∷ ps) qs = ap (λ xs. p.asks ++ xs) (asks-append ps qs) ∙ sym
 
 module _ (t : CallContext) where
   -- memory does not run out for it
-  part-whole : (looked : Bool) (before : CacheValue) (q : Query) (p : SubLookup) (after : CacheValue) → IsAnsweredFor t looked before q p after → (is_out_of_memory p.result ≡ true) ⊎ WholeSubLookup t looked before q p after
-  part-whole looked before q p after (for, is) = by p.source is (λ whole. (for, whole))
+  part-whole : (with_hosts : Bool) (before : CacheValue) (q : Query) (p : SubLookup) (after : CacheValue) → IsAnsweredFor t with_hosts before q p after → (is_out_of_memory p.result ≡ true) ⊎ WholeSubLookup t with_hosts before q p after
+  part-whole with_hosts before q p after (for, is) = by p.source is (λ whole. (for, whole))
     where
-      by : (source : Source) → IsAnsweredFrom source t looked before p after → (IsWholeFrom source t looked before p after → WholeSubLookup t looked before q p after) → (is_out_of_memory p.result ≡ true) ⊎ WholeSubLookup t looked before q p after
+      by : (source : Source) → IsAnsweredFrom source t with_hosts before p after → (IsWholeFrom source t with_hosts before p after → WholeSubLookup t with_hosts before q p after) → (is_out_of_memory p.result ≡ true) ⊎ WholeSubLookup t with_hosts before q p after
       by Static part k = inr (k part)
       by Client part k = elim part.reply [
         | inl whole ↦ inr (k (part.not_static, whole))
@@ -54,7 +54,7 @@ module _ (t : CallContext) where
 
   pub call-whole : (s : Settings) (before : CacheValue) (call : Call) (parts : List SubLookup) (reply : LookupResult) (after : CacheValue) → IsCall (IsAnsweredFor t) s before call parts reply after → (is_out_of_memory reply ≡ true) ⊎ IsCall (WholeSubLookup t) s before call parts reply after
   call-whole s before call parts reply after is =
-      (call-unless (IsAnsweredFor t) (WholeSubLookup t) (λ c. Unit {0}) (λ p. Unit {0}) (λ c. c) (λ looked mid q p end holds own answered. (part-whole looked mid q p end answered, tt))
+      (call-unless (IsAnsweredFor t) (WholeSubLookup t) (λ c. Unit {0}) (λ p. Unit {0}) (λ c. c) (λ with_hosts mid q p end holds own answered. (part-whole with_hosts mid q p end answered, tt))
       s before call parts reply after tt (has-all (λ p. Unit {0}) parts (λ p h. tt)) is).0
 
   -- ---- a call goes on, and is driven
@@ -67,18 +67,18 @@ module _ (t : CallContext) where
 
   -- a look-up that waits is driven to its end, and the call from there
   sub-driven : (a : AttemptValue) (first : CacheValue) (w : WaitingValue) (cache : CacheValue) (xs ys : List Exchange) (r : LookupResult) (mid : CacheValue) (result : LookupResult) (after : CacheValue) → w.now ≡ t.now → IsDriven (start_at t first) (Waits w) cache xs r mid → GoesOnDriven (with_result a r) mid ys result after
-      → IsCallDriven t (CallWaits (record { attempt = a; sub = w })) cache (xs ++ ys) result after
+      → IsCallDriven t (CallWaits (record { attempt = a; lookup = w })) cache (xs ++ ys) result after
   sub-driven a first w cache [] ys r mid result after now_is (done, same) more = let clash : Waits w ≡ IsDone r = done in cc
   sub-driven a first w cache (x ∷ xs) ys r mid result after now_is (asked, next, m, resumes, rest) more = by next xs resumes rest (λ v. sub-driven a first v m xs ys r mid result after)
     where
       Driven : List Exchange → Type 0
-      Driven zs = IsCallDriven t (CallWaits (record { attempt = a; sub = w })) cache (x ∷ zs ++ ys) result after
+      Driven zs = IsCallDriven t (CallWaits (record { attempt = a; lookup = w })) cache (x ∷ zs ++ ys) result after
 
-      by : (sub : ProgressValue) (zs : List Exchange) → Resumes (start_at t cache) w x.outcome sub m → IsDriven (start_at t first) sub m zs r mid
-          → ((v : WaitingValue) → v.now ≡ t.now → IsDriven (start_at t first) (Waits v) m zs r mid → GoesOnDriven (with_result a r) mid ys result after → IsCallDriven t (CallWaits (record { attempt = a; sub = v })) m (zs ++ ys) result after)
+      by : (lookup : ProgressValue) (zs : List Exchange) → Resumes (start_at t cache) w x.outcome lookup m → IsDriven (start_at t first) lookup m zs r mid
+          → ((v : WaitingValue) → v.now ≡ t.now → IsDriven (start_at t first) (Waits v) m zs r mid → GoesOnDriven (with_result a r) mid ys result after → IsCallDriven t (CallWaits (record { attempt = a; lookup = v })) m (zs ++ ys) result after)
           → Driven zs
       by (Waits v) zs resumes rest on =
-          (now_is, asked, CallWaits (record { attempt = a; sub = v }), m, (Waits v, m, resumes, (refl, refl)), on v (now-stays (start_at t cache) w x.outcome v m resumes) rest more)
+          (now_is, asked, CallWaits (record { attempt = a; lookup = v }), m, (Waits v, m, resumes, (refl, refl)), on v (now-stays (start_at t cache) w x.outcome v m resumes) rest more)
       by (IsDone early) [] resumes (done, same) on =
           let one : early ≡ r = cc in
           let ended : GoesOnDriven (with_result a early) m ys result after = subst (λ c. GoesOnDriven (with_result a early) c ys result after) same (subst (λ e. GoesOnDriven (with_result a e) mid ys result after) (sym one) more) in
@@ -86,16 +86,16 @@ module _ (t : CallContext) where
       by (IsDone early) (z ∷ zs) resumes never on = absurd never
 
   -- a look-up of the client is started and driven
-  client-driven : (a : AttemptValue) (u : RecordType) (before : CacheValue) (xs ys : List Exchange) (r : LookupResult) (mid : CacheValue) (result : LookupResult) (after : CacheValue) → next_type a.plan.types a.results ≡ Some u → (a.looked ≡ false) ⊎ IsStatic (question_of a.name u) t.now t.hosts None
+  client-driven : (a : AttemptValue) (u : RecordType) (before : CacheValue) (xs ys : List Exchange) (r : LookupResult) (mid : CacheValue) (result : LookupResult) (after : CacheValue) → next_type a.plan.types a.results ≡ Some u → (a.with_hosts ≡ false) ⊎ IsStatic (question_of a.name u) t.now t.hosts None
       → IsWhole (start_at t before) (question_of a.name u) xs r mid → GoesOnDriven (with_result a r) mid ys result after → GoesOnDriven a before (xs ++ ys) result after
   client-driven a u before xs ys r mid result after next not_static whole more = by d.progress xs d.starts d.driven
     where
       d : IsStartedAndDriven (start_at t before) (question_of a.name u) xs r mid
       d = whole_driven (start_at t before) (question_of a.name u) xs r mid whole
 
-      by : (sub : ProgressValue) (zs : List Exchange) → Starts (start_at t before) (question_of a.name u) sub d.cache → IsDriven (start_at t before) sub d.cache zs r mid → GoesOnDriven a before (zs ++ ys) result after
+      by : (lookup : ProgressValue) (zs : List Exchange) → Starts (start_at t before) (question_of a.name u) lookup d.cache → IsDriven (start_at t before) lookup d.cache zs r mid → GoesOnDriven a before (zs ++ ys) result after
       by (Waits w) zs starts driven = record {
-        progress = CallWaits (record { attempt = a; sub = w });
+        progress = CallWaits (record { attempt = a; lookup = w });
         cache = d.cache;
         goes = waits (record { next = next; not_static = not_static; starts = starts });
         driven = sub-driven a before w d.cache zs ys r mid result after (ap (λ (v : WaitingValue). v.now) starts.1) driven more;
@@ -106,26 +106,26 @@ module _ (t : CallContext) where
           record { progress = ended.progress; cache = ended.cache; goes = at_once (record { next = next; not_static = not_static; starts = starts }) ended.goes; driven = ended.driven }
       by (IsDone early) (z ∷ zs) starts never = absurd never
 
-  hosts-driven : (a : AttemptValue) (u : RecordType) (before : CacheValue) (p : SubLookup) (ys : List Exchange) (mid : CacheValue) (result : LookupResult) (after : CacheValue) → next_type a.plan.types a.results ≡ Some u → p.question ≡ question_of a.name u → IsAnsweredByHosts t a.looked before p mid
+  hosts-driven : (a : AttemptValue) (u : RecordType) (before : CacheValue) (p : SubLookup) (ys : List Exchange) (mid : CacheValue) (result : LookupResult) (after : CacheValue) → next_type a.plan.types a.results ≡ Some u → p.question ≡ question_of a.name u → IsAnsweredByHosts t a.with_hosts before p mid
       → GoesOnDriven (with_result a p.result) mid ys result after → GoesOnDriven a before (p.asks ++ ys) result after
   hosts-driven a u before p ys mid result after next for part more =
       let here : GoesOnDriven (with_result a p.result) before ys result after = subst (λ c. GoesOnDriven (with_result a p.result) c ys result after) part.unchanged more in
       let has : IsStatic (question_of a.name u) t.now t.hosts (Some part.found) = subst (λ q. IsStatic q t.now t.hosts (Some part.found)) for part.has in
       subst (λ xs. GoesOnDriven a before (xs ++ ys) result after) (sym part.nothing_asked)
-      (record { progress = here.progress; cache = here.cache; goes = by_hosts (record { next = next; looked = part.asks_hosts; found = part.found; has = has; result_is = part.result_is }) here.goes; driven = here.driven })
+      (record { progress = here.progress; cache = here.cache; goes = by_hosts (record { next = next; with_hosts = part.asks_hosts; found = part.found; has = has; result_is = part.result_is }) here.goes; driven = here.driven })
 
-  part-driven : (a : AttemptValue) (u : RecordType) (before : CacheValue) (p : SubLookup) (ys : List Exchange) (mid : CacheValue) (result : LookupResult) (after : CacheValue) → next_type a.plan.types a.results ≡ Some u → WholeSubLookup t a.looked before (question_of a.name u) p mid
+  part-driven : (a : AttemptValue) (u : RecordType) (before : CacheValue) (p : SubLookup) (ys : List Exchange) (mid : CacheValue) (result : LookupResult) (after : CacheValue) → next_type a.plan.types a.results ≡ Some u → WholeSubLookup t a.with_hosts before (question_of a.name u) p mid
       → GoesOnDriven (with_result a p.result) mid ys result after → GoesOnDriven a before (p.asks ++ ys) result after
   part-driven a u before p ys mid result after next (for, is) more = by p.source is
     where
-      by : (source : Source) → IsWholeFrom source t a.looked before p mid → GoesOnDriven a before (p.asks ++ ys) result after
+      by : (source : Source) → IsWholeFrom source t a.with_hosts before p mid → GoesOnDriven a before (p.asks ++ ys) result after
       by Static part = hosts-driven a u before p ys mid result after next for part more
       by Client (not_static, whole) =
-          client-driven a u before p.asks ys p.result mid result after next (subst (λ q. (a.looked ≡ false) ⊎ IsStatic q t.now t.hosts None) for not_static)
+          client-driven a u before p.asks ys p.result mid result after next (subst (λ q. (a.with_hosts ≡ false) ⊎ IsStatic q t.now t.hosts None) for not_static)
           (subst (λ q. IsWhole (start_at t before) q p.asks p.result mid) for whole) more
 
   -- the parts of an attempt, and what is left behind them
-  subs-driven : (a : AttemptValue) (before : CacheValue) (ps : List SubLookup) (mid : CacheValue) (ys : List Exchange) (result : LookupResult) (after : CacheValue) → AreSubLookups (WholeSubLookup t) a.looked a.name a.plan.types before a.results ps mid
+  subs-driven : (a : AttemptValue) (before : CacheValue) (ps : List SubLookup) (mid : CacheValue) (ys : List Exchange) (result : LookupResult) (after : CacheValue) → AreSubLookups (WholeSubLookup t) a.with_hosts a.name a.plan.types before a.results ps mid
       → GoesOnDriven (record a { results = a.results ++ results_of ps }) mid ys result after → GoesOnDriven a before (asks_of_sub_lookups ps ++ ys) result after
   subs-driven a before [] mid ys result after same more =
       subst (λ c. GoesOnDriven a c ys result after) same (subst (λ rs. GoesOnDriven (record a { results = rs }) mid ys result after) (append-nil a.results) more)
@@ -137,13 +137,13 @@ module _ (t : CallContext) where
 
   -- an attempt, and what is left behind it
   abbrev AttemptDone : CallPlan → Bool → NameValue → List NameValue → List SubLookup → AttemptValue
-  AttemptDone plan looked name names front = record { plan = plan; looked = looked; name = name; results = results_of front; left = names }
+  AttemptDone plan with_hosts name names front = record { plan = plan; with_hosts = with_hosts; name = name; results = results_of front; left = names }
 
-  attempt-driven : (plan : CallPlan) (looked : Bool) (name : NameValue) (names : List NameValue) (before : CacheValue) (front back parts : List SubLookup) (r : LookupResult) (mid : CacheValue) (result : LookupResult) (after : CacheValue) → parts ≡ front ++ back → IsAttempt (WholeSubLookup t) looked before name plan.types front r mid
-      → GoesOnDriven (AttemptDone plan looked name names front) mid (asks_of_sub_lookups back) result after → GoesOnDriven (AttemptDone plan looked name names []) before (asks_of_sub_lookups parts) result after
-  attempt-driven plan looked name names before front back parts r mid result after are attempt more =
-      subst (λ xs. GoesOnDriven (AttemptDone plan looked name names []) before xs result after) (sym (ap asks_of_sub_lookups are ∙ asks-append front back))
-      (subs-driven (AttemptDone plan looked name names []) before front mid (asks_of_sub_lookups back) result after attempt.are more)
+  attempt-driven : (plan : CallPlan) (with_hosts : Bool) (name : NameValue) (names : List NameValue) (before : CacheValue) (front back parts : List SubLookup) (r : LookupResult) (mid : CacheValue) (result : LookupResult) (after : CacheValue) → parts ≡ front ++ back → IsAttempt (WholeSubLookup t) with_hosts before name plan.types front r mid
+      → GoesOnDriven (AttemptDone plan with_hosts name names front) mid (asks_of_sub_lookups back) result after → GoesOnDriven (AttemptDone plan with_hosts name names []) before (asks_of_sub_lookups parts) result after
+  attempt-driven plan with_hosts name names before front back parts r mid result after are attempt more =
+      subst (λ xs. GoesOnDriven (AttemptDone plan with_hosts name names []) before xs result after) (sym (ap asks_of_sub_lookups are ∙ asks-append front back))
+      (subs-driven (AttemptDone plan with_hosts name names []) before front mid (asks_of_sub_lookups back) result after attempt.are more)
 
   -- the call is done by it
   stop-driven : (a : AttemptValue) (back : List SubLookup) (r : LookupResult) (mid : CacheValue) (result : LookupResult) (after : CacheValue) → IsAttemptResult a.plan.types a.results r → stops r ≡ true → back ≡ [] → result ≡ r → after ≡ mid → GoesOnDriven a mid (asks_of_sub_lookups back) result after
@@ -151,24 +151,24 @@ module _ (t : CallContext) where
       subst (λ ps. GoesOnDriven a mid (asks_of_sub_lookups ps) result after) (sym none)
       (record { progress = CallIsDone r; cache = mid; goes = stopped is stop; driven = (ap CallIsDone (sym e), same) })
 
-  attempts-driven : (plan : CallPlan) (looked : Bool) (name : NameValue) (names : List NameValue) (before : CacheValue) (last : LookupResult → Type 0) (parts : List SubLookup) (result : LookupResult) (after : CacheValue) → AreAttempts (WholeSubLookup t) plan looked before (name ∷ names) last parts result after
-      → GoesOnDriven (AttemptDone plan looked name names []) before (asks_of_sub_lookups parts) result after
-  attempts-driven plan looked name [] before last parts result after (front, back, r, mid, are, attempt, goes) =
-      attempt-driven plan looked name [] before front back parts r mid result after are attempt (by goes)
+  attempts-driven : (plan : CallPlan) (with_hosts : Bool) (name : NameValue) (names : List NameValue) (before : CacheValue) (last : LookupResult → Type 0) (parts : List SubLookup) (result : LookupResult) (after : CacheValue) → AreAttempts (WholeSubLookup t) plan with_hosts before (name ∷ names) last parts result after
+      → GoesOnDriven (AttemptDone plan with_hosts name names []) before (asks_of_sub_lookups parts) result after
+  attempts-driven plan with_hosts name [] before last parts result after (front, back, r, mid, are, attempt, goes) =
+      attempt-driven plan with_hosts name [] before front back parts r mid result after are attempt (by goes)
     where
       by : ((stops r ≡ true) × (back ≡ []) × (result ≡ r) × (after ≡ mid)) ⊎ ((stops r ≡ false) × AreAttempts (WholeSubLookup t) plan plan.hosts_for_all mid [] (λ x. x ≡ r) back result after)
-          → GoesOnDriven (AttemptDone plan looked name [] front) mid (asks_of_sub_lookups back) result after
-      by (inl (stop, none, e, same)) = stop-driven (AttemptDone plan looked name [] front) back r mid result after attempt.result_is stop none e same
+          → GoesOnDriven (AttemptDone plan with_hosts name [] front) mid (asks_of_sub_lookups back) result after
+      by (inl (stop, none, e, same)) = stop-driven (AttemptDone plan with_hosts name [] front) back r mid result after attempt.result_is stop none e same
       by (inr (live, (none, reply, same))) =
-          subst (λ ps. GoesOnDriven (AttemptDone plan looked name [] front) mid (asks_of_sub_lookups ps) result after) (sym none)
+          subst (λ ps. GoesOnDriven (AttemptDone plan with_hosts name [] front) mid (asks_of_sub_lookups ps) result after) (sym none)
           (record { progress = CallIsDone result; cache = mid; goes = no_name attempt.result_is live refl reply; driven = (refl, same) })
-  attempts-driven plan looked name (m ∷ ms) before last parts result after (front, back, r, mid, are, attempt, goes) =
-      attempt-driven plan looked name (m ∷ ms) before front back parts r mid result after are attempt (by goes (λ rest. attempts-driven plan plan.hosts_for_all m ms mid (λ x. x ≡ r) back result after rest))
+  attempts-driven plan with_hosts name (m ∷ ms) before last parts result after (front, back, r, mid, are, attempt, goes) =
+      attempt-driven plan with_hosts name (m ∷ ms) before front back parts r mid result after are attempt (by goes (λ rest. attempts-driven plan plan.hosts_for_all m ms mid (λ x. x ≡ r) back result after rest))
     where
       by : ((stops r ≡ true) × (back ≡ []) × (result ≡ r) × (after ≡ mid)) ⊎ ((stops r ≡ false) × AreAttempts (WholeSubLookup t) plan plan.hosts_for_all mid (m ∷ ms) (λ x. x ≡ r) back result after)
           → (AreAttempts (WholeSubLookup t) plan plan.hosts_for_all mid (m ∷ ms) (λ x. x ≡ r) back result after → GoesOnDriven (AttemptDone plan plan.hosts_for_all m ms []) mid (asks_of_sub_lookups back) result after)
-          → GoesOnDriven (AttemptDone plan looked name (m ∷ ms) front) mid (asks_of_sub_lookups back) result after
-      by (inl (stop, none, e, same)) on = stop-driven (AttemptDone plan looked name (m ∷ ms) front) back r mid result after attempt.result_is stop none e same
+          → GoesOnDriven (AttemptDone plan with_hosts name (m ∷ ms) front) mid (asks_of_sub_lookups back) result after
+      by (inl (stop, none, e, same)) on = stop-driven (AttemptDone plan with_hosts name (m ∷ ms) front) back r mid result after attempt.result_is stop none e same
       by (inr (live, rest)) on =
           let more = on rest in
           record { progress = more.progress; cache = more.cache; goes = next_name attempt.result_is live refl more.goes; driven = more.driven }

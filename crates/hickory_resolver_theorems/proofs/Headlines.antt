@@ -31,12 +31,12 @@ pub record Seen (table : TableValue) (t : CallContext) : Type 0 where
 
 -- a part is out of memory, or the cacheless resolver's, at whatever cache; and the entries after it are meant
 abbrev PartAlike : TableValue → CallContext → Bool → CacheValue → Query → SubLookup → CacheValue → Type 0
-PartAlike table t looked c q p after = ((is_out_of_memory p.result ≡ true) ⊎ CachelessSubLookup table t looked c q p c) × AreWhatTheyResolveTo table after
+PartAlike table t with_hosts c q p after = ((is_out_of_memory p.result ≡ true) ⊎ CachelessSubLookup table t with_hosts c q p c) × AreWhatTheyResolveTo table after
 
-part-alike : (table : TableValue) (t : CallContext) (looked : Bool) (c before : CacheValue) (q : Query) (p : SubLookup) (after : CacheValue) → Seen table t → AreWhatTheyResolveTo table before → ResolvesWithinEight table p → AreConsistentWith table p.asks → IsAnsweredFor t looked before q p after → PartAlike table t looked c q p after
-part-alike table t looked c before q p after seen meant has tells (for, is) = by p.source refl is
+part-alike : (table : TableValue) (t : CallContext) (with_hosts : Bool) (c before : CacheValue) (q : Query) (p : SubLookup) (after : CacheValue) → Seen table t → AreWhatTheyResolveTo table before → ResolvesWithinEight table p → AreConsistentWith table p.asks → IsAnsweredFor t with_hosts before q p after → PartAlike table t with_hosts c q p after
+part-alike table t with_hosts c before q p after seen meant has tells (for, is) = by p.source refl is
   where
-    by : (source : Source) → p.source ≡ source → IsAnsweredFrom source t looked before p after → PartAlike table t looked c q p after
+    by : (source : Source) → p.source ≡ source → IsAnsweredFrom source t with_hosts before p after → PartAlike table t with_hosts c q p after
     by Static e part = (
       inr (for, inl (record { asks_hosts = part.asks_hosts; found = part.found; has = part.has; result_is = part.result_is; nothing_asked = part.nothing_asked; unchanged = refl })),
       subst (AreWhatTheyResolveTo table) (sym part.unchanged) meant,
@@ -46,7 +46,7 @@ part-alike table t looked c before q p after seen meant has tells (for, is) = by
         let there = transparent (start_at t before) p.question p.asks p.result after part.reply table seen.off seen.apart tells meant meaning.0 meaning.1 meaning.2 meaning.3 in
         (on there.0, there.1)
       where
-        on : ((p.result ≡ Err OutOfMemory) ⊎ (reply_core p.result ≡ (has e).0)) → (is_out_of_memory p.result ≡ true) ⊎ CachelessSubLookup table t looked c q p c
+        on : ((p.result ≡ Err OutOfMemory) ⊎ (reply_core p.result ≡ (has e).0)) → (is_out_of_memory p.result ≡ true) ⊎ CachelessSubLookup table t with_hosts c q p c
         on (inl out) = inl (ap is_out_of_memory out)
         on (inr same) =
             inr (
@@ -55,7 +55,7 @@ part-alike table t looked c before q p after seen meant has tells (for, is) = by
                 record {
                   reply = (has e).0;
                   length_is = (has e).1;
-                  not_static = subst (λ x. (looked ≡ false) ⊎ IsStatic x t.now t.hosts None) for part.not_static;
+                  not_static = subst (λ x. (with_hosts ≡ false) ⊎ IsStatic x t.now t.hosts None) for part.not_static;
                   means = subst (λ x. ResolvesTo table x (has e).0 (has e).1) for (has e).2;
                   result_is = same;
                 },
@@ -80,7 +80,7 @@ pub call-alike : (table : TableValue) (s : Settings) (c before : CacheValue) (no
 call-alike table s c before now call parts reply after seen meant has tells is =
     let t = call_context_at s now in
     call-unless (IsAnsweredFor t) (CachelessSubLookup table t) (AreWhatTheyResolveTo table) (λ p. ResolvesWithinEight table p × AreConsistentWith table p.asks) (λ x. c)
-    (λ looked mid q p next holds own answered. part-alike table t looked c mid q p next seen holds own.0 own.1 answered) s before call parts reply after meant
+    (λ with_hosts mid q p next holds own answered. part-alike table t with_hosts c mid q p next seen holds own.0 own.1 answered) s before call parts reply after meant
     (all-both (ResolvesWithinEight table) (λ p. AreConsistentWith table p.asks) parts has (asks-all (IsConsistentWith table) parts tells)) is
 
 name-alike : (table : TableValue) (s : Settings) (c before : CacheValue) (text : List ℕ) (u : RecordType) (now : ℕ) (parts : List SubLookup) (reply : LookupResult) (after : CacheValue) → Seen table (call_context_at s now) → AreWhatTheyResolveTo table before → AllByRecursion (ResolvesWithinEight table) parts → AreConsistentWith table (asks_of_sub_lookups parts)
@@ -161,8 +161,8 @@ stage-alike-after table s before (request ∷ requests) (e ∷ es) stage later a
     let here = stage-alike table s e mid apart off (subst (AreWhatTheyResolveTo table) (sym starts) meant) own (all-front (IsConsistentWith table) e.piece (exchanges_of (es ++ stage ∷ [])) tells) is in
     stage-alike-after table s mid requests es stage later after apart off here.1 (all-back (IsConsistentWith table) e.piece (exchanges_of (es ++ stage ∷ [])) tells) has rest
 
-pub headline : (s : Settings) (empty : CacheValue) (requests : List RequestValue) (steps : List StepValue) (exchanges : List Exchange) (after : CacheValue) (run : Run s empty requests steps exchanges after) → Headline s empty requests steps exchanges after run
-headline s empty requests steps exchanges after run none moments =
+pub headline : (s : Settings) (empty : CacheValue) (requests : List RequestValue) (steps : List StepValue) (exchanges : List Exchange) (after : CacheValue) (run : Run s empty requests steps exchanges after) → empty.entries ≡ [] → Headline s empty requests steps exchanges after run
+headline s empty requests steps exchanges after run none =
     let first = first_clauses s empty requests steps exchanges after none run in
     (first.0, first.1, last)
   where

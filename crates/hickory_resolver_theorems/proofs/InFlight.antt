@@ -13,8 +13,8 @@ use Rattle.hickory_resolver_model.specs.Cache.{CacheValue}
 use Rattle.hickory_resolver_model.specs.Lookup.{LookupResult}
 use Rattle.hickory_resolver_model.specs.Verdict.{Hop, Verdict, Accepted, Alias, NoMatch, first_hop, verdict}
 use Rattle.hickory_resolver_model.specs.AliasWalk.{walk_of}
-use Rattle.hickory_resolver_model.specs.Hops.{LookupContext, GoesUpstream, IsAliasHop, ChainEnd, Special, Hit, Asked, IsChainEnd, Store, verdict_on, result_of, result_when_asked, result_of_verdict, asks_of, alias_limit, alias_deadline, earliest, end_limit, limit_of, reply_of, result_until, last_stores, earlier_store, earlier_stores, after_store, after_stores, is_kept}
-use Rattle.hickory_resolver_model.specs.Resuming.{PassedValue, ProgressValue, Waits, IsDone, passed_by, limit_back, stores_back, is_asked, stores_at, reply_at, TakesMemory, IsBeginning, EndsAs, ComesTo, FollowsAlias, IsEndedBy, Resumes, FollowsAliasesOver, HopListOver, IsReplyOver}
+use Rattle.hickory_resolver_model.specs.Hops.{IsBeginning, LookupContext, GoesUpstream, IsAliasHop, ChainEnd, Special, Hit, Asked, IsChainEnd, Store, verdict_on, result_of, result_when_asked, result_of_verdict, asks_of, alias_limit, alias_deadline, earliest, end_limit, limit_of, reply_of, result_until, last_stores, earlier_store, earlier_stores, after_store, after_stores, is_kept}
+use Rattle.hickory_resolver_model.specs.Resuming.{PassedValue, ProgressValue, Waits, IsDone, passed_by, limit_back, stores_back, is_asked, stores_at, reply_at, TakesMemory, EndsAs, ComesTo, FollowsAlias, IsEndedBy, Resumes, FollowsAliasesOver, HopListOver, IsReplyOver}
 use Rattle.hickory_resolver_theorems.specs.Resumed.{caches_read}
 use Rattle.hickory_resolver_theorems.specs.Interleaved.{PendingValue, asks_with, caches_with}
 use Rattle.hickory_resolver_theorems.proofs.Lists.{all-append, all-front}

@@ -137,7 +137,7 @@ module _ (s : LookupContext) (question : Query) where
       let Q : CacheValue → Type 0 = λ a. IsCutInAsks s question kept a in
       elim (kept_hops asks kept c.hops r) [
         | inl e ↦ subst P (sym e) (inr (o, inl c))
-        | inr d ↦ inr (o, inr (subst Q (sym (c.after_is ∙ none_stored c.front c.back s.cache (subst AllOut (sym c.parts) (all_out s c.hops.passed c.hops.last_hop c.hops.last d.0)))) d.1))
+        | inr d ↦ inr (o, inr (subst Q (sym (c.begun.after_is ∙ none_stored c.begun.front c.begun.back s.cache (subst AllOut (sym c.begun.parts) (all_out s c.hops.passed c.hops.last_hop c.hops.last d.0)))) d.1))
       ]
   kept_reply asks kept result after (inr (o, inr c)) r =
       let Q : CacheValue → Type 0 = λ a. IsCutInAsks s question kept a in

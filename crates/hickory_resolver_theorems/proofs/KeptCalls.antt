@@ -41,11 +41,11 @@ no_asks ps kept none r = sym (subst (λ qs. RecordedAs (asks_of_sub_lookups qs) 
 module _ (t : CallContext) where
   -- ---- a sub-look-up
 
-  kept_part : (looked : Bool) (before : CacheValue) (q : Query) (p : SubLookup) (after : CacheValue) (kept : List Exchange) → RecordedAs p.asks kept → IsAnsweredFor t looked before q p after
-      → IsAnsweredFor t looked before q (record { question = p.question; source = p.source; asks = kept; result = p.result }) after
-  kept_part looked before q p after kept r (for, is) = (for, by p.source is)
+  kept_part : (with_hosts : Bool) (before : CacheValue) (q : Query) (p : SubLookup) (after : CacheValue) (kept : List Exchange) → RecordedAs p.asks kept → IsAnsweredFor t with_hosts before q p after
+      → IsAnsweredFor t with_hosts before q (record { question = p.question; source = p.source; asks = kept; result = p.result }) after
+  kept_part with_hosts before q p after kept r (for, is) = (for, by p.source is)
     where
-      by : (source : Source) → IsAnsweredFrom source t looked before p after → IsAnsweredFrom source t looked before (record { question = p.question; source = p.source; asks = kept; result = p.result }) after
+      by : (source : Source) → IsAnsweredFrom source t with_hosts before p after → IsAnsweredFrom source t with_hosts before (record { question = p.question; source = p.source; asks = kept; result = p.result }) after
       by Static is = record {
         asks_hosts = is.asks_hosts;
         found = is.found;
@@ -58,46 +58,46 @@ module _ (t : CallContext) where
 
   -- ---- the sub-look-ups of an attempt
 
-  record KeptSubs (looked : Bool) (n : NameValue) (plan : Plan) (before : CacheValue) (results : List LookupResult) (ps : List SubLookup) (after : CacheValue) (kept : List Exchange) : Type 0 where
+  record KeptSubs (with_hosts : Bool) (n : NameValue) (plan : Plan) (before : CacheValue) (results : List LookupResult) (ps : List SubLookup) (after : CacheValue) (kept : List Exchange) : Type 0 where
     parts : List SubLookup
     asks_are : asks_of_sub_lookups parts ≡ kept
     results_are : results_of parts ≡ results_of ps
-    are : AreSubLookups (IsAnsweredFor t) looked n plan before results parts after
+    are : AreSubLookups (IsAnsweredFor t) with_hosts n plan before results parts after
 
-  kept_subs : (looked : Bool) (n : NameValue) (plan : Plan) (before : CacheValue) (results : List LookupResult) (ps : List SubLookup) (after : CacheValue) (kept : List Exchange) → RecordedAs (asks_of_sub_lookups ps) kept
-      → AreSubLookups (IsAnsweredFor t) looked n plan before results ps after → KeptSubs looked n plan before results ps after kept
-  kept_subs looked n plan before results [] after kept r same = record { parts = []; asks_are = sym r; results_are = refl; are = same }
-  kept_subs looked n plan before results (p ∷ ps) after kept r (u, mid, next, is, rest) =
+  kept_subs : (with_hosts : Bool) (n : NameValue) (plan : Plan) (before : CacheValue) (results : List LookupResult) (ps : List SubLookup) (after : CacheValue) (kept : List Exchange) → RecordedAs (asks_of_sub_lookups ps) kept
+      → AreSubLookups (IsAnsweredFor t) with_hosts n plan before results ps after → KeptSubs with_hosts n plan before results ps after kept
+  kept_subs with_hosts n plan before results [] after kept r same = record { parts = []; asks_are = sym r; results_are = refl; are = same }
+  kept_subs with_hosts n plan before results (p ∷ ps) after kept r (u, mid, next, is, rest) =
       let s = recorded_split p.asks (asks_of_sub_lookups ps) kept r in
-      let more = kept_subs looked n plan mid (results ++ p.result ∷ []) ps after s.back s.then rest in
+      let more = kept_subs with_hosts n plan mid (results ++ p.result ∷ []) ps after s.back s.then rest in
       record {
         parts = record { question = p.question; source = p.source; asks = s.front; result = p.result } ∷ more.parts;
         asks_are = ap (λ xs. s.front ++ xs) more.asks_are ∙ sym s.parts;
         results_are = ap (λ rs. p.result ∷ rs) more.results_are;
-        are = (u, mid, next, kept_part looked before _ p mid s.front s.first is, more.are);
+        are = (u, mid, next, kept_part with_hosts before _ p mid s.front s.first is, more.are);
       }
 
   -- ---- the attempts of a call
 
-  record KeptAttempts (plan : CallPlan) (looked : Bool) (before : CacheValue) (names : List NameValue) (last : LookupResult → Type 0) (result : LookupResult) (after : CacheValue) (kept : List Exchange) : Type 0 where
+  record KeptAttempts (plan : CallPlan) (with_hosts : Bool) (before : CacheValue) (names : List NameValue) (last : LookupResult → Type 0) (result : LookupResult) (after : CacheValue) (kept : List Exchange) : Type 0 where
     parts : List SubLookup
     asks_are : asks_of_sub_lookups parts ≡ kept
-    are : AreAttempts (IsAnsweredFor t) plan looked before names last parts result after
+    are : AreAttempts (IsAnsweredFor t) plan with_hosts before names last parts result after
 
-  kept_attempts : (plan : CallPlan) (looked : Bool) (before : CacheValue) (names : List NameValue) (last : LookupResult → Type 0) (ps : List SubLookup) (result : LookupResult) (after : CacheValue) (kept : List Exchange) → RecordedAs (asks_of_sub_lookups ps) kept
-      → AreAttempts (IsAnsweredFor t) plan looked before names last ps result after → KeptAttempts plan looked before names last result after kept
-  kept_attempts plan looked before [] last ps result after kept r (none, is, same) = record { parts = []; asks_are = no_asks ps kept none r; are = (refl, is, same) }
-  kept_attempts plan looked before (n ∷ ns) last ps result after kept r (front, back, one, mid, are, attempt, goes) = on (λ xs rs rest. kept_attempts plan plan.hosts_for_all mid ns (λ x. x ≡ one) back result after xs rs rest) goes
+  kept_attempts : (plan : CallPlan) (with_hosts : Bool) (before : CacheValue) (names : List NameValue) (last : LookupResult → Type 0) (ps : List SubLookup) (result : LookupResult) (after : CacheValue) (kept : List Exchange) → RecordedAs (asks_of_sub_lookups ps) kept
+      → AreAttempts (IsAnsweredFor t) plan with_hosts before names last ps result after → KeptAttempts plan with_hosts before names last result after kept
+  kept_attempts plan with_hosts before [] last ps result after kept r (none, is, same) = record { parts = []; asks_are = no_asks ps kept none r; are = (refl, is, same) }
+  kept_attempts plan with_hosts before (n ∷ ns) last ps result after kept r (front, back, one, mid, are, attempt, goes) = on (λ xs rs rest. kept_attempts plan plan.hosts_for_all mid ns (λ x. x ≡ one) back result after xs rs rest) goes
     where
       split : SplitKept (asks_of_sub_lookups front) (asks_of_sub_lookups back) kept
       split = recorded_split (asks_of_sub_lookups front) (asks_of_sub_lookups back) kept (subst (λ xs. RecordedAs xs kept) (ap asks_of_sub_lookups are ∙ asks-append front back) r)
 
-      here : KeptSubs looked n plan.types before [] front mid split.front
-      here = kept_subs looked n plan.types before [] front mid split.front split.first attempt.are
+      here : KeptSubs with_hosts n plan.types before [] front mid split.front
+      here = kept_subs with_hosts n plan.types before [] front mid split.front split.first attempt.are
 
       on : ((xs : List Exchange) → RecordedAs (asks_of_sub_lookups back) xs → AreAttempts (IsAnsweredFor t) plan plan.hosts_for_all mid ns (λ x. x ≡ one) back result after → KeptAttempts plan plan.hosts_for_all mid ns (λ x. x ≡ one) result after xs)
           → ((stops one ≡ true) × (back ≡ []) × (result ≡ one) × (after ≡ mid)) ⊎ ((stops one ≡ false) × AreAttempts (IsAnsweredFor t) plan plan.hosts_for_all mid ns (λ x. x ≡ one) back result after)
-          → KeptAttempts plan looked before (n ∷ ns) last result after kept
+          → KeptAttempts plan with_hosts before (n ∷ ns) last result after kept
       on again (inl (stopped, none, e, same)) = record {
         parts = here.parts;
         asks_are = here.asks_are ∙ sym (append-nil split.front) ∙ ap (λ xs. split.front ++ xs) (no_asks back split.back none split.then) ∙ sym split.parts;

@@ -1,6 +1,7 @@
 pub mod AliasLifetimes
 pub mod Answered
 pub mod PromisedCalls
+pub mod SentAlone
 pub mod RestOfCall
 pub mod CallsAlone
 pub mod CallsEnd

@@ -8,7 +8,7 @@ use Rattle.hickory_resolver_model.specs.Cache.{CacheValue}
 use Rattle.hickory_resolver_model.specs.Verdict.{first_hop}
 use Rattle.hickory_resolver_model.specs.Hops.{LookupContext}
 use Rattle.hickory_resolver_model.specs.Resuming.{WaitingValue, ProgressValue, Waits, IsDone, Starts, Resumes}
-use Rattle.hickory_resolver_theorems.specs.CallsAlone.{IsSentAlone, LookupSoFar}
+use Rattle.hickory_resolver_theorems.proofs.SentAlone.{IsSentAlone, LookupSoFar}
 use Rattle.hickory_resolver_theorems.specs.Interleaved.{PendingValue}
 use Rattle.hickory_resolver_theorems.proofs.InFlight.{IsInFlight, IsOnItsWay, started, resumed}
 use Rattle.hickory_resolver_theorems.proofs.OneCache.{one_cache, AreOneCache, one_cache-all, follows-over, follows-back, reply-back}

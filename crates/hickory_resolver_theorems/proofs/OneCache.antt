@@ -52,7 +52,7 @@ last-over s asks passed hop (inr (x, up, same, holds, e)) = inr (x, s.cache, up,
 abbrev pub reply-over : (s : LookupContext) (question : Query) (asks : List Exchange) (result : LookupResult) (after : CacheValue) → IsReply s question asks result after → IsReplyOver s question asks result after
 reply-over s question asks result after (inl whole) = inl (record { hops = hops-over s question asks whole.hops; result_is = whole.result_is; after_is = whole.after_is })
 reply-over s question asks result after (inr (out, inl cut)) =
-    inr (out, inl (record { hops = hops-over s question asks cut.hops; kept = cut.kept; begun = record { front = cut.front; back = cut.back; parts = cut.parts; after_is = cut.after_is } }))
+    inr (out, inl (record { hops = hops-over s question asks cut.hops; kept = cut.kept; begun = cut.begun }))
 reply-over s question asks result after (inr (out, inr cut)) =
     inr (
       out,
@@ -124,7 +124,7 @@ hops-back s question asks h one = record {
 pub all-back-one : (s : LookupContext) (question : Query) (asks : List Exchange) (result : LookupResult) (after : CacheValue) (reply : IsReplyOver s question asks result after) → AreOneCache s (caches_read s question asks result after reply) → IsReply s question asks result after
 all-back-one s question asks result after (inl whole) one = inl (record { hops = hops-back s question asks whole.hops one; result_is = whole.result_is; after_is = whole.after_is })
 all-back-one s question asks result after (inr (out, inl cut)) one =
-    inr (out, inl (record { hops = hops-back s question asks cut.hops one; kept = cut.kept; front = cut.begun.front; back = cut.begun.back; parts = cut.begun.parts; after_is = cut.begun.after_is }))
+    inr (out, inl (record { hops = hops-back s question asks cut.hops one; kept = cut.kept; begun = cut.begun }))
 all-back-one s question asks result after (inr (out, inr cut)) one =
     inr (
       out,

@@ -159,56 +159,56 @@ found-meets a b l k e (inl ok) (inr out) = inr (inl (ap is_out_of_memory out))
 found-meets a b l k e (inl ok) (inl too) = inr (inr (ap reply_core (ok ∙ ap Ok e ∙ sym too)))
 
 -- where the table is looked at and has something, nothing else is asked
-never : (t : CallContext) (looked : Bool) (q : Query) (found : LookupValue) → looked ≡ true → IsStatic q t.now t.hosts (Some found) → (looked ≡ false) ⊎ IsStatic q t.now t.hosts None → ⊥
-never t looked q found asks has (inl not_looked) = absurd (let clash : true ≡ false = sym asks ∙ not_looked in cc)
-never t looked q found asks has (inr none) = absurd (let clash : Some found ≡ None = same-static q t.now t.hosts (Some found) None has none in cc)
+never : (t : CallContext) (with_hosts : Bool) (q : Query) (found : LookupValue) → with_hosts ≡ true → IsStatic q t.now t.hosts (Some found) → (with_hosts ≡ false) ⊎ IsStatic q t.now t.hosts None → ⊥
+never t with_hosts q found asks has (inl not_looked) = absurd (let clash : true ≡ false = sym asks ∙ not_looked in cc)
+never t with_hosts q found asks has (inr none) = absurd (let clash : Some found ≡ None = same-static q t.now t.hosts (Some found) None has none in cc)
 
-part-once : (table : TableValue) (t : CallContext) (looked : Bool) (q : Query) (c d e f : CacheValue) (p u : SubLookup) → CachelessSubLookup table t looked c q p d → CachelessSubLookup table t looked e q u f → Meet p.result u.result
-part-once table t looked q c d e f p u (for, is) (for_too, is_too) = by is is_too
+part-once : (table : TableValue) (t : CallContext) (with_hosts : Bool) (q : Query) (c d e f : CacheValue) (p u : SubLookup) → CachelessSubLookup table t with_hosts c q p d → CachelessSubLookup table t with_hosts e q u f → Meet p.result u.result
+part-once table t with_hosts q c d e f p u (for, is) (for_too, is_too) = by is is_too
   where
     has-at : (x : SubLookup) → x.question ≡ q → (found : LookupValue) → IsStatic x.question t.now t.hosts (Some found) → IsStatic q t.now t.hosts (Some found)
     has-at x same found has = subst (λ y. IsStatic y t.now t.hosts (Some found)) same has
 
-    by : IsAnsweredByHosts t looked c p d ⊎ (IsCachelessSubLookup table t looked q p × (d ≡ c)) → IsAnsweredByHosts t looked e u f ⊎ (IsCachelessSubLookup table t looked q u × (f ≡ e)) → Meet p.result u.result
+    by : IsAnsweredByHosts t with_hosts c p d ⊎ (IsCachelessSubLookup table t with_hosts q p × (d ≡ c)) → IsAnsweredByHosts t with_hosts e u f ⊎ (IsCachelessSubLookup table t with_hosts q u × (f ≡ e)) → Meet p.result u.result
     by (inl s) (inl v) = found-meets p.result u.result s.found v.found (let both : Some s.found ≡ Some v.found = same-static q t.now t.hosts (Some s.found) (Some v.found) (has-at p for s.found s.has) (has-at u for_too v.found v.has) in let one : s.found ≡ v.found = cc in one) s.result_is v.result_is
-    by (inl s) (inr (v, same)) = absurd (never t looked q s.found s.asks_hosts (has-at p for s.found s.has) v.not_static)
-    by (inr (s, same)) (inl v) = absurd (never t looked q v.found v.asks_hosts (has-at u for_too v.found v.has) s.not_static)
+    by (inl s) (inr (v, same)) = absurd (never t with_hosts q s.found s.asks_hosts (has-at p for s.found s.has) v.not_static)
+    by (inr (s, same)) (inl v) = absurd (never t with_hosts q v.found v.asks_hosts (has-at u for_too v.found v.has) s.not_static)
     by (inr (s, same)) (inr (v, other)) = inr (inr (s.result_is ∙ means-one table q s.reply v.reply s.length_is v.length_is s.means v.means ∙ sym v.result_is))
 
 -- ---- an attempt
 
 -- what was answered to a question, out of memory aside
-record Answered (table : TableValue) (t : CallContext) (looked : Bool) (q : Query) (r : LookupResult) : Type 0 where
+record Answered (table : TableValue) (t : CallContext) (with_hosts : Bool) (q : Query) (r : LookupResult) : Type 0 where
   before : CacheValue
   after : CacheValue
   part : SubLookup
-  is : CachelessSubLookup table t looked before q part after
+  is : CachelessSubLookup table t with_hosts before q part after
   result_is : part.result ≡ r
   live : is_out_of_memory r ≡ false
 
-answered-once : (table : TableValue) (t : CallContext) (looked : Bool) (q : Query) (a b : LookupResult) → Answered table t looked q a → Answered table t looked q b → Same a b
-answered-once table t looked q a b x y =
-    meet a b x.live y.live (subst (Meet a) y.result_is (subst (λ r. Meet r y.part.result) x.result_is (part-once table t looked q x.before x.after y.before y.after x.part y.part x.is y.is)))
+answered-once : (table : TableValue) (t : CallContext) (with_hosts : Bool) (q : Query) (a b : LookupResult) → Answered table t with_hosts q a → Answered table t with_hosts q b → Same a b
+answered-once table t with_hosts q a b x y =
+    meet a b x.live y.live (subst (Meet a) y.result_is (subst (λ r. Meet r y.part.result) x.result_is (part-once table t with_hosts q x.before x.after y.before y.after x.part y.part x.is y.is)))
 
 -- the results that an attempt is made of, by what it looks up
 abbrev Made : TableValue → CallContext → Bool → NameValue → Plan → LookupResult → Type 0
-Made table t looked n (One u) r = Answered table t looked (question_of n u) r
-Made table t looked n (Both u v) r =
-    (a : LookupResult) × (b : LookupResult) × Answered table t looked (question_of n u) a × Answered table t looked (question_of n v) b × (r ≡ both_results a b)
-Made table t looked n (Fallback u v) r =
-    (Answered table t looked (question_of n u) r × (has_answers r ≡ true))
-    ⊎ ((a : LookupResult) × Answered table t looked (question_of n u) a × (has_answers a ≡ false) × Answered table t looked (question_of n v) r)
+Made table t with_hosts n (One u) r = Answered table t with_hosts (question_of n u) r
+Made table t with_hosts n (Both u v) r =
+    (a : LookupResult) × (b : LookupResult) × Answered table t with_hosts (question_of n u) a × Answered table t with_hosts (question_of n v) b × (r ≡ both_results a b)
+Made table t with_hosts n (Fallback u v) r =
+    (Answered table t with_hosts (question_of n u) r × (has_answers r ≡ true))
+    ⊎ ((a : LookupResult) × Answered table t with_hosts (question_of n u) a × (has_answers a ≡ false) × Answered table t with_hosts (question_of n v) r)
 
-made-once : (table : TableValue) (t : CallContext) (looked : Bool) (n : NameValue) (plan : Plan) (r k : LookupResult) → Made table t looked n plan r → Made table t looked n plan k → Same r k
-made-once table t looked n (One u) r k x y = answered-once table t looked (question_of n u) r k x y
-made-once table t looked n (Both u v) r k (a, b, x, y, e) (c, d, z, w, f) =
-    ap reply_core e ∙ same-both a b c d (answered-once table t looked (question_of n u) a c x z) (answered-once table t looked (question_of n v) b d y w) ∙ sym (ap reply_core f)
-made-once table t looked n (Fallback u v) r k (inl (x, h)) (inl (y, j)) = answered-once table t looked (question_of n u) r k x y
-made-once table t looked n (Fallback u v) r k (inl (x, h)) (inr (c, z, none, w)) =
-    let clash : true ≡ false = sym h ∙ same-answers r c (answered-once table t looked (question_of n u) r c x z) ∙ none in cc
-made-once table t looked n (Fallback u v) r k (inr (a, x, none, y)) (inl (z, h)) =
-    let clash : true ≡ false = sym h ∙ same-answers k a (answered-once table t looked (question_of n u) k a z x) ∙ none in cc
-made-once table t looked n (Fallback u v) r k (inr (a, x, none, y)) (inr (c, z, nothing, w)) = answered-once table t looked (question_of n v) r k y w
+made-once : (table : TableValue) (t : CallContext) (with_hosts : Bool) (n : NameValue) (plan : Plan) (r k : LookupResult) → Made table t with_hosts n plan r → Made table t with_hosts n plan k → Same r k
+made-once table t with_hosts n (One u) r k x y = answered-once table t with_hosts (question_of n u) r k x y
+made-once table t with_hosts n (Both u v) r k (a, b, x, y, e) (c, d, z, w, f) =
+    ap reply_core e ∙ same-both a b c d (answered-once table t with_hosts (question_of n u) a c x z) (answered-once table t with_hosts (question_of n v) b d y w) ∙ sym (ap reply_core f)
+made-once table t with_hosts n (Fallback u v) r k (inl (x, h)) (inl (y, j)) = answered-once table t with_hosts (question_of n u) r k x y
+made-once table t with_hosts n (Fallback u v) r k (inl (x, h)) (inr (c, z, none, w)) =
+    let clash : true ≡ false = sym h ∙ same-answers r c (answered-once table t with_hosts (question_of n u) r c x z) ∙ none in cc
+made-once table t with_hosts n (Fallback u v) r k (inr (a, x, none, y)) (inl (z, h)) =
+    let clash : true ≡ false = sym h ∙ same-answers k a (answered-once table t with_hosts (question_of n u) k a z x) ∙ none in cc
+made-once table t with_hosts n (Fallback u v) r k (inr (a, x, none, y)) (inr (c, z, nothing, w)) = answered-once table t with_hosts (question_of n v) r k y w
 
 or-parts : (a b : Bool) → (a || b) ≡ false → (a ≡ false) × (b ≡ false)
 or-parts true b h = cc
@@ -219,65 +219,65 @@ or-left true b h k = refl
 or-left false b h k = let clash : true ≡ false = sym h ∙ k in cc
 
 -- an attempt that is over, out of memory aside, is made of answers
-made : (table : TableValue) (t : CallContext) (looked : Bool) (n : NameValue) (plan : Plan) (before : CacheValue) (ps : List SubLookup) (r : LookupResult) (after : CacheValue) → AreSubLookups (CachelessSubLookup table t) looked n plan before [] ps after
-    → next_type plan (results_of ps) ≡ None → r ≡ attempt_result plan (results_of ps) → is_out_of_memory r ≡ false → Made table t looked n plan r
-made table t looked n (One u) before [] r after are over e live = let clash : Some u ≡ None = over in cc
-made table t looked n (Both u v) before [] r after are over e live = let clash : Some u ≡ None = over in cc
-made table t looked n (Fallback u v) before [] r after are over e live = let clash : Some u ≡ None = over in cc
-made table t looked n (One u) before (p ∷ []) r after (w, mid, next, is, same) over e live =
-    record { before = before; after = mid; part = p; is = subst (λ x. CachelessSubLookup table t looked before (question_of n x) p mid) (let one : w ≡ u = cc in one) is; result_is = sym e; live = live }
-made table t looked n (Both u v) before (p ∷ []) r after (w, mid, next, is, same) over e live = by (is_out_of_memory p.result) refl over
+made : (table : TableValue) (t : CallContext) (with_hosts : Bool) (n : NameValue) (plan : Plan) (before : CacheValue) (ps : List SubLookup) (r : LookupResult) (after : CacheValue) → AreSubLookups (CachelessSubLookup table t) with_hosts n plan before [] ps after
+    → next_type plan (results_of ps) ≡ None → r ≡ attempt_result plan (results_of ps) → is_out_of_memory r ≡ false → Made table t with_hosts n plan r
+made table t with_hosts n (One u) before [] r after are over e live = let clash : Some u ≡ None = over in cc
+made table t with_hosts n (Both u v) before [] r after are over e live = let clash : Some u ≡ None = over in cc
+made table t with_hosts n (Fallback u v) before [] r after are over e live = let clash : Some u ≡ None = over in cc
+made table t with_hosts n (One u) before (p ∷ []) r after (w, mid, next, is, same) over e live =
+    record { before = before; after = mid; part = p; is = subst (λ x. CachelessSubLookup table t with_hosts before (question_of n x) p mid) (let one : w ≡ u = cc in one) is; result_is = sym e; live = live }
+made table t with_hosts n (Both u v) before (p ∷ []) r after (w, mid, next, is, same) over e live = by (is_out_of_memory p.result) refl over
   where
-    by : (b : Bool) → is_out_of_memory p.result ≡ b → cond b None (Some v) ≡ None → Made table t looked n (Both u v) r
+    by : (b : Bool) → is_out_of_memory p.result ≡ b → cond b None (Some v) ≡ None → Made table t with_hosts n (Both u v) r
     by true out h = let clash : false ≡ true = sym live ∙ ap is_out_of_memory e ∙ out in cc
     by false out h = let clash : Some v ≡ None = h in cc
-made table t looked n (Fallback u v) before (p ∷ []) r after (w, mid, next, is, same) over e live = by (has_answers p.result || is_out_of_memory p.result) refl over
+made table t with_hosts n (Fallback u v) before (p ∷ []) r after (w, mid, next, is, same) over e live = by (has_answers p.result || is_out_of_memory p.result) refl over
   where
     alive : is_out_of_memory p.result ≡ false
     alive = sym (ap is_out_of_memory e) ∙ live
 
-    by : (b : Bool) → (has_answers p.result || is_out_of_memory p.result) ≡ b → cond b None (Some v) ≡ None → Made table t looked n (Fallback u v) r
+    by : (b : Bool) → (has_answers p.result || is_out_of_memory p.result) ≡ b → cond b None (Some v) ≡ None → Made table t with_hosts n (Fallback u v) r
     by true is_over h = inl (
-      record { before = before; after = mid; part = p; is = subst (λ x. CachelessSubLookup table t looked before (question_of n x) p mid) (let one : w ≡ u = cc in one) is; result_is = sym e; live = live },
+      record { before = before; after = mid; part = p; is = subst (λ x. CachelessSubLookup table t with_hosts before (question_of n x) p mid) (let one : w ≡ u = cc in one) is; result_is = sym e; live = live },
       ap has_answers e ∙ or-left (has_answers p.result) (is_out_of_memory p.result) is_over alive,
     )
     by false is_over h = let clash : Some v ≡ None = h in cc
-made table t looked n (One u) before (p ∷ q ∷ qs) r after (w, mid, next, is, (x, m, more, second, rest)) over e live = let clash : None ≡ Some x = more in cc
-made table t looked n (Both u v) before (p ∷ q ∷ []) r after (w, mid, next, is, (x, m, more, second, rest)) over e live = first (is_out_of_memory p.result) refl more
+made table t with_hosts n (One u) before (p ∷ q ∷ qs) r after (w, mid, next, is, (x, m, more, second, rest)) over e live = let clash : None ≡ Some x = more in cc
+made table t with_hosts n (Both u v) before (p ∷ q ∷ []) r after (w, mid, next, is, (x, m, more, second, rest)) over e live = first (is_out_of_memory p.result) refl more
   where
-    last : (b : Bool) → is_out_of_memory q.result ≡ b → r ≡ cond b q.result (both_results p.result q.result) → is_out_of_memory p.result ≡ false → v ≡ x → Made table t looked n (Both u v) r
+    last : (b : Bool) → is_out_of_memory q.result ≡ b → r ≡ cond b q.result (both_results p.result q.result) → is_out_of_memory p.result ≡ false → v ≡ x → Made table t with_hosts n (Both u v) r
     last true out f alive type_is = let clash : false ≡ true = sym live ∙ ap is_out_of_memory f ∙ out in cc
     last false out f alive type_is = (
       p.result,
       q.result,
-      record { before = before; after = mid; part = p; is = subst (λ y. CachelessSubLookup table t looked before (question_of n y) p mid) (let one : w ≡ u = cc in one) is; result_is = refl; live = alive },
-      record { before = mid; after = m; part = q; is = subst (λ y. CachelessSubLookup table t looked mid (question_of n y) q m) (sym type_is) second; result_is = refl; live = out },
+      record { before = before; after = mid; part = p; is = subst (λ y. CachelessSubLookup table t with_hosts before (question_of n y) p mid) (let one : w ≡ u = cc in one) is; result_is = refl; live = alive },
+      record { before = mid; after = m; part = q; is = subst (λ y. CachelessSubLookup table t with_hosts mid (question_of n y) q m) (sym type_is) second; result_is = refl; live = out },
       f,
     )
 
-    first : (b : Bool) → is_out_of_memory p.result ≡ b → cond b None (Some v) ≡ Some x → Made table t looked n (Both u v) r
+    first : (b : Bool) → is_out_of_memory p.result ≡ b → cond b None (Some v) ≡ Some x → Made table t with_hosts n (Both u v) r
     first true out h = let clash : None ≡ Some x = h in cc
     first false out h = last (is_out_of_memory q.result) refl e out (let one : v ≡ x = cc in one)
-made table t looked n (Fallback u v) before (p ∷ q ∷ []) r after (w, mid, next, is, (x, m, more, second, rest)) over e live = by (has_answers p.result || is_out_of_memory p.result) refl more
+made table t with_hosts n (Fallback u v) before (p ∷ q ∷ []) r after (w, mid, next, is, (x, m, more, second, rest)) over e live = by (has_answers p.result || is_out_of_memory p.result) refl more
   where
-    by : (b : Bool) → (has_answers p.result || is_out_of_memory p.result) ≡ b → cond b None (Some v) ≡ Some x → Made table t looked n (Fallback u v) r
+    by : (b : Bool) → (has_answers p.result || is_out_of_memory p.result) ≡ b → cond b None (Some v) ≡ Some x → Made table t with_hosts n (Fallback u v) r
     by true on h = let clash : None ≡ Some x = h in cc
     by false on h =
         let parts = or-parts (has_answers p.result) (is_out_of_memory p.result) on in
         inr (
           p.result,
-          record { before = before; after = mid; part = p; is = subst (λ y. CachelessSubLookup table t looked before (question_of n y) p mid) (let one : w ≡ u = cc in one) is; result_is = refl; live = parts.1 },
+          record { before = before; after = mid; part = p; is = subst (λ y. CachelessSubLookup table t with_hosts before (question_of n y) p mid) (let one : w ≡ u = cc in one) is; result_is = refl; live = parts.1 },
           parts.0,
-          record { before = mid; after = m; part = q; is = subst (λ y. CachelessSubLookup table t looked mid (question_of n y) q m) (let one : x ≡ v = cc in one) second; result_is = sym e; live = live },
+          record { before = mid; after = m; part = q; is = subst (λ y. CachelessSubLookup table t with_hosts mid (question_of n y) q m) (let one : x ≡ v = cc in one) second; result_is = sym e; live = live },
         )
-made table t looked n (Both u v) before (p ∷ q ∷ y ∷ ys) r after (w, mid, next, is, (x, m, more, second, (z, k, third, it, rest))) over e live = let clash : None ≡ Some z = third in cc
-made table t looked n (Fallback u v) before (p ∷ q ∷ y ∷ ys) r after (w, mid, next, is, (x, m, more, second, (z, k, third, it, rest))) over e live = let clash : None ≡ Some z = third in cc
+made table t with_hosts n (Both u v) before (p ∷ q ∷ y ∷ ys) r after (w, mid, next, is, (x, m, more, second, (z, k, third, it, rest))) over e live = let clash : None ≡ Some z = third in cc
+made table t with_hosts n (Fallback u v) before (p ∷ q ∷ y ∷ ys) r after (w, mid, next, is, (x, m, more, second, (z, k, third, it, rest))) over e live = let clash : None ≡ Some z = third in cc
 
-made-of : (table : TableValue) (t : CallContext) (looked : Bool) (n : NameValue) (plan : Plan) (before : CacheValue) (ps : List SubLookup) (r : LookupResult) (after : CacheValue) → IsAttempt (CachelessSubLookup table t) looked before n plan ps r after → is_out_of_memory r ≡ false → Made table t looked n plan r
-made-of table t looked n plan before ps r after attempt live = by attempt.result_is
+made-of : (table : TableValue) (t : CallContext) (with_hosts : Bool) (n : NameValue) (plan : Plan) (before : CacheValue) (ps : List SubLookup) (r : LookupResult) (after : CacheValue) → IsAttempt (CachelessSubLookup table t) with_hosts before n plan ps r after → is_out_of_memory r ≡ false → Made table t with_hosts n plan r
+made-of table t with_hosts n plan before ps r after attempt live = by attempt.result_is
   where
-    by : IsAttemptResult plan (results_of ps) r → Made table t looked n plan r
-    by (inl (over, e)) = made table t looked n plan before ps r after attempt.are over e live
+    by : IsAttemptResult plan (results_of ps) r → Made table t with_hosts n plan r
+    by (inl (over, e)) = made table t with_hosts n plan before ps r after attempt.are over e live
     by (inr (takes, out)) = let clash : false ≡ true = sym live ∙ ap is_out_of_memory out in cc
 
 -- ---- attempts
@@ -302,11 +302,11 @@ last-once (Some l) first second r k known live alive (inr out) y = let clash : f
 last-once (Some l) first second r k known live alive (inl e) (inr out) = let clash : false ≡ true = sym alive ∙ ap is_out_of_memory out in cc
 last-once (Some l) first second r k known live alive (inl e) (inl f) = ap reply_core (e ∙ sym f)
 
-tries-once : (table : TableValue) (t : CallContext) (plan : CallPlan) (looked : Bool) (c d : CacheValue) (names : List NameValue) (first second : LookupResult → Type 0) (ps qs : List SubLookup) (r k : LookupResult) (e f : CacheValue)
+tries-once : (table : TableValue) (t : CallContext) (plan : CallPlan) (with_hosts : Bool) (c d : CacheValue) (names : List NameValue) (first second : LookupResult → Type 0) (ps qs : List SubLookup) (r k : LookupResult) (e f : CacheValue)
     → (names ≡ [] → first r → second k → Same r k) → is_out_of_memory r ≡ false → is_out_of_memory k ≡ false
-    → AreAttempts (CachelessSubLookup table t) plan looked c names first ps r e → AreAttempts (CachelessSubLookup table t) plan looked d names second qs k f → Same r k
-tries-once table t plan looked c d [] first second ps qs r k e f known live alive (none, last, same) (nothing, final, unchanged) = last-once plan.literal first second r k (known refl) live alive last final
-tries-once table t plan looked c d (n ∷ ns) first second ps qs r k e f known live alive (front, back, a, mid, are, attempt, goes) (before, behind, b, between, are_too, attempt_too, goes_too) =
+    → AreAttempts (CachelessSubLookup table t) plan with_hosts c names first ps r e → AreAttempts (CachelessSubLookup table t) plan with_hosts d names second qs k f → Same r k
+tries-once table t plan with_hosts c d [] first second ps qs r k e f known live alive (none, last, same) (nothing, final, unchanged) = last-once plan.literal first second r k (known refl) live alive last final
+tries-once table t plan with_hosts c d (n ∷ ns) first second ps qs r k e f known live alive (front, back, a, mid, are, attempt, goes) (before, behind, b, between, are_too, attempt_too, goes_too) =
     by goes goes_too (λ rest more. tries-once table t plan plan.hosts_for_all mid between ns (λ x. x ≡ a) (λ x. x ≡ b) back behind r k e f (λ none x y. ap reply_core x ∙ same ∙ sym (ap reply_core y)) live alive rest more)
   where
     a_live : is_out_of_memory a ≡ false
@@ -316,7 +316,7 @@ tries-once table t plan looked c d (n ∷ ns) first second ps qs r k e f known l
     b_live = goes-live table t plan between ns b behind k f alive goes_too
 
     same : Same a b
-    same = made-once table t looked n plan.types a b (made-of table t looked n plan.types c front a mid attempt a_live) (made-of table t looked n plan.types d before b between attempt_too b_live)
+    same = made-once table t with_hosts n plan.types a b (made-of table t with_hosts n plan.types c front a mid attempt a_live) (made-of table t with_hosts n plan.types d before b between attempt_too b_live)
 
     by : Goes table t plan mid ns a back r e → Goes table t plan between ns b behind k f
         → (AreAttempts (CachelessSubLookup table t) plan plan.hosts_for_all mid ns (λ x. x ≡ a) back r e → AreAttempts (CachelessSubLookup table t) plan plan.hosts_for_all between ns (λ x. x ≡ b) behind k f → Same r k) → Same r k

@@ -153,8 +153,8 @@ module _ (now : ℕ) (first : CacheValue) (cache : IsCache first.config first.ca
         known = stored _ (arrive whole.hops) whole.after_is;
       }
       by (inr (e, inl cut)) =
-          let front = all-front (HasArrived config code) cut.front cut.back (subst (AllByRecursion (HasArrived config code)) (sym cut.parts) (arrive cut.hops)) in
-          record { stores = made cut.front front; fresh = λ zero. out e; known = stored cut.front front cut.after_is }
+          let front = all-front (HasArrived config code) cut.begun.front cut.begun.back (subst (AllByRecursion (HasArrived config code)) (sym cut.begun.parts) (arrive cut.hops)) in
+          record { stores = made cut.begun.front front; fresh = λ zero. out e; known = stored cut.begun.front front cut.begun.after_is }
       by (inr (e, inr cut)) =
           record { stores = tt; fresh = λ zero. out e; known = subst (λ c. AllByRecursion (IsKnown config) c.entries) (sym cut.after_is) known }
 
@@ -168,13 +168,13 @@ module _ (now : ℕ) (first : CacheValue) (cache : IsCache first.config first.ca
   IsAsked p = AllByRecursion (λ x. (code : ℕ) → ContainsByRecursion (sources code) (record { moment = now; exchange = x })) p.asks
 
   abbrev SourcedSubLookup : CallContext → Bool → CacheValue → Query → SubLookup → CacheValue → Type 0
-  SourcedSubLookup t looked before q p after = FreshlyStoredSubLookup sources t looked before q p after × IsFreshSubLookup first.config sources now p
+  SourcedSubLookup t with_hosts before q p after = FreshlyStoredSubLookup sources t with_hosts before q p after × IsFreshSubLookup first.config sources now p
 
-  sourced-step : (t : CallContext) → t.now ≡ now → (looked : Bool) (before : CacheValue) (q : Query) (p : SubLookup) (after : CacheValue) → Holds before → IsAsked p → IsAnsweredFor t looked before q p after
-      → SourcedSubLookup t looked before q p after × Holds after
-  sourced-step t moment looked before q p after (bounds, known) asked (for, is) = let there = by p.source refl is in (((for, there.0.0), there.0.1), there.1)
+  sourced-step : (t : CallContext) → t.now ≡ now → (with_hosts : Bool) (before : CacheValue) (q : Query) (p : SubLookup) (after : CacheValue) → Holds before → IsAsked p → IsAnsweredFor t with_hosts before q p after
+      → SourcedSubLookup t with_hosts before q p after × Holds after
+  sourced-step t moment with_hosts before q p after (bounds, known) asked (for, is) = let there = by p.source refl is in (((for, there.0.0), there.0.1), there.1)
     where
-      by : (source : Source) → p.source ≡ source → IsAnsweredFrom source t looked before p after → (IsFreshlyStoredBy sources source t looked before p after × IsFreshSubLookup first.config sources now p) × Holds after
+      by : (source : Source) → p.source ≡ source → IsAnsweredFrom source t with_hosts before p after → (IsFreshlyStoredBy sources source t with_hosts before p after × IsFreshSubLookup first.config sources now p) × Holds after
       by Static e part = (
         (part, λ client. absurd (let clash : Static ≡ Client = sym e ∙ client in cc)),
         subst Holds (sym part.unchanged) (bounds, known),
@@ -236,8 +236,8 @@ provenance s now before call parts reply after cache is = by is
         let there = call-along (IsAnsweredFor (call_context_at s now)) Sourced (Holds now before cache sources own) (IsAsked now before cache sources own)
         (sourced-step now before cache sources own (call_context_at s now) refl) s before call parts reply after (refl, old) asked is in
         record {
-          replies = replies (chain-all Sourced (IsFreshSubLookup before.config sources now) (λ looked mid q p end h. h.1) before parts after (chain-call Sourced s before call parts reply after there.0));
-          stores = inl (call-weaker Sourced (FreshlyStoredSubLookup sources (call_context_at s now)) (λ looked mid q p end h. h.0) s before call parts reply after there.0);
+          replies = replies (chain-all Sourced (IsFreshSubLookup before.config sources now) (λ with_hosts mid q p end h. h.1) before parts after (chain-call Sourced s before call parts reply after there.0));
+          stores = inl (call-weaker Sourced (FreshlyStoredSubLookup sources (call_context_at s now)) (λ with_hosts mid q p end h. h.0) s before call parts reply after there.0);
           entries = there.1.1;
         }
     by (inr (none, e, same)) = record {
@@ -258,10 +258,10 @@ fresh_call s now before call parts reply after is earlier entries =
 
 -- ---- few questions
 
-part-few : (t : CallContext) (looked : Bool) (before : CacheValue) (q : Query) (p : SubLookup) (after : CacheValue) → IsAnsweredFor t looked before q p after → length p.asks ≤ 8
-part-few t looked before q p after (for, is) = by p.source is
+part-few : (t : CallContext) (with_hosts : Bool) (before : CacheValue) (q : Query) (p : SubLookup) (after : CacheValue) → IsAnsweredFor t with_hosts before q p after → length p.asks ≤ 8
+part-few t with_hosts before q p after (for, is) = by p.source is
   where
-    by : (source : Source) → IsAnsweredFrom source t looked before p after → length p.asks ≤ 8
+    by : (source : Source) → IsAnsweredFrom source t with_hosts before p after → length p.asks ≤ 8
     by Static part = omega (arith, ap length part.nothing_asked)
     by Client part = few (start_at t before) p.question p.asks p.result after part.reply
 

@@ -1,5 +1,5 @@
 -- What is promised of look-ups and runs holds of those of the definition.
-use Rattle.std.proofs.Common.{ℕ, List}
+use Rattle.std.proofs.Common.{refl, ℕ, List}
 use Rattle.hickory_proto_core.specs.Handles.{HandleStep}
 use Rattle.hickory_proto_core.specs.declared.query.Query.{Query}
 use Rattle.hickory_proto_core.specs.declared.dns_request.DnsRequestOptions.{DnsRequestOptions}
@@ -36,7 +36,7 @@ pub promised_run : {H : Type 0} (step : HandleStep H) (s : Settings) (handle : H
     → IsPromisedRun step s handle requests steps exchanges handle_after cache_after
 promised_run step s handle requests steps exchanges handle_after cache_after is = record {
   is = is;
-  headline = headline s (first_cache s) requests steps exchanges cache_after is.run;
+  headline = headline s (first_cache s) requests steps exchanges cache_after is.run refl;
   no_alias_outlives = run_limited s (first_cache s) requests steps exchanges cache_after is.run;
 }
 

@@ -10,7 +10,7 @@ use Rattle.hickory_proto_core.specs.Records.{RecordValue, soa_minimum, ns_target
 use Rattle.hickory_proto_core.specs.Messages.{MessageValue, response_metadata, some_record}
 use Rattle.hickory_proto_core.specs.Errors.{ForwardValue}
 use Rattle.hickory_proto_core.specs.Handles.{OutcomeValue}
-use Rattle.hickory_proto_core.specs.ResponseKind.{ResponseKind, Answer, Negative, Failed, kind_of, is_asked, is_empty, answers_question, contains_answer, first_query, section_or_none, first_soa, is_address_of, forward_of, forwards_of, forwards_or_none, negative_of}
+use Rattle.hickory_proto_core.specs.ResponseKind.{ResponseKind, Answer, Negative, Failed, kind_of, is_asked, is_empty, answers_question, contains_answer, first_query, or_none, first_soa, is_address_of, forward_of, forwards_of, negative_of}
 use Rattle.hickory_proto_core.specs.declared.query.Query.{Query}
 use Rattle.hickory_proto_core.specs.codes.dns_class.DNSClass.TheVariants as class
 use Rattle.hickory_proto_core.specs.codes.op_code.OpCode.TheVariants as op
@@ -65,10 +65,10 @@ abbrev negative_core_of : MessageValue → NetError
 negative_core_of m = Dns (NoRecordsFound (record {
   query = first_query m.queries;
   soa = first_soa m.authorities;
-  ns = forwards_or_none (forwards_of m);
+  ns = or_none (forwards_of m);
   negative_ttl = None;
   response_code = m.metadata.response_code;
-  authorities = section_or_none m.authorities;
+  authorities = or_none m.authorities;
 }))
 
 -- the sections of an accepted response, without TTLs
@@ -181,7 +181,7 @@ first-folded_name : (qs : List Query) → first_query (map folded_query qs) ≡ 
 first-folded_name [] = refl
 first-folded_name (q ∷ qs) = refl
 
-section-folded_name : (rs : List RecordValue) → section_or_none (map record_core rs) ≡ option_map (map record_core) (section_or_none rs)
+section-folded_name : (rs : List RecordValue) → or_none (map record_core rs) ≡ option_map (map record_core) (or_none rs)
 section-folded_name [] = refl
 section-folded_name (r ∷ rs) = refl
 
@@ -206,7 +206,7 @@ forwards-folded_name additionals (r ∷ rs) = ap₂ cons_option (forward-folded_
     by None = refl
     by (Some f) = refl
 
-some-forwards : (fs : List ForwardValue) → forwards_or_none (map forward_core fs) ≡ option_map (map forward_core) (forwards_or_none fs)
+some-forwards : (fs : List ForwardValue) → or_none (map forward_core fs) ≡ option_map (map forward_core) (or_none fs)
 some-forwards [] = refl
 some-forwards (f ∷ fs) = refl
 
@@ -214,7 +214,7 @@ negative-folded_name : (m : MessageValue) → error_core (Dns (NoRecordsFound (n
 negative-folded_name m =
     let first = first-folded_name m.queries in
     let soa = soa-folded_name m.authorities in
-    let ns = ap forwards_or_none (forwards-folded_name m.additionals m.authorities) ∙ some-forwards (forwards_of m) in
+    let ns = ap or_none (forwards-folded_name m.additionals m.authorities) ∙ some-forwards (forwards_of m) in
     let section = section-folded_name m.authorities in
     sym (λ i. Dns (NoRecordsFound (record {
       query = first i;

@@ -8,7 +8,7 @@ use Rattle.hickory_resolver_model.specs.Cache.{CacheValue}
 use Rattle.hickory_resolver_model.specs.Lookup.{LookupResult, question_of}
 use Rattle.hickory_resolver_model.specs.Calls.{Static, Client, SubLookup, SubLookupRelation, asks_of_sub_lookups, next_type, IsAttemptResult, IsLastReply, results_of, stops, CallPlan, AreAttempts}
 use Rattle.hickory_resolver_theorems.specs.ResumingCalls.{AttemptValue, with_result, at_next}
-use Rattle.hickory_resolver_theorems.specs.CallsAlone.{IsRestOfCall, CallRelation, LeadsToWhole}
+use Rattle.hickory_resolver_theorems.proofs.SentAlone.{IsRestOfCall, CallRelation, LeadsToWhole}
 
 pub asks-append : (parts : List SubLookup) (p : SubLookup) → asks_of_sub_lookups (parts ++ p ∷ []) ≡ asks_of_sub_lookups parts ++ p.asks
 asks-append [] p = append-nil p.asks
@@ -22,7 +22,7 @@ abbrev pub static : (a : AttemptValue) (t : RecordType) (result : LookupResult) 
 static a t result = record { question = question_of a.name t; source = Static; asks = []; result = result }
 
 module _ (Answers : SubLookupRelation) where
-  pub rest_after : (a : AttemptValue) (t : RecordType) (before mid : CacheValue) (p : SubLookup) → next_type a.plan.types a.results ≡ Some t → Answers a.looked before (question_of a.name t) p mid → (parts : List SubLookup) (result : LookupResult) (after : CacheValue) → IsRestOfCall Answers (with_result a p.result) mid parts result after → IsRestOfCall Answers a before (p ∷ parts) result after
+  pub rest_after : (a : AttemptValue) (t : RecordType) (before mid : CacheValue) (p : SubLookup) → next_type a.plan.types a.results ≡ Some t → Answers a.with_hosts before (question_of a.name t) p mid → (parts : List SubLookup) (result : LookupResult) (after : CacheValue) → IsRestOfCall Answers (with_result a p.result) mid parts result after → IsRestOfCall Answers a before (p ∷ parts) result after
   rest_after a t before mid p next answered parts result after (front, back, r, end, e, are, is, rest) =
       let P : List LookupResult → Type 0 = λ rs. IsAttemptResult a.plan.types rs r in
       (p ∷ front, back, r, end, ap (λ ps. p ∷ ps) e, (t, mid, next, answered, are), subst P (append_assoc a.results (p.result ∷ []) (results_of front)) is, rest)
@@ -35,9 +35,9 @@ module _ (Answers : SubLookupRelation) where
   rest_stopped a r before is stop = ([], [], r, before, refl, refl, over_by a r is, inl (stop, refl, refl, refl))
 
   -- what is left of a call from the first of some names, at which nothing was looked up yet: attempts at them
-  pub attempts_of : (plan : CallPlan) (looked : Bool) (name : NameValue) (names : List NameValue) (before : CacheValue) (IsLast : LookupResult → Type 0) (parts : List SubLookup) (result : LookupResult) (after : CacheValue) → IsRestOfCall Answers (record { plan = plan; looked = looked; name = name; results = []; left = names }) before parts result after
-      → AreAttempts Answers plan looked before (name ∷ names) IsLast parts result after
-  attempts_of plan looked name names before IsLast parts result after (front, back, r, mid, e, are, is, rest) = (front, back, r, mid, e, record { are = are; result_is = is }, rest)
+  pub attempts_of : (plan : CallPlan) (with_hosts : Bool) (name : NameValue) (names : List NameValue) (before : CacheValue) (IsLast : LookupResult → Type 0) (parts : List SubLookup) (result : LookupResult) (after : CacheValue) → IsRestOfCall Answers (record { plan = plan; with_hosts = with_hosts; name = name; results = []; left = names }) before parts result after
+      → AreAttempts Answers plan with_hosts before (name ∷ names) IsLast parts result after
+  attempts_of plan with_hosts name names before IsLast parts result after (front, back, r, mid, e, are, is, rest) = (front, back, r, mid, e, record { are = are; result_is = is }, rest)
 
   pub rest_next : (a : AttemptValue) (r : LookupResult) (name : NameValue) (names : List NameValue) (before : CacheValue) → IsAttemptResult a.plan.types a.results r → stops r ≡ false → a.left ≡ name ∷ names → (parts : List SubLookup) (result : LookupResult) (after : CacheValue) → IsRestOfCall Answers (at_next a name names) before parts result after → IsRestOfCall Answers a before parts result after
   rest_next a r name names before is on left parts result after rest =
@@ -49,6 +49,6 @@ module _ (Answers : SubLookupRelation) where
       let P : List NameValue → Type 0 = λ ns. AreAttempts Answers a.plan a.plan.hosts_for_all before ns (λ x. x ≡ last) [] r before in
       ([], [], last, before, refl, refl, over_by a last is, inr (on, subst P (sym left) (refl, reply, refl)))
 
-  pub more_done : (IsWhole : CallRelation) → (done : List SubLookup) (a : AttemptValue) (t : RecordType) (before mid : CacheValue) (p : SubLookup) → next_type a.plan.types a.results ≡ Some t → Answers a.looked before (question_of a.name t) p mid → LeadsToWhole Answers IsWhole done a before → LeadsToWhole Answers IsWhole (done ++ p ∷ []) (with_result a p.result) mid
+  pub more_done : (IsWhole : CallRelation) → (done : List SubLookup) (a : AttemptValue) (t : RecordType) (before mid : CacheValue) (p : SubLookup) → next_type a.plan.types a.results ≡ Some t → Answers a.with_hosts before (question_of a.name t) p mid → LeadsToWhole Answers IsWhole done a before → LeadsToWhole Answers IsWhole (done ++ p ∷ []) (with_result a p.result) mid
   more_done IsWhole done a t before mid p next answered whole parts result after rest =
       subst (λ ps. IsWhole ps result after) (sym (append_assoc done (p ∷ []) parts)) (whole (p ∷ parts) result after (rest_after a t before mid p next answered parts result after rest))

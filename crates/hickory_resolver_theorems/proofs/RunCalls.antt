@@ -55,26 +55,26 @@ module _ (s : Settings) (call : Call) (now : ℕ) where
   abbrev done_with : List Exchange → LookupResult → List DoneCallValue
   done_with asks result = record { call = call; now = now; asks = asks; result = result } ∷ []
 
-  placed-alone : (sub : ProgressValue) (new : List PendingCallValue) → new ≡ placed sub [] new []
+  placed-alone : (lookup : ProgressValue) (new : List PendingCallValue) → new ≡ placed lookup [] new []
   placed-alone (Waits w) new = sym (append-nil new)
   placed-alone (IsDone result) new = refl
 
   -- what comes back to it is fed to it
-  fed : (w : WaitingCallValue) (asks : List Exchange) (cache : CacheValue) (x : Exchange) (next : CallProgressValue) (mid : CacheValue) → w.sub.now ≡ now → ResumesCall (call_context_at s now) w x.outcome cache next mid
+  fed : (w : WaitingCallValue) (asks : List Exchange) (cache : CacheValue) (x : Exchange) (next : CallProgressValue) (mid : CacheValue) → w.lookup.now ≡ now → ResumesCall (call_context_at s now) w x.outcome cache next mid
       → CallHappens s (world_with cache (record { call = call; asks = asks; waiting = w } ∷ [])) (CallFed (record { call = call; asks = asks; waiting = w }) x.outcome next)
-      (world_with mid (call_pending call (asks ++ record { query = w.sub.hop.query; outcome = x.outcome } ∷ []) next))
-  fed w asks cache x next mid now_is (sub, end, resumes, more) = (
+      (world_with mid (call_pending call (asks ++ record { query = w.lookup.hop.query; outcome = x.outcome } ∷ []) next))
+  fed w asks cache x next mid now_is (lookup, end, resumes, more) = (
     [],
     [],
     refl,
     (
-      sub,
+      lookup,
       end,
-      subst (λ n. Resumes (record { cache = cache; now = n; preserve_intermediates = s.preserve_intermediates }) w.sub x.outcome sub end) (sym now_is) resumes,
-      subst (λ n. GoesOnAfter (call_context_at s n) w.attempt sub end next mid) (sym now_is) more,
+      subst (λ n. Resumes (record { cache = cache; now = n; preserve_intermediates = s.preserve_intermediates }) w.lookup x.outcome lookup end) (sym now_is) resumes,
+      subst (λ n. GoesOnAfter (call_context_at s n) w.attempt lookup end next mid) (sym now_is) more,
     ),
     refl,
-    placed-alone sub (call_pending call (asks ++ record { query = w.sub.hop.query; outcome = x.outcome } ∷ []) next),
+    placed-alone lookup (call_pending call (asks ++ record { query = w.lookup.hop.query; outcome = x.outcome } ∷ []) next),
   )
 
   -- from where it stands
@@ -90,7 +90,7 @@ module _ (s : Settings) (call : Call) (now : ℕ) where
   wait-events (CallIsDone early) asks cache (x ∷ xs) result after never = absurd never
   wait-events (CallWaits w) asks cache (x ∷ xs) result after (now_is, asked, next, mid, resumes, driven) =
       let c : PendingCallValue = record { call = call; asks = asks; waiting = w } in
-      let came : Exchange = record { query = w.sub.hop.query; outcome = x.outcome } in
+      let came : Exchange = record { query = w.lookup.hop.query; outcome = x.outcome } in
       let same : came ≡ x = λ i. record { query = sym asked i; outcome = x.outcome } in
       let event = CallFed c x.outcome next in
       let there = wait-events next (asks ++ came ∷ []) mid xs result after driven in

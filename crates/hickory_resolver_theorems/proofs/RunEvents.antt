@@ -74,10 +74,10 @@ parts-split p ps = by (is_client p.source)
     by true = refl
     by false = refl
 
-part-events : (t : CallContext) (looked : Bool) (before : CacheValue) (q : Query) (p : SubLookup) (after : CacheValue) → IsAnsweredFor t looked before q p after → AreAtOnce t.preserve_intermediates before after (dated_exchanges t.now p.asks) (client_parts (p ∷ []))
-part-events t looked before q p after (for, is) = by p.source refl is
+part-events : (t : CallContext) (with_hosts : Bool) (before : CacheValue) (q : Query) (p : SubLookup) (after : CacheValue) → IsAnsweredFor t with_hosts before q p after → AreAtOnce t.preserve_intermediates before after (dated_exchanges t.now p.asks) (client_parts (p ∷ []))
+part-events t with_hosts before q p after (for, is) = by p.source refl is
   where
-    by : (source : Source) → p.source ≡ source → IsAnsweredFrom source t looked before p after → AreAtOnce t.preserve_intermediates before after (dated_exchanges t.now p.asks) (client_parts (p ∷ []))
+    by : (source : Source) → p.source ≡ source → IsAnsweredFrom source t with_hosts before p after → AreAtOnce t.preserve_intermediates before after (dated_exchanges t.now p.asks) (client_parts (p ∷ []))
     by Static e part =
         subst (λ ps. AreAtOnce t.preserve_intermediates before after (dated_exchanges t.now p.asks) ps) (sym (own-parts p Static e))
         (subst (λ xs. AreAtOnce t.preserve_intermediates before after (dated_exchanges t.now xs) []) (sym part.nothing_asked) (no-events t.preserve_intermediates before after part.unchanged))
@@ -89,11 +89,11 @@ part-events t looked before q p after (for, is) = by p.source refl is
 
 chain-events : (t : CallContext) (before : CacheValue) (ps : List SubLookup) (after : CacheValue) → Chain (IsAnsweredFor t) before ps after → AreAtOnce t.preserve_intermediates before after (dated_exchanges t.now (asks_of_sub_lookups ps)) (client_parts ps)
 chain-events t before [] after same = no-events t.preserve_intermediates before after same
-chain-events t before (p ∷ ps) after (looked, q, mid, is, rest) =
+chain-events t before (p ∷ ps) after (with_hosts, q, mid, is, rest) =
     subst (λ xs. AreAtOnce t.preserve_intermediates before after xs (client_parts (p ∷ ps))) (sym (map-append (λ x. record { moment = t.now; exchange = x }) p.asks (asks_of_sub_lookups ps)))
     (subst (λ qs. AreAtOnce t.preserve_intermediates before after (dated_exchanges t.now p.asks ++ dated_exchanges t.now (asks_of_sub_lookups ps)) qs) (parts-split p ps)
     (events-append t.preserve_intermediates before mid after (dated_exchanges t.now p.asks) (dated_exchanges t.now (asks_of_sub_lookups ps)) (client_parts (p ∷ [])) (client_parts ps)
-    (part-events t looked before q p mid is) (chain-events t mid ps after rest)))
+    (part-events t with_hosts before q p mid is) (chain-events t mid ps after rest)))
 
 -- ---- a clear
 

@@ -55,10 +55,10 @@ pub record IsGoodPart (now : ℕ) (before : CacheValue) (sources : List Dated) (
   pub entries : AreFreshEntries after (sources ++ dated_exchanges now p.asks)
   pub config : after.config ≡ before.config
 
-good-part : (t : CallContext) (looked : Bool) (q : Query) (before : CacheValue) (sources : List Dated) (p : SubLookup) (after : CacheValue) → AreFreshEntries before sources → IsAnsweredFor t looked before q p after → IsGoodPart t.now before sources p after
-good-part t looked q before sources p after entries (for, is) = by p.source refl is
+good-part : (t : CallContext) (with_hosts : Bool) (q : Query) (before : CacheValue) (sources : List Dated) (p : SubLookup) (after : CacheValue) → AreFreshEntries before sources → IsAnsweredFor t with_hosts before q p after → IsGoodPart t.now before sources p after
+good-part t with_hosts q before sources p after entries (for, is) = by p.source refl is
   where
-    by : (source : Source) → p.source ≡ source → IsAnsweredFrom source t looked before p after → IsGoodPart t.now before sources p after
+    by : (source : Source) → p.source ≡ source → IsAnsweredFrom source t with_hosts before p after → IsGoodPart t.now before sources p after
     by Static e part = record {
       few = omega (arith, ap length part.nothing_asked);
       fresh = λ client. absurd (let clash : Static ≡ Client = sym e ∙ client in cc);
@@ -92,8 +92,8 @@ good-chain t before sources [] after entries e = record {
   entries = subst (AreFreshEntries after) (sym (append-nil sources)) (subst (λ c. AreFreshEntries c sources) (sym e) entries);
   config = ap (λ c. c.config) e;
 }
-good-chain t before sources (p ∷ ps) after entries (looked, q, mid, is, rest) =
-    let one = good-part t looked q before sources p mid entries is in
+good-chain t before sources (p ∷ ps) after entries (with_hosts, q, mid, is, rest) =
+    let one = good-part t with_hosts q before sources p mid entries is in
     let more = good-chain t mid (sources ++ dated_exchanges t.now p.asks) ps after one.entries rest in
     let back = dated_exchanges t.now (asks_of_sub_lookups ps) in
     let same : (sources ++ dated_exchanges t.now p.asks) ++ back ≡ sources ++ dated_exchanges t.now (asks_of_sub_lookups (p ∷ ps)) =

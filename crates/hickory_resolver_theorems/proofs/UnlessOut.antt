@@ -42,90 +42,90 @@ goes-on (Fallback t v) (x ∷ []) r u h = let clash : None ≡ Some u = h in cc
 goes-on (Fallback t v) (x ∷ y ∷ ys) r u h = let clash : None ≡ Some u = h in cc
 
 -- an attempt whose last sub-look-up ran out of memory did so too
-out-result : (Answers : SubLookupRelation) (looked : Bool) (n : NameValue) (plan : Plan) (before : CacheValue) (ps : List SubLookup) (after : CacheValue) → AreSubLookups Answers looked n plan before [] ps after → last_is_out ps ≡ true
+out-result : (Answers : SubLookupRelation) (with_hosts : Bool) (n : NameValue) (plan : Plan) (before : CacheValue) (ps : List SubLookup) (after : CacheValue) → AreSubLookups Answers with_hosts n plan before [] ps after → last_is_out ps ≡ true
     → is_out_of_memory (attempt_result plan (results_of ps)) ≡ true
-out-result Answers looked n plan before [] after are out = let clash : false ≡ true = out in cc
-out-result Answers looked n plan before (p ∷ []) after are out = out
-out-result Answers looked n (One t) before (p ∷ q ∷ []) after are out = out
-out-result Answers looked n (Fallback t u) before (p ∷ q ∷ []) after are out = out
-out-result Answers looked n (Both t u) before (p ∷ q ∷ []) after are out = by (is_out_of_memory q.result) refl
+out-result Answers with_hosts n plan before [] after are out = let clash : false ≡ true = out in cc
+out-result Answers with_hosts n plan before (p ∷ []) after are out = out
+out-result Answers with_hosts n (One t) before (p ∷ q ∷ []) after are out = out
+out-result Answers with_hosts n (Fallback t u) before (p ∷ q ∷ []) after are out = out
+out-result Answers with_hosts n (Both t u) before (p ∷ q ∷ []) after are out = by (is_out_of_memory q.result) refl
   where
     by : (b : Bool) → is_out_of_memory q.result ≡ b → is_out_of_memory (cond b q.result (both_results p.result q.result)) ≡ true
     by true e = e
     by false e = let clash : false ≡ true = sym e ∙ out in cc
-out-result Answers looked n (One t) before (p ∷ q ∷ x ∷ xs) after (a, b, next, is, (v, m, on, second, (w, k, more, third, rest))) out = let clash : None ≡ Some w = more in cc
-out-result Answers looked n (Both t u) before (p ∷ q ∷ x ∷ xs) after (a, b, next, is, (v, m, on, second, (w, k, more, third, rest))) out = let clash : None ≡ Some w = more in cc
-out-result Answers looked n (Fallback t u) before (p ∷ q ∷ x ∷ xs) after (a, b, next, is, (v, m, on, second, (w, k, more, third, rest))) out = let clash : None ≡ Some w = more in cc
+out-result Answers with_hosts n (One t) before (p ∷ q ∷ x ∷ xs) after (a, b, next, is, (v, m, on, second, (w, k, more, third, rest))) out = let clash : None ≡ Some w = more in cc
+out-result Answers with_hosts n (Both t u) before (p ∷ q ∷ x ∷ xs) after (a, b, next, is, (v, m, on, second, (w, k, more, third, rest))) out = let clash : None ≡ Some w = more in cc
+out-result Answers with_hosts n (Fallback t u) before (p ∷ q ∷ x ∷ xs) after (a, b, next, is, (v, m, on, second, (w, k, more, third, rest))) out = let clash : None ≡ Some w = more in cc
 
 -- The other way answers over other caches, one for each; something holds of each cache on the way and of each part.
 module _ (A B : SubLookupRelation) (Holds : CacheValue → Type 0) (Q : SubLookup → Type 0) (over : CacheValue → CacheValue)
-    (step : (looked : Bool) (before : CacheValue) (q : Query) (p : SubLookup) (after : CacheValue) → Holds before → Q p → A looked before q p after
-    → ((is_out_of_memory p.result ≡ true) ⊎ B looked (over before) q p (over after)) × Holds after) where
+    (step : (with_hosts : Bool) (before : CacheValue) (q : Query) (p : SubLookup) (after : CacheValue) → Holds before → Q p → A with_hosts before q p after
+    → ((is_out_of_memory p.result ≡ true) ⊎ B with_hosts (over before) q p (over after)) × Holds after) where
   -- where it is not out of memory
-  part-live : (looked : Bool) (before : CacheValue) (q : Query) (p : SubLookup) (after : CacheValue) → is_out_of_memory p.result ≡ false → (is_out_of_memory p.result ≡ true) ⊎ B looked (over before) q p (over after) → B looked (over before) q p (over after)
-  part-live looked before q p after live (inl out) = let clash : false ≡ true = sym live ∙ out in cc
-  part-live looked before q p after live (inr is) = is
+  part-live : (with_hosts : Bool) (before : CacheValue) (q : Query) (p : SubLookup) (after : CacheValue) → is_out_of_memory p.result ≡ false → (is_out_of_memory p.result ≡ true) ⊎ B with_hosts (over before) q p (over after) → B with_hosts (over before) q p (over after)
+  part-live with_hosts before q p after live (inl out) = let clash : false ≡ true = sym live ∙ out in cc
+  part-live with_hosts before q p after live (inr is) = is
 
-  subs-unless : (looked : Bool) (n : NameValue) (plan : Plan) (before : CacheValue) (results : List LookupResult) (ps : List SubLookup) (after : CacheValue) → Holds before → AllByRecursion Q ps → AreSubLookups A looked n plan before results ps after
-      → ((last_is_out ps ≡ true) ⊎ AreSubLookups B looked n plan (over before) results ps (over after)) × Holds after
-  subs-unless looked n plan before results [] after holds all same = (inr (ap over same), subst Holds (sym same) holds)
-  subs-unless looked n plan before results (p ∷ []) after holds (own, none) (u, mid, next, is, same) = (by here.0, subst Holds (sym same) here.1)
+  subs-unless : (with_hosts : Bool) (n : NameValue) (plan : Plan) (before : CacheValue) (results : List LookupResult) (ps : List SubLookup) (after : CacheValue) → Holds before → AllByRecursion Q ps → AreSubLookups A with_hosts n plan before results ps after
+      → ((last_is_out ps ≡ true) ⊎ AreSubLookups B with_hosts n plan (over before) results ps (over after)) × Holds after
+  subs-unless with_hosts n plan before results [] after holds all same = (inr (ap over same), subst Holds (sym same) holds)
+  subs-unless with_hosts n plan before results (p ∷ []) after holds (own, none) (u, mid, next, is, same) = (by here.0, subst Holds (sym same) here.1)
     where
-      here : ((is_out_of_memory p.result ≡ true) ⊎ B looked (over before) (question_of n u) p (over mid)) × Holds mid
-      here = step looked before (question_of n u) p mid holds own is
+      here : ((is_out_of_memory p.result ≡ true) ⊎ B with_hosts (over before) (question_of n u) p (over mid)) × Holds mid
+      here = step with_hosts before (question_of n u) p mid holds own is
 
-      by : (is_out_of_memory p.result ≡ true) ⊎ B looked (over before) (question_of n u) p (over mid) → (is_out_of_memory p.result ≡ true) ⊎ AreSubLookups B looked n plan (over before) results (p ∷ []) (over after)
+      by : (is_out_of_memory p.result ≡ true) ⊎ B with_hosts (over before) (question_of n u) p (over mid) → (is_out_of_memory p.result ≡ true) ⊎ AreSubLookups B with_hosts n plan (over before) results (p ∷ []) (over after)
       by (inl out) = inl out
       by (inr other) = inr (u, over mid, next, other, ap over same)
-  subs-unless looked n plan before results (p ∷ q ∷ qs) after holds (own, others) (u, mid, next, is, (v, m, on, second, rest)) =
-      let there = subs-unless looked n plan mid (results ++ p.result ∷ []) (q ∷ qs) after here.1 others (v, m, on, second, rest) in
+  subs-unless with_hosts n plan before results (p ∷ q ∷ qs) after holds (own, others) (u, mid, next, is, (v, m, on, second, rest)) =
+      let there = subs-unless with_hosts n plan mid (results ++ p.result ∷ []) (q ∷ qs) after here.1 others (v, m, on, second, rest) in
       (by there.0, there.1)
     where
-      here : ((is_out_of_memory p.result ≡ true) ⊎ B looked (over before) (question_of n u) p (over mid)) × Holds mid
-      here = step looked before (question_of n u) p mid holds own is
+      here : ((is_out_of_memory p.result ≡ true) ⊎ B with_hosts (over before) (question_of n u) p (over mid)) × Holds mid
+      here = step with_hosts before (question_of n u) p mid holds own is
 
-      live : B looked (over before) (question_of n u) p (over mid)
-      live = part-live looked before (question_of n u) p mid (goes-on plan results p.result v on) here.0
+      live : B with_hosts (over before) (question_of n u) p (over mid)
+      live = part-live with_hosts before (question_of n u) p mid (goes-on plan results p.result v on) here.0
 
-      by : (last_is_out (q ∷ qs) ≡ true) ⊎ AreSubLookups B looked n plan (over mid) (results ++ p.result ∷ []) (q ∷ qs) (over after)
-          → (last_is_out (q ∷ qs) ≡ true) ⊎ AreSubLookups B looked n plan (over before) results (p ∷ q ∷ qs) (over after)
+      by : (last_is_out (q ∷ qs) ≡ true) ⊎ AreSubLookups B with_hosts n plan (over mid) (results ++ p.result ∷ []) (q ∷ qs) (over after)
+          → (last_is_out (q ∷ qs) ≡ true) ⊎ AreSubLookups B with_hosts n plan (over before) results (p ∷ q ∷ qs) (over after)
       by (inl out) = inl out
       by (inr other) = inr (u, over mid, next, live, other)
 
-  attempt-unless : (looked : Bool) (before : CacheValue) (n : NameValue) (plan : Plan) (parts : List SubLookup) (r : LookupResult) (after : CacheValue) → Holds before → AllByRecursion Q parts → IsAttempt A looked before n plan parts r after
-      → ((is_out_of_memory r ≡ true) ⊎ IsAttempt B looked (over before) n plan parts r (over after)) × Holds after
-  attempt-unless looked before n plan parts r after holds all attempt = (by there.0 attempt.result_is, there.1)
+  attempt-unless : (with_hosts : Bool) (before : CacheValue) (n : NameValue) (plan : Plan) (parts : List SubLookup) (r : LookupResult) (after : CacheValue) → Holds before → AllByRecursion Q parts → IsAttempt A with_hosts before n plan parts r after
+      → ((is_out_of_memory r ≡ true) ⊎ IsAttempt B with_hosts (over before) n plan parts r (over after)) × Holds after
+  attempt-unless with_hosts before n plan parts r after holds all attempt = (by there.0 attempt.result_is, there.1)
     where
-      there : ((last_is_out parts ≡ true) ⊎ AreSubLookups B looked n plan (over before) [] parts (over after)) × Holds after
-      there = subs-unless looked n plan before [] parts after holds all attempt.are
+      there : ((last_is_out parts ≡ true) ⊎ AreSubLookups B with_hosts n plan (over before) [] parts (over after)) × Holds after
+      there = subs-unless with_hosts n plan before [] parts after holds all attempt.are
 
-      by : (last_is_out parts ≡ true) ⊎ AreSubLookups B looked n plan (over before) [] parts (over after) → IsAttemptResult plan (results_of parts) r
-          → (is_out_of_memory r ≡ true) ⊎ IsAttempt B looked (over before) n plan parts r (over after)
+      by : (last_is_out parts ≡ true) ⊎ AreSubLookups B with_hosts n plan (over before) [] parts (over after) → IsAttemptResult plan (results_of parts) r
+          → (is_out_of_memory r ≡ true) ⊎ IsAttempt B with_hosts (over before) n plan parts r (over after)
       by is (inr (takes, out)) = inl (ap is_out_of_memory out)
-      by (inl out) (inl (done, e)) = inl (ap is_out_of_memory e ∙ out-result A looked n plan before parts after attempt.are out)
+      by (inl out) (inl (done, e)) = inl (ap is_out_of_memory e ∙ out-result A with_hosts n plan before parts after attempt.are out)
       by (inr is) (inl (done, e)) = inr (record { are = is; result_is = inl (done, e) })
 
-  attempts-unless : (plan : CallPlan) (looked : Bool) (before : CacheValue) (names : List NameValue) (last : LookupResult → Type 0) (parts : List SubLookup) (r : LookupResult) (after : CacheValue) → Holds before → AllByRecursion Q parts → AreAttempts A plan looked before names last parts r after
-      → ((is_out_of_memory r ≡ true) ⊎ AreAttempts B plan looked (over before) names last parts r (over after)) × Holds after
-  attempts-unless plan looked before [] last parts r after holds all (none, fallback, same) = (inr (none, fallback, ap over same), subst Holds (sym same) holds)
-  attempts-unless plan looked before (n ∷ ns) last parts r after holds all (front, back, result, mid, are, attempt, goes) =
+  attempts-unless : (plan : CallPlan) (with_hosts : Bool) (before : CacheValue) (names : List NameValue) (last : LookupResult → Type 0) (parts : List SubLookup) (r : LookupResult) (after : CacheValue) → Holds before → AllByRecursion Q parts → AreAttempts A plan with_hosts before names last parts r after
+      → ((is_out_of_memory r ≡ true) ⊎ AreAttempts B plan with_hosts (over before) names last parts r (over after)) × Holds after
+  attempts-unless plan with_hosts before [] last parts r after holds all (none, fallback, same) = (inr (none, fallback, ap over same), subst Holds (sym same) holds)
+  attempts-unless plan with_hosts before (n ∷ ns) last parts r after holds all (front, back, result, mid, are, attempt, goes) =
       by first.0 goes (λ rest. attempts-unless plan plan.hosts_for_all mid ns (λ x. x ≡ result) back r after first.1 (all-back Q front back each) rest)
     where
       each : AllByRecursion Q (front ++ back)
       each = subst (AllByRecursion Q) are all
 
-      first : ((is_out_of_memory result ≡ true) ⊎ IsAttempt B looked (over before) n plan.types front result (over mid)) × Holds mid
-      first = attempt-unless looked before n plan.types front result mid holds (all-front Q front back each) attempt
+      first : ((is_out_of_memory result ≡ true) ⊎ IsAttempt B with_hosts (over before) n plan.types front result (over mid)) × Holds mid
+      first = attempt-unless with_hosts before n plan.types front result mid holds (all-front Q front back each) attempt
 
-      on_with : IsAttempt B looked (over before) n plan.types front result (over mid) → stops result ≡ false → (is_out_of_memory r ≡ true) ⊎ AreAttempts B plan plan.hosts_for_all (over mid) ns (λ x. x ≡ result) back r (over after)
-          → (is_out_of_memory r ≡ true) ⊎ AreAttempts B plan looked (over before) (n ∷ ns) last parts r (over after)
+      on_with : IsAttempt B with_hosts (over before) n plan.types front result (over mid) → stops result ≡ false → (is_out_of_memory r ≡ true) ⊎ AreAttempts B plan plan.hosts_for_all (over mid) ns (λ x. x ≡ result) back r (over after)
+          → (is_out_of_memory r ≡ true) ⊎ AreAttempts B plan with_hosts (over before) (n ∷ ns) last parts r (over after)
       on_with is live (inl out) = inl out
       on_with is live (inr rest) = inr (front, back, result, over mid, are, is, inr (live, rest))
 
-      by : (is_out_of_memory result ≡ true) ⊎ IsAttempt B looked (over before) n plan.types front result (over mid)
+      by : (is_out_of_memory result ≡ true) ⊎ IsAttempt B with_hosts (over before) n plan.types front result (over mid)
           → ((stops result ≡ true) × (back ≡ []) × (r ≡ result) × (after ≡ mid)) ⊎ ((stops result ≡ false) × AreAttempts A plan plan.hosts_for_all mid ns (λ x. x ≡ result) back r after)
           → (AreAttempts A plan plan.hosts_for_all mid ns (λ x. x ≡ result) back r after → ((is_out_of_memory r ≡ true) ⊎ AreAttempts B plan plan.hosts_for_all (over mid) ns (λ x. x ≡ result) back r (over after)) × Holds after)
-          → ((is_out_of_memory r ≡ true) ⊎ AreAttempts B plan looked (over before) (n ∷ ns) last parts r (over after)) × Holds after
+          → ((is_out_of_memory r ≡ true) ⊎ AreAttempts B plan with_hosts (over before) (n ∷ ns) last parts r (over after)) × Holds after
       by (inl out) (inl (stopped, none, e, same)) rest = (inl (ap is_out_of_memory e ∙ out), subst Holds (sym same) first.1)
       by (inr is) (inl (stopped, none, e, same)) rest = (inr (front, back, result, over mid, are, is, inl (stopped, none, e, ap over same)), subst Holds (sym same) first.1)
       by (inl out) (inr (live, k)) rest = let clash : false ≡ true = sym (or_right-false (has_answers result) (is_out_of_memory result) live) ∙ out in cc

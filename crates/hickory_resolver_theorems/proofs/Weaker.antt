@@ -10,17 +10,17 @@ use Rattle.hickory_resolver_model.specs.Calls.{SubLookup, SubLookupRelation, Pla
 use Rattle.hickory_resolver_model.specs.Run.{Settings, RequestValue, Lookup, LookupIp, ClearLookup, Clear, StepReply, LookedUp, LookedUpIp, Cleared, Call, AtOnce, Attempt, name_call, address_call, IsCall, IsServed, Stage, IsStageBy, AreStagesBy}
 use Rattle.hickory_resolver_theorems.proofs.Lists.{all-front, all-back}
 
-module _ (A B : SubLookupRelation) (weaker : (looked : Bool) (before : CacheValue) (q : Query) (p : SubLookup) (after : CacheValue) → A looked before q p after → B looked before q p after) where
-  subs-weaker : (looked : Bool) (n : NameValue) (plan : Plan) (before : CacheValue) (results : List LookupResult) (ps : List SubLookup) (after : CacheValue) → AreSubLookups A looked n plan before results ps after → AreSubLookups B looked n plan before results ps after
-  subs-weaker looked n plan before results [] after same = same
-  subs-weaker looked n plan before results (p ∷ ps) after (t, mid, next, is, rest) = (t, mid, next, weaker looked before _ p mid is, subs-weaker looked n plan mid (results ++ p.result ∷ []) ps after rest)
+module _ (A B : SubLookupRelation) (weaker : (with_hosts : Bool) (before : CacheValue) (q : Query) (p : SubLookup) (after : CacheValue) → A with_hosts before q p after → B with_hosts before q p after) where
+  subs-weaker : (with_hosts : Bool) (n : NameValue) (plan : Plan) (before : CacheValue) (results : List LookupResult) (ps : List SubLookup) (after : CacheValue) → AreSubLookups A with_hosts n plan before results ps after → AreSubLookups B with_hosts n plan before results ps after
+  subs-weaker with_hosts n plan before results [] after same = same
+  subs-weaker with_hosts n plan before results (p ∷ ps) after (t, mid, next, is, rest) = (t, mid, next, weaker with_hosts before _ p mid is, subs-weaker with_hosts n plan mid (results ++ p.result ∷ []) ps after rest)
 
-  attempts-weaker : (plan : CallPlan) (looked : Bool) (before : CacheValue) (names : List NameValue) (last : LookupResult → Type 0) (parts : List SubLookup) (result : LookupResult) (after : CacheValue) → AreAttempts A plan looked before names last parts result after → AreAttempts B plan looked before names last parts result after
-  attempts-weaker plan looked before [] last parts result after is = is
-  attempts-weaker plan looked before (n ∷ ns) last parts result after (front, back, r, mid, are, attempt, inl stopped) =
-      (front, back, r, mid, are, record { are = subs-weaker looked n plan.types before [] front mid attempt.are; result_is = attempt.result_is }, inl stopped)
-  attempts-weaker plan looked before (n ∷ ns) last parts result after (front, back, r, mid, are, attempt, inr (on, rest)) =
-      (front, back, r, mid, are, record { are = subs-weaker looked n plan.types before [] front mid attempt.are; result_is = attempt.result_is }, inr (on, attempts-weaker plan plan.hosts_for_all mid ns (λ x. x ≡ r) back result after rest))
+  attempts-weaker : (plan : CallPlan) (with_hosts : Bool) (before : CacheValue) (names : List NameValue) (last : LookupResult → Type 0) (parts : List SubLookup) (result : LookupResult) (after : CacheValue) → AreAttempts A plan with_hosts before names last parts result after → AreAttempts B plan with_hosts before names last parts result after
+  attempts-weaker plan with_hosts before [] last parts result after is = is
+  attempts-weaker plan with_hosts before (n ∷ ns) last parts result after (front, back, r, mid, are, attempt, inl stopped) =
+      (front, back, r, mid, are, record { are = subs-weaker with_hosts n plan.types before [] front mid attempt.are; result_is = attempt.result_is }, inl stopped)
+  attempts-weaker plan with_hosts before (n ∷ ns) last parts result after (front, back, r, mid, are, attempt, inr (on, rest)) =
+      (front, back, r, mid, are, record { are = subs-weaker with_hosts n plan.types before [] front mid attempt.are; result_is = attempt.result_is }, inr (on, attempts-weaker plan plan.hosts_for_all mid ns (λ x. x ≡ r) back result after rest))
 
   pub call-weaker : (s : Settings) (before : CacheValue) (call : Call) (parts : List SubLookup) (reply : LookupResult) (after : CacheValue) → IsCall A s before call parts reply after → IsCall B s before call parts reply after
   call-weaker s before (AtOnce answer) parts reply after is = is
@@ -29,24 +29,24 @@ module _ (A B : SubLookupRelation) (weaker : (looked : Bool) (before : CacheValu
 -- What answers the questions of a call in one way answers them in another, where something holds of each cache on the
 -- way and of each part.
 module _ (A B : SubLookupRelation) (Holds : CacheValue → Type 0) (Q : SubLookup → Type 0)
-    (step : (looked : Bool) (before : CacheValue) (q : Query) (p : SubLookup) (after : CacheValue) → Holds before → Q p → A looked before q p after → B looked before q p after × Holds after) where
-  subs-along : (looked : Bool) (n : NameValue) (plan : Plan) (before : CacheValue) (results : List LookupResult) (ps : List SubLookup) (after : CacheValue) → Holds before → AllByRecursion Q ps → AreSubLookups A looked n plan before results ps after → AreSubLookups B looked n plan before results ps after × Holds after
-  subs-along looked n plan before results [] after holds all same = (same, subst Holds (sym same) holds)
-  subs-along looked n plan before results (p ∷ ps) after holds (own, all) (t, mid, next, is, rest) =
-      let here = step looked before (question_of n t) p mid holds own is in
-      let there = subs-along looked n plan mid (results ++ p.result ∷ []) ps after here.1 all rest in
+    (step : (with_hosts : Bool) (before : CacheValue) (q : Query) (p : SubLookup) (after : CacheValue) → Holds before → Q p → A with_hosts before q p after → B with_hosts before q p after × Holds after) where
+  subs-along : (with_hosts : Bool) (n : NameValue) (plan : Plan) (before : CacheValue) (results : List LookupResult) (ps : List SubLookup) (after : CacheValue) → Holds before → AllByRecursion Q ps → AreSubLookups A with_hosts n plan before results ps after → AreSubLookups B with_hosts n plan before results ps after × Holds after
+  subs-along with_hosts n plan before results [] after holds all same = (same, subst Holds (sym same) holds)
+  subs-along with_hosts n plan before results (p ∷ ps) after holds (own, all) (t, mid, next, is, rest) =
+      let here = step with_hosts before (question_of n t) p mid holds own is in
+      let there = subs-along with_hosts n plan mid (results ++ p.result ∷ []) ps after here.1 all rest in
       ((t, mid, next, here.0, there.0), there.1)
 
-  attempts-along : (plan : CallPlan) (looked : Bool) (before : CacheValue) (names : List NameValue) (last : LookupResult → Type 0) (parts : List SubLookup) (result : LookupResult) (after : CacheValue) → Holds before → AllByRecursion Q parts → AreAttempts A plan looked before names last parts result after
-      → AreAttempts B plan looked before names last parts result after × Holds after
-  attempts-along plan looked before [] last parts result after holds all (none, is, same) = ((none, is, same), subst Holds (sym same) holds)
-  attempts-along plan looked before (n ∷ ns) last parts result after holds all (front, back, r, mid, are, attempt, inl (stopped, none, e, same)) =
+  attempts-along : (plan : CallPlan) (with_hosts : Bool) (before : CacheValue) (names : List NameValue) (last : LookupResult → Type 0) (parts : List SubLookup) (result : LookupResult) (after : CacheValue) → Holds before → AllByRecursion Q parts → AreAttempts A plan with_hosts before names last parts result after
+      → AreAttempts B plan with_hosts before names last parts result after × Holds after
+  attempts-along plan with_hosts before [] last parts result after holds all (none, is, same) = ((none, is, same), subst Holds (sym same) holds)
+  attempts-along plan with_hosts before (n ∷ ns) last parts result after holds all (front, back, r, mid, are, attempt, inl (stopped, none, e, same)) =
       let each : AllByRecursion Q (front ++ back) = subst (AllByRecursion Q) are all in
-      let here = subs-along looked n plan.types before [] front mid holds (all-front Q front back each) attempt.are in
+      let here = subs-along with_hosts n plan.types before [] front mid holds (all-front Q front back each) attempt.are in
       ((front, back, r, mid, are, record { are = here.0; result_is = attempt.result_is }, inl (stopped, none, e, same)), subst Holds (sym same) here.1)
-  attempts-along plan looked before (n ∷ ns) last parts result after holds all (front, back, r, mid, are, attempt, inr (on, rest)) =
+  attempts-along plan with_hosts before (n ∷ ns) last parts result after holds all (front, back, r, mid, are, attempt, inr (on, rest)) =
       let each : AllByRecursion Q (front ++ back) = subst (AllByRecursion Q) are all in
-      let here = subs-along looked n plan.types before [] front mid holds (all-front Q front back each) attempt.are in
+      let here = subs-along with_hosts n plan.types before [] front mid holds (all-front Q front back each) attempt.are in
       let there = attempts-along plan plan.hosts_for_all mid ns (λ x. x ≡ r) back result after here.1 (all-back Q front back each) rest in
       ((front, back, r, mid, are, record { are = here.0; result_is = attempt.result_is }, inr (on, there.0)), there.1)
 
@@ -54,7 +54,7 @@ module _ (A B : SubLookupRelation) (Holds : CacheValue → Type 0) (Q : SubLooku
   call-along s before (AtOnce answer) parts reply after holds all (none, e, same) = ((none, e, same), subst Holds (sym same) holds)
   call-along s before (Attempt n plan) parts reply after holds all is = attempts-along plan true before (attempts s.search n) (Says plan.no_names) parts reply after holds all is
 
-module _ (A B : ℕ → SubLookupRelation) (weaker : (now : ℕ) (looked : Bool) (before : CacheValue) (q : Query) (p : SubLookup) (after : CacheValue) → A now looked before q p after → B now looked before q p after) where
+module _ (A B : ℕ → SubLookupRelation) (weaker : (now : ℕ) (with_hosts : Bool) (before : CacheValue) (q : Query) (p : SubLookup) (after : CacheValue) → A now with_hosts before q p after → B now with_hosts before q p after) where
   pub served-weaker : (s : Settings) (before : CacheValue) (request : RequestValue) (parts : List SubLookup) (reply : StepReply) (after : CacheValue) → IsServed A s before request parts reply after → IsServed B s before request parts reply after
   served-weaker s before (Lookup text t now) parts (LookedUp reply) after (inl (name, said, is)) = inl (name, said, call-weaker (A now) (B now) (weaker now) s before (name_call t name) parts reply after is)
   served-weaker s before (Lookup text t now) parts (LookedUp reply) after (inr unserved) = inr unserved

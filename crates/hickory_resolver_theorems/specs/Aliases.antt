@@ -93,13 +93,13 @@ NoAliasOutlives s question asks result after (inr (out, inr cut)) = Unit {0}
 
 -- a question of a call is answered by the table of hosts, or by the client with a look-up of which this holds
 abbrev pub IsLimitedBy : Source → CallContext → Bool → CacheValue → SubLookup → CacheValue → Type 0
-IsLimitedBy Static s looked before p after = IsAnsweredByHosts s looked before p after
-IsLimitedBy Client s looked before p after =
-    (is : IsAnsweredByClient s looked before p after)
+IsLimitedBy Static s with_hosts before p after = IsAnsweredByHosts s with_hosts before p after
+IsLimitedBy Client s with_hosts before p after =
+    (is : IsAnsweredByClient s with_hosts before p after)
     × NoAliasOutlives (start_at s before) p.question p.asks p.result after is.reply
 
 abbrev pub LimitedSubLookup : CallContext → SubLookupRelation
-LimitedSubLookup s looked before q p after = (p.question ≡ q) × IsLimitedBy p.source s looked before p after
+LimitedSubLookup s with_hosts before q p after = (p.question ≡ q) × IsLimitedBy p.source s with_hosts before p after
 
 -- Of a run: it holds of each look-up of the client, over the cache that the one before it left.
 abbrev pub RunOutlivesNoAlias : (s : Settings) (first : CacheValue) (requests : List RequestValue)

@@ -54,16 +54,16 @@ IsFreshForType config sources e = IsFreshEntry config (sources (type_code e.quer
 -- makes an entry that does not outlive what was received for its type
 abbrev pub IsFreshlyStoredBy : (ℕ → List Dated) → Source → CallContext → Bool → CacheValue → SubLookup → CacheValue
     → Type 0
-IsFreshlyStoredBy sources Static s looked before p after = IsAnsweredByHosts s looked before p after
-IsFreshlyStoredBy sources Client s looked before p after =
-    (is : IsAnsweredByClient s looked before p after)
+IsFreshlyStoredBy sources Static s with_hosts before p after = IsAnsweredByHosts s with_hosts before p after
+IsFreshlyStoredBy sources Client s with_hosts before p after =
+    (is : IsAnsweredByClient s with_hosts before p after)
     × AllByRecursion
     (λ store. IfSome (made_entry before.config store) (IsFreshForType before.config sources))
     (stores_made (start_at s before) p.question p.asks p.result after is.reply)
 
 abbrev pub FreshlyStoredSubLookup : (ℕ → List Dated) → CallContext → SubLookupRelation
-FreshlyStoredSubLookup sources s looked before q p after =
-    (p.question ≡ q) × IsFreshlyStoredBy sources p.source s looked before p after
+FreshlyStoredSubLookup sources s with_hosts before q p after =
+    (p.question ≡ q) × IsFreshlyStoredBy sources p.source s with_hosts before p after
 
 -- What was received for a type, as far as a call can know: the current positive entries for questions of that
 -- type in the cache before the call, each at its own moment and by its answers alone; and the exchanges of

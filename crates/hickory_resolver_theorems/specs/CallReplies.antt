@@ -21,9 +21,9 @@ use Rattle.hickory_resolver_theorems.specs.Statements.{CachelessSubLookup}
 -- how the resolver without a cache answers a question of a call: by one of these tables of hosts, as any, or by the
 -- meaning of the question, where one of these tables, if it is looked at, does not have it
 abbrev pub CachelessSubLookupOver : TableValue → Settings → List (List Host) → ℕ → SubLookupRelation
-CachelessSubLookupOver table s tables now looked before q p after =
+CachelessSubLookupOver table s tables now with_hosts before q p after =
     (hosts : List Host) × Contains tables hosts
-    × CachelessSubLookup table (call_context_over s now hosts) looked before q p after
+    × CachelessSubLookup table (call_context_over s now hosts) with_hosts before q p after
 
 -- Where a table tells what was received, intermediate records are not preserved, and each question that the client
 -- answered up to then means something that takes eight questions at most: the reply is out of memory, or what the call

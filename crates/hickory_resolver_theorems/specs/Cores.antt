@@ -27,8 +27,6 @@ folded_query q =
     }
 
 abbrev pub folded_data : DataValue → DataValue
-folded_data (a_data octets) = a_data octets
-folded_data (aaaa_data segments) = aaaa_data segments
 folded_data (cname_data target) = cname_data (folded_name target)
 folded_data (ns_data target) = ns_data (folded_name target)
 folded_data (ptr_data target) = ptr_data (folded_name target)
@@ -36,8 +34,7 @@ folded_data (soa_data mname rname serial refresh retry expire minimum) =
     soa_data (folded_name mname) (folded_name rname) serial refresh retry expire minimum
 folded_data (srv_data priority weight port target) = srv_data priority weight port (folded_name target)
 folded_data (mx_data preference exchange) = mx_data preference (folded_name exchange)
-folded_data (txt_data strings) = txt_data strings
-folded_data (unknown_data code bytes) = unknown_data code bytes
+folded_data other = other
 
 -- a record without its TTL
 abbrev pub record_core : RecordValue → RecordValue
@@ -78,14 +75,9 @@ negative_core n = record {
 }
 
 abbrev pub error_core : NetError → NetError
-error_core (Message text) = Message text
-error_core Timeout = Timeout
-error_core (Proto e) = Proto e
 error_core (Dns (ResponseCode code)) = Dns (ResponseCode (response_of (response_code code)))
 error_core (Dns (NoRecordsFound n)) = Dns (NoRecordsFound (negative_core n))
-error_core NoOutcome = NoOutcome
-error_core (Bounds e) = Bounds e
-error_core OutOfMemory = OutOfMemory
+error_core error = error
 
 -- what a reply comes to: its sections, or its error. The question section, the header and the deadline are
 -- set aside

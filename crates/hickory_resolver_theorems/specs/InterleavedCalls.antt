@@ -67,7 +67,7 @@ pub data CallEventValue : Type 0 where
 
 -- the exchange that is made by what is fed to a call
 abbrev pub exchange_with : PendingCallValue → OutcomeValue → Exchange
-exchange_with c outcome = record { query = c.waiting.sub.hop.query; outcome = outcome }
+exchange_with c outcome = record { query = c.waiting.lookup.hop.query; outcome = outcome }
 
 -- the call after a step, where it waits
 abbrev pub call_pending : Call → List Exchange → CallProgressValue → List PendingCallValue
@@ -95,7 +95,7 @@ CallHappens s before (CallStarted call now progress) after =
     × (after.hosts ≡ before.hosts) × (after.calls ≡ before.calls ++ call_pending call [] progress)
 CallHappens s before (CallFed c outcome progress) after =
     (front : List PendingCallValue) × (back : List PendingCallValue) × (before.calls ≡ front ++ c ∷ back)
-    × (is : ResumesCall (call_context_over s c.waiting.sub.now before.hosts) c.waiting outcome before.cache
+    × (is : ResumesCall (call_context_over s c.waiting.lookup.now before.hosts) c.waiting outcome before.cache
     progress after.cache)
     × (after.hosts ≡ before.hosts)
     × (after.calls
@@ -118,13 +118,13 @@ CallsHappen s before (event ∷ events) after =
 abbrev pub calls_ended_by : CallEventValue → List DoneCallValue
 calls_ended_by (CallStarted call now progress) = call_done call now [] progress
 calls_ended_by (CallFed c outcome progress) =
-    call_done c.call c.waiting.sub.now (c.asks ++ exchange_with c outcome ∷ []) progress
+    call_done c.call c.waiting.lookup.now (c.asks ++ exchange_with c outcome ∷ []) progress
 calls_ended_by other = []
 
 -- what came back, with the moment of the call's start
 abbrev pub calls_received_by : CallEventValue → List Dated
 calls_received_by (CallFed c outcome progress) =
-    dated_exchanges c.waiting.sub.now (exchange_with c outcome ∷ [])
+    dated_exchanges c.waiting.lookup.now (exchange_with c outcome ∷ [])
 calls_received_by other = []
 
 abbrev pub calls_received_in : List CallEventValue → List Dated
@@ -177,11 +177,11 @@ pub record IsPromisedAmong
 -- hosts, if one was looked at, does not have it
 pub record IsInterleavedLookup
     (s : Settings) (empty : CacheValue) (tables : List (List Host)) (lookups : List EventValue) (now : ℕ)
-    (looked : Bool) (p : SubLookup)
+    (with_hosts : Bool) (p : SubLookup)
     : Type 0 where
   pub hosts : List Host
   pub stood : Contains tables hosts
-  pub not_static : (looked ≡ false) ⊎ IsStatic p.question now hosts None
+  pub not_static : (with_hosts ≡ false) ⊎ IsStatic p.question now hosts None
   pub lookup : DoneValue
   pub question_is : lookup.question ≡ p.question
   pub now_is : lookup.now ≡ now
@@ -191,17 +191,17 @@ pub record IsInterleavedLookup
 
 abbrev pub IsInterleavedFrom : Source → Settings → CacheValue → List (List Host) → List EventValue → ℕ → Bool
     → CacheValue → SubLookup → CacheValue → Type 0
-IsInterleavedFrom Static s empty tables lookups now looked before p after =
+IsInterleavedFrom Static s empty tables lookups now with_hosts before p after =
     (hosts : List Host) × Contains tables hosts
-    × IsAnsweredByHosts (call_context_over s now hosts) looked before p after
-IsInterleavedFrom Client s empty tables lookups now looked before p after =
-    IsInterleavedLookup s empty tables lookups now looked p × (after ≡ before)
+    × IsAnsweredByHosts (call_context_over s now hosts) with_hosts before p after
+IsInterleavedFrom Client s empty tables lookups now with_hosts before p after =
+    IsInterleavedLookup s empty tables lookups now with_hosts p × (after ≡ before)
 
 -- How a question of a call is answered: by one of these tables of hosts, or by a look-up that ended among these events.
 -- It hands no cache on, as the look-ups read those that stood.
 abbrev pub InterleavedSubLookup : Settings → CacheValue → List (List Host) → List EventValue → ℕ → SubLookupRelation
-InterleavedSubLookup s empty tables lookups now looked before q p after =
-    (p.question ≡ q) × IsInterleavedFrom p.source s empty tables lookups now looked before p after
+InterleavedSubLookup s empty tables lookups now with_hosts before q p after =
+    (p.question ≡ q) × IsInterleavedFrom p.source s empty tables lookups now with_hosts before p after
 
 -- A call that is done is made of sub-look-ups, as one that blocks: each is answered by a table of hosts that stood, or
 -- by a look-up that keeps its promises; the exchanges of the call are theirs; and its result is what the call makes of

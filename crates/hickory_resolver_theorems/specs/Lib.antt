@@ -2,7 +2,6 @@ pub mod Aliases
 pub mod AttemptLaws
 pub mod CallFacts
 pub mod CallReplies
-pub mod CallsAlone
 pub mod Cacheless
 pub mod Cores
 pub mod Covered

@@ -41,7 +41,7 @@ abbrev pub stores_made : (s : LookupContext) (question : Query) (asks : List Exc
     (after : CacheValue) → IsReply s question asks result after → List Store
 stores_made s question asks result after (inl whole) =
     stores_of s whole.hops.passed whole.hops.last_hop whole.hops.last
-stores_made s question asks result after (inr (out, inl cut)) = cut.front
+stores_made s question asks result after (inr (out, inl cut)) = cut.begun.front
 stores_made s question asks result after (inr (out, inr cut)) = []
 
 -- Each answer of the asked type in the result, loopback records aside, is covered by the sources, and the

@@ -18,7 +18,7 @@ use Rattle.hickory_resolver_model.specs.Run.{Settings, Call, AtOnce, Attempt}
 -- results of the name's sub-look-ups so far, and the names that are left
 pub record AttemptValue : Type 0 where
   pub plan : CallPlan
-  pub looked : Bool
+  pub with_hosts : Bool
   pub name : NameValue
   pub results : List LookupResult
   pub left : List NameValue
@@ -26,7 +26,7 @@ pub record AttemptValue : Type 0 where
 -- a call whose sub-look-up waits
 pub record WaitingCallValue : Type 0 where
   pub attempt : AttemptValue
-  pub sub : WaitingValue
+  pub lookup : WaitingValue
 
 pub data CallProgressValue : Type 0 where
   CallWaits : WaitingCallValue → CallProgressValue
@@ -37,12 +37,12 @@ abbrev pub with_result : AttemptValue → LookupResult → AttemptValue
 with_result a result = record a { results = a.results ++ result ∷ [] }
 
 abbrev pub at_next : AttemptValue → NameValue → List NameValue → AttemptValue
-at_next a name left = record a { looked = a.plan.hosts_for_all; name = name; results = []; left = left }
+at_next a name left = record a { with_hosts = a.plan.hosts_for_all; name = name; results = []; left = left }
 
 -- a type of the plan is to be looked up, and the table of hosts has it, or memory runs out for a copy of that
 pub record FindsStatic (s : CallContext) (a : AttemptValue) (t : RecordType) (result : LookupResult) : Type 0 where
   pub next : next_type a.plan.types a.results ≡ Some t
-  pub looked : a.looked ≡ true
+  pub with_hosts : a.with_hosts ≡ true
   pub found : LookupValue
   pub has : IsStatic (question_of a.name t) s.now s.hosts (Some found)
   pub result_is : (result ≡ Ok found) ⊎ (result ≡ Err OutOfMemory)
@@ -53,7 +53,7 @@ pub record StartsSub
     (after : CacheValue)
     : Type 0 where
   pub next : next_type a.plan.types a.results ≡ Some t
-  pub not_static : (a.looked ≡ false) ⊎ IsStatic (question_of a.name t) s.now s.hosts None
+  pub not_static : (a.with_hosts ≡ false) ⊎ IsStatic (question_of a.name t) s.now s.hosts None
   pub starts : Starts (start_at s before) (question_of a.name t) progress after
 
 -- How a call goes on over the cache that stands: one sub-look-up after another is done at once, and one attempt after
@@ -64,7 +64,7 @@ pub data GoesOn (s : CallContext) : AttemptValue → CacheValue → CallProgress
       → GoesOn s (with_result a result) before progress after → GoesOn s a before progress after
   waits : {a : AttemptValue} {t : RecordType} {w : WaitingValue} {before after : CacheValue}
       → StartsSub s a t before (Waits w) after
-      → GoesOn s a before (CallWaits (record { attempt = a; sub = w })) after
+      → GoesOn s a before (CallWaits (record { attempt = a; lookup = w })) after
   at_once : {a : AttemptValue} {t : RecordType} {result : LookupResult} {before mid after : CacheValue}
       {progress : CallProgressValue} → StartsSub s a t before (IsDone result) mid
       → GoesOn s (with_result a result) mid progress after → GoesOn s a before progress after
@@ -82,11 +82,11 @@ pub data GoesOn (s : CallContext) : AttemptValue → CacheValue → CallProgress
 -- names are attempted by a plan
 abbrev pub StartsNames : CallContext → CallPlan → Bool → List NameValue → CacheValue → CallProgressValue → CacheValue
     → Type 0
-StartsNames s plan looked [] before progress after =
+StartsNames s plan with_hosts [] before progress after =
     (result : LookupResult) × IsLastReply plan.literal (Says plan.no_names) result
     × (progress ≡ CallIsDone result) × (after ≡ before)
-StartsNames s plan looked (name ∷ names) before progress after =
-    GoesOn s (record { plan = plan; looked = looked; name = name; results = []; left = names }) before progress after
+StartsNames s plan with_hosts (name ∷ names) before progress after =
+    GoesOn s (record { plan = plan; with_hosts = with_hosts; name = name; results = []; left = names }) before progress after
 
 -- a call is started; or memory runs out before anything is attempted
 abbrev pub StartsCall : CallContext → Settings → Call → CacheValue → CallProgressValue → CacheValue → Type 0
@@ -101,12 +101,12 @@ RunsOutAtStart before progress after = (progress ≡ CallIsDone (Err OutOfMemory
 abbrev pub GoesOnAfter : CallContext → AttemptValue → ProgressValue → CacheValue → CallProgressValue → CacheValue
     → Type 0
 GoesOnAfter s a (Waits w) before progress after =
-    (progress ≡ CallWaits (record { attempt = a; sub = w })) × (after ≡ before)
+    (progress ≡ CallWaits (record { attempt = a; lookup = w })) × (after ≡ before)
 GoesOnAfter s a (IsDone result) before progress after = GoesOn s (with_result a result) before progress after
 
 -- a call that waits goes on with what came back to its question
 abbrev pub ResumesCall : CallContext → WaitingCallValue → OutcomeValue → CacheValue → CallProgressValue → CacheValue
     → Type 0
 ResumesCall s w outcome before progress after =
-    (sub : ProgressValue) × (mid : CacheValue) × Resumes (start_at s before) w.sub outcome sub mid
-    × GoesOnAfter s w.attempt sub mid progress after
+    (lookup : ProgressValue) × (mid : CacheValue) × Resumes (start_at s before) w.lookup outcome lookup mid
+    × GoesOnAfter s w.attempt lookup mid progress after

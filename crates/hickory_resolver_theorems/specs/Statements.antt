@@ -170,18 +170,18 @@ ResolvesWithinEight table p =
 -- how the resolver without a cache answers a question: by the table of hosts, as any, or by the meaning of
 -- the question
 pub record IsCachelessSubLookup
-    (table : TableValue) (s : CallContext) (looked : Bool) (q : Query) (p : SubLookup)
+    (table : TableValue) (s : CallContext) (with_hosts : Bool) (q : Query) (p : SubLookup)
     : Type 0 where
   pub reply : ReplyCore
   pub length_is : ℕ
-  pub not_static : (looked ≡ false) ⊎ IsStatic q s.now s.hosts None
+  pub not_static : (with_hosts ≡ false) ⊎ IsStatic q s.now s.hosts None
   pub means : ResolvesTo table q reply length_is
   pub result_is : reply_core p.result ≡ reply
 
 abbrev pub CachelessSubLookup : TableValue → CallContext → SubLookupRelation
-CachelessSubLookup table s looked before q p after =
-    (p.question ≡ q) × (IsAnsweredByHosts s looked before p after
-    ⊎ (IsCachelessSubLookup table s looked q p × (after ≡ before)))
+CachelessSubLookup table s with_hosts before q p after =
+    (p.question ≡ q) × (IsAnsweredByHosts s with_hosts before p after
+    ⊎ (IsCachelessSubLookup table s with_hosts q p × (after ≡ before)))
 
 -- the resolver without a cache serves a request, by these sub-look-ups
 abbrev pub IsServedCacheless : TableValue → Settings → CacheValue → RequestValue → List SubLookup → StepReply
@@ -233,20 +233,12 @@ AreAsWithoutCache s stages =
     → AllByRecursion (λ x. AllByRecursion (ResolvesWithinEight table) x.parts) (earlier ++ stage ∷ [])
     → IsAsWithoutCache table s stage
 
--- the moments of steps never go back
-abbrev pub NeverGoBack : ℕ → List StepValue → Type 0
-NeverGoBack now [] = Unit {0}
-NeverGoBack now (step ∷ steps) = (now ≤ step.now) × NeverGoBack step.now steps
-
--- From a new resolver, over every run whose moments never go back, each sub-look-up, of one name and one type,
--- sends at most eight questions; where the asked type's least TTL is zero, no upstream answer record of that
--- type outlives its received TTL cut at the maximum; and where equal questions get equal outcomes, no chain
--- needs a ninth question and intermediate records are not preserved, every reply is the cacheless resolver's,
--- TTLs, deadlines, headers and case aside. It is said of the stages of the run that is given.
-abbrev pub Headline : (s : Settings) (empty : CacheValue) (requests : List RequestValue)
-    (steps : List StepValue) (exchanges : List Exchange) (after : CacheValue)
-    → Run s empty requests steps exchanges after → Type 0
+-- Over every run from an empty cache on, each sub-look-up, of one name and one type, sends at most eight questions;
+-- where the asked type's least TTL is zero, no upstream answer record of that type outlives its received TTL cut at
+-- the maximum; and where equal questions get equal outcomes, no chain needs a ninth question and intermediate records
+-- are not preserved, every reply is the cacheless resolver's, TTLs, deadlines, headers and case aside. It is said of
+-- the stages of the run that is given.
+abbrev pub Headline : (s : Settings) (empty : CacheValue) (requests : List RequestValue) (steps : List StepValue)
+    (exchanges : List Exchange) (after : CacheValue) → Run s empty requests steps exchanges after → Type 0
 Headline s empty requests steps exchanges after run =
-    empty.entries ≡ [] → NeverGoBack 0 steps
-    → AllByRecursion AsksAtMostEight run.stages × NothingOutlives [] run.stages
-    × AreAsWithoutCache s run.stages
+    AllByRecursion AsksAtMostEight run.stages × NothingOutlives [] run.stages × AreAsWithoutCache s run.stages

@@ -179,11 +179,11 @@ pub fn one_cacheless_call()
         → IsOneCachelessCall table s empty hosts now call }
 {}
 
-/// The headline holds of every run, whatever the requests and whatever came back.
+/// The headline holds of every run from an empty cache on, whatever the requests and whatever came back.
 pub fn headline()
     ensures { (s : Settings) (empty : CacheValue) (requests : List RequestValue) (steps : List StepValue)
         (exchanges : List Exchange) (after : CacheValue) (run : Run s empty requests steps exchanges after)
-        → Headline s empty requests steps exchanges after run }
+        → empty.entries ≡ [] → Headline s empty requests steps exchanges after run }
 {}
 
 /// A call of a resolver that is what the definition says, over what a cache may hold, keeps its promises: what holds of

@@ -90,7 +90,7 @@ found_at number session = found_in (lookup_at number session.lookups)
 
 -- the question that a look-up waits for, or why there is none
 abbrev pub question_of : CallProgress → Result Query SessionError
-question_of (Waiting w) = Ok w.sub.hop.query
+question_of (Waiting w) = Ok w.lookup.hop.query
 question_of (Done found) = Err IsDone
 
 abbrev pub question_in : Option CallProgress → Result Query SessionError

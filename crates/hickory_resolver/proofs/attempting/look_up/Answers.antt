@@ -15,7 +15,7 @@ returns-then-skips_hosts-clause-looks_up g c =
       query_type = c.query-question.ensures.query_type i;
       query_class = c.query-question.ensures.query_class i;
     } in
-    let P : Query → Type 0 = λ q. (c.args.looked ≡ false) ⊎ IsStatic q c.args.now c.args.hosts.now None in
+    let P : Query → Type 0 = λ q. (c.args.with_hosts ≡ false) ⊎ IsStatic q c.args.now c.args.hosts.now None in
     let Q : Query → Type 0 = λ q. Starts (start_of c.args.client.now c.args.now) q (progress_of c.start.result)
     c.start.new.self.cache in
     inl (

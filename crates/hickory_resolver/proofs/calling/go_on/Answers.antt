@@ -4,7 +4,7 @@ use Rattle.hickory_resolver_model.specs.Calls.{CallContext}
 use Rattle.hickory_resolver_model.specs.Resolver.{call_context_of}
 use Rattle.hickory_resolver_theorems.specs.ResumingCalls.{with_result}
 use Rattle.hickory_resolver.specs.CallSteps.{GoesFrom, Goes, Over, attempt_value}
-use Rattle.hickory_resolver.proofs.CallSteps.{keeps_on, same_context, still_again, still_first}
+use Rattle.hickory_resolver.proofs.CallSteps.{keeps_on, same_context, still_kept, still_first}
 use Rattle.hickory_resolver.proofs.CallSteps.{still_next, still_over, still_waits}
 use Rattle.hickory_resolver.proofs.calling.go_on.Goals as goal
 
@@ -16,23 +16,23 @@ loop-progress-init g c = (
 )
 
 pub loop-progress-smaller : goal.loop-progress-smaller
-loop-progress-smaller g c = rw c.in-Goes.is at c.go_on.ensures.fewer
+loop-progress-smaller g c = rw c.in-Goes.is at c.take_result.ensures.fewer
 
 pub loop-progress-preserved : goal.loop-progress-preserved
 loop-progress-preserved g c =
     let inv = rw c.in-Done.is at c.loop-progress.invariant in (
       (λ name ready.
           let still = inv.0 name ready in
-          let step = rw c.in-Goes.is at c.go_on.ensures.goes still.name still.ready.again_is in
+          let step = rw c.in-Goes.is at c.take_result.ensures.goes still.name still.ready.kept_is in
           let C : CallContext → Type 0 = λ t. GoesFrom t
           (with_result (attempt_value c.loop-progress.attempt still.name c.args.now) c.in-Done.result)
-          c.loop-progress.client.cache c.go_on.new.self c.args.now (Goes (progress_of c.in-Goes.next)) c.go_on.new.client.cache in
+          c.loop-progress.client.cache c.take_result.new.self c.args.now (Goes (progress_of c.in-Goes.next)) c.take_result.new.client.cache in
           still_next (call_context_of c.args.client.now c.args.hosts.now c.args.now)
           (attempt_value c.args.attempt name c.args.now) (progress_of c.args.progress) c.args.client.now.cache
-          c.loop-progress.attempt c.args.now c.in-Done.result c.loop-progress.client.cache still c.go_on.new.self
-          (progress_of c.in-Goes.next) c.go_on.new.client.cache
+          c.loop-progress.attempt c.args.now c.in-Done.result c.loop-progress.client.cache still c.take_result.new.self
+          (progress_of c.in-Goes.next) c.take_result.new.client.cache
           (subst C (same_context c.args.client.now c.loop-progress.client c.args.hosts.now c.args.now inv.1) step)),
-      keeps_on c.args.client.now c.loop-progress.client c.go_on.new.client inv.1 c.go_on.ensures.stays,
+      keeps_on c.args.client.now c.loop-progress.client c.take_result.new.client inv.1 c.take_result.ensures.stays,
     )
 
 pub returns-in-Waiting-clause-goes : goal.returns-in-Waiting-clause-goes
@@ -40,25 +40,25 @@ returns-in-Waiting-clause-goes g c = λ name ready.
     let inv = rw c.in-Waiting.is at c.loop-progress.invariant in
     still_waits (call_context_of c.args.client.now c.args.hosts.now c.args.now)
     (attempt_value c.args.attempt name c.args.now) (progress_of c.args.progress) c.args.client.now.cache
-    c.loop-progress.attempt c.args.now c.in-Waiting.sub c.loop-progress.client.cache (inv.0 name ready)
+    c.loop-progress.attempt c.args.now c.in-Waiting.lookup c.loop-progress.client.cache (inv.0 name ready)
 
 pub invariant_of-result : goal.invariant_of-result
 invariant_of-result g c =
     let inv = rw c.in-Waiting.is at c.loop-progress.invariant in
-    still_again (call_context_of c.args.client.now c.args.hosts.now c.args.now)
+    still_kept (call_context_of c.args.client.now c.args.hosts.now c.args.now)
     (attempt_value c.args.attempt c.requires.0 c.args.now) (progress_of c.args.progress) c.args.client.now.cache
-    c.loop-progress.attempt c.args.now c.in-Waiting.sub c.loop-progress.client.cache (inv.0 c.requires.0 c.requires.1)
+    c.loop-progress.attempt c.args.now c.in-Waiting.lookup c.loop-progress.client.cache (inv.0 c.requires.0 c.requires.1)
 
 pub returns-in-Over-clause-goes : goal.returns-in-Over-clause-goes
 returns-in-Over-clause-goes g c = λ name ready.
     let inv = rw c.in-Done.is at c.loop-progress.invariant in
     let still = inv.0 name ready in
-    let step = rw c.in-Over.is at c.go_on.ensures.goes still.name still.ready.again_is in
+    let step = rw c.in-Over.is at c.take_result.ensures.goes still.name still.ready.kept_is in
     let C : CallContext → Type 0 = λ t. GoesFrom t
     (with_result (attempt_value c.loop-progress.attempt still.name c.args.now) c.in-Done.result)
-    c.loop-progress.client.cache c.go_on.new.self c.args.now (Over c.in-Over.result) c.go_on.new.client.cache in
+    c.loop-progress.client.cache c.take_result.new.self c.args.now (Over c.in-Over.result) c.take_result.new.client.cache in
     still_over (call_context_of c.args.client.now c.args.hosts.now c.args.now)
     (attempt_value c.args.attempt name c.args.now) (progress_of c.args.progress) c.args.client.now.cache
-    c.loop-progress.attempt c.args.now c.in-Done.result c.loop-progress.client.cache still c.go_on.new.self
-    c.in-Over.result c.go_on.new.client.cache
+    c.loop-progress.attempt c.args.now c.in-Done.result c.loop-progress.client.cache still c.take_result.new.self
+    c.in-Over.result c.take_result.new.client.cache
     (subst C (same_context c.args.client.now c.loop-progress.client c.args.hosts.now c.args.now inv.1) step)

@@ -4,16 +4,16 @@ use Rattle.hickory_resolver_model.specs.Calls.{CallContext, Plan, next_type}
 use Rattle.hickory_resolver_model.specs.Resolver.{call_context_of}
 use Rattle.hickory_resolver_theorems.specs.ResumingCalls.{CallIsDone}
 use Rattle.hickory_resolver.specs.declared.attempting.Attempt.{Attempt}
-use Rattle.hickory_resolver.specs.CallSteps.{again_for, first_type, first_value, types_of}
+use Rattle.hickory_resolver.specs.CallSteps.{kept_name_for, first_type, first_value, types_of}
 use Rattle.hickory_resolver.proofs.CallSteps.{first_next, goes_by_look_up, refused}
 use Rattle.hickory_resolver.proofs.attempting.Attempt.begin.Goals as goal
 
 pub returns-in-Ok-clause-goes : goal.returns-in-Ok-clause-goes
 returns-in-Ok-clause-goes g c =
     let s : CallContext = call_context_of c.args.client.now c.args.hosts.now c.args.now in
-    let a : Attempt = record c.args.self.now { again = c.in-Ok.again; first = None } in
+    let a : Attempt = record c.args.self.now { kept_name = c.in-Ok.kept_name; first = None } in
     let plan : Plan = types_of c.args.self.now.sought in
-    let A : Plan → Type 0 = λ p. c.in-Ok.again ≡ again_for p None c.args.name in
+    let A : Plan → Type 0 = λ p. c.in-Ok.kept_name ≡ kept_name_for p None c.args.name in
     let t_is : c.first.result ≡ first_type plan = c.first.ensures ∙ ap (λ p. first_type p) c.types-types.ensures in
     let next : next_type plan [] ≡ Some c.first.result = first_next plan ∙ ap (λ (t : RecordType). Some t) (sym t_is) in
     goes_by_look_up s (first_value c.args.self.now c.args.name c.args.now) a c.args.name refl

@@ -11,31 +11,31 @@ pub returns-then-stops-clause-goes : goal.returns-then-stops-clause-goes
 returns-then-stops-clause-goes g c = λ name over.
     let s : CallContext = call_context_of c.args.client.now c.args.hosts.now c.args.now in
     let P : Plan → Type 0 = λ p. next_type p (results_so_far c.take.result ++ c.args.latest ∷ []) ≡ None
-    → IsAttemptResult p (results_so_far c.take.result ++ c.args.latest ∷ []) c.attempted-reply.result in
+    → IsAttemptResult p (results_so_far c.take.result ++ c.args.latest ∷ []) c.attempt_result-reply.result in
     let F : Option LookupResult → Type 0 = λ f. next_type (types_of c.args.self.now.sought)
     (results_so_far f ++ c.args.latest ∷ []) ≡ None → IsAttemptResult (types_of c.args.self.now.sought)
-    (results_so_far f ++ c.args.latest ∷ []) c.attempted-reply.result in
-    goes_over s c.args.self.now c.args.latest name c.args.client.now.cache c.attempted-reply.result
-    (subst F c.take.ensures.value (subst P c.types.ensures c.attempted-reply.ensures) over) _
+    (results_so_far f ++ c.args.latest ∷ []) c.attempt_result-reply.result in
+    goes_over s c.args.self.now c.args.latest name c.args.client.now.cache c.attempt_result-reply.result
+    (subst F c.take.ensures.value (subst P c.types.ensures c.attempt_result-reply.ensures) over) _
     (sym c.stops.ensures ∙ c.if-stops.true)
 
 pub returns-in-Some-clause-goes : goal.returns-in-Some-clause-goes
 returns-in-Some-clause-goes g c = λ name over.
     let s : CallContext = call_context_of c.args.client.now c.args.hosts.now c.args.now in
     let P : Plan → Type 0 = λ p. next_type p (results_so_far c.take.result ++ c.args.latest ∷ []) ≡ None
-    → IsAttemptResult p (results_so_far c.take.result ++ c.args.latest ∷ []) c.attempted-reply.result in
+    → IsAttemptResult p (results_so_far c.take.result ++ c.args.latest ∷ []) c.attempt_result-reply.result in
     let F : Option LookupResult → Type 0 = λ f. next_type (types_of c.args.self.now.sought)
     (results_so_far f ++ c.args.latest ∷ []) ≡ None → IsAttemptResult (types_of c.args.self.now.sought)
-    (results_so_far f ++ c.args.latest ∷ []) c.attempted-reply.result in
+    (results_so_far f ++ c.args.latest ∷ []) c.attempt_result-reply.result in
     let from : AttemptValue = with_result (attempt_value c.args.self.now name c.args.now) c.args.latest in
     let L : Bool → Type 0 = λ b. GoesFrom s (record from {
-      looked = b;
+      with_hosts = b;
       name = c.in-Some.name;
       results = [];
       left = reverse c.pop.new.self.items;
     }) c.args.client.now.cache c.begin.new.self c.args.now (step_of c.begin.result) c.begin.new.client.cache in
-    goes_next s c.args.self.now c.args.latest name c.args.client.now.cache c.attempted-reply.result
-    (subst F c.take.ensures.value (subst P c.types.ensures c.attempted-reply.ensures) over) _
+    goes_next s c.args.self.now c.args.latest name c.args.client.now.cache c.attempt_result-reply.result
+    (subst F c.take.ensures.value (subst P c.types.ensures c.attempt_result-reply.ensures) over) _
     (sym c.stops.ensures ∙ c.if-stops.false)
     c.pop.new.self.items c.in-Some.name c.in-Some.ensures.items _ _
     (subst L c.asks_hosts_for_all-self.ensures c.begin.ensures.goes)
@@ -44,12 +44,12 @@ pub returns-in-None-clause-goes : goal.returns-in-None-clause-goes
 returns-in-None-clause-goes g c = λ name over.
     let s : CallContext = call_context_of c.args.client.now c.args.hosts.now c.args.now in
     let P : Plan → Type 0 = λ p. next_type p (results_so_far c.take.result ++ c.args.latest ∷ []) ≡ None
-    → IsAttemptResult p (results_so_far c.take.result ++ c.args.latest ∷ []) c.attempted-reply.result in
+    → IsAttemptResult p (results_so_far c.take.result ++ c.args.latest ∷ []) c.attempt_result-reply.result in
     let F : Option LookupResult → Type 0 = λ f. next_type (types_of c.args.self.now.sought)
     (results_so_far f ++ c.args.latest ∷ []) ≡ None → IsAttemptResult (types_of c.args.self.now.sought)
-    (results_so_far f ++ c.args.latest ∷ []) c.attempted-reply.result in
+    (results_so_far f ++ c.args.latest ∷ []) c.attempt_result-reply.result in
     let none : c.args.self.now.left.items ≡ [] = search rules in
-    goes_last s c.args.self.now c.args.latest name c.args.client.now.cache c.attempted-reply.result
-    (subst F c.take.ensures.value (subst P c.types.ensures c.attempted-reply.ensures) over) _
+    goes_last s c.args.self.now c.args.latest name c.args.client.now.cache c.attempt_result-reply.result
+    (subst F c.take.ensures.value (subst P c.types.ensures c.attempt_result-reply.ensures) over) _
     (sym c.stops.ensures ∙ c.if-stops.false)
     none c.last_reply.result (rw c.take-in-None.ensures.value at c.last_reply.ensures)

@@ -14,8 +14,8 @@ loop-progress-init g c =
     driven_start g.H.DnsHandle.step c.args.options c.args.hosts.now c.args.now
     (address_plan c.args.strategy (option_map (λ rdata. last_resort (data_of rdata) c.args.now)
     c.args.finally_ip_addr)) true (reverse c.args.names.items) c.args.client.now
-    (call_progress_of c.start-progress.result) c.start-progress.new.client c.start-progress.ensures.starts
-    c.start-progress.ensures.stays
+    (call_progress_of c.start_names-progress.result) c.start_names-progress.new.client c.start_names-progress.ensures.starts
+    c.start_names-progress.ensures.stays
 
 pub loop-progress-smaller : goal.loop-progress-smaller
 loop-progress-smaller g c =
@@ -24,10 +24,10 @@ loop-progress-smaller g c =
     (driven_fewer g.H.DnsHandle.step c.args.options c.args.hosts.now c.args.now
     (address_plan c.args.strategy (option_map (λ rdata. last_resort (data_of rdata) c.args.now)
     c.args.finally_ip_addr)) true (reverse c.args.names.items) c.args.client.now c.in-Waiting.waiting
-    c.loop-progress.client d c.waiting.inside.attempt c.waiting.inside.sub c.ask-sub.result.0
-    c.waiting.view_is c.ask-sub.ensures.same c.ask-sub.result.1 c.ask-sub.new.self
-    c.ask-sub.ensures.sent c.ask-sub.ensures.stays (call_progress_of c.resume-progress.result)
-    c.resume-progress.new.client c.resume-progress.ensures.resumes c.resume-progress.ensures.stays)
+    c.loop-progress.client d c.waiting.inside.attempt c.waiting.inside.lookup c.ask-lookup.result.0
+    c.waiting.view_is c.ask-lookup.ensures.same c.ask-lookup.result.1 c.ask-lookup.new.self
+    c.ask-lookup.ensures.sent c.ask-lookup.ensures.stays (call_progress_of c.resume_call-progress.result)
+    c.resume_call-progress.new.client c.resume_call-progress.ensures.resumes c.resume_call-progress.ensures.stays)
 
 pub loop-progress-preserved : goal.loop-progress-preserved
 loop-progress-preserved g c =
@@ -35,10 +35,10 @@ loop-progress-preserved g c =
     driven_on g.H.DnsHandle.step c.args.options c.args.hosts.now c.args.now
     (address_plan c.args.strategy (option_map (λ rdata. last_resort (data_of rdata) c.args.now)
     c.args.finally_ip_addr)) true (reverse c.args.names.items) c.args.client.now c.in-Waiting.waiting
-    c.loop-progress.client d c.waiting.inside.attempt c.waiting.inside.sub c.ask-sub.result.0
-    c.waiting.view_is c.ask-sub.ensures.same c.ask-sub.result.1 c.ask-sub.new.self
-    c.ask-sub.ensures.sent c.ask-sub.ensures.stays (call_progress_of c.resume-progress.result)
-    c.resume-progress.new.client c.resume-progress.ensures.resumes c.resume-progress.ensures.stays
+    c.loop-progress.client d c.waiting.inside.attempt c.waiting.inside.lookup c.ask-lookup.result.0
+    c.waiting.view_is c.ask-lookup.ensures.same c.ask-lookup.result.1 c.ask-lookup.new.self
+    c.ask-lookup.ensures.sent c.ask-lookup.ensures.stays (call_progress_of c.resume_call-progress.result)
+    c.resume_call-progress.new.client c.resume_call-progress.ensures.resumes c.resume_call-progress.ensures.stays
 
 pub returns-in-Done : goal.returns-in-Done
 returns-in-Done g c =

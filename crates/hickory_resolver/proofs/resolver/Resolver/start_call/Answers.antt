@@ -10,11 +10,11 @@ returns-in-Err g c = search rules
 
 pub returns-in-Ok : goal.returns-in-Ok
 returns-in-Ok g c =
-    let with_client : ResolverValue _ → ResolverValue _ = λ r. record r { client = c.start.new.client } in
+    let with_client : ResolverValue _ → ResolverValue _ = λ r. record r { client = c.start_names.new.client } in
     started_names c.args.self.now c.args.now (plan_value c.args.sought c.args.literal c.args.now) c.args.name _ _ _ _ _ _
     (ap (λ r. r.hosts) c.self.view_is)
     (ap (λ r. r.client) c.self.view_is)
     (ap (λ ns. reverse ns) c.reverse.ensures.items ∙ reverse-reverse _ ∙ c.in-Ok.ensures)
-    c.start.ensures.starts
-    c.start.ensures.stays
+    c.start_names.ensures.starts
+    c.start_names.ensures.stays
     (ap with_client c.self.view_is)

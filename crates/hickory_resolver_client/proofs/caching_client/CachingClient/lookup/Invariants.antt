@@ -4,7 +4,7 @@ use Rattle.hickory_resolver_client.proofs.caching_client.CachingClient.lookup.Gi
 
 abbrev pub invariant-loop-progress : goal.invariant-loop-progress
 invariant-loop-progress g l =
-    IsDriven g.H.DnsHandle.step l.fn.options l.fn.now l.fn.self l.fn.query (progress_of l.progress) (record { cache = l.self-inside.core.cache; handle = l.self-inside.handle; preserve_intermediates = l.self-inside.core.preserve_intermediates })
+    IsDriven g.H.DnsHandle.step l.fn.options l.fn.now l.fn.self l.fn.query (progress_of l.progress) l.self
 
 abbrev pub decreases-loop-progress : goal.decreases-loop-progress
 decreases-loop-progress g l = left (progress_of l.progress)

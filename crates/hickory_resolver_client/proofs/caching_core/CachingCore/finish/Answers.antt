@@ -6,4 +6,4 @@ use Rattle.hickory_resolver_client.proofs.caching_core.CachingCore.finish.Goals 
 pub returns-then-not-is_kept-clause-finished : goal.returns-then-not-is_kept-clause-finished
 returns-then-not-is_kept-clause-finished g c =
     let none : is_kept c.args.reply ≡ false = search rules in
-    finished_failure c.args.passed.items c.args.reply c.args.limit c.args.asked c.args.now c.args.self.now.cache none
+    finished_failure c.args.passed.items c.args.reply c.args.limit c.args.last_asked c.args.now c.args.self.now.cache none

@@ -4,7 +4,7 @@ use Rattle.hickory_resolver_lookup.specs.Requests.{request_of}
 use Rattle.hickory_resolver_lookup.specs.declared.request.Request.{Request}
 use Rattle.hickory_resolver.specs.Serving.{Answered}
 use Rattle.hickory_resolver.proofs.ServedRuns.{answered_lookup, answered_host, answered_clear_lookup, answered_clear}
-use Rattle.hickory_resolver.proofs.recording.ResolverServes.answer.Goals as goal
+use Rattle.hickory_resolver.proofs.serves.ResolverServes.answer.Goals as goal
 
 pub returns-in-Lookup : goal.returns-in-Lookup
 returns-in-Lookup g c =

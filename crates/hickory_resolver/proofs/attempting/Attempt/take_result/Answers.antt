@@ -3,7 +3,7 @@ use Rattle.hickory_resolver_model.specs.Calls.{CallContext}
 use Rattle.hickory_resolver_model.specs.Resolver.{call_context_of}
 use Rattle.hickory_resolver.specs.CallSteps.{step_of}
 use Rattle.hickory_resolver.proofs.CallSteps.{fewer_second, goes_on_end, goes_second}
-use Rattle.hickory_resolver.proofs.attempting.Attempt.go_on.Goals as goal
+use Rattle.hickory_resolver.proofs.attempting.Attempt.take_result.Goals as goal
 
 pub returns-in-Some-clause-goes : goal.returns-in-Some-clause-goes
 returns-in-Some-clause-goes g c = λ name ready.
@@ -14,7 +14,7 @@ returns-in-Some-clause-goes g c = λ name ready.
 
 pub returns-in-Some-clause-fewer : goal.returns-in-Some-clause-fewer
 returns-in-Some-clause-fewer g c = fewer_second c.args.self.now c.second.new.self c.args.latest _
-    c.second.ensures.stays c.in-Some.ensures.again (step_of c.look_up.result)
+    c.second.ensures.stays c.in-Some.ensures.kept_name (step_of c.look_up.result)
 
 pub returns-in-None-clause-goes : goal.returns-in-None-clause-goes
 returns-in-None-clause-goes g c = λ name ready.

@@ -1,4 +1,4 @@
-//! Resolvers over a handle that keeps what it sends.
+//! What serves requests over a handle, as a resolver does.
 ghost use Rattle.std.specs.Prelude.{◌≡◌};
 ghost use Rattle.hickory_resolver_lookup.specs.Requests.{request_of};
 

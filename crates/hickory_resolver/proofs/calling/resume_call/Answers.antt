@@ -7,12 +7,12 @@ use Rattle.hickory_resolver_theorems.specs.ResumingCalls.{GoesOnAfter}
 use Rattle.hickory_resolver.specs.CallProgress.{call_progress_of}
 use Rattle.hickory_resolver.specs.CallSteps.{IsReady, attempt_value, first_question}
 use Rattle.hickory_resolver.proofs.CallSteps.{resumed_begun, same_context}
-use Rattle.hickory_resolver.proofs.calling.resume.Goals as goal
+use Rattle.hickory_resolver.proofs.calling.resume_call.Goals as goal
 
 pub returns-clause-resumes : goal.returns-clause-resumes
 returns-clause-resumes g c =
-    let name = (first_question c.waiting.inside.sub).name in
-    let moment = c.waiting.inside.sub.now in
+    let name = (first_question c.waiting.inside.lookup).name in
+    let moment = c.waiting.inside.lookup.now in
     let p = progress_of c.resume-progress.result in
     let mid = c.resume-progress.new.self in
     let N : ℕ → Type 0 = λ m. IsReady c.waiting.inside.attempt name m p in
@@ -21,8 +21,8 @@ returns-clause-resumes g c =
     let C : CallContext → Type 0 = λ t. GoesOnAfter t (attempt_value c.waiting.inside.attempt name moment) p mid.cache
     (call_progress_of c.go_on.result) c.go_on.new.client.cache in
     let ready = subst N (sym c.now-now.ensures) (record {
-      again_is = c.waiting.invariant;
-      begun = resumed_begun (start_of c.args.client.now moment) c.waiting.inside.sub refl c.args.outcome p mid.cache
+      kept_is = c.waiting.invariant;
+      begun = resumed_begun (start_of c.args.client.now moment) c.waiting.inside.lookup refl c.args.outcome p mid.cache
           c.resume-progress.ensures.resumes;
     }) in
     rw (← c.waiting.view_is) (

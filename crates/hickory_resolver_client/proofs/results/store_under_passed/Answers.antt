@@ -3,7 +3,7 @@ use Rattle.hickory_resolver_model.specs.Cache.{store_until}
 use Rattle.hickory_resolver_model.specs.Hops.{as_outcome}
 use Rattle.hickory_resolver_model.specs.Resuming.{PassedValue}
 use Rattle.hickory_resolver_client.proofs.PassedStores.{stored_lower}
-use Rattle.hickory_resolver_client.proofs.results.store_back.Goals as goal
+use Rattle.hickory_resolver_client.proofs.results.store_under_passed.Goals as goal
 
 pub loop-last-preserved : goal.loop-last-preserved
 loop-last-preserved g c =

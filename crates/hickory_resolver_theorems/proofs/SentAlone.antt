@@ -45,7 +45,7 @@ abbrev pub IsRestOfCall : SubLookupRelation → AttemptValue → CacheValue → 
 IsRestOfCall Answers a before parts result after =
     (front : List SubLookup) × (back : List SubLookup) × (r : LookupResult) × (mid : CacheValue)
     × (parts ≡ front ++ back)
-    × AreSubLookups Answers a.looked a.name a.plan.types before a.results front mid
+    × AreSubLookups Answers a.with_hosts a.name a.plan.types before a.results front mid
     × IsAttemptResult a.plan.types (a.results ++ results_of front) r
     × (((stops r ≡ true) × (back ≡ []) × (result ≡ r) × (after ≡ mid))
     ⊎ ((stops r ≡ false)
@@ -69,8 +69,8 @@ pub record IsCallSentAlone
   pub sent : List Exchange
   pub asked_type : RecordType
   pub next : next_type w.attempt.plan.types w.attempt.results ≡ Some asked_type
-  pub not_static : (w.attempt.looked ≡ false) ⊎ IsStatic (question_of w.attempt.name asked_type) s.now s.hosts None
-  pub sub : LookupSoFar (start_at s cache) (question_of w.attempt.name asked_type) sent (Waits w.sub) cache
+  pub not_static : (w.attempt.with_hosts ≡ false) ⊎ IsStatic (question_of w.attempt.name asked_type) s.now s.hosts None
+  pub lookup : LookupSoFar (start_at s cache) (question_of w.attempt.name asked_type) sent (Waits w.lookup) cache
   pub asks_are : asks ≡ asks_of_sub_lookups done ++ sent
   pub rest : LeadsToWhole (IsAnsweredFor s) IsWhole done w.attempt cache
 
