@@ -13,12 +13,13 @@ use Rattle.conversation.specs.State.{ConversationValue, Puts, counted}
 use Rattle.conversation.specs.Telling.{IsAnswered, IsRefused, RanOut}
 use Rattle.conversation.specs.declared.fault.ConversationFault.TheVariants as fault
 use Rattle.conversation.specs.declared.heard.Heard.{Heard}
-use Rattle.conversation.specs.declared.reading.Verb.{Verb}
-use Rattle.conversation.specs.declared.reading.Verb.TheVariants as verb
-use Rattle.conversation.specs.declared.reading.Word.{Word}
+use Rattle.conversation.specs.declared.verbs.Verb.{Verb}
+use Rattle.conversation.specs.declared.verbs.Verb.TheVariants as verb
+use Rattle.conversation.specs.declared.verbs.Word.{Word}
 use Rattle.conversation.proofs.Answered.{answered_as, answered_by, stays}
 use Rattle.conversation.proofs.Held.{puts_again}
 use Rattle.conversation.proofs.Settings.{refused_for, when_false, when_true}
+use Rattle.conversation.proofs.Choices.{match_false, match_true}
 
 -- ---- by its words
 
@@ -96,14 +97,6 @@ mark_bad : (text : List ℕ) → is_skipped text ≡ false → list_all is_allow
 mark_bad text says bad =
     when_false (list_all is_allowed text) (mark_in (fields text)) (codes "-") bad
     ∙ when_false (is_skipped text) (codes "-") (cond (list_all is_allowed text) (mark_in (fields text)) (codes "-")) says
-
-match_true : (b : Bool) (P Q : Type 0) → b ≡ true → P → MatchBool b P Q
-match_true true P Q e p = p
-match_true false P Q e p = absurd (let h = e in cc)
-
-match_false : (b : Bool) (P Q : Type 0) → b ≡ false → Q → MatchBool b P Q
-match_false true P Q e q = absurd (let h = e in cc)
-match_false false P Q e q = q
 
 -- a line that says nothing
 pub skipped_told : (c : ConversationValue) (text : List ℕ) (heard : Heard) → is_skipped text ≡ true → string_bytes heard.explained ≡ [] → string_bytes heard.text ≡ [] → string_bytes heard.journal ≡ [] → heard.is_last ≡ false

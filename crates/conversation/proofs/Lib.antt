@@ -1,3 +1,4 @@
+pub mod Choices
 pub mod Held
 pub mod Answered
 pub mod Settings
@@ -6,15 +7,3 @@ pub mod Outcomes
 pub mod Hearings
 pub mod Told
 pub mod Asked
-pub mod JournalTexts
-pub mod JournalRequests
-pub mod JournalReverse
-pub mod JournalSaid
-pub mod JournalRuns
-pub mod JournalScript
-pub mod JournalHappens
-pub mod JournalCalls
-pub mod JournalStands
-pub mod JournalSteps
-pub mod Journal
-pub mod HearAll

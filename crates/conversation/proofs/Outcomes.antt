@@ -23,11 +23,12 @@ use Rattle.conversation.specs.Telling.{HasReply, IsAnswered, IsFed, IsForRequest
 use Rattle.conversation.specs.Texts.{cancelled_text}
 use Rattle.conversation.specs.declared.fault.ConversationFault.TheVariants as fault
 use Rattle.conversation.specs.declared.heard.Heard.{Heard}
-use Rattle.conversation.specs.declared.reading.Verb.{Verb}
-use Rattle.conversation.specs.declared.reading.Verb.TheVariants as verb
+use Rattle.conversation.specs.declared.verbs.Verb.{Verb}
+use Rattle.conversation.specs.declared.verbs.Verb.TheVariants as verb
 use Rattle.conversation.proofs.Answered.{answered_as, answered_by}
 use Rattle.conversation.proofs.Held.{puts_again, some_again, some_stays}
 use Rattle.conversation.proofs.Settings.{refused_for, when_false, when_true}
+use Rattle.conversation.proofs.Choices.{match_false, match_true}
 
 -- ---- a request is cancelled
 
@@ -47,14 +48,6 @@ pub not_cancelled : (c : ConversationValue) (mark : List ℕ) (given : List (Lis
 not_cancelled c mark given some = when_false (is_empty given) (cancelled c mark) (refused c mark (of_line (fault.Script script.FieldCount))) some
 
 -- ---- whether a reply is open
-
-match_true : (b : Bool) (P Q : Type 0) → b ≡ true → P → MatchBool b P Q
-match_true true P Q e p = p
-match_true false P Q e p = absurd (let h = e in cc)
-
-match_false : (b : Bool) (P Q : Type 0) → b ≡ false → Q → MatchBool b P Q
-match_false true P Q e q = absurd (let h = e in cc)
-match_false false P Q e q = q
 
 -- the request of which it is known
 reply_of : (mark : List ℕ) (requests : Requests) (has_reply : Bool) (r : InFlightValue) → HasReply requests mark has_reply → request_at mark requests ≡ Some r → is_some r.reply ≡ has_reply

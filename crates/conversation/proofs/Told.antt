@@ -27,31 +27,31 @@ use Rattle.conversation.proofs.Held.{some_stays}
 -- ---- how far a request came
 
 pub told_waits : (mark : List ℕ) (s : Settings) (begun : BegunValue) (w : WaitingCallValue) (cache : CacheValue) (heard : Heard) (before after : Requests) (question : Query) (options : DnsRequestOptions)
-    → question ≡ w.sub.hop.query → options ≡ s.request_options
+    → question ≡ w.lookup.hop.query → options ≡ s.request_options
     → string_bytes heard.explained ≡ alias_text mark begun.explains w
     → string_bytes heard.text ≡ send_text mark question options → string_bytes heard.journal ≡ [] → heard.is_last ≡ false
     → Puts mark (Some (asking begun w)) before after → IsTold mark (Tells mark [] s begun (Looks (CallWaits w)) cache) (Ok heard) before after
 told_waits mark s begun w cache heard before after question options asks by explained text journal last puts = (
   record {
     explained = alias_text mark begun.explains w;
-    text = send_text mark w.sub.hop.query s.request_options;
+    text = send_text mark w.lookup.hop.query s.request_options;
     journal = [];
     is_last = false;
     stage = Serving s cache;
     held = Some (asking begun w);
   },
   refl,
-  record { explained_is = explained; text_is = text ∙ ap (λ q. send_text mark q options) asks ∙ ap (send_text mark w.sub.hop.query) by; journal_is = journal; last_is = last },
+  record { explained_is = explained; text_is = text ∙ ap (λ q. send_text mark q options) asks ∙ ap (send_text mark w.lookup.hop.query) by; journal_is = journal; last_is = last },
   puts,
 )
 
 -- the request is kept, with its question
 pub kept_asking : (mark key : List ℕ) (begun now : BegunValue) (w : WaitingCallValue) (question : Query) (result : Result (Unit {0}) AllocError) (before after : Requests)
-    → key ≡ mark → question ≡ w.sub.hop.query → now ≡ record begun { sent = begun.sent ++ question ∷ [] }
+    → key ≡ mark → question ≡ w.lookup.hop.query → now ≡ record begun { sent = begun.sent ++ question ∷ [] }
     → OnOk result (Puts key (Some (record { begun = now; waiting = w; reply = None })) before after)
     → OnOk result (Puts mark (Some (asking begun w)) before after)
 kept_asking mark key begun now w question result before after key_is asks now_is puts =
-    let now_asks : now ≡ record begun { sent = begun.sent ++ w.sub.hop.query ∷ [] } = now_is ∙ ap (λ q. record begun { sent = begun.sent ++ q ∷ [] }) asks in
+    let now_asks : now ≡ record begun { sent = begun.sent ++ w.lookup.hop.query ∷ [] } = now_is ∙ ap (λ q. record begun { sent = begun.sent ++ q ∷ [] }) asks in
     subst (λ k. OnOk result (Puts k (Some (asking begun w)) before after)) key_is
     (subst (λ b. OnOk result (Puts key (Some (record { begun = b; waiting = w; reply = None })) before after)) now_asks puts)
 

@@ -38,10 +38,10 @@ use Rattle.conversation.specs.State.{BegunValue, ConversationValue, InFlightValu
 use Rattle.conversation.specs.Texts.{cancelled_text, clear_text, fault_text, fields_text, looked_up_text, send_text}
 use Rattle.conversation.specs.declared.fault.ConversationFault.{ConversationFault}
 use Rattle.conversation.specs.declared.fault.ConversationFault.TheVariants as fault
-use Rattle.conversation.specs.declared.reading.Verb.{Verb}
-use Rattle.conversation.specs.declared.reading.Verb.TheVariants as verb
-use Rattle.conversation.specs.declared.reading.Word.{Word}
-use Rattle.conversation.specs.declared.reading.Word.TheVariants as word
+use Rattle.conversation.specs.declared.verbs.Verb.{Verb}
+use Rattle.conversation.specs.declared.verbs.Verb.TheVariants as verb
+use Rattle.conversation.specs.declared.verbs.Word.{Word}
+use Rattle.conversation.specs.declared.verbs.Word.TheVariants as word
 
 -- what a line is answered: the lines that go out, those that say how a request comes about before them, and those for
 -- the journal, whether it is the last; and what stands after it: what is set, or the resolver, and the request of the
@@ -155,7 +155,7 @@ ComesTo s request before came after = ⊥
 -- the request, with one more question that was sent for it
 abbrev pub asking : BegunValue → WaitingCallValue → InFlightValue
 asking begun w = record {
-  begun = record begun { sent = begun.sent ++ w.sub.hop.query ∷ [] };
+  begun = record begun { sent = begun.sent ++ w.lookup.hop.query ∷ [] };
   waiting = w;
   reply = None;
 }
@@ -165,7 +165,7 @@ asking begun w = record {
 abbrev pub Tells : List ℕ → List ℕ → Settings → BegunValue → Came → CacheValue → Answer → Type 0
 Tells mark start s begun (Looks (CallWaits w)) cache answer = answer ≡ record {
   explained = start ++ alias_text mark begun.explains w;
-  text = send_text mark w.sub.hop.query s.request_options;
+  text = send_text mark w.lookup.hop.query s.request_options;
   journal = [];
   is_last = false;
   stage = Serving s cache;
@@ -225,7 +225,7 @@ abbrev pub Feeds : List ℕ → Stage → BegunValue → WaitingCallValue → Ou
 Feeds mark (Setting configuration hosts) begun w outcome answer = ⊥
 Feeds mark (Serving s cache) begun w outcome answer =
     (progress : CallProgressValue) × (after : CacheValue)
-    × ResumesCall (call_context_at s w.sub.now) w outcome cache progress after
+    × ResumesCall (call_context_at s w.lookup.now) w outcome cache progress after
     × Tells mark [] s begun (Looks progress) after answer
 
 -- the open reply is whole, and fed

@@ -45,7 +45,7 @@ alias_line mark question (Some first) =
 
 abbrev pub alias_text : List ℕ → Bool → WaitingCallValue → List ℕ
 alias_text mark explains w =
-    if explains then alias_line mark w.sub.hop.query (first_passed w.sub.passed) else []
+    if explains then alias_line mark w.lookup.hop.query (first_passed w.lookup.passed) else []
 
 -- ---- MARK `explain stored` NAME CLASS TYPE `until` MOMENT, when the request is over: for each question that was sent
 -- for it, the deadline of what the cache has for it now

@@ -1,6 +1,6 @@
--- A line is heard, and lines one after another.
+-- A line is heard, and answered.
 use Rattle.std.specs.declared.alloc.AllocError.{AllocError}
-use Rattle.std.specs.Prelude.{◌≡◌, ◌⊎◌, ℕ, List, [], ◌∷◌, codes, string_bytes, Option, None, Some, Result, Ok, MatchBool, MatchResult}
+use Rattle.std.specs.Prelude.{◌≡◌, ◌⊎◌, ℕ, List, [], codes, string_bytes, None, Some, Result, Ok, MatchBool, MatchResult}
 use Rattle.std.specs.List.{list_all}
 use Rattle.hickory_proto_core.specs.Handles.{OutcomeValue}
 use Rattle.hickory_resolver_model.specs.Cache.{CacheValue}
@@ -54,7 +54,7 @@ abbrev pub IsFedOut : Stage → WaitingCallValue → OutcomeValue → Stage → 
 IsFedOut (Setting configuration hosts) w outcome after = ⊥
 IsFedOut (Serving s cache) w outcome after =
     (progress : CallProgressValue) × (left : CacheValue)
-    × ResumesCall (call_context_at s w.sub.now) w outcome cache progress left × (after ≡ Serving s left)
+    × ResumesCall (call_context_at s w.lookup.now) w outcome cache progress left × (after ≡ Serving s left)
 
 abbrev pub IsLeft : ConversationValue → List ℕ → Stage → Type 0
 IsLeft c mark after =
@@ -82,21 +82,3 @@ IsHeard before text result after =
 -- a conversation in which nothing was said, over what a file of hosts says
 abbrev pub silent : List ℕ → ConversationValue
 silent hosts = record { lines = 0; stage = Setting (configured []) hosts; requests = [] }
-
--- Lines, one after another, up to the last of the conversation: what each is answered. A line for which there was no
--- memory has no answer.
-abbrev pub AreHeard : ConversationValue → List (List ℕ) → List (Option Answer) → ConversationValue → Type 0
-AreHeard before [] [] after = after ≡ before
-AreHeard before (text ∷ texts) (Some answer ∷ answers) after =
-    (mid : ConversationValue) × Answers (counted before) text answer
-    × Stands (mark_of text) answer (counted before) mid
-    × MatchBool answer.is_last ((answers ≡ []) × (after ≡ mid)) (AreHeard mid texts answers after)
-AreHeard before (text ∷ texts) (None ∷ answers) after =
-    (mid : ConversationValue) × RunsOut (mark_of text) (counted before) mid × AreHeard mid texts answers after
-AreHeard before _ _ after = ⊥
-
--- these lines go out, of what lines are answered one after another
-abbrev pub AllSay : List Answer → List Heard → Type 0
-AllSay [] [] = Unit {0}
-AllSay (answer ∷ answers) (heard ∷ heards) = Says answer heard × AllSay answers heards
-AllSay answers heards = ⊥

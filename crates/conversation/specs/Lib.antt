@@ -2,7 +2,6 @@ pub mod Answers
 pub mod Explaining
 pub mod Faults
 pub mod Hearing
-pub mod Journal
 pub mod Lines
 pub mod State
 pub mod Telling

@@ -18,10 +18,10 @@ use Rattle.replay_script.specs.declared.line.Line.{Line}
 use Rattle.replay_script.specs.declared.line.Line.TheVariants as line
 use Rattle.conversation.specs.Faults.{RefusalValue, of_field, of_line, refusal_of, unknown}
 use Rattle.conversation.specs.declared.fault.ConversationFault.TheVariants as fault
-use Rattle.conversation.specs.declared.reading.Word.{Word}
-use Rattle.conversation.specs.declared.reading.Word.TheVariants as word
-use Rattle.conversation.specs.declared.reading.Verb.{Verb}
-use Rattle.conversation.specs.declared.reading.Verb.TheVariants as verb
+use Rattle.conversation.specs.declared.verbs.Word.{Word}
+use Rattle.conversation.specs.declared.verbs.Word.TheVariants as word
+use Rattle.conversation.specs.declared.verbs.Verb.{Verb}
+use Rattle.conversation.specs.declared.verbs.Verb.TheVariants as verb
 
 -- ---- words
 

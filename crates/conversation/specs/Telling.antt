@@ -24,8 +24,8 @@ use Rattle.conversation.specs.State.{BegunValue, ConversationValue, InFlightValu
 use Rattle.conversation.specs.Texts.{clear_text, fields_text, looked_up_text}
 use Rattle.conversation.specs.declared.heard.Heard.{Heard}
 use Rattle.conversation.specs.declared.fault.ConversationFault.{ConversationFault}
-use Rattle.conversation.specs.declared.reading.Verb.{Verb}
-use Rattle.conversation.specs.declared.reading.Verb.TheVariants as verb
+use Rattle.conversation.specs.declared.verbs.Verb.{Verb}
+use Rattle.conversation.specs.declared.verbs.Verb.TheVariants as verb
 use Rattle.conversation.specs.declared.requests.Came.{Came}
 use Rattle.conversation.specs.declared.requests.Came.TheVariants as came
 

@@ -1,8 +1,6 @@
 //! A conversation with a resolver, line by line.
-ghost use Rattle.std.specs.Prelude.{◌≡◌, IfOk};
-ghost use Rattle.replay_script.specs.Words.{texts};
+ghost use Rattle.std.specs.Prelude.{◌≡◌};
 ghost use Rattle.conversation.specs.Hearing.{IsHeard, silent};
-ghost use Rattle.conversation.specs.Journal.{IsScriptHeard};
 
 use crate::heard::Heard;
 use crate::state::State;
@@ -40,22 +38,5 @@ impl Conversation {
         ensures { IsHeard self.old line.now result self.new }
     {
         self.state.hear(line)
-    }
-
-    /// Hears lines, without their ends, one after another, up to the last of the conversation: what each is answered.
-    /// Where memory runs out there is no answer.
-    pub fn hear_all(&mut self, alloc: Global, lines: &[&[u8]]) -> Result<Vec<Heard>, AllocError>
-        ensures { IfOk result (λ heards. IsScriptHeard self.old (texts lines.now) heards.items self.new) }
-    {
-        let mut heards = Vec::new(alloc);
-        for line in lines {
-            let heard = self.hear(line)?;
-            let is_last = heard.is_last;
-            heards.push(heard)?;
-            if is_last {
-                return Ok(heards);
-            }
-        }
-        Ok(heards)
     }
 }

@@ -7,10 +7,10 @@ mod explaining;
 pub mod fault;
 pub mod heard;
 mod in_flight;
-pub mod laws;
 mod reading;
 mod requests;
 mod state;
+pub mod verbs;
 mod writing;
 
 pub use conversation::Conversation;

@@ -6,87 +6,17 @@ ghost use Rattle.hickory_resolver.specs.Requests.{request_of};
 ghost use Rattle.replay_script.specs.Fields.{fields};
 ghost use Rattle.replay_script.specs.Words.{texts};
 ghost use Rattle.conversation.specs.Faults.{of_line, out_of_memory};
-ghost use Rattle.conversation.specs.Lines.{IsAsked, IsPointer, IsReverse, IsScriptLine, IsScriptRequest, mark_in, mark_of, mark_or_none, pointer_at, request_in, verb_named, word_named};
+ghost use Rattle.conversation.specs.Lines.{IsAsked, IsPointer, IsReverse, IsScriptLine, IsScriptRequest, mark_in, mark_of, mark_or_none, pointer_at, request_in};
 ghost use Rattle.conversation.specs.Telling.{IsAskedOr};
 
 use crate::fault::{ConversationFault, Refusal};
+use crate::verbs::Word;
 use hickory_proto_core::{IntoName, Name, RecordType};
 use hickory_resolver::Request;
 use replay_script::words::number64;
 use replay_script::{Fields, Line, ScriptFault, is_skipped, read_fields, read_text};
 use std::alloc::{AllocError, Global};
 use std::net::IpAddr;
-
-/// What the first word of a line says.
-#[derive(Clone, Copy)]
-pub enum Word {
-    /// The conversation ends.
-    End,
-    /// A line of a file of hosts.
-    Hosts,
-    /// A setting.
-    Setting,
-    /// No request can have this mark.
-    Unused,
-    /// The mark of a request.
-    Mark,
-}
-
-impl Word {
-    /// What this word says at the front of a line.
-    pub fn of(word: &str) -> Word
-        ensures { result ≡ word_named word.now }
-    {
-        match word {
-            "end" => Word::End,
-            "hosts" => Word::Hosts,
-            "option" => Word::Setting,
-            "domain" => Word::Setting,
-            "search" => Word::Setting,
-            "-" => Word::Unused,
-            _ => Word::Mark,
-        }
-    }
-}
-
-/// What a line does with the request of its mark.
-#[derive(Clone, Copy)]
-pub enum Verb {
-    /// It begins, and tells how it came about.
-    Explain,
-    /// It begins.
-    At,
-    /// A reply is opened.
-    Reply,
-    /// A record is added to the open reply.
-    Record,
-    /// The open reply is whole.
-    Done,
-    /// Its question fails.
-    Fail,
-    /// It is forgotten.
-    Cancel,
-}
-
-impl Verb {
-    /// What this word says behind a mark.
-    pub fn of(word: &str) -> Option<Verb>
-        ensures { result ≡ verb_named word.now }
-    {
-        match word {
-            "explain" => Some(Verb::Explain),
-            "at" => Some(Verb::At),
-            "reply" => Some(Verb::Reply),
-            "answer" => Some(Verb::Record),
-            "authority" => Some(Verb::Record),
-            "additional" => Some(Verb::Record),
-            "done" => Some(Verb::Done),
-            "fail" => Some(Verb::Fail),
-            "cancel" => Some(Verb::Cancel),
-            _ => None,
-        }
-    }
-}
 
 /// The mark that a line begins with: that of a request, or `-` where it has none. Takes no memory.
 pub fn mark_of(line: &[u8]) -> &str

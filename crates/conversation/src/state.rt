@@ -18,8 +18,9 @@ ghost use Rattle.conversation.specs.Telling.{HasReply, IsAnswered, IsFed, IsForR
 use crate::fault::{ConversationFault, Refusal};
 use crate::heard::Heard;
 use crate::in_flight::{Begun, InFlight, outcome_of};
-use crate::reading::{Verb, Word, mark_of, mark_or_none, read_request, read_said};
+use crate::reading::{mark_of, mark_or_none, read_request, read_said};
 use crate::requests::{begin, forget, go_on, put, take};
+use crate::verbs::{Verb, Word};
 use crate::writing::{push_fields, told_cancel, told_fault, told_last, told_nothing, told_setting};
 use hickory_proto_core::{Outcome, Record, ScriptHandle};
 use hickory_resolver::{Hosts, Request, Resolver, ResolverConfig, WaitingCall};

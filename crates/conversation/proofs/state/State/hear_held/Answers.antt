@@ -1,6 +1,6 @@
 use Rattle.replay_script.specs.Words.{texts}
 use Rattle.conversation.specs.State.{conversation_of}
-use Rattle.conversation.specs.declared.reading.Verb.TheVariants as verb
+use Rattle.conversation.specs.declared.verbs.Verb.TheVariants as verb
 use Rattle.conversation.proofs.Outcomes.{cancel_for, is_first_line, of_verb}
 use Rattle.conversation.proofs.state.State.hear_held.Goals as goal
 

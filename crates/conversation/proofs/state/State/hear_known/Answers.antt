@@ -2,7 +2,7 @@ use Rattle.std.proofs.Common.{Some}
 use Rattle.replay_script.specs.Words.{texts}
 use Rattle.conversation.specs.Answers.{AnswersOutcome, AnswersVerb}
 use Rattle.conversation.specs.State.{conversation_of}
-use Rattle.conversation.specs.declared.reading.Verb.TheVariants as verb
+use Rattle.conversation.specs.declared.verbs.Verb.TheVariants as verb
 use Rattle.conversation.proofs.Answered.{answered_as}
 use Rattle.conversation.proofs.Hearings.{by_outcome, verb_as}
 use Rattle.conversation.proofs.Outcomes.{is_of_outcome}

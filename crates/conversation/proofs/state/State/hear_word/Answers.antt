@@ -2,7 +2,7 @@ use Rattle.replay_script.specs.Words.{texts}
 use Rattle.conversation.specs.Answers.{AnswersWord}
 use Rattle.conversation.specs.Faults.{unknown}
 use Rattle.conversation.specs.State.{conversation_of}
-use Rattle.conversation.specs.declared.reading.Word.TheVariants as word
+use Rattle.conversation.specs.declared.verbs.Word.TheVariants as word
 use Rattle.std.proofs.Common.{refl}
 use Rattle.conversation.proofs.Hearings.{by_word}
 use Rattle.conversation.proofs.Settings.{refused_for}

@@ -12,7 +12,7 @@ use Rattle.hickory_resolver_model.specs.Cache.{CacheValue}
 use Rattle.hickory_resolver_model.specs.Calls.{IsAnsweredFor, SubLookup, is_out_of_memory}
 use Rattle.hickory_resolver_model.specs.Lookup.{LookupResult}
 use Rattle.hickory_resolver_model.specs.Run.{RequestValue, Lookup, LookupIp, ClearLookup, Clear, Settings, GivenName, IsGivenBy, Call, IsCall, IsServed, StepReply, LookedUp, LookedUpIp, Cleared, address_call, answers_at, call_context_at, ends_run, moment_of, name_call}
-use Rattle.hickory_resolver_theorems.specs.CallsAlone.{CallSoFar, CallRelation}
+use Rattle.hickory_resolver_theorems.proofs.SentAlone.{CallSoFar, CallRelation}
 use Rattle.hickory_resolver_theorems.specs.ResumingCalls.{CallProgressValue, CallWaits, CallIsDone, StartsCall}
 use Rattle.hickory_resolver_theorems.proofs.CallsAlone.{started_call}
 use Rattle.replay.specs.Output.{reply_text, result_text}

@@ -14,10 +14,30 @@ use Rattle.replay.specs.ScriptRun.{IsReplayed}
 use Rattle.replay_script.specs.Fields.{fields}
 use Rattle.replay_script.specs.Words.{number_field}
 use Rattle.conversation.specs.Answers.{Answer, IsOpened}
-use Rattle.conversation.specs.Hearing.{AllSay, AreHeard, silent}
+use Rattle.conversation.specs.Hearing.{Answers, RunsOut, Says, Stands, silent}
 use Rattle.conversation.specs.Lines.{mark_of}
-use Rattle.conversation.specs.State.{ConversationValue, InFlightValue, Setting, Serving, Stage}
+use Rattle.conversation.specs.State.{ConversationValue, InFlightValue, Setting, Serving, Stage, counted}
 use Rattle.conversation.specs.declared.heard.Heard.{Heard}
+
+-- ---- lines, one after another
+
+-- Lines, one after another, up to the last of the conversation: what each is answered. A line for which there was no
+-- memory has no answer.
+abbrev pub AreHeard : ConversationValue → List (List ℕ) → List (Option Answer) → ConversationValue → Type 0
+AreHeard before [] [] after = after ≡ before
+AreHeard before (text ∷ texts) (Some answer ∷ answers) after =
+    (mid : ConversationValue) × Answers (counted before) text answer
+    × Stands (mark_of text) answer (counted before) mid
+    × MatchBool answer.is_last ((answers ≡ []) × (after ≡ mid)) (AreHeard mid texts answers after)
+AreHeard before (text ∷ texts) (None ∷ answers) after =
+    (mid : ConversationValue) × RunsOut (mark_of text) (counted before) mid × AreHeard mid texts answers after
+AreHeard before _ _ after = ⊥
+
+-- these lines go out, of what lines are answered one after another
+abbrev pub AllSay : List Answer → List Heard → Type 0
+AllSay [] [] = Unit {0}
+AllSay (answer ∷ answers) (heard ∷ heards) = Says answer heard × AllSay answers heards
+AllSay answers heards = ⊥
 
 -- ---- one request at a time
 

@@ -31,19 +31,19 @@ use Rattle.replay_script.specs.declared.script.OpenReply.{OpenReply}
 use Rattle.replay_script.specs.declared.line.Line.{Line}
 use Rattle.replay_script.specs.declared.line.Line.TheVariants as line
 use Rattle.conversation.specs.Answers.{Answer, Feeds, IsOpened, Looks, Serves, config_of, just_begun, keeps, with_line}
-use Rattle.conversation.specs.Hearing.{AreHeard, Answers, Stands, silent}
-use Rattle.conversation.specs.Journal.{AreInTurn, BeginsNone, Busy, CanServe, Idle, IsInTurn, IsNoEarlier, IsOver, IsScriptOfBlocks, Turn, block_of, blocks_of, hosts_after, hosts_stood, journal_of, later, moment_asked, moment_at, moment_begun, next_turn, turn_of}
+use Rattle.conversation.specs.Hearing.{Answers, Stands, silent}
+use Rattle.conversation_journal.specs.Journal.{AreHeard, AreInTurn, BeginsNone, Busy, CanServe, Idle, IsInTurn, IsNoEarlier, IsOver, IsScriptOfBlocks, Turn, block_of, blocks_of, hosts_after, hosts_stood, journal_of, later, moment_asked, moment_at, moment_begun, next_turn, turn_of}
 use Rattle.conversation.specs.Lines.{mark_of}
 use Rattle.conversation.specs.State.{BegunValue, ConversationValue, InFlightValue, Puts, Serving, Setting, Stage, counted, request_at}
 use Rattle.conversation.specs.Texts.{fields_text}
-use Rattle.conversation.proofs.JournalTexts.{AreFields, lines-whole, whole_lines}
-use Rattle.conversation.proofs.JournalRuns.{HasRun, none_run, run-told}
-use Rattle.conversation.proofs.JournalSaid.{IsAskedIn, asked_in}
-use Rattle.conversation.proofs.JournalRequests.{IsWritable}
-use Rattle.conversation.proofs.JournalScript.{IsScript, fresh, none_script}
-use Rattle.conversation.proofs.JournalHappens.{Happens, begun, cancelled, done, failed, happens, more_hosts, opened, recorded, set, unchanged}
-use Rattle.conversation.proofs.JournalStands.{IsBusy, IsGot, IsSetUp, IsSettingUp, IsUnderWay, StandsAt, outcomes_in, outcomes_of}
-use Rattle.conversation.proofs.JournalSteps.{IsHeld, NextIdle, feed, held-idle, held-other, held-own, no-block, no-text, none-begun, opening, quiet, same-hosts, serves, set-more, setting-up, some-begun, told-of, underway, way-done, way-failure, way-record, way-reply}
+use Rattle.conversation_journal.proofs.JournalTexts.{AreFields, lines-whole, whole_lines}
+use Rattle.conversation_journal.proofs.JournalRuns.{HasRun, none_run, run-told}
+use Rattle.conversation_journal.proofs.JournalSaid.{IsAskedIn, asked_in}
+use Rattle.conversation_journal.proofs.JournalRequests.{IsWritable}
+use Rattle.conversation_journal.proofs.JournalScript.{IsScript, fresh, none_script}
+use Rattle.conversation_journal.proofs.JournalHappens.{Happens, begun, cancelled, done, failed, happens, more_hosts, opened, recorded, set, unchanged}
+use Rattle.conversation_journal.proofs.JournalStands.{IsBusy, IsGot, IsSetUp, IsSettingUp, IsUnderWay, StandsAt, outcomes_in, outcomes_of}
+use Rattle.conversation_journal.proofs.JournalSteps.{IsHeld, NextIdle, feed, held-idle, held-other, held-own, no-block, no-text, none-begun, opening, quiet, same-hosts, serves, set-more, setting-up, some-begun, told-of, underway, way-done, way-failure, way-record, way-reply}
 
 -- no request, and one
 apart : {X : Type 0} (o : Option InFlightValue) (r : InFlightValue) → o ≡ None → o ≡ Some r → X
@@ -128,7 +128,7 @@ module _ (hosts J B : List ℕ) (c : ConversationValue) (text : List ℕ) (answe
       subst P (sym (st ∙ at)) (subst Q (sym h) (subst R j_is (subst T b_is busy)))
 
   -- it is over, or waits for what comes back to its next question
-  fed : (outcome : OutcomeValue) (told : BegunValue) → IsUnderWay hosts J B s b.asked (b.asks ++ record { query = k.waiting.sub.hop.query; outcome = outcome } ∷ []) told.told b.start None → told.request ≡ request_of b.asked → told.sent ≡ k.begun.sent
+  fed : (outcome : OutcomeValue) (told : BegunValue) → IsUnderWay hosts J B s b.asked (b.asks ++ record { query = k.waiting.lookup.hop.query; outcome = outcome } ∷ []) told.told b.start None → told.request ≡ request_of b.asked → told.sent ≡ k.begun.sent
       → Feeds own_mark c.stage told k.waiting outcome answer → NextOwn answer
   fed outcome told way request_is sent_is feeds =
       let feeds : Feeds own_mark (Serving s cache) told k.waiting outcome answer = subst (λ x. Feeds own_mark x told k.waiting outcome answer) at feeds in
@@ -162,11 +162,11 @@ module _ (hosts J B : List ℕ) (c : ConversationValue) (text : List ℕ) (answe
 
   done_next : (reply : OpenReply) → k.reply ≡ Some reply → Feeds own_mark c.stage k.begun k.waiting (Ok reply.message) answer → NextOwn answer
   done_next reply is_open feeds =
-      fed (Ok reply.message) k.begun (way-done hosts J B s b.asked b.asks k.begun.told b.start reply (record { query = k.waiting.sub.hop.query; outcome = Ok reply.message }) refl (subst WayOf is_open b.way)) b.request_is refl feeds
+      fed (Ok reply.message) k.begun (way-done hosts J B s b.asked b.asks k.begun.told b.start reply (record { query = k.waiting.lookup.hop.query; outcome = Ok reply.message }) refl (subst WayOf is_open b.way)) b.request_is refl feeds
 
   failed_next : (given : List (List ℕ)) (failure : Failure) → k.reply ≡ None → AreFields given → ((b : Bool) → IsSaid b given (Ok (line.Fail failure))) → Feeds own_mark c.stage (with_line k.begun given) k.waiting (Err (error_of failure.kind)) answer → NextOwn answer
   failed_next given failure closed own says feeds =
-      fed (Err (error_of failure.kind)) (with_line k.begun given) (way-failure hosts J B s b.asked b.asks k.begun.told b.start given own failure (record { query = k.waiting.sub.hop.query; outcome = Err (error_of failure.kind) }) refl says (subst WayOf closed b.way)) b.request_is refl feeds
+      fed (Err (error_of failure.kind)) (with_line k.begun given) (way-failure hosts J B s b.asked b.asks k.begun.told b.start given own failure (record { query = k.waiting.lookup.hop.query; outcome = Err (error_of failure.kind) }) refl says (subst WayOf closed b.way)) b.request_is refl feeds
 
   own_next : Happens c own_mark (moment_asked (fields text)) answer → IsOver answer answer.held → NextOwn answer
   own_next (unchanged j st h) is_over = kept k b j st (h ∙ mine)

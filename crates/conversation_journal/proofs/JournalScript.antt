@@ -25,10 +25,10 @@ use Rattle.replay_script.specs.declared.setting.Setting.{Setting}
 use Rattle.replay_script.specs.declared.setting.Setting.TheVariants as setting
 use Rattle.replay_script.proofs.Said.{keeps-configuration, keeps-failure, keeps-record, keeps-reply, keeps-request}
 use Rattle.conversation.specs.Texts.{fields_text}
-use Rattle.conversation.proofs.JournalTexts.{AreAllowed, AreFields, IsField, allowed-append, line-allowed, line-read, line_of, whole_lines}
-use Rattle.conversation.proofs.JournalRequests.{IsWritable, asked-fields, asked_fields}
-use Rattle.conversation.proofs.JournalSaid.{request-read}
-use Rattle.conversation.proofs.JournalHappens.{IsNoMode}
+use Rattle.conversation_journal.proofs.JournalTexts.{AreAllowed, AreFields, IsField, allowed-append, line-allowed, line-read, line_of, whole_lines}
+use Rattle.conversation_journal.proofs.JournalRequests.{IsWritable, asked-fields, asked_fields}
+use Rattle.conversation_journal.proofs.JournalSaid.{request-read}
+use Rattle.conversation_journal.proofs.JournalHappens.{IsNoMode}
 
 -- these lines say this, and a reader keeps it; outcomes come in order
 pub record IsScript (ls : List (List ℕ)) (said : List Line) (reader : ReaderValue) : Type 0 where

@@ -37,20 +37,20 @@ use Rattle.replay_script.specs.declared.reply_line.ReplyHead.{ReplyHead}
 use Rattle.replay_script.specs.declared.script.OpenReply.{OpenReply}
 use Rattle.replay_script.specs.declared.setting.Setting.{Setting as OneSetting}
 use Rattle.conversation.specs.Answers.{Answer, AreHosts, Came, Clears, Feeds, IsFirst, IsOpened, Looks, Serves, Tells, config_of, just_begun}
-use Rattle.conversation.specs.Journal.{Busy, Idle, Turn, block_of, hosts_after, moment_asked, moment_begun, turn_of}
+use Rattle.conversation_journal.specs.Journal.{Busy, Idle, Turn, block_of, hosts_after, moment_asked, moment_begun, turn_of}
 use Rattle.conversation.specs.State.{BegunValue, InFlightValue, Puts, Requests, Serving, Setting, Stage, request_at}
 use Rattle.conversation.specs.Texts.{fields_text}
 use Rattle.replay.specs.ScriptRun.{first_moment}
 use Rattle.replay_script.specs.declared.fault.ScriptFault.TheVariants as script
 use Rattle.conversation.specs.declared.fault.ConversationFault.{ConversationFault}
 use Rattle.conversation.specs.declared.fault.ConversationFault.TheVariants as fault
-use Rattle.conversation.proofs.JournalTexts.{AreFields, whole_lines, whole_lines-append}
-use Rattle.conversation.proofs.JournalRequests.{IsWritable}
-use Rattle.conversation.proofs.JournalRuns.{HasRun, none_run}
-use Rattle.conversation.proofs.JournalScript.{IsScript, from_ok, more-failure, more-record, more-reply, more-setting, written, written-text}
-use Rattle.conversation.proofs.JournalCalls.{NotOut, RequestSoFar, WholeCall, begun_call}
-use Rattle.conversation.proofs.JournalHappens.{IsNoMode}
-use Rattle.conversation.proofs.JournalStands.{IsBusy, IsServing, IsSetUp, IsSettingUp, IsUnderWay, StandsAt, clear-proceed, outcomes_in, outcomes_of, proceed, some-behind, some_request}
+use Rattle.conversation_journal.proofs.JournalTexts.{AreFields, whole_lines, whole_lines-append}
+use Rattle.conversation_journal.proofs.JournalRequests.{IsWritable}
+use Rattle.conversation_journal.proofs.JournalRuns.{HasRun, none_run}
+use Rattle.conversation_journal.proofs.JournalScript.{IsScript, from_ok, more-failure, more-record, more-reply, more-setting, written, written-text}
+use Rattle.conversation_journal.proofs.JournalCalls.{NotOut, RequestSoFar, WholeCall, begun_call}
+use Rattle.conversation_journal.proofs.JournalHappens.{IsNoMode}
+use Rattle.conversation_journal.proofs.JournalStands.{IsBusy, IsServing, IsSetUp, IsSettingUp, IsUnderWay, StandsAt, clear-proceed, outcomes_in, outcomes_of, proceed, some-behind, some_request}
 
 -- ---- a request is begun
 
@@ -212,13 +212,13 @@ way-done hosts J B s asked asks told start reply x x_is w = record {
 -- ---- it goes on with what came back
 
 pub feed : (hosts J B : List ℕ) (latest : ℕ) (s : Settings) (cache : CacheValue) (r : InFlightValue) (mark : List ℕ) (b : IsBusy hosts J B latest s cache r) (outcome : OutcomeValue) (begun : BegunValue) (answer : Answer)
-    → IsUnderWay hosts J B s b.asked (b.asks ++ record { query = r.waiting.sub.hop.query; outcome = outcome } ∷ []) begun.told b.start None → begun.request ≡ request_of b.asked → begun.sent ≡ r.begun.sent
+    → IsUnderWay hosts J B s b.asked (b.asks ++ record { query = r.waiting.lookup.hop.query; outcome = outcome } ∷ []) begun.told b.start None → begun.request ≡ request_of b.asked → begun.sent ≡ r.begun.sent
     → Feeds mark (Serving s cache) begun r.waiting outcome answer
     → StandsAt hosts (J ++ answer.journal) (B ++ block_of mark answer) (turn_of mark answer.held (moment_of (request_of b.asked))) answer.stage answer.held
 feed hosts J B latest s cache r mark b outcome begun answer w request_is sent_is (progress, after, resumes, tells) =
-    let x : Exchange = record { query = r.waiting.sub.hop.query; outcome = outcome } in
+    let x : Exchange = record { query = r.waiting.lookup.hop.query; outcome = outcome } in
     let q = request_of b.asked in
-    let now_is : r.waiting.sub.now ≡ moment_of q = b.far.sub.now_is in
+    let now_is : r.waiting.lookup.now ≡ moment_of q = b.far.lookup.now_is in
     let goes : ResumesCall (call_context_at s (moment_of q)) r.waiting outcome cache progress after = subst (λ n. ResumesCall (call_context_at s n) r.waiting outcome cache progress after) now_is resumes in
     let far : RequestSoFar s q b.start b.call (b.asks ++ x ∷ []) progress after = resumed (call_context_at s (moment_of q)) (WholeCall s q b.start b.call) b.asks r.waiting cache b.far outcome progress after goes in
     proceed hosts J B s b.asked (b.asks ++ x ∷ []) b.start mark begun w request_is (sent_is ∙ b.sent_are ∙ sym (map-append (λ y. y.query) b.asks (x ∷ []))) b.call b.call_is progress after far answer [] tells

@@ -3,11 +3,12 @@ use Rattle.std.proofs.Common.{◌≡◌, ◌∙◌, ◌<◌, ◌≤◌, ◌+◌,
 use Rattle.replay.specs.ScriptRun.{IsReplayed}
 use Rattle.replay_script.specs.Words.{texts}
 use Rattle.conversation.specs.Answers.{Answer}
-use Rattle.conversation.specs.Hearing.{AllSay, AreHeard, IsHeard, Says}
-use Rattle.conversation.specs.Journal.{IsScriptHeard, blocks_of, hosts_stood, journal_of}
+use Rattle.conversation.specs.Hearing.{IsHeard, Says}
+use Rattle.conversation_journal.specs.Journal.{AllSay, AreHeard, IsScriptHeard, blocks_of, hosts_stood, journal_of}
 use Rattle.conversation.specs.State.{ConversationValue}
 use Rattle.conversation.specs.declared.heard.Heard.{Heard}
-use Rattle.conversation.proofs.Journal.{journal_is_a_script}
+use Rattle.conversation_journal.proofs.Journal.{journal_is_a_script}
+use Rattle.conversation.proofs.Choices.{match_false, match_true}
 
 abbrev pub answered : List Answer → List (Option Answer)
 answered answers = map (λ answer. Some answer) answers
@@ -26,14 +27,6 @@ say_more [] [] answer heard say says = (says, tt)
 say_more [] (h ∷ hs) answer heard say says = absurd say
 say_more (a ∷ others) [] answer heard say says = absurd say
 say_more (a ∷ others) (h ∷ hs) answer heard say says = (say.0, say_more others hs answer heard say.1 says)
-
-match_true : (b : Bool) (P Q : Type 0) → b ≡ true → P → MatchBool b P Q
-match_true true P Q e p = p
-match_true false P Q e p = absurd (let h = e in cc)
-
-match_false : (b : Bool) (P Q : Type 0) → b ≡ false → Q → MatchBool b P Q
-match_false true P Q e q = absurd (let h = e in cc)
-match_false false P Q e q = q
 
 -- one more line, that is not the last
 pub one_more : (before mid now : ConversationValue) (lines : List (List ℕ)) (heards : List Heard) (line : List ℕ) (heard : Heard) → SoFar before mid lines heards → IsHeard mid line (Ok heard) now → heard.is_last ≡ false

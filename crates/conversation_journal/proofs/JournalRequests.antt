@@ -23,7 +23,7 @@ use Rattle.replay_script.specs.Faults.{LineFaultValue, wrong_field}
 use Rattle.replay_script.specs.declared.fault.ScriptFault.TheVariants as fault
 use Rattle.replay.specs.Output.{request_text}
 use Rattle.conversation.specs.Texts.{fields_behind}
-use Rattle.conversation.proofs.JournalTexts.{IsField, AreFields, line_of, whole_lines}
+use Rattle.conversation_journal.proofs.JournalTexts.{IsField, AreFields, line_of, whole_lines}
 
 -- ---- numbers
 

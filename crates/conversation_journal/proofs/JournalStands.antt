@@ -26,14 +26,14 @@ use Rattle.replay_script.specs.declared.line.Line.{Line}
 use Rattle.replay_script.specs.declared.line.Line.TheVariants as line
 use Rattle.replay_script.specs.declared.script.OpenReply.{OpenReply}
 use Rattle.conversation.specs.Answers.{Answer, Clears, ComesTo, Looks, Tells, asking, config_of}
-use Rattle.conversation.specs.Journal.{Idle, Busy, Turn, block_of, turn_of}
+use Rattle.conversation_journal.specs.Journal.{Idle, Busy, Turn, block_of, turn_of}
 use Rattle.conversation.specs.State.{BegunValue, InFlightValue, Setting, Serving, Stage}
 use Rattle.conversation.specs.Texts.{clear_text, looked_up_text}
-use Rattle.conversation.proofs.JournalTexts.{line_of, whole_lines, whole_lines-append}
-use Rattle.conversation.proofs.JournalRequests.{IsWritable, asked_fields, request-text}
-use Rattle.conversation.proofs.JournalRuns.{HasRun, run-more}
-use Rattle.conversation.proofs.JournalScript.{IsScript, more-request}
-use Rattle.conversation.proofs.JournalCalls.{HasCall, RequestSoFar, cleared, looked_up}
+use Rattle.conversation_journal.proofs.JournalTexts.{line_of, whole_lines, whole_lines-append}
+use Rattle.conversation_journal.proofs.JournalRequests.{IsWritable, asked_fields, request-text}
+use Rattle.conversation_journal.proofs.JournalRuns.{HasRun, run-more}
+use Rattle.conversation_journal.proofs.JournalScript.{IsScript, more-request}
+use Rattle.conversation_journal.proofs.JournalCalls.{HasCall, RequestSoFar, cleared, looked_up}
 
 -- ---- blocks
 
@@ -160,7 +160,7 @@ pub record IsBusy (hosts J B : List ℕ) (latest : ℕ) (s : Settings) (cache : 
   pub call : Call
   pub way : IsUnderWay hosts J B s asked asks r.begun.told start r.reply
   pub request_is : r.begun.request ≡ request_of asked
-  pub sent_are : r.begun.sent ≡ map (λ x. x.query) asks ++ r.waiting.sub.hop.query ∷ []
+  pub sent_are : r.begun.sent ≡ map (λ x. x.query) asks ++ r.waiting.lookup.hop.query ∷ []
   pub call_is : HasCall s (request_of asked) call
   pub far : RequestSoFar s (request_of asked) start call asks (CallWaits r.waiting) cache
   pub latest_is : latest ≡ moment_of (request_of asked)
@@ -230,7 +230,7 @@ module _ (hosts J B : List ℕ) (s : Settings) (asked : Request) (asks : List Ex
         call = call;
         way = w;
         request_is = request_is;
-        sent_are = ap (λ qs. qs ++ x.sub.hop.query ∷ []) sent_are;
+        sent_are = ap (λ qs. qs ++ x.lookup.hop.query ∷ []) sent_are;
         call_is = call_is;
         far = far;
         latest_is = refl;

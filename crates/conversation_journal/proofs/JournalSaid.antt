@@ -27,14 +27,14 @@ use Rattle.hickory_proto_core.specs.codes.record_type.RecordType.TheVariants as 
 use Rattle.hickory_resolver_lookup.specs.declared.request.Request.TheVariants as asked
 use Rattle.replay_script.specs.Words.{number_field}
 use Rattle.replay_script.proofs.Allowed.{allowed_text}
-use Rattle.conversation.proofs.JournalReverse.{IsNameField, reverse-field}
+use Rattle.conversation_journal.proofs.JournalReverse.{IsNameField, reverse-field}
 use Rattle.std.specs.Result.{result_ok}
 use Rattle.hickory_resolver_model.specs.Run.{moment_of}
-use Rattle.conversation.specs.Journal.{moment_at}
+use Rattle.conversation_journal.specs.Journal.{moment_at}
 use Rattle.conversation.specs.Faults.{RefusalValue, refusal_of}
 use Rattle.conversation.specs.Lines.{IsAsked, IsPointer, IsReverse, IsScriptRequest, is_reverse, pointer_of, request_in, said_of}
-use Rattle.conversation.proofs.JournalTexts.{AreFields, line_of, line-read}
-use Rattle.conversation.proofs.JournalRequests.{IsMoment, IsWritable, asked-again, asked-fields, asked_fields, number-below, typed-PTR, writable}
+use Rattle.conversation_journal.proofs.JournalTexts.{AreFields, line_of, line-read}
+use Rattle.conversation_journal.proofs.JournalRequests.{IsMoment, IsWritable, asked-again, asked-fields, asked_fields, number-below, typed-PTR, writable}
 
 -- the word that a text is
 pub word-is : (word text : List ℕ) → is_text word text ≡ true → text ≡ word

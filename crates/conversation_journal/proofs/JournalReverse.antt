@@ -21,7 +21,7 @@ use Rattle.hickory_proto_core.specs.NameGiven.{IsReadAddress}
 use Rattle.hickory_proto_core.specs.NameText.{labels_text, name_text, piece_text, printed, printed_label, written_text}
 use Rattle.hickory_proto_core.specs.NameText as name
 use Rattle.replay_script.specs.Fields.{is_allowed, is_plain}
-use Rattle.conversation.proofs.JournalTexts.{IsField, all_allowed-append}
+use Rattle.conversation_journal.proofs.JournalTexts.{IsField, all_allowed-append}
 
 -- letters and digits
 abbrev IsWord : List ℕ → Type 0

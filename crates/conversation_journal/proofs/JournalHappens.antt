@@ -26,19 +26,19 @@ use Rattle.replay_script.specs.declared.setting.Setting.{Setting as OneSetting}
 use Rattle.replay_script.specs.declared.setting.Setting.TheVariants as setting
 use Rattle.conversation.specs.Answers.{Answer, AnswersFields, AnswersFirstLine, AnswersFor, AnswersLine, AnswersMarked, AnswersOutcome, AnswersSetting, AnswersVerb, AnswersWord, Begins, Feeds, FeedsReply, IsOpened, Serves, Takes, adds_hosts, cancels, keeps, nothing, refused, sets, with_hosts, with_line}
 use Rattle.conversation.specs.Hearing.{Answers}
-use Rattle.conversation.specs.Journal.{moment_asked, moment_at, moment_behind}
+use Rattle.conversation_journal.specs.Journal.{moment_asked, moment_at, moment_behind}
 use Rattle.conversation.specs.Faults.{RefusalValue, of_line, refusal_of, unknown}
 use Rattle.conversation.specs.Lines.{IsAsked, mark_by, mark_in, mark_of, said_of, verb_named, word_named}
 use Rattle.conversation.specs.State.{ConversationValue, InFlightValue, Setting, Serving, Stage, request_at}
 use Rattle.conversation.specs.Texts.{fields_text}
 use Rattle.conversation.specs.declared.fault.ConversationFault.{ConversationFault}
 use Rattle.conversation.specs.declared.fault.ConversationFault.TheVariants as fault
-use Rattle.conversation.specs.declared.reading.Verb.{Verb}
-use Rattle.conversation.specs.declared.reading.Verb.TheVariants as verb
-use Rattle.conversation.specs.declared.reading.Word.{Word}
-use Rattle.conversation.specs.declared.reading.Word.TheVariants as word
-use Rattle.conversation.proofs.JournalTexts.{AreFields, fields-are}
-use Rattle.conversation.proofs.JournalSaid.{word-is}
+use Rattle.conversation.specs.declared.verbs.Verb.{Verb}
+use Rattle.conversation.specs.declared.verbs.Verb.TheVariants as verb
+use Rattle.conversation.specs.declared.verbs.Word.{Word}
+use Rattle.conversation.specs.declared.verbs.Word.TheVariants as word
+use Rattle.conversation_journal.proofs.JournalTexts.{AreFields, fields-are}
+use Rattle.conversation_journal.proofs.JournalSaid.{word-is}
 
 -- no mode of the upstream
 abbrev pub IsNoMode : OneSetting → Type 0

@@ -1,0 +1,12 @@
+mod JournalTexts
+mod JournalRequests
+mod JournalReverse
+mod JournalSaid
+mod JournalRuns
+mod JournalScript
+mod JournalHappens
+mod JournalCalls
+mod JournalStands
+mod JournalSteps
+mod Journal
+mod HearAll
