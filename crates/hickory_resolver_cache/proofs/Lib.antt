@@ -5,7 +5,6 @@ mod Store
 mod Timely
 mod Renumbered
 mod Stored
-mod Spelled
 mod Laws
 mod Apart
 mod KeptEntries

@@ -1,21 +1,17 @@
 -- A store that has one pair come in and another leave.
-use Rattle.std.proofs.Common.{◌≡◌, ℕ, ◌+◌, ◌<◌, ◌≤◌, suc, zero, Bool, true, false, cond, nat_eq, List, [], ◌∷◌, ◌++◌, length, Option, None, Some, refl, sym, ap, ◌∙◌, subst, arith, slice_get, get_or, is_some, position, remove, ◌⊎◌, inl, inr}
+use Rattle.std.proofs.Common.{◌≡◌, ℕ, ◌+◌, ◌<◌, ◌≤◌, cond, List, [], ◌∷◌, ◌++◌, length, Option, None, Some, refl, sym, ◌∙◌, subst, remove, ◌⊎◌, inl, inr}
 use Rattle.std.proofs.lemmas.Bool.{cases_lt}
-use Rattle.std.proofs.lemmas.List.{get_or-map, length-map}
-use Rattle.std.proofs.lemmas.List.Quantifiers.{position-Some}
-use Rattle.std.proofs.lemmas.List.Sorted.{IsPermutation-cons, IsPermutation-refl, IsPermutation-remove, IsPermutation-sym, IsPermutation-to_front, IsPermutation-trans}
-use Rattle.std.proofs.lemmas.Option.{same_Some, get_or_from_slice_get, slice_get-get_or, slice_get_within}
+use Rattle.std.proofs.lemmas.List.Sorted.{IsPermutation-refl, IsPermutation-remove, IsPermutation-sym, IsPermutation-trans}
+use Rattle.std.proofs.lemmas.Option.{get_or_from_slice_get, slice_get_within}
 use Rattle.std.specs.List.{IsDistinct}
 use Rattle.std.specs.List.Sorted.{IsPermutation}
 use Rattle.std.specs.Map.{lookup, keys_of}
 use Rattle.std.specs.BTreeMap.{get, is_at}
-use Rattle.indexmap.specs.Layout.{set_value_at}
 use Rattle.hickory_proto_core.specs.declared.query.Query.{Query}
 use Rattle.hickory_proto_core.specs.Query.{query_eq}
-use Rattle.hickory_resolver_cache.specs.declared.kept.Kept.{Kept}
 use Rattle.hickory_resolver_model.specs.Cache.{insert_entry}
-use Rattle.hickory_resolver_cache.specs.Turns.{Pair, Turn, Order, turn_cmp, stored_entry, by_number, numbered, in_order, entries_of, IsNumbered, IsPlaced, IsKept, IsSameList, Gone, TurnGone, IsTurnOf, IsSomeTurn, IsLeaving, Frees, IsOwnPlace, IsSpelledAt, IsStored}
-use Rattle.hickory_resolver_cache.proofs.Listed.{in_order-permutes, listed-same, numbered-at, stands}
+use Rattle.hickory_resolver_cache.specs.Turns.{Pair, Turn, Order, turn_cmp, stored_entry, numbered, in_order, entries_of, IsNumbered, IsPlaced, IsKept, IsSameList, Gone, TurnGone, IsTurnOf, IsSomeTurn, IsLeaving, Frees, IsStored}
+use Rattle.hickory_resolver_cache.proofs.Listed.{in_order-permutes, listed-same, stands}
 use Rattle.hickory_resolver_cache.proofs.Store.{MakesRoom, makes_room-own, makes_room-none, makes_room-any, none-left, kept-store, entries-insert_entry}
 use Rattle.hickory_resolver_cache.proofs.TurnOrder.{gone-push, left, numbers-left, numbers-push}
 use Rattle.hickory_resolver_cache.proofs.Renumbered.{kept-same, same_list-permuted}
@@ -33,67 +29,11 @@ pub frees-room : (capacity next : ℕ) (q : Query) (ps : List Pair) (o : Option 
 frees-room capacity next q ps o h room rs apart gone = none-left capacity next q ps rs o h apart room gone
 
 -- ---- the question's own turn
-pub own-turn : (q : Query) (ps : List Pair) (i : ℕ) (p : Pair) → IsDistinct nat_eq (keys_of (by_number ps)) → slice_get ps i ≡ Some p → query_eq q p.0 ≡ true → IsTurnOf q ps (Some (p.1.valid_until, p.1.number))
-own-turn q ps i p apart at own = (p, record { number = numbered-at ps i p apart at; valid_until = refl }, own)
-
-pub own-turn_at : (q : Query) (ps : List Pair) (i : ℕ) (r : Query) (k : Kept) → IsDistinct nat_eq (keys_of (by_number ps)) → IsOwnPlace q ps i → slice_get ps i ≡ Some (r, k) → IsTurnOf q ps (Some (k.valid_until, k.number))
-own-turn_at q ps i r k apart own at =
-    let same : own.0 ≡ (r, k) = same_Some own.0 (r, k) (sym own.1 ∙ at) in
-    own-turn q ps i (r, k) apart at (subst (λ (p : Pair). query_eq q p.0 ≡ true) same own.2)
-
--- what a search for the question's place gives
-own-position : (test : Query → Bool) (ps : List Pair) (i : ℕ) → position test (keys_of ps) ≡ Some i → (p : Pair) × (slice_get ps i ≡ Some p) × (test p.0 ≡ true)
-own-position test [] i h = cc
-own-position test (x ∷ ps) i h =
-    let at = position-Some test (keys_of (x ∷ ps)) i x.0 h in
-    let long = length-map (x ∷ ps) (λ (p : Pair). p.0) in
-    let within : i < length (x ∷ ps) = omega (arith, at.0, long) in (
-      get_or (x ∷ ps) i x,
-      slice_get-get_or (x ∷ ps) i x within,
-      ap test (sym (get_or-map (λ (p : Pair). p.0) (x ∷ ps) i x x.0 within)) ∙ at.1,
-    )
-
-pub own-found : (q r : Query) (ps : List Pair) (i : ℕ) → q ≡ r → position (query_eq q) (keys_of ps) ≡ Some i → IsOwnPlace r ps i
-own-found q r ps i same h = subst (λ x. IsOwnPlace x ps i) same (own-position (query_eq q) ps i h)
-
-pub none-found : (q r : Query) (ps : List Pair) (found : Option ℕ) → q ≡ r → found ≡ None → is_some found ≡ is_some (lookup (query_eq q) ps) → lookup (query_eq r) ps ≡ None
-none-found q r ps found same none is = subst (λ x. lookup (query_eq x) ps ≡ None) same (by (lookup (query_eq q) ps) (sym is ∙ ap is_some none))
-  where
-    by : (o : Option Kept) → is_some o ≡ false → o ≡ None
-    by None h = refl
-    by (Some k) h = cc
+pub turn-given : (q r : Query) (ps : List Pair) (found o : Option Turn) → q ≡ r → found ≡ o → IsTurnOf q ps found → IsTurnOf r ps o
+turn-given q r ps found o same is own = subst (λ x. IsTurnOf x ps o) same (subst (IsTurnOf q ps) is own)
 
 pub frees-own : (next : ℕ) (q : Query) (ps : List Pair) (t : Turn) → IsNumbered next ps → IsDistinct query_eq (keys_of ps) → IsTurnOf q ps (Some t) → Frees q ps (Some t)
 frees-own next q ps t h apart own = frees-room 1 next q ps (Some t) h (makes_room-own next ps h apart 1 q t own)
-
--- ---- a pair that is written over another
-moved-set : (ps : List Pair) (i : ℕ) (p : Pair) (k : Kept) → slice_get ps i ≡ Some p → IsPermutation (remove ps i ++ (p.0, k) ∷ []) (set_value_at ps i k)
-moved-set [] i p k at = cc
-moved-set (x ∷ ps) zero p k at =
-    subst (λ (y : Pair). IsPermutation (ps ++ (y.0, k) ∷ []) ((x.0, k) ∷ ps)) (same_Some x p at) (IsPermutation-to_front ps (x.0, k))
-moved-set (x ∷ ps) (suc i) p k at = IsPermutation-cons x _ _ (moved-set ps i p k at)
-
-pub stored-rewrite : (n : ℕ) (q : Query) (ps : List Pair) (i : ℕ) (t : Turn) (k : Kept) (old between new : Order) → IsDistinct nat_eq (keys_of (by_number ps)) → IsSpelledAt q ps i t
-    → ((u : Turn) → get turn_cmp between u ≡ cond (is_at (turn_cmp (k.valid_until, n)) u) (Some q) (get turn_cmp old u)) → TurnGone (Some t) between new
-    → IsStored (Some t) n ps old (q, k) (set_value_at ps i k) new
-stored-rewrite n q ps i t k old between new apart own added turn_gone =
-    let was : Kept = own.0 in
-    let p : Pair = (q, was) in
-    record {
-      rest = remove ps i;
-      between = between;
-      gone = (
-        p,
-        record {
-          number = ap (λ (u : Turn). numbered ps u.1) own.2 ∙ numbered-at ps i p apart own.1;
-          valid_until = sym (ap (λ (u : Turn). u.0) own.2);
-        },
-        IsPermutation-remove ps i p (slice_get_within ps i p own.1) (sym (get_or_from_slice_get ps i p p own.1)),
-      );
-      moved = moved-set ps i p k own.1;
-      added = added;
-      turn_gone = turn_gone;
-    }
 
 -- ---- a pair that comes in before another leaves
 

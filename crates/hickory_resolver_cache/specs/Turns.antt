@@ -1,6 +1,6 @@
 -- What a cache keeps: entries by question in any order, each with the number of its store, and the questions
 -- by deadline and number. The list of its entries is in the order of the numbers.
-use Rattle.std.specs.Prelude.{◌≡◌, ℕ, true, ◌≤◌, ◌<◌, zero, suc, ◌==◌, nat_eq, List, [], ◌∷◌, ◌++◌, map, length, Option, None, Some, if◌then◌else◌, cond, slice_get}
+use Rattle.std.specs.Prelude.{◌≡◌, ℕ, true, ◌≤◌, ◌<◌, zero, suc, ◌==◌, nat_eq, List, [], ◌∷◌, ◌++◌, map, length, Option, None, Some, if◌then◌else◌, cond}
 use Rattle.std.specs.declared.cmp.Ordering.{Ordering}
 use Rattle.std.specs.Ordering.{nat_cmp, ordering_then}
 use Rattle.std.specs.Option.{option_to_list}
@@ -160,14 +160,6 @@ abbrev pub Frees : Query → List Pair → Option Turn → Type 0
 Frees q ps turn =
     (rs : List Pair) → IsDistinct query_eq (keys_of rs) → Gone turn ps rs → lookup (query_eq q) rs ≡ None
 
--- the pair at the place i is the question's
-abbrev pub IsOwnPlace : Query → List Pair → ℕ → Type 0
-IsOwnPlace q ps i = (p : Pair) × (slice_get ps i ≡ Some p) × (query_eq q p.0 ≡ true)
-
--- the pair at the place i has the question to the letter, and the turn
-abbrev pub IsSpelledAt : Query → List Pair → ℕ → Turn → Type 0
-IsSpelledAt q ps i t = (k : Kept) × (slice_get ps i ≡ Some (q, k)) × (t ≡ (k.valid_until, k.number))
-
 -- The pair p has come in, under the number n, and what stood at the turn has left, if there is one. The pairs
 -- may stand in another order.
 pub record IsStored
@@ -179,10 +171,6 @@ pub record IsStored
   pub added : (u : Turn)
       → get turn_cmp between u ≡ cond (is_at (turn_cmp (p.1.valid_until, n)) u) (Some p.0) (get turn_cmp old u)
   pub turn_gone : TurnGone turn between new
-
--- the same of a pair whose question had one, which has left
-abbrev pub Replaces : ℕ → List Pair → Order → Pair → List Pair → Order → Type 0
-Replaces n ps old p qs new = (t : Turn) × IsTurnOf p.0 ps (Some t) × IsStored (Some t) n ps old p qs new
 
 -- the turn is the first, or there is none
 abbrev pub IsFirstTurn : Order → Option Turn → Type 0

@@ -8,7 +8,6 @@ mod kept;
 mod outcome;
 mod renumber;
 pub mod response_cache;
-mod spelling;
 mod turns;
 
 pub use response_cache::ResponseCache;

@@ -6,11 +6,10 @@ ghost use Rattle.std.specs.BTreeMap.{get as turn_get, is_at};
 ghost use Rattle.indexmap.specs.IndexMap.{spare, get, IsUnique};
 ghost use Rattle.hickory_proto_core.specs.Query.{query_eq};
 ghost use Rattle.hickory_resolver_model.specs.Cache.{insert_entry};
-ghost use Rattle.hickory_resolver_cache.specs.Turns.{Turn, by_number, entries_of, pair_of, turn_cmp, IsKept, IsNumbered, IsPlaced, IsSameList, Gone, TurnGone, IsTaken, IsTurnOf, IsSomeTurn, IsFirstTurn, IsLeaving, IsOwnPlace, IsSpelledAt, Frees, IsStored, Replaces};
+ghost use Rattle.hickory_resolver_cache.specs.Turns.{Turn, by_number, entries_of, pair_of, turn_cmp, IsKept, IsNumbered, IsPlaced, IsSameList, Gone, TurnGone, IsTaken, IsTurnOf, IsSomeTurn, IsFirstTurn, IsLeaving, Frees, IsStored};
 
 use crate::entry::CacheEntry;
 use crate::kept::Kept;
-use crate::spelling::is_same_spelling;
 use hickory_proto_core::Query;
 use indexmap::IndexMap;
 use std::alloc::AllocError;
@@ -40,71 +39,11 @@ pub fn store<S: BuildHasher>(
         ≡ insert_entry capacity (entries_of index.old.entries number) entry) }
     ensures refused { OnErr result (IsSameList index.old.entries number index.new.entries number order.new) }
 {
-    let Some(place) = index.get_index_of(&entry.query) else {
+    let Some(turn) = turn_of(index, &entry.query) else {
         let turn = leaving(index, order, capacity);
         return add(index, order, turn, number, entry);
     };
-    replace(index, order, place, number, entry)
-}
-
-// Puts an entry in as the newest, by this number, for a question whose entry stands at this place. That one
-// leaves. A refused call leaves the entries and their turns as they were.
-fn replace<S: BuildHasher>(
-    index: &mut Index<S>,
-    order: &mut Order,
-    place: usize,
-    number: u64,
-    entry: CacheEntry,
-) -> Result<(), AllocError>
-    requires numbers { IsNumbered number index.old.entries }
-    requires placed { IsPlaced index.old.entries order.old }
-    requires unique { IsUnique query_eq index.old }
-    requires own { IsOwnPlace entry.query index.old.entries place }
-    ensures ok { OnOk result
-        (Replaces number index.old.entries order.old (pair_of entry number) index.new.entries order.new) }
-    ensures refused { OnErr result (IsSameList index.old.entries number index.new.entries number order.new) }
-{
-    let (query, kept) = index.get_index(place).unwrap();
-    let turn = (kept.valid_until, kept.number);
-    if is_same_spelling(query, &entry.query) {
-        rewrite(index, order, turn, place, number, entry)
-    } else {
-        exchange(index, order, turn, number, entry)
-    }
-}
-
-// Writes an entry as the newest, by this number, over the one of its question, in the same spelling, that
-// has this turn and stands at this place. A refused call leaves the entries and their turns as they were.
-fn rewrite<S: BuildHasher>(
-    index: &mut Index<S>,
-    order: &mut Order,
-    turn: (u64, u64),
-    place: usize,
-    number: u64,
-    entry: CacheEntry,
-) -> Result<(), AllocError>
-    requires numbers { IsNumbered number index.old.entries }
-    requires placed { IsPlaced index.old.entries order.old }
-    requires own { IsSpelledAt entry.query index.old.entries place turn }
-    ensures ok { OnOk result
-        (IsStored (Some turn) number index.old.entries order.old (pair_of entry number) index.new.entries order.new) }
-    ensures refused { OnErr result (IsSameList index.old.entries number index.new.entries number order.new) }
-{
-    let CacheEntry {
-        query,
-        result,
-        original_time,
-        valid_until,
-    } = entry;
-    order.insert((valid_until, number), query)?;
-    drop(order.remove(&turn));
-    index[place] = Kept {
-        result,
-        original_time,
-        valid_until,
-        number,
-    };
-    Ok(())
+    exchange(index, order, turn, number, entry)
 }
 
 // Puts an entry in as the newest, by this number, and takes out what stands at the turn, after which there is
@@ -207,7 +146,6 @@ pub fn take_out<S: BuildHasher>(index: &mut Index<S>, order: &mut Order, turn: O
     ensures turn_gone { TurnGone turn order.old order.new }
     ensures room { spare index.old ≤ spare index.new }
     ensures unique { IsUnique query_eq index.new }
-    ensures was_unique { IsUnique query_eq index.old }
 {
     // `len` is called for its clause that the questions are unique.
     let _len = index.len();
@@ -222,7 +160,10 @@ pub fn take_out<S: BuildHasher>(index: &mut Index<S>, order: &mut Order, turn: O
 pub fn turn_of<S: BuildHasher>(index: &Index<S>, query: &Query) -> Option<(u64, u64)>
     requires numbers { IsDistinct nat_eq (keys_of (by_number index.now.entries)) }
     ensures found { IsTurnOf query.now index.now.entries result }
+    ensures unique { IsUnique query_eq index.now }
 {
+    // `len` is called for its clause that the questions are unique.
+    let _len = index.len();
     match index.get(query) {
         Some(kept) => Some((kept.valid_until, kept.number)),
         None => None,

@@ -5,7 +5,7 @@ use Rattle.std.specs.Bool.{MatchBool}
 use Rattle.std.specs.List.{list_all, before_first, prefix_len}
 use Rattle.std.specs.Char.{is_ascii, to_ascii_lowercase, is_whitespace, is_not_whitespace, encode_utf8}
 use Rattle.std.specs.Str.{chars, all_scalars, encode_utf8_all, EmptyOrStartsWithPassing, IsAscii, IsNotAscii, IsUtf8, NoCharPasses, NonePass}
-use Rattle.std.proofs.lemmas.Str.{IsUtf8-from_ascii, chars-encodes, encode_same, encodes-IsAscii, len_utf8_bounds, length-encode}
+use Rattle.std.proofs.lemmas.Str.{chars-encodes, encode_same, encodes-IsAscii, len_utf8_bounds, length-encode}
 use Rattle.std.proofs.lemmas.Str.Ascii.{IsAscii-cons, IsAscii-nil}
 use Rattle.std.proofs.lemmas.Bool.{ltb-true, and_parts}
 use Rattle.std.proofs.lemmas.Bool.Decides.{nat_tests}
@@ -248,27 +248,3 @@ before_comment all front rest i u plain is front_is =
 
 pub no_comment : (all : List ℕ) → IsUtf8 all → NoCharPasses (λ d. d == 35) all → chars all ≡ before_first (λ c. c == 35) (chars all)
 no_comment all u h = chars_are all h.0 u h.1 ∙ sym (before_none (λ c. c == 35) h.0 h.2) ∙ ap (before_first (λ c. c == 35)) (sym (chars_are all h.0 u h.1))
-
--- ASCII without a comment sign
-plain_parts : (bs : List ℕ) → list_all (λ b. is_ascii b && not (b == 35)) bs ≡ true → IsAscii bs × NonePass (λ c. c == 35) bs
-plain_parts [] h = (IsAscii-nil, tt)
-plain_parts (b ∷ bs) h =
-    let both = and_parts (is_ascii b && not (b == 35)) _ h in
-    let here = and_parts (is_ascii b) _ both.0 in
-    let rest = plain_parts bs both.1 in
-    (IsAscii-cons b bs (ltb-true b 128 here.0) rest.0, (no_sign (b == 35) here.1, rest.1))
-  where
-    no_sign : (t : Bool) → not t ≡ true → t ≡ false
-    no_sign true e = sym e
-    no_sign false e = refl
-
-pub plain_text : (bs : List ℕ) → list_all (λ b. is_ascii b && not (b == 35)) bs ≡ true → IsUtf8 bs
-plain_text bs h = IsUtf8-from_ascii bs (plain_parts bs h).0
-
--- a line without a comment is its text
-pub line_uncommented : (bs text : List ℕ) → list_all (λ b. is_ascii b && not (b == 35)) bs ≡ true → text ≡ bs → IsUtf8 bs × IsUtf8 text × (chars text ≡ before_first (λ c. c == 35) (chars bs))
-line_uncommented bs text h is =
-    let parts = plain_parts bs h in
-    let u = IsUtf8-from_ascii bs parts.0 in
-    let own = chars_of_ascii bs u parts.0 in
-    (u, subst IsUtf8 (sym is) u, ap chars is ∙ own ∙ sym (before_none (λ c. c == 35) bs parts.1) ∙ ap (before_first (λ c. c == 35)) (sym own))

@@ -1,5 +1,5 @@
 //! What the lines of a file of hosts say.
-ghost use Rattle.std.specs.Prelude.{◌≡◌, ◌≢◌, ◌==◌, ◌<◌, ◌+◌, ◌∷◌, [], ◌&&◌, not, length, take, drop, IfSome, OnOk, OnErr, IsOkUnless, MatchOption, MatchResult};
+ghost use Rattle.std.specs.Prelude.{◌≡◌, ◌≢◌, ◌==◌, ◌<◌, ◌+◌, ◌∷◌, [], ◌&&◌, length, take, drop, IfSome, OnOk, OnErr, IsOkUnless, MatchOption, MatchResult};
 ghost use Rattle.std.specs.Char.{is_ascii, to_ascii_lowercase};
 ghost use Rattle.std.specs.List.{before_first, list_all};
 ghost use Rattle.std.specs.Str.{chars, IsUtf8};
@@ -94,19 +94,8 @@ fn text_of(line: &[u8]) -> Option<&str>
     ensures { MatchOption result (IsUtf8 line.now → ⊥)
         (λ text. IsUtf8 line.now × IsUtf8 text.now × (chars text.now ≡ before_first (λ c. c == 35) (chars line.now))) }
 {
-    if is_ascii_without_comment(line) {
-        // Each byte is one of ASCII.
-        return Some(unsafe { str::from_utf8_unchecked(line) });
-    }
     let text = str::from_utf8(line).ok()?;
     Some(without_comment(text))
-}
-
-// Whether a line is ASCII without a `#`.
-fn is_ascii_without_comment(line: &[u8]) -> bool
-    ensures { result ≡ list_all (λ b. is_ascii b && not (b == 35)) line.now }
-{
-    line.iter().all(|b| b.is_ascii() && *b != b'#')
 }
 
 // The address that a field is.

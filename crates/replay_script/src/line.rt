@@ -58,8 +58,8 @@ pub fn read_text(line: &[u8]) -> Result<&str, LineFault<'_>>
     if !is_all_allowed(line) {
         return Err(LineFault::wrong_line(ScriptFault::BadByte));
     }
-    // Each byte is one of ASCII.
-    Ok(unsafe { str::from_utf8_unchecked(line) })
+    // Each byte is one of ASCII, so that they are a text.
+    Ok(str::from_utf8(line).unwrap())
 }
 
 fn is_all_allowed(line: &[u8]) -> bool

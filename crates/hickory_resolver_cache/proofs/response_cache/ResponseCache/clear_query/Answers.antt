@@ -15,7 +15,7 @@ invariant_of-self g c =
     let rs = c.take_out.new.index.entries in
     let query = c.args.query.now in
     let config = c.self.inside.ttl_config in
-    let left = drops next ps c.self.invariant.kept.numbers c.take_out.ensures.was_unique query c.turn_of-turn.result c.turn_of-turn.ensures.found rs c.take_out.ensures.gone in
+    let left = drops next ps c.self.invariant.kept.numbers c.turn_of-turn.ensures.unique query c.turn_of-turn.result c.turn_of-turn.ensures.found rs c.take_out.ensures.gone in
     record {
       kept = kept-left c.self.inside.capacity next ps rs c.self.inside.order c.take_out.new.order c.turn_of-turn.result c.self.invariant.kept c.take_out.ensures.gone c.take_out.ensures.turn_gone;
       apart = subst AreApart (sym left) (apart-without query (entries_of ps next) c.self.invariant.apart);
@@ -27,6 +27,6 @@ returns g c =
     let next = c.self.inside.next_number in
     let ps = c.self.inside.index.entries in
     let query = c.args.query.now in
-    let left = drops next ps c.self.invariant.kept.numbers c.take_out.ensures.was_unique query c.turn_of-turn.result c.turn_of-turn.ensures.found c.take_out.new.index.entries c.take_out.ensures.gone in
+    let left = drops next ps c.self.invariant.kept.numbers c.turn_of-turn.ensures.unique query c.turn_of-turn.result c.turn_of-turn.ensures.found c.take_out.new.index.entries c.take_out.ensures.gone in
     ap (λ l. record { capacity = c.self.inside.capacity; config = c.self.inside.ttl_config; entries = l }) left
     ∙ ap (λ v. without_query v query) c.self.view_is
