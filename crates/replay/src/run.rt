@@ -10,8 +10,7 @@ ghost use Rattle.replay.specs.ScriptRun.{IsNoTable, IsRefused, IsReplayed, IsTab
 
 use crate::error::ReplayError;
 use crate::output::TextListener;
-use hickory_proto_core::dns_handle::Outcome;
-use hickory_proto_core::{DnsHandle, Query, Recorded, ScriptHandle, TableHandle};
+use hickory_proto_core::{DnsHandle, Outcome, Query, Recorded, ScriptHandle, TableHandle};
 use hickory_resolver::{Heard, Hosts, Request, ResolverConfig, ResolverOpts, run_told};
 use replay_script::{Script, read_script};
 use std::alloc::{AllocError, Global};
@@ -143,7 +142,8 @@ fn without_questions(
         .collect(alloc)
 }
 
-// The text of a run of requests over an upstream.
+// The text of a run of requests over an upstream. Where the upstream's type is known, the borrow checker does not cover a
+// call of `run_told`, whose error names `'static`.
 fn text_of_run<H: DnsHandle + Drop, S: BuildHasher + Drop>(
     config: ResolverConfig,
     options: ResolverOpts,
