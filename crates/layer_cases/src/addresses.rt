@@ -3,12 +3,13 @@ use hickory_proto_core::{Name, NameError, ip_text, read_ip};
 use std::alloc::Global;
 use std::net::IpAddr;
 
-/// The text of the address that a text gives, or that there is none.
-pub fn read(alloc: Global, text: &str) -> Result<String, NameError> {
-    match read_ip(text) {
-        Some(address) => text_of(alloc, address),
-        None => Ok(String::from_str(alloc, "none")?),
+/// Adds the text of the address that a text gives, or that there is none.
+pub fn push_read(alloc: Global, text: &mut String, given: &str) -> Result<(), NameError> {
+    match read_ip(given) {
+        Some(address) => text.push_str(&text_of(alloc, address)?)?,
+        None => text.push_str("none")?,
     }
+    Ok(())
 }
 
 /// The text of an address.
@@ -22,26 +23,23 @@ pub fn text_of(alloc: Global, address: IpAddr) -> Result<String, NameError> {
     }
 }
 
-/// The network that a name stands for, or the fault.
-pub fn network(alloc: Global, name: &str) -> Result<String, NameError> {
-    let net = Name::from_ascii(alloc, name)?.parse_arpa_name();
-    match net {
-        Ok(net) => Ok(format!(in alloc; "{} {}", net.addr(), net.prefix_len())?),
-        Err(fault) => Ok(format!(in alloc; "{fault:?}")?),
+/// Adds the network that a name stands for, or the fault.
+pub fn push_network(alloc: Global, text: &mut String, name: &str) -> Result<(), NameError> {
+    match Name::from_ascii(alloc, name)?.parse_arpa_name() {
+        Ok(net) => write!(text, "{} {}", net.addr(), net.prefix_len())?,
+        Err(fault) => write!(text, "{fault:?}")?,
     }
+    Ok(())
 }
 
-/// The name of an address, and whether it stands for that address alone.
-pub fn pointer(alloc: Global, address: &str) -> Result<String, NameError> {
-    match read_ip(address) {
-        Some(address) => pointer_of(alloc, address),
-        None => Ok(String::from_str(alloc, "none")?),
-    }
-}
-
-fn pointer_of(alloc: Global, address: IpAddr) -> Result<String, NameError> {
+/// Adds the name of an address, and whether it stands for that address alone.
+pub fn push_pointer(alloc: Global, text: &mut String, given: &str) -> Result<(), NameError> {
+    let Some(address) = read_ip(given) else {
+        return Ok(text.push_str("none")?);
+    };
     let name = Name::from_ip(alloc, address)?;
     let net = name.parse_arpa_name()?;
     let own = net.addr() == address;
-    Ok(format!(in alloc; "{name} {} {own}", net.prefix_len())?)
+    write!(text, "{name} {} {own}", net.prefix_len())?;
+    Ok(())
 }

@@ -9,6 +9,7 @@
 //!   `upsert_unclamped`, `clear_query` and `clear`. The outcome of a store is `NOERROR` with a section, a type and a
 //!   TTL for each record, `NXDOMAIN TTL`, which `full` may follow for records in all its parts, `REFUSED`, or
 //!   `timeout`.
+use crate::cache_words::{bounds_of, config_of};
 use crate::{cache_steps, cache_texts, comparison};
 use hickory_proto_core::NetError;
 use hickory_resolver_cache::ResponseCache;
@@ -18,17 +19,14 @@ use std::alloc::Global;
 /// The text of all of it.
 pub fn text_of(alloc: Global, cases: &str) -> Result<String, NetError> {
     let mut text = String::new(alloc);
-    push_cases(alloc, &mut text, cases)?;
+    let mut cache = ResponseCache::new(alloc, 0, TtlConfig::default(alloc));
+    let pushed = push_lines(alloc, &mut text, &mut cache, cases);
+    // `drop` costs the prover less than the end of the block.
+    drop(cache);
+    pushed?;
     cache_texts::push_equalities(alloc, &mut text)?;
     comparison::push_comparison(alloc, &mut text)?;
     Ok(text)
-}
-
-fn push_cases(alloc: Global, text: &mut String, cases: &str) -> Result<(), NetError> {
-    let mut cache = ResponseCache::new(alloc, 0, TtlConfig::default(alloc));
-    let pushed = push_lines(alloc, text, &mut cache, cases);
-    drop(cache);
-    pushed
 }
 
 fn push_lines(
@@ -38,19 +36,32 @@ fn push_lines(
     cases: &str,
 ) -> Result<(), NetError> {
     for line in cases.lines() {
-        push_case(alloc, text, cache, line)?;
+        text.push_str(line)?;
+        let words: Vec<&str> = line.split_whitespace().collect(alloc)?;
+        take_words(alloc, text, cache, &words)?;
+        text.push_str("\n")?;
     }
     Ok(())
 }
 
-fn push_case(
+// Does what the words say, and adds what comes of it.
+fn take_words(
     alloc: Global,
     text: &mut String,
     cache: &mut ResponseCache,
-    line: &str,
+    words: &[&str],
 ) -> Result<(), NetError> {
-    text.push_str(line)?;
-    cache_steps::take_line(alloc, text, cache, line)?;
-    text.push_str("\n")?;
-    Ok(())
+    match words {
+        ["#", ..] => Ok(()),
+        ["bounds", bounds @ ..] => Ok(write!(text, ": {:?}", bounds_of(bounds))?),
+        ["cache", capacity, bounds @ ..] => {
+            let config = config_of(alloc, bounds)?;
+            *cache = ResponseCache::new(alloc, capacity.parse().unwrap_or(0), config);
+            Ok(())
+        }
+        [moment, words @ ..] => {
+            cache_steps::push_step(alloc, text, cache, moment.parse().unwrap_or(0), words)
+        }
+        [] => Ok(()),
+    }
 }

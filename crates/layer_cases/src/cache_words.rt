@@ -1,23 +1,8 @@
-//! What words of a line say.
-use hickory_proto_core::{BoundsError, Name, NetError, Query, RecordType};
+//! Bounds out of words.
+use crate::sample::{NO_WORDS, type_of};
+use hickory_proto_core::{BoundsError, NetError};
 use hickory_resolver_lookup::{TtlBounds, TtlConfig};
 use std::alloc::Global;
-
-/// The error of a line that is none of a case.
-pub const NO_LINE: NetError = NetError::Message("a line that says nothing of a cache");
-
-/// The type, where `TYPE` and a number stand for the number.
-pub fn type_of(word: &str) -> RecordType {
-    match word.strip_prefix("TYPE") {
-        Some(code) => RecordType::Unknown(code.parse().unwrap_or(0)),
-        None => RecordType::from_word(word).unwrap_or(RecordType::ANY),
-    }
-}
-
-pub fn question(alloc: Global, name: &str, asked: RecordType) -> Result<Query, NetError> {
-    let name = Name::from_ascii(alloc, name)?;
-    Ok(Query::query(name, asked))
-}
 
 /// Bounds of four words.
 pub fn bounds_of(words: &[&str]) -> Result<TtlBounds, BoundsError> {
@@ -35,12 +20,14 @@ pub fn bounds_of(words: &[&str]) -> Result<TtlBounds, BoundsError> {
 /// Four bounds, and then those of a type, where there is one.
 pub fn config_of(alloc: Global, words: &[&str]) -> Result<TtlConfig, NetError> {
     let Some((most, by_type)) = words.split_at_checked(4) else {
-        return Err(NO_LINE);
+        return Err(NO_WORDS);
     };
-    let bounds = bounds_of(most).map_err(NetError::Bounds)?;
+    let (bounds, own) = (
+        bounds_of(most)?,
+        bounds_of(by_type.get(1..).unwrap_or(&[]))?,
+    );
     let mut config = TtlConfig::from(alloc, bounds);
-    if let [kind, own @ ..] = by_type {
-        let own = bounds_of(own).map_err(NetError::Bounds)?;
+    if let Some(kind) = by_type.first() {
         config.with_query_type_ttl_bounds(type_of(kind), own)?;
     }
     Ok(config)

@@ -2,17 +2,28 @@
 use hickory_proto_core::{
     DNSClass, DnsRequestOptions, IpNet, OpCode, Protocol, RecordType, ResponseCode, UnknownWord,
 };
+use std::fmt::Debug;
 use std::io;
 use std::net::{IpAddr, Ipv4Addr};
 use std::str::FromStr;
 
 pub fn show_all(rt: &impl Print) -> anyhow::Result<()> {
     show_codes(rt)?;
-    show_protocols(rt)?;
-    show_options(rt)?;
-    read_types(rt)?;
-    read_classes(rt)?;
-    read_response_codes(rt)?;
+    show_others(rt)?;
+    let types = [
+        "AAAA",
+        "TYPE28",
+        "TYPE0028",
+        "TYPE65",
+        "TYPE65536",
+        "TYPE",
+        "TYPE+1",
+        "a",
+    ];
+    read::<RecordType>(rt, "type", &types)?;
+    println!(rt; "parsed: {:?}", "TYPE5".parse::<RecordType>())?;
+    read::<DNSClass>(rt, "class", &["CH", "CLASS255", "CLASS9", "INX"])?;
+    read::<ResponseCode>(rt, "code", &["NXDOMAIN", "CODE5", "CODE77", "CODE-1"])?;
     Ok(())
 }
 
@@ -27,7 +38,7 @@ fn show_codes(rt: &impl Print) -> io::Result<()> {
     println!(rt; "{:?} {:?}", OpCode::Query, OpCode::Unknown(5))
 }
 
-fn show_protocols(rt: &impl Print) -> io::Result<()> {
+fn show_others(rt: &impl Print) -> io::Result<()> {
     println!(rt;
         "{:?} {:?} {:?}",
         Protocol::Udp,
@@ -39,42 +50,22 @@ fn show_protocols(rt: &impl Print) -> io::Result<()> {
         Protocol::Https,
         Protocol::Quic,
         Protocol::H3
-    )
-}
-
-fn show_options(rt: &impl Print) -> io::Result<()> {
+    )?;
     println!(rt; "{:?}", DnsRequestOptions::default())?;
-    let net = IpNet::new(IpAddr::V4(Ipv4Addr::new(10, 0, 0, 0)), 8);
-    println!(rt; "{net:?}")?;
+    println!(rt;
+        "{:?}",
+        IpNet::new(IpAddr::V4(Ipv4Addr::new(10, 0, 0, 0)), 8)
+    )?;
     println!(rt; "{UnknownWord:?}: {UnknownWord}")
 }
 
-fn read_types(rt: &impl Print) -> io::Result<()> {
-    for text in [
-        "AAAA",
-        "TYPE28",
-        "TYPE0028",
-        "TYPE65",
-        "TYPE65536",
-        "TYPE",
-        "TYPE+1",
-        "a",
-    ] {
-        println!(rt; "type {text}: {:?}", RecordType::from_str(text))?;
-    }
-    println!(rt; "parsed: {:?}", "TYPE5".parse::<RecordType>())
-}
-
-fn read_classes(rt: &impl Print) -> io::Result<()> {
-    for text in ["CH", "CLASS255", "CLASS9", "INX"] {
-        println!(rt; "class {text}: {:?}", DNSClass::from_str(text))?;
-    }
-    Ok(())
-}
-
-fn read_response_codes(rt: &impl Print) -> io::Result<()> {
-    for text in ["NXDOMAIN", "CODE5", "CODE77", "CODE-1"] {
-        println!(rt; "code {text}: {:?}", ResponseCode::from_str(text))?;
+fn read<T: FromStr<Err = UnknownWord> + Copy + Debug>(
+    rt: &impl Print,
+    what: &str,
+    texts: &[&str],
+) -> io::Result<()> {
+    for text in texts {
+        println!(rt; "{what} {text}: {:?}", T::from_str(text))?;
     }
     Ok(())
 }

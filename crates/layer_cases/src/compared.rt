@@ -1,10 +1,10 @@
 //! Outcomes that are stored, and what is compared of those that come back.
+use crate::sample::data;
 use crate::scanned::Kept;
 use hickory_proto_core::{
-    DnsError, Message, NetError, NoRecords, OpCode, Query, RData, Record, RecordType, ResponseCode,
+    DnsError, Message, NetError, NoRecords, OpCode, Query, Record, RecordType, ResponseCode,
 };
 use std::alloc::Global;
-use std::net::{Ipv4Addr, Ipv6Addr};
 
 /// A negative answer, or one address of the asked family, with the question or without one.
 pub fn outcome(
@@ -13,75 +13,44 @@ pub fn outcome(
     kept: Kept,
 ) -> Result<Result<Message, NetError>, NetError> {
     if kept.is_negative {
-        Ok(Err(NetError::from(negative(query, kept.ttl)?)))
+        let mut none = NoRecords::new(query.clone()?, ResponseCode::NXDomain);
+        none.negative_ttl = Some(kept.ttl);
+        Ok(Err(NetError::from(none)))
     } else {
         Ok(Ok(answer(alloc, query, kept)?))
     }
 }
 
-fn negative(query: &Query, ttl: u32) -> Result<NoRecords, NetError> {
-    let mut none = NoRecords::new(query.clone()?, ResponseCode::NXDomain);
-    none.negative_ttl = Some(ttl);
-    Ok(none)
-}
-
 fn answer(alloc: Global, query: &Query, kept: Kept) -> Result<Message, NetError> {
-    let (added, question) = (address(query, kept.ttl)?, query.clone()?);
-    let mut message = Message::response(alloc, 0, OpCode::Query);
-    if kept.has_question {
-        message.add_query(question)?;
-    }
-    message.add_answer(added)?;
-    Ok(message)
-}
-
-fn address(query: &Query, ttl: u32) -> Result<Record, NetError> {
-    let owner = query.name.clone()?;
-    Ok(Record::from_rdata(owner, ttl, local_address(query.query_type)))
-}
-
-fn local_address(query_type: RecordType) -> RData {
-    if query_type == RecordType::A {
-        RData::A(Ipv4Addr::LOCALHOST)
+    let given = if query.query_type == RecordType::A {
+        "127.0.0.1"
     } else {
-        RData::AAAA(Ipv6Addr::LOCALHOST)
+        "::1"
+    };
+    let owner = query.name.clone()?;
+    let address = data(alloc, query.query_type, given)?;
+    let added = Record::from_rdata(owner, kept.ttl, address);
+    let mut message = Message::response(alloc, 0, OpCode::Query);
+    message.add_answer(added)?;
+    if kept.has_question {
+        message.add_query(query.clone()?)?;
     }
+    Ok(message)
 }
 
 /// Of a hit, what the other body keeps.
 pub fn shown(hit: &Option<Result<Message, NetError>>) -> Option<Kept> {
     match hit {
-        Some(Ok(message)) => shown_answer(message),
-        Some(Err(error)) => shown_error(error),
-        None => None,
-    }
-}
-
-fn shown_error(error: &NetError) -> Option<Kept> {
-    match error {
-        NetError::Dns(DnsError::NoRecordsFound(none)) => shown_negative(none),
-        _ => None,
-    }
-}
-
-fn shown_answer(message: &Message) -> Option<Kept> {
-    match message.answers.first() {
-        Some(answer) => Some(Kept {
+        Some(Ok(message)) => Some(Kept {
             is_negative: false,
             has_question: !message.queries.is_empty(),
-            ttl: answer.ttl,
+            ttl: message.answers.first()?.ttl,
         }),
-        None => None,
-    }
-}
-
-fn shown_negative(none: &NoRecords) -> Option<Kept> {
-    match none.negative_ttl {
-        Some(ttl) => Some(Kept {
+        Some(Err(NetError::Dns(DnsError::NoRecordsFound(none)))) => Some(Kept {
             is_negative: true,
             has_question: true,
-            ttl,
+            ttl: none.negative_ttl?,
         }),
-        None => None,
+        _ => None,
     }
 }

@@ -1,9 +1,10 @@
 //! 500 steps with the cache and with another body of it, a list that is searched from end to end: stores, clamped
 //! stores and clears over 12 questions.
+use crate::cache_steps;
 use crate::compared::{outcome, shown};
 use crate::scanned::{Kept, Scanned};
 use case_hashers::OneHash;
-use hickory_proto_core::{Message, Name, NetError, Query, RecordType};
+use hickory_proto_core::{Name, NetError, Query, RecordType};
 use hickory_resolver_cache::ResponseCache;
 use hickory_resolver_lookup::TtlConfig;
 use std::alloc::Global;
@@ -24,7 +25,9 @@ fn push_agreeing<S: BuildHasher + Copy + Drop>(
     what: &str,
 ) -> Result<(), NetError> {
     let mut cache = ResponseCache::with_hasher(alloc, 8, TtlConfig::default(alloc), hasher);
-    let mut scanned = Scanned::new(alloc);
+    let mut scanned = Scanned {
+        entries: Vec::new(alloc),
+    };
     let steps = agreeing(alloc, &mut cache, &mut scanned);
     drop(scanned);
     drop(cache);
@@ -41,7 +44,9 @@ fn agreeing_orders<S: BuildHasher + Copy + Drop>(
     let mut orders = 0_u32;
     for place in 1..51 {
         let mut cache = ResponseCache::with_hasher(alloc, 8, TtlConfig::default(alloc), hasher);
-        let mut scanned = Scanned::new(alloc);
+        let mut scanned = Scanned {
+            entries: Vec::new(alloc),
+        };
         let is_same = drops_the_same(alloc, &mut cache, &mut scanned, place * 10);
         drop(scanned);
         drop(cache);
@@ -52,7 +57,8 @@ fn agreeing_orders<S: BuildHasher + Copy + Drop>(
     Ok(orders)
 }
 
-// Takes so many steps, and then stores further questions, each of which takes the place of the entry whose turn it is.
+// Takes so many steps, and then stores further questions, each of which takes the place of the entry whose turn it is:
+// negative answers that live as long as any other entry may.
 fn drops_the_same<S: BuildHasher>(
     alloc: Global,
     cache: &mut ResponseCache<S>,
@@ -63,32 +69,19 @@ fn drops_the_same<S: BuildHasher>(
     for _ in 0..steps {
         step(alloc, cache, scanned, &mut state, &mut now)?;
     }
-    for bits in 0..6 {
-        store_further(alloc, cache, scanned, bits, now)?;
-        if !is_same(alloc, cache, scanned, now)? {
-            return Ok(false);
-        }
-    }
-    Ok(true)
-}
-
-// A negative answer that lives as long as any other entry may.
-fn store_further<S: BuildHasher>(
-    alloc: Global,
-    cache: &mut ResponseCache<S>,
-    scanned: &mut Scanned,
-    bits: u64,
-    now: u64,
-) -> Result<(), NetError> {
-    let mut query = asked(alloc, bits)?;
-    query.query_type = RecordType::MX;
     let kept = Kept {
         is_negative: true,
         has_question: true,
         ttl: 31,
     };
-    store_scanned(scanned, &query, kept, now, false)?;
-    store(alloc, cache, query, kept, now, false)
+    for bits in 0..6 {
+        let query = asked(alloc, bits, Some(RecordType::MX))?;
+        store(alloc, cache, scanned, query, kept, now, false)?;
+        if !is_same(alloc, cache, scanned, now)? {
+            return Ok(false);
+        }
+    }
+    Ok(true)
 }
 
 // How many of the first 500 steps leave both bodies with the same answers to each question.
@@ -99,23 +92,12 @@ fn agreeing<S: BuildHasher>(
 ) -> Result<u32, NetError> {
     let (mut state, mut now) = (1, 0);
     for steps in 0..500 {
-        if !agrees(alloc, cache, scanned, &mut state, &mut now)? {
+        step(alloc, cache, scanned, &mut state, &mut now)?;
+        if !is_same(alloc, cache, scanned, now)? {
             return Ok(steps);
         }
     }
     Ok(500)
-}
-
-// Takes a step, and says whether both have the same answers then.
-fn agrees<S: BuildHasher>(
-    alloc: Global,
-    cache: &mut ResponseCache<S>,
-    scanned: &mut Scanned,
-    state: &mut u64,
-    now: &mut u64,
-) -> Result<bool, NetError> {
-    step(alloc, cache, scanned, state, now)?;
-    is_same(alloc, cache, scanned, *now)
 }
 
 fn step<S: BuildHasher>(
@@ -125,28 +107,28 @@ fn step<S: BuildHasher>(
     state: &mut u64,
     now: &mut u64,
 ) -> Result<(), NetError> {
-    let bits = next(state);
-    *now = now.wrapping_add((bits >> 60) % 4);
-    take(alloc, cache, scanned, bits, *now)
-}
-
-fn next(state: &mut u64) -> u64 {
     *state = state
         .wrapping_mul(6_364_136_223_846_793_005)
         .wrapping_add(1_442_695_040_888_963_407);
-    *state ^ (*state >> 29)
-}
-
-// One of 6 names, each in two spellings, and one of two types.
-fn asked(alloc: Global, bits: u64) -> Result<Query, NetError> {
-    let texts = ["a", "b", "c", "d", "e", "f", "A", "B", "C", "D", "E", "F"];
-    let query_type = if (bits >> 8) % 2 == 0 {
-        RecordType::A
-    } else {
-        RecordType::AAAA
-    };
-    let name = Name::from_ascii(alloc, texts[(bits % 12) as usize])?;
-    Ok(Query::query(name, query_type))
+    let bits = *state ^ (*state >> 29);
+    *now = now.wrapping_add((bits >> 60) % 4);
+    let query = asked(alloc, bits >> 16, None)?;
+    match bits % 32 {
+        0 => {
+            cache.clear();
+            scanned.entries.clear();
+            Ok(())
+        }
+        1..=4 => {
+            cache.clear_query(&query);
+            scanned.clear_query(&query);
+            Ok(())
+        }
+        step => {
+            let kept = kept(bits >> 32);
+            store(alloc, cache, scanned, query, kept, *now, step < 13)
+        }
+    }
 }
 
 fn kept(bits: u64) -> Kept {
@@ -158,74 +140,36 @@ fn kept(bits: u64) -> Kept {
     }
 }
 
-fn take<S: BuildHasher>(
-    alloc: Global,
-    cache: &mut ResponseCache<S>,
-    scanned: &mut Scanned,
-    bits: u64,
-    now: u64,
-) -> Result<(), NetError> {
-    let query = asked(alloc, bits >> 16)?;
-    match bits % 32 {
-        0 => {
-            cache.clear();
-            scanned.clear();
-            Ok(())
-        }
-        1..=4 => {
-            cache.clear_query(&query);
-            scanned.clear_query(&query);
-            Ok(())
-        }
-        step => {
-            let (kept, is_clamped) = (kept(bits >> 32), step < 13);
-            store_scanned(scanned, &query, kept, now, is_clamped)?;
-            store(alloc, cache, query, kept, now, is_clamped)
-        }
-    }
+// One of 6 names, each in two spellings, and the given type, or else one of two.
+fn asked(alloc: Global, bits: u64, given: Option<RecordType>) -> Result<Query, NetError> {
+    let texts = ["a", "b", "c", "d", "e", "f", "A", "B", "C", "D", "E", "F"];
+    let query_type = match given {
+        Some(given) => given,
+        None if (bits >> 8) % 2 == 0 => RecordType::A,
+        None => RecordType::AAAA,
+    };
+    let name = Name::from_ascii(alloc, texts[(bits % 12) as usize])?;
+    Ok(Query::query(name, query_type))
 }
 
 // A store of what is kept from a moment on, clamped or not.
-fn store_scanned(
-    scanned: &mut Scanned,
-    query: &Query,
-    kept: Kept,
-    now: u64,
-    is_clamped: bool,
-) -> Result<(), NetError> {
-    let limit = if is_clamped {
-        scanned.deadline(query, now)
-    } else {
-        u64::MAX
-    };
-    scanned.insert(query.clone()?, kept, now, limit)?;
-    Ok(())
-}
-
 fn store<S: BuildHasher>(
     alloc: Global,
     cache: &mut ResponseCache<S>,
+    scanned: &mut Scanned,
     query: Query,
     kept: Kept,
     now: u64,
     is_clamped: bool,
 ) -> Result<(), NetError> {
+    let limit = match scanned.get(&query, now) {
+        Some((_, deadline)) if is_clamped => deadline,
+        _ => u64::MAX,
+    };
+    scanned.insert(query.clone()?, kept, now, limit)?;
     let stored = outcome(alloc, &query, kept)?;
-    put(cache, query, stored, now, is_clamped)
-}
-
-fn put<S: BuildHasher>(
-    cache: &mut ResponseCache<S>,
-    query: Query,
-    stored: Result<Message, NetError>,
-    now: u64,
-    is_clamped: bool,
-) -> Result<(), NetError> {
-    if is_clamped {
-        cache.upsert_clamped_ttl(query, stored, now, true)
-    } else {
-        cache.insert(query, stored, now)
-    }
+    let verb = if is_clamped { "upsert" } else { "insert" };
+    cache_steps::store(cache, query, stored, now, verb)
 }
 
 fn is_same<S: BuildHasher>(
@@ -235,12 +179,12 @@ fn is_same<S: BuildHasher>(
     now: u64,
 ) -> Result<bool, NetError> {
     for bits in [0, 1, 2, 3, 4, 5, 256, 257, 258, 259, 260, 261] {
-        let query = asked(alloc, bits)?;
+        let query = asked(alloc, bits, None)?;
         if !is_same_for(cache, scanned, &query, now) {
             return Ok(false);
         }
     }
-    Ok(cache.len() == scanned.len())
+    Ok(cache.len() == scanned.entries.len())
 }
 
 fn is_same_for<S: BuildHasher>(
@@ -254,7 +198,11 @@ fn is_same_for<S: BuildHasher>(
         let cached = shown(&hit);
         // `drop` costs the prover less than the end of the block.
         drop(hit);
-        if cached != scanned.get(query, moment) {
+        let kept = match scanned.get(query, moment) {
+            Some((kept, _)) => Some(kept),
+            None => None,
+        };
+        if cached != kept {
             return false;
         }
     }

@@ -1,36 +1,22 @@
 //! The addresses of name servers: each server has its own, in order, and records of one server share them.
 use crate::copies;
-use crate::sample::{address, name, response};
-use hickory_proto_core::{
-    DnsError, DnsResponse, ForwardNSData, Glue, Message, NetError, RData, Record, RecordType,
-    ResponseCode,
-};
+use crate::sample::response;
+use hickory_proto_core::{DnsError, DnsResponse, ForwardNSData, Glue, NetError};
 use std::alloc::Global;
 
+// Two records of one server and one of another, whose addresses come in turn.
+const REFERRAL: &str = "NOERROR x.a. A \
+    authority a. 9 NS n.a. authority a. 9 NS o.a. authority a. 9 NS N.A. \
+    additional n.a. 60 A 192.0.2.1 additional o.a. 60 A 192.0.2.2 \
+    additional N.a. 60 A 192.0.2.3 additional o.A. 60 A 192.0.2.4 \
+    additional p.a. 60 A 192.0.2.5";
+
 pub fn show_all(rt: &impl Print, alloc: Global) -> anyhow::Result<()> {
-    match DnsError::from_response(DnsResponse::from_message(referral(alloc)?)) {
+    let referral = response(alloc, REFERRAL)?;
+    match DnsError::from_response(DnsResponse::from_message(referral)) {
         Ok(_) => Ok(println!(rt; "an answer")?),
         Err(error) => show_servers(rt, error),
     }
-}
-
-// Two records of one server and one of another, whose addresses come in turn.
-fn referral(alloc: Global) -> Result<Message, NetError> {
-    let mut message = response(alloc, ResponseCode::NoError, "x.a.", RecordType::A)?;
-    message.add_authority(server(alloc, "a.", "n.a.")?)?;
-    message.add_authority(server(alloc, "a.", "o.a.")?)?;
-    message.add_authority(server(alloc, "a.", "N.A.")?)?;
-    message.add_additional(address(alloc, "n.a.", 1)?)?;
-    message.add_additional(address(alloc, "o.a.", 2)?)?;
-    message.add_additional(address(alloc, "N.a.", 3)?)?;
-    message.add_additional(address(alloc, "o.A.", 4)?)?;
-    message.add_additional(address(alloc, "p.a.", 5)?)?;
-    Ok(message)
-}
-
-fn server(alloc: Global, zone: &str, server: &str) -> Result<Record, NetError> {
-    let target = name(alloc, server)?;
-    Ok(Record::from_rdata(name(alloc, zone)?, 9, RData::NS(target)))
 }
 
 fn show_servers(rt: &impl Print, error: NetError) -> anyhow::Result<()> {
@@ -45,17 +31,17 @@ fn show_each(rt: &impl Print, servers: &[ForwardNSData]) -> anyhow::Result<()> {
     for server in servers {
         let ns = &server.ns;
         println!(rt; "{ns}")?;
-        show_glue(rt, server.glue.clone()?)?;
+        show_glue(rt, &server.glue)?;
     }
     Ok(())
 }
 
 // The records, and then those of a copy that grows older: the first stay as they are.
-fn show_glue(rt: &impl Print, glue: Glue) -> anyhow::Result<()> {
+fn show_glue(rt: &impl Print, glue: &Glue) -> anyhow::Result<()> {
     let mut older = glue.clone()?;
     older.decrement_ttl(20);
     older.decrement_ttl(15);
-    show_records(rt, "glue", &glue)?;
+    show_records(rt, "glue", glue)?;
     show_records(rt, "older", &older)?;
     older.decrement_ttl(u32::MAX);
     copies::show(rt, "oldest", older)
@@ -65,7 +51,8 @@ fn show_records(rt: &impl Print, label: &str, glue: &Glue) -> anyhow::Result<()>
     let count = glue.len();
     let none = glue.is_empty();
     println!(rt; "{label} {count} {none}")?;
-    for found in glue.to_vec()? {
+    let records = glue.to_vec()?;
+    for found in &records {
         println!(rt; "{found}")?;
     }
     Ok(())

@@ -1,6 +1,6 @@
 //! What handles answer, and what a recording handle keeps.
 use crate::copies;
-use crate::sample::{answered, question};
+use crate::sample::{question, response};
 use case_hashers::{Counting, no_calls};
 use hickory_proto_core::{
     DnsHandle, DnsRequest, DnsRequestOptions, DnsResponse, NetError, Outcome, RecordType, Recorded,
@@ -9,63 +9,60 @@ use hickory_proto_core::{
 use std::alloc::Global;
 
 pub fn show_all(rt: &impl Print, alloc: Global) -> anyhow::Result<()> {
-    show_recorded(rt, alloc)?;
-    show_script(rt, alloc, script(alloc)?)?;
+    show_recorded(rt, alloc, &mut Recorded::new(alloc, table(alloc)?))?;
+    show_script(rt, alloc)?;
     show_hasher(rt, alloc)
 }
 
-fn ask<H: DnsHandle>(alloc: Global, handle: &mut H, text: &str) -> Result<Outcome, NetError> {
+fn ask<H: DnsHandle>(
+    rt: &impl Print,
+    alloc: Global,
+    handle: &mut H,
+    text: &str,
+) -> anyhow::Result<()> {
     let query = question(alloc, text, RecordType::A)?;
     let options = DnsRequestOptions::default();
-    Ok(handle.send(&DnsRequest { query, options }))
+    copies::show(rt, text, handle.send(&DnsRequest { query, options }))
 }
 
 // Two outcomes of equal questions; the last one counts.
 fn table(alloc: Global) -> Result<TableHandle, NetError> {
     let mut outcomes = Vec::new(alloc);
-    outcomes.push((
-        question(alloc, "a.", RecordType::A)?,
-        Err(NetError::Timeout),
-    ))?;
-    outcomes.push((question(alloc, "A.", RecordType::A)?, found(alloc)?))?;
+    let query = question(alloc, "a.", RecordType::A)?;
+    outcomes.push((query, Err(NetError::Timeout)))?;
+    let query = question(alloc, "A.", RecordType::A)?;
+    outcomes.push((query, found(alloc)?))?;
     TableHandle::new(outcomes)
 }
 
 fn found(alloc: Global) -> Result<Outcome, NetError> {
-    let outcome = Ok(DnsResponse::from_message(answered(alloc)?));
+    let answered = response(alloc, "NOERROR a. A answer a. 60 A 192.0.2.1")?;
+    let outcome = Ok(DnsResponse::from_message(answered));
     let copy = clone_outcome(&outcome);
     // `drop` costs the prover less than the end of the block.
     drop(outcome);
     copy
 }
 
-fn show_recorded(rt: &impl Print, alloc: Global) -> anyhow::Result<()> {
-    let mut handle = Recorded::new(alloc, table(alloc)?);
-    show_table(rt, alloc, &mut handle)
-}
-
-fn show_table(
+fn show_recorded(
     rt: &impl Print,
     alloc: Global,
     handle: &mut Recorded<TableHandle>,
 ) -> anyhow::Result<()> {
-    copies::show(rt, "a.", ask(alloc, handle, "a.")?)?;
-    copies::show(rt, "b.", ask(alloc, handle, "b.")?)?;
+    ask(rt, alloc, handle, "a.")?;
+    ask(rt, alloc, handle, "b.")?;
     for exchange in handle.exchanges() {
         copies::show(rt, "kept", &exchange.outcome)?;
     }
     Ok(())
 }
 
-fn script(alloc: Global) -> Result<ScriptHandle, NetError> {
+fn show_script(rt: &impl Print, alloc: Global) -> anyhow::Result<()> {
     let mut outcomes = Vec::new(alloc);
     outcomes.push(Err(NetError::from("no luck")))?;
-    Ok(ScriptHandle::new(outcomes))
-}
-
-fn show_script(rt: &impl Print, alloc: Global, mut handle: ScriptHandle) -> anyhow::Result<()> {
-    copies::show(rt, "c.", ask(alloc, &mut handle, "c.")?)?;
-    copies::show(rt, "c.", ask(alloc, &mut handle, "c.")?)
+    let mut handle = ScriptHandle::new(outcomes);
+    ask(rt, alloc, &mut handle, "c.")?;
+    ask(rt, alloc, &mut handle, "c.")
 }
 
 // Whether a table asks the hasher that it is given: as it is made, and for an answer.
@@ -75,7 +72,7 @@ fn show_hasher(rt: &impl Print, alloc: Global) -> anyhow::Result<()> {
     outcomes.push((query, Err(NetError::Timeout)))?;
     let mut table = TableHandle::with_hasher(outcomes, Counting::over(&calls)?)?;
     let made = calls.get();
-    copies::show(rt, "a.", ask(alloc, &mut table, "a.")?)?;
+    ask(rt, alloc, &mut table, "a.")?;
     drop(table);
     let asked = calls.get();
     println!(rt;

@@ -5,8 +5,7 @@ use std::alloc::Global;
 pub fn show_all(rt: &impl Print, alloc: Global) -> anyhow::Result<()> {
     show(rt, alloc, &"a".repeat(alloc, 10_000)?)?;
     let labels = "a.".repeat(alloc, 2_000)?;
-    show(rt, alloc, &labels)?;
-    for end in [".", "a b", "\\256."] {
+    for end in ["", ".", "a b", "\\256."] {
         show(rt, alloc, &format!(in alloc; "{labels}{end}")?)?;
     }
     Ok(())

@@ -1,8 +1,8 @@
 //! The texts of answers.
-use hickory_proto_core::{NetError, Query, RData, Record, ip_text};
+use hickory_proto_core::Query;
 use hickory_resolver_hosts::{Hosts, HostsError};
 use hickory_resolver_lookup::Lookup;
-use std::alloc::{AllocError, Global};
+use std::alloc::AllocError;
 use std::hash::BuildHasher;
 
 // The moment (seconds) at which tables are asked.
@@ -22,41 +22,26 @@ pub fn push_read(
 
 /// Adds what a table has for a question.
 pub fn push_found<S: BuildHasher>(
-    alloc: Global,
     text: &mut String,
     hosts: &Hosts<S>,
     query: &Query,
 ) -> anyhow::Result<()> {
     match hosts.lookup_static_host(query, ASKED_AT)? {
-        Some(lookup) => push_lookup(alloc, text, &lookup)?,
+        Some(lookup) => push_lookup(text, &lookup)?,
         None => text.push_str("  nothing\n")?,
     }
     Ok(())
 }
 
 // The question of a look-up, its deadline, and its answers.
-fn push_lookup(alloc: Global, text: &mut String, lookup: &Lookup) -> Result<(), NetError> {
+fn push_lookup(text: &mut String, lookup: &Lookup) -> Result<(), AllocError> {
     let (query, deadline) = (lookup.query(), lookup.valid_until());
     let (name, class, record_type) = (&query.name, query.query_class, query.query_type);
     write!(text, "  ok {name} {class} {record_type} until {deadline}\n")?;
     for answer in lookup.answers() {
-        push_record(alloc, text, answer)?;
+        let (name, ttl, class) = (&answer.name, answer.ttl, answer.dns_class);
+        let data = &answer.rdata;
+        write!(text, "  answer {name} {ttl} {class} {data}\n")?;
     }
     Ok(())
-}
-
-fn push_record(alloc: Global, text: &mut String, answer: &Record) -> Result<(), NetError> {
-    let data = data_text(alloc, &answer.rdata)?;
-    let (name, ttl, class) = (&answer.name, answer.ttl, answer.dns_class);
-    write!(text, "  answer {name} {ttl} {class} {data}\n")?;
-    Ok(())
-}
-
-// The text of a name or an address.
-fn data_text(alloc: Global, rdata: &RData) -> Result<String, NetError> {
-    match (rdata, rdata.ip_addr()) {
-        (RData::PTR(name), _) => Ok(format!(in alloc; "{name}")?),
-        (_, Some(address)) => ip_text(alloc, address),
-        _ => Ok(String::new(alloc)),
-    }
 }

@@ -2,8 +2,8 @@
 //! which that table is asked.
 use crate::hosts_calls::push_calls;
 use crate::hosts_texts::{push_found, push_read};
+use crate::sample::{question, type_of};
 use case_hashers::OneHash;
-use hickory_proto_core::{Name, NetError, Query, RecordType};
 use hickory_resolver_hosts::Hosts;
 use std::alloc::Global;
 use std::hash::{BuildHasher, BuildHasherDefault, FoldHasher};
@@ -16,19 +16,13 @@ const READ_AT: u64 = 7;
 /// What all the words come to, over two hashers, and then what the calls answer that no file makes.
 pub fn text_of<R: AllocGlobal + Env + Files>(rt: &R) -> anyhow::Result<String> {
     let usual: BuildHasherDefault<FoldHasher> = BuildHasherDefault::new();
-    let mut text = words_text(rt, usual)?;
-    push_same(rt, &mut text)?;
-    push_calls(rt.alloc(), &mut text)?;
-    Ok(text)
-}
-
-// Says so where the words come to this text too if every key has one hash.
-fn push_same<R: AllocGlobal + Env + Files>(rt: &R, text: &mut String) -> anyhow::Result<()> {
     let one: BuildHasherDefault<OneHash> = BuildHasherDefault::new();
-    if words_text(rt, one)? == *text {
+    let mut text = words_text(rt, usual)?;
+    if words_text(rt, one)? == text {
         text.push_str("the same where every key has one hash\n")?;
     }
-    Ok(())
+    push_calls(rt.alloc(), &mut text, &mut Hosts::default(rt.alloc()))?;
+    Ok(text)
 }
 
 // What the words of the arguments come to, over tables whose names are hashed by this.
@@ -38,7 +32,10 @@ fn words_text<R: AllocGlobal + Env + Files, S: BuildHasher + Copy>(
 ) -> anyhow::Result<String> {
     let mut hosts = Hosts::with_hasher(rt.alloc(), hasher);
     let mut text = String::new(rt.alloc());
-    push_words(rt, &mut text, &mut hosts, hasher)?;
+    let pushed = push_words(rt, &mut text, &mut hosts, hasher);
+    // `drop` costs the prover less than the end of the block.
+    drop(hosts);
+    pushed?;
     Ok(text)
 }
 
@@ -91,10 +88,5 @@ fn ask<S: BuildHasher>(
     record_type: &str,
 ) -> anyhow::Result<()> {
     write!(text, "{name} {record_type}\n")?;
-    push_found(alloc, text, hosts, &question(alloc, name, record_type)?)
-}
-
-fn question(alloc: Global, name: &str, record_type: &str) -> Result<Query, NetError> {
-    let record_type = RecordType::from_word(record_type).unwrap_or(RecordType::A);
-    Ok(Query::query(Name::from_ascii(alloc, name)?, record_type))
+    push_found(text, hosts, &question(alloc, name, type_of(record_type))?)
 }

@@ -6,7 +6,6 @@
 #![tactic(auto)]
 
 mod addresses;
-mod cache_limits;
 mod cache_lines;
 mod cache_steps;
 mod cache_texts;
@@ -37,30 +36,25 @@ mod stored_outcomes;
 mod watched_calls;
 mod zeros;
 
-use std::alloc::Global;
 use std::fs;
 
 fn main(rt: HostRuntime) -> anyhow::Result<()> {
     let alloc = rt.alloc();
     let cases = fs::read_to_string(&rt, "name.cases")?;
     rt.print(name_lines::text_of(alloc, &cases)?)?;
-    show_texts(&rt, alloc)?;
+    codes::show_all(&rt)?;
+    errors::show_all(&rt, alloc)?;
+    data::show_all(&rt, alloc)?;
+    messages::show_all(&rt, alloc)?;
+    negative::show_all(&rt, alloc)?;
+    sections::show_all(&rt, alloc)?;
+    given::show_all(&rt, alloc)?;
+    responses::show_all(&rt, alloc)?;
+    handles::show_all(&rt, alloc)?;
+    hostile::show_all(&rt, alloc)?;
+    glue::show_all(&rt, alloc)?;
     let cases = fs::read_to_string(&rt, "cache.cases")?;
     rt.print(cache_lines::text_of(alloc, &cases)?)?;
     rt.print(hosts_words::text_of(&rt)?)?;
     Ok(())
-}
-
-fn show_texts(rt: &impl Print, alloc: Global) -> anyhow::Result<()> {
-    codes::show_all(rt)?;
-    errors::show_all(rt, alloc)?;
-    data::show_all(rt, alloc)?;
-    messages::show_all(rt, alloc)?;
-    negative::show_all(rt, alloc)?;
-    sections::show_all(rt, alloc)?;
-    given::show_all(rt, alloc)?;
-    responses::show_all(rt, alloc)?;
-    handles::show_all(rt, alloc)?;
-    hostile::show_all(rt, alloc)?;
-    glue::show_all(rt, alloc)
 }

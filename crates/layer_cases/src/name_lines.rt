@@ -7,34 +7,26 @@ use std::alloc::Global;
 pub fn text_of(alloc: Global, cases: &str) -> Result<String, NameError> {
     let mut text = String::new(alloc);
     for line in cases.lines() {
-        push_line(alloc, &mut text, line)?;
+        write!(text, "{line}\t")?;
+        push_answer(alloc, &mut text, line)?;
+        text.push_str("\n")?;
     }
-    let counts = zeros::counts(alloc)?;
-    write!(text, "{counts}\n")?;
+    zeros::push_counts(alloc, &mut text)?;
     Ok(text)
 }
 
-fn push_line(alloc: Global, text: &mut String, line: &str) -> Result<(), NameError> {
-    let answer = answer(alloc, line)?;
-    write!(text, "{line}\t{answer}\n")?;
-    Ok(())
-}
-
 // A line is the name of a call, and what the call is given, each behind a tab.
-fn answer(alloc: Global, line: &str) -> Result<String, NameError> {
+fn push_answer(alloc: Global, text: &mut String, line: &str) -> Result<(), NameError> {
     let (call, given) = line.split_once('\t').unwrap_or((line, ""));
     let (first, second) = given.split_once('\t').unwrap_or((given, ""));
     match call {
-        "read" => names::read(alloc, first),
-        "equal" => names::equal(alloc, first, second),
-        "order" => names::order(alloc, given),
-        "append" => names::append(alloc, first, second),
-        "trim" => names::trim(alloc, first, second),
-        "base" => names::base(alloc, first),
-        "localhost" => names::localhost(alloc, first),
-        "address" => addresses::read(alloc, first),
-        "network" => addresses::network(alloc, first),
-        "pointer" => addresses::pointer(alloc, first),
-        _ => Ok(String::from_str(alloc, "no such call")?),
+        "read" => names::push_read(alloc, text, first),
+        "equal" | "localhost" => names::push_is(alloc, text, first, second),
+        "order" => names::push_ordered(alloc, text, &mut Vec::new(alloc), given),
+        "append" | "trim" | "base" => names::push_made(alloc, text, call, first, second),
+        "address" => addresses::push_read(alloc, text, first),
+        "network" => addresses::push_network(alloc, text, first),
+        "pointer" => addresses::push_pointer(alloc, text, first),
+        _ => Ok(text.push_str("no such call")?),
     }
 }

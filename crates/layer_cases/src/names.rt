@@ -2,19 +2,20 @@
 use hickory_proto_core::{Name, NameError};
 use std::alloc::Global;
 
-/// A name's text, the count of its labels, whether it is fully qualified, and whether its text reads as the
+/// Adds a name's text, the count of its labels, whether it is fully qualified, and whether its text reads as the
 /// same name; or the fault of the text.
-pub fn read(alloc: Global, text: &str) -> Result<String, NameError> {
-    match Name::from_ascii(alloc, text) {
-        Ok(name) => parts(alloc, &name),
-        Err(fault) => Ok(format!(in alloc; "{fault:?}")?),
+pub fn push_read(alloc: Global, text: &mut String, given: &str) -> Result<(), NameError> {
+    match Name::from_ascii(alloc, given) {
+        Ok(name) => push_parts(alloc, text, &name),
+        Err(fault) => Ok(write!(text, "{fault:?}")?),
     }
 }
 
-fn parts(alloc: Global, name: &Name) -> Result<String, NameError> {
+fn push_parts(alloc: Global, text: &mut String, name: &Name) -> Result<(), NameError> {
     let (labels, fqdn) = (name.num_labels(), name.is_fqdn());
     let same = reads_back(alloc, name);
-    Ok(format!(in alloc; "{name}\t{labels} {fqdn} {same}")?)
+    write!(text, "{name}\t{labels} {fqdn} {same}")?;
+    Ok(())
 }
 
 // Whether the name's text is that of a name with the same labels.
@@ -28,68 +29,63 @@ fn reads_back(alloc: Global, name: &Name) -> bool {
     }
 }
 
-// The text of a name, or the fault.
-fn shown(alloc: Global, name: Result<Name, NameError>) -> Result<String, NameError> {
-    match name {
-        Ok(name) => Ok(format!(in alloc; "{name}")?),
-        Err(fault) => Ok(format!(in alloc; "{fault:?}")?),
-    }
+/// Adds whether two names are equal, or, where there is one, whether `localhost.` is a zone of it.
+pub fn push_is(
+    alloc: Global,
+    text: &mut String,
+    first: &str,
+    second: &str,
+) -> Result<(), NameError> {
+    let name = Name::from_ascii(alloc, first)?;
+    let is = if second.is_empty() {
+        name.is_localhost()
+    } else {
+        name == Name::from_ascii(alloc, second)?
+    };
+    write!(text, "{is}")?;
+    Ok(())
 }
 
-/// Whether two names are equal.
-pub fn equal(alloc: Global, a: &str, b: &str) -> Result<String, NameError> {
-    let (a, b) = (Name::from_ascii(alloc, a)?, Name::from_ascii(alloc, b)?);
-    let equal = a == b;
-    drop(b);
-    drop(a);
-    Ok(format!(in alloc; "{equal}")?)
-}
-
-/// The names between the tabs in their order.
-pub fn order(alloc: Global, texts: &str) -> Result<String, NameError> {
-    let mut names = Vec::new(alloc);
-    let line = ordered(alloc, &mut names, texts);
-    drop(names);
-    line
-}
-
-fn ordered(alloc: Global, names: &mut Vec<Name>, texts: &str) -> Result<String, NameError> {
-    for text in texts.split('\t') {
-        names.push(Name::from_ascii(alloc, text)?)?;
+/// Adds the names between the tabs in their order, for which there is an empty list.
+pub fn push_ordered(
+    alloc: Global,
+    text: &mut String,
+    names: &mut Vec<Name>,
+    given: &str,
+) -> Result<(), NameError> {
+    for given in given.split('\t') {
+        names.push(Name::from_ascii(alloc, given)?)?;
     }
     names.sort()?;
-    in_brackets(alloc, names)
-}
-
-fn in_brackets(alloc: Global, names: &[Name]) -> Result<String, NameError> {
-    let mut line = String::new(alloc);
     for name in names {
-        write!(line, "<{name}>")?;
+        write!(text, "<{name}>")?;
     }
-    Ok(line)
+    Ok(())
 }
 
-/// A name with a domain behind it.
-pub fn append(alloc: Global, name: &str, domain: &str) -> Result<String, NameError> {
-    let domain = Name::from_ascii(alloc, domain)?;
-    let joined = Name::from_ascii(alloc, name)?.append_domain(&domain);
-    shown(alloc, joined)
+/// Adds the name that a call makes, or the fault.
+pub fn push_made(
+    alloc: Global,
+    text: &mut String,
+    call: &str,
+    first: &str,
+    second: &str,
+) -> Result<(), NameError> {
+    match made(alloc, call, first, second) {
+        Ok(name) => write!(text, "{name}")?,
+        Err(fault) => write!(text, "{fault:?}")?,
+    }
+    Ok(())
 }
 
-/// The last labels of a name, as many as the number says.
-pub fn trim(alloc: Global, count: &str, name: &str) -> Result<String, NameError> {
-    let last = Name::from_ascii(alloc, name)?.trim_to(count.parse().unwrap_or(0));
-    shown(alloc, last)
-}
-
-/// A name without its first label.
-pub fn base(alloc: Global, name: &str) -> Result<String, NameError> {
-    let base = Name::from_ascii(alloc, name)?.base_name();
-    shown(alloc, base)
-}
-
-/// Whether `localhost.` is a zone of the name.
-pub fn localhost(alloc: Global, name: &str) -> Result<String, NameError> {
-    let name = Name::from_ascii(alloc, name)?;
-    Ok(format!(in alloc; "{}", name.is_localhost())?)
+// A name with a domain behind it, the last labels of a name, as many as the number says, or a name without its first
+// label.
+fn made(alloc: Global, call: &str, first: &str, second: &str) -> Result<Name, NameError> {
+    match call {
+        "append" => {
+            Name::from_ascii(alloc, first)?.append_domain(&Name::from_ascii(alloc, second)?)
+        }
+        "trim" => Name::from_ascii(alloc, second)?.trim_to(first.parse().unwrap_or(0)),
+        _ => Name::from_ascii(alloc, first)?.base_name(),
+    }
 }

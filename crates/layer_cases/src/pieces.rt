@@ -4,9 +4,19 @@ use std::io::{self, Read};
 /// Gives its bytes, one a call. Behind them it ends, or every further read is interrupted.
 #[derive(Drop)]
 pub struct Pieces<'a> {
-    pub bytes: &'a [u8],
-    pub place: usize,
-    pub is_interrupted: bool,
+    bytes: &'a [u8],
+    place: usize,
+    is_interrupted: bool,
+}
+
+impl<'a> Pieces<'a> {
+    pub fn new(bytes: &'a [u8], is_interrupted: bool) -> Pieces<'a> {
+        Pieces {
+            bytes,
+            place: 0,
+            is_interrupted,
+        }
+    }
 }
 
 impl<'a> Read for Pieces<'a> {

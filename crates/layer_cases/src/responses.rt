@@ -1,29 +1,35 @@
 //! What responses come to.
 use crate::copies;
-use crate::negative::show_no_records;
-use crate::sample::{address, name, response, server, soa};
-use hickory_proto_core::{
-    DnsError, DnsResponse, Message, NetError, OpCode, RData, Record, RecordType, ResponseCode,
-};
+use crate::sample::response;
+use hickory_proto_core::{DnsError, DnsResponse, NetError};
 use std::alloc::Global;
 
+// The words of each response.
+const RESPONSES: [(&str, &str); 7] = [
+    ("another name", "NOERROR a. A answer z. 1 TXT -"),
+    ("cut short", "NOERROR a. A"),
+    ("enclosing zone", "NOERROR x.a. SOA authority A. 300 SOA m."),
+    ("failure", "SERVFAIL a. A answer a. 60 A 192.0.2.1"),
+    ("no such name", "NXDOMAIN x.a. A authority a. 300 SOA m."),
+    (
+        "referral",
+        "NOERROR x.a. A authority a. 9 NS N.a. additional n.a. 60 A 192.0.2.1 additional other.a. 60 A 192.0.2.2",
+    ),
+    ("nothing", ""),
+];
+
 pub fn show_all(rt: &impl Print, alloc: Global) -> anyhow::Result<()> {
-    show(rt, "another name", another_name(alloc))?;
-    show(rt, "cut short", cut_short(alloc))?;
-    show(rt, "enclosing zone", enclosing_zone(alloc))?;
-    show(rt, "failure", failure(alloc))?;
-    show(rt, "no such name", no_such_name(alloc))?;
-    show(rt, "referral", referral(alloc))?;
-    show(
-        rt,
-        "nothing",
-        Ok(Message::response(alloc, 0, OpCode::Query)),
-    )
+    for (label, words) in RESPONSES {
+        show(rt, alloc, label, words)?;
+    }
+    Ok(())
 }
 
 // That it is an answer, or its error.
-fn show(rt: &impl Print, label: &str, made: Result<Message, NetError>) -> anyhow::Result<()> {
-    match DnsError::from_response(DnsResponse::from_message(made?)) {
+fn show(rt: &impl Print, alloc: Global, label: &str, words: &str) -> anyhow::Result<()> {
+    let mut message = response(alloc, words)?;
+    message.metadata.truncation = label == "cut short";
+    match DnsError::from_response(DnsResponse::from_message(message)) {
         Ok(_) => Ok(println!(rt; "{label}: an answer")?),
         Err(error) => show_error(rt, label, error),
     }
@@ -31,50 +37,7 @@ fn show(rt: &impl Print, label: &str, made: Result<Message, NetError>) -> anyhow
 
 fn show_error(rt: &impl Print, label: &str, error: NetError) -> anyhow::Result<()> {
     match copies::labelled(rt, label, error)?.into_no_records() {
-        Ok(none) => show_no_records(rt, none),
+        Ok(none) => copies::show_three(rt, none.clone(), none),
         Err(error) => copies::show(rt, "error", error),
     }
-}
-
-fn another_name(alloc: Global) -> Result<Message, NetError> {
-    let mut message = response(alloc, ResponseCode::NoError, "a.", RecordType::A)?;
-    message.add_answer(no_strings(alloc)?)?;
-    Ok(message)
-}
-
-fn no_strings(alloc: Global) -> Result<Record, NetError> {
-    let owner = name(alloc, "z.")?;
-    Ok(Record::from_rdata(owner, 1, RData::TXT(Vec::new(alloc))))
-}
-
-fn cut_short(alloc: Global) -> Result<Message, NetError> {
-    let mut message = response(alloc, ResponseCode::NoError, "a.", RecordType::A)?;
-    message.metadata.truncation = true;
-    Ok(message)
-}
-
-fn enclosing_zone(alloc: Global) -> Result<Message, NetError> {
-    let mut message = response(alloc, ResponseCode::NoError, "x.a.", RecordType::SOA)?;
-    message.add_authority(soa(alloc, "A.")?)?;
-    Ok(message)
-}
-
-fn failure(alloc: Global) -> Result<Message, NetError> {
-    let mut message = response(alloc, ResponseCode::ServFail, "a.", RecordType::A)?;
-    message.add_answer(address(alloc, "a.", 1)?)?;
-    Ok(message)
-}
-
-fn no_such_name(alloc: Global) -> Result<Message, NetError> {
-    let mut message = response(alloc, ResponseCode::NXDomain, "x.a.", RecordType::A)?;
-    message.add_authority(soa(alloc, "a.")?)?;
-    Ok(message)
-}
-
-fn referral(alloc: Global) -> Result<Message, NetError> {
-    let mut message = response(alloc, ResponseCode::NoError, "x.a.", RecordType::A)?;
-    message.add_authority(server(alloc)?)?;
-    message.add_additional(address(alloc, "n.a.", 1)?)?;
-    message.add_additional(address(alloc, "other.a.", 2)?)?;
-    Ok(message)
 }

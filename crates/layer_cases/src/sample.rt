@@ -1,9 +1,12 @@
-//! Names, questions, records and messages that are shown.
+//! Names, questions, data, records and messages that are shown, some of them out of words.
 use hickory_proto_core::{
-    Message, Name, NetError, OpCode, Query, RData, Record, RecordType, ResponseCode,
+    DnsError, Message, Name, NetError, NoRecords, OpCode, Query, RData, Record, RecordType,
+    ResponseCode, read_ip,
 };
 use std::alloc::Global;
-use std::net::Ipv4Addr;
+
+/// The error of words that say nothing.
+pub const NO_WORDS: NetError = NetError::Message("words that say nothing");
 
 pub fn name(alloc: Global, text: &str) -> Result<Name, NetError> {
     Ok(Name::from_ascii(alloc, text)?)
@@ -13,23 +16,56 @@ pub fn question(alloc: Global, text: &str, record_type: RecordType) -> Result<Qu
     Ok(Query::query(name(alloc, text)?, record_type))
 }
 
-// The record of the address 192.0.2.x.
-pub fn address(alloc: Global, owner: &str, last: u8) -> Result<Record, NetError> {
-    let owner = name(alloc, owner)?;
-    let rdata = RData::A(Ipv4Addr::new(192, 0, 2, last));
-    Ok(Record::from_rdata(owner, 60, rdata))
+/// The type, where `TYPE1` and `TYPE16` stand for these numbers.
+pub fn type_of(word: &str) -> RecordType {
+    match word {
+        "TYPE1" => RecordType::Unknown(1),
+        "TYPE16" => RecordType::Unknown(16),
+        _ => RecordType::from_word(word).unwrap_or(RecordType::ANY),
+    }
 }
 
-pub fn two_addresses(alloc: Global) -> Result<Vec<Record>, NetError> {
-    let mut two = Vec::new(alloc);
-    two.push(address(alloc, "a.", 1)?)?;
-    two.push(address(alloc, "a.", 2)?)?;
-    Ok(two)
+/// The address that is given, or else data of this type with the given name or text in it.
+pub fn data(alloc: Global, record_type: RecordType, given: &str) -> Result<RData, NetError> {
+    match read_ip(given) {
+        Some(address) => Ok(RData::from(address)),
+        None => other_data(alloc, record_type, given),
+    }
 }
 
-pub fn soa_data(alloc: Global) -> Result<RData, NetError> {
+fn other_data(alloc: Global, record_type: RecordType, given: &str) -> Result<RData, NetError> {
+    match record_type {
+        RecordType::SOA => soa_data(alloc, given),
+        RecordType::TXT => strings(alloc, given),
+        RecordType::Unknown(code) => Ok(RData::Unknown {
+            code,
+            bytes: Vec::from_slice(alloc, &[7, 255])?,
+        }),
+        _ => Ok(data_of(record_type, name(alloc, given)?)),
+    }
+}
+
+fn data_of(record_type: RecordType, name: Name) -> RData {
+    match record_type {
+        RecordType::CNAME => RData::CNAME(name),
+        RecordType::NS => RData::NS(name),
+        RecordType::PTR => RData::PTR(name),
+        RecordType::SRV => RData::SRV {
+            priority: 1,
+            weight: 2,
+            port: 53,
+            target: name,
+        },
+        _ => RData::MX {
+            preference: 10,
+            exchange: name,
+        },
+    }
+}
+
+fn soa_data(alloc: Global, server: &str) -> Result<RData, NetError> {
     Ok(RData::SOA {
-        mname: name(alloc, "m.")?,
+        mname: name(alloc, server)?,
         rname: name(alloc, "r.")?,
         serial: 1,
         refresh: 2,
@@ -39,33 +75,69 @@ pub fn soa_data(alloc: Global) -> Result<RData, NetError> {
     })
 }
 
-pub fn soa(alloc: Global, owner: &str) -> Result<Record, NetError> {
-    Ok(Record::from_rdata(name(alloc, owner)?, 300, soa_data(alloc)?))
+// This text and an empty one.
+fn strings(alloc: Global, text: &str) -> Result<RData, NetError> {
+    let mut strings = Vec::new(alloc);
+    strings.push(Vec::from_slice(alloc, text.as_bytes())?)?;
+    strings.push(Vec::new(alloc))?;
+    Ok(RData::TXT(strings))
 }
 
-// The record by which `a.` names the server `N.a.`.
-pub fn server(alloc: Global) -> Result<Record, NetError> {
-    let owner = name(alloc, "a.")?;
-    let server = name(alloc, "N.a.")?;
-    Ok(Record::from_rdata(owner, 9, RData::NS(server)))
-}
-
-// A response with this code and question, and no record.
-pub fn response(
+pub fn record(
     alloc: Global,
-    code: ResponseCode,
-    text: &str,
+    owner: &str,
+    ttl: u32,
     record_type: RecordType,
-) -> Result<Message, NetError> {
+    given: &str,
+) -> Result<Record, NetError> {
+    let owner = name(alloc, owner)?;
+    Ok(Record::from_rdata(owner, ttl, data(alloc, record_type, given)?))
+}
+
+pub fn two_addresses(alloc: Global) -> Result<Vec<Record>, NetError> {
+    let mut two = Vec::new(alloc);
+    two.push(record(alloc, "a.", 60, RecordType::A, "192.0.2.1")?)?;
+    two.push(record(alloc, "a.", 60, RecordType::A, "192.0.2.2")?)?;
+    Ok(two)
+}
+
+/// A response. Its words are a code, the name and the type of a question, and for each record a section, an owner, a
+/// TTL, a type, and the address or the name that is given. No words are a response with no question.
+pub fn response(alloc: Global, words: &str) -> Result<Message, NetError> {
+    let words: Vec<&str> = words.split_whitespace().collect(alloc)?;
     let mut message = Message::response(alloc, 0, OpCode::Query);
-    message.metadata.response_code = code;
-    message.add_query(question(alloc, text, record_type)?)?;
+    fill(alloc, &mut message, &words)?;
     Ok(message)
 }
 
-// A response with a question and an answer.
-pub fn answered(alloc: Global) -> Result<Message, NetError> {
-    let mut message = response(alloc, ResponseCode::NoError, "a.", RecordType::A)?;
-    message.add_answer(address(alloc, "a.", 1)?)?;
-    Ok(message)
+fn fill(alloc: Global, message: &mut Message, words: &[&str]) -> Result<(), NetError> {
+    let [code, name, record_type, records @ ..] = words else {
+        return Ok(());
+    };
+    message.metadata.response_code = ResponseCode::from_word(code).unwrap_or(ResponseCode::NoError);
+    message.add_query(question(alloc, name, type_of(record_type))?)?;
+    for words in records.chunks(5) {
+        add_record(alloc, message, words)?;
+    }
+    Ok(())
+}
+
+/// Adds a record to the section that the first word names.
+pub fn add_record(alloc: Global, message: &mut Message, words: &[&str]) -> Result<(), NetError> {
+    let [section, owner, ttl, record_type, given] = words else {
+        return Err(NO_WORDS);
+    };
+    let ttl = ttl.parse().unwrap_or(0);
+    let added = record(alloc, owner, ttl, type_of(record_type), given)?;
+    match *section {
+        "answer" => message.add_answer(added),
+        "authority" => message.add_authority(added),
+        _ => message.add_additional(added),
+    }
+}
+
+/// That there are no records for a name.
+pub fn no_records(alloc: Global, text: &str, code: ResponseCode) -> Result<DnsError, NetError> {
+    let query = question(alloc, text, RecordType::A)?;
+    Ok(DnsError::NoRecordsFound(NoRecords::new(query, code)))
 }

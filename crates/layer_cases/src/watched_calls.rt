@@ -44,19 +44,17 @@ impl Write for Counting {
 
 /// Adds what the calls answer, whether one has failed then, and how many calls reached what is watched.
 pub fn push_all(text: &mut String) -> Result<(), AllocError> {
-    push_reads(text)?;
-    push_writes(text, b"12345")?;
-    push_writes(text, b"")
-}
-
-fn push_reads(text: &mut String) -> Result<(), AllocError> {
     let mut source = Watched::new(Counting { calls: 0 });
     let mut room = [0_u8; 5];
     for _ in 0..4 {
         let answer = source.read(&mut room);
         push_answer(text, "read", answer, source.failed())?;
     }
-    write!(text, "{} calls\n", source.into_inner().calls)
+    write!(text, "{} calls\n", source.into_inner().calls)?;
+    for bytes in ["12345", ""] {
+        push_writes(text, bytes.as_bytes())?;
+    }
+    Ok(())
 }
 
 fn push_writes(text: &mut String, bytes: &[u8]) -> Result<(), AllocError> {

@@ -4,23 +4,20 @@ use hickory_proto_core::{NameError, read_ip};
 use std::alloc::{AllocError, Global};
 use std::net::{IpAddr, Ipv6Addr};
 
-/// How many of 256 addresses are printed as RFC 5952 wants and read again, and how many are read from each text that
+/// Adds how many of 256 addresses are printed as RFC 5952 wants and read again, and how many are read from each text that
 /// elides some of their zeros, and from the one that elides none.
-pub fn counts(alloc: Global) -> Result<String, NameError> {
+pub fn push_counts(alloc: Global, text: &mut String) -> Result<(), NameError> {
     let (mut printed, mut read) = (0_u16, 0_u16);
     for mask in 0..=255 {
         let groups = masked(mask);
-        printed = printed.saturating_add(u16::from(is_printed(alloc, groups)?));
+        let address = IpAddr::V6(Ipv6Addr::from_segments(groups));
+        let text = text_of(alloc, address)?;
+        let is_printed = text == wanted(alloc, groups)? && read_ip(&text) == Some(address);
+        printed = printed.saturating_add(u16::from(is_printed));
         read = read.saturating_add(u16::from(is_read(alloc, groups)?));
     }
-    Ok(format!(in alloc; "{printed} addresses are printed, {read} are read")?)
-}
-
-fn is_printed(alloc: Global, groups: [u16; 8]) -> Result<bool, NameError> {
-    let address = IpAddr::V6(Ipv6Addr::from_segments(groups));
-    let text = text_of(alloc, address)?;
-    let wanted = wanted(alloc, groups)?;
-    Ok(text == wanted && read_ip(&text) == Some(address))
+    write!(text, "{printed} addresses are printed, {read} are read\n")?;
+    Ok(())
 }
 
 fn is_read(alloc: Global, groups: [u16; 8]) -> Result<bool, AllocError> {
