@@ -113,7 +113,8 @@ abbrev pub IsNotStatic : CallContext → Bool → NameValue → RecordType → T
 IsNotStatic s with_hosts name t = (with_hosts ≡ false) ⊎ IsStatic (question_of name t) s.now s.hosts None
 
 -- A type is looked up for a name: by the client, or the table of hosts has it, or memory runs out before.
-abbrev pub LooksUpOnce : CallContext → Bool → NameValue → RecordType → CacheValue → CallStepValue → CacheValue → Type 0
+abbrev pub LooksUpOnce : CallContext → Bool → NameValue → RecordType → CacheValue → CallStepValue
+    → CacheValue → Type 0
 LooksUpOnce s with_hosts name t before step after =
     ((progress : ProgressValue) × (step ≡ Goes progress) × IsNotStatic s with_hosts name t
     × Starts (start_at s before) (question_of name t) progress after)
@@ -122,7 +123,8 @@ LooksUpOnce s with_hosts name t before step after =
     ⊎ ((step ≡ Over (Err OutOfMemory)) × (after ≡ before)))
 
 -- what a call comes to after a step, over the cache that the step left
-abbrev pub ComesAfter : CallContext → AttemptValue → CallStepValue → CacheValue → CallProgressValue → CacheValue → Type 0
+abbrev pub ComesAfter : CallContext → AttemptValue → CallStepValue → CacheValue → CallProgressValue
+    → CacheValue → Type 0
 ComesAfter s a (Goes progress) mid end after = GoesOnAfter s a progress mid end after
 ComesAfter s a (Over result) mid end after = (end ≡ CallIsDone result) × (after ≡ mid)
 
