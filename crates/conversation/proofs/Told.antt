@@ -19,7 +19,7 @@ use Rattle.conversation.specs.Explaining.{IsStartExplained, alias_text}
 use Rattle.conversation.specs.Hearing.{IsBegunOver, IsFedOut}
 use Rattle.conversation.specs.State.{BegunValue, Puts, Requests, Serving}
 use Rattle.conversation.specs.Telling.{IsBlock, IsClearBlock, IsGiven, IsTold, PutsSome, stage_by}
-use Rattle.replay.specs.Output.{request_text}
+use Rattle.replay_script.specs.Output.{request_text}
 use Rattle.conversation.specs.Texts.{clear_text, send_text}
 use Rattle.conversation.specs.declared.heard.Heard.{Heard}
 use Rattle.conversation.proofs.Held.{some_stays}

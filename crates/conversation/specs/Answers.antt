@@ -19,7 +19,7 @@ use Rattle.hickory_resolver_theorems.specs.ResumingCalls.{WaitingCallValue, Call
 use Rattle.hickory_resolver.specs.Reading.{IsBytesRead}
 use Rattle.hickory_resolver.specs.hosts.hosts_error.HostsError.{HostsError}
 use Rattle.hickory_resolver_config.specs.ResolverConfig.{ResolverConfigValue}
-use Rattle.replay.specs.Output.{request_text}
+use Rattle.replay_script.specs.Output.{request_text}
 use Rattle.replay_script.specs.Configuration.{ConfigurationValue, with_setting}
 use Rattle.replay_script.specs.FailLine.{error_of}
 use Rattle.replay_script.specs.Reader.{answered}

@@ -13,7 +13,7 @@ use Rattle.hickory_resolver_model.specs.Cache.{CacheValue}
 use Rattle.hickory_resolver_theorems.specs.ResumingCalls.{WaitingCallValue}
 use Rattle.hickory_resolver.specs.Requests.{request_of}
 use Rattle.hickory_resolver_lookup.specs.declared.request.Request.{Request}
-use Rattle.replay.specs.Output.{request_text}
+use Rattle.replay_script.specs.Output.{request_text}
 use Rattle.replay_script.specs.Configuration.{ConfigurationValue}
 use Rattle.conversation.specs.Answers as answers
 use Rattle.conversation.specs.Answers.{Answer, Feeds, IsOpened, Serves, config_of, keeps, refused}

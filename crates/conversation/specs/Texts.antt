@@ -7,7 +7,7 @@ use Rattle.hickory_proto_core.specs.declared.dns_request.DnsRequestOptions.{DnsR
 use Rattle.hickory_proto_core.specs.declared.query.Query.{Query}
 use Rattle.hickory_resolver_model.specs.Lookup.{LookupResult}
 use Rattle.hickory_resolver_model.specs.Run.{RequestValue}
-use Rattle.replay.specs.Output.{request_text, result_text, sent_text}
+use Rattle.replay_script.specs.Output.{request_text, result_text, sent_text}
 use Rattle.conversation.specs.Faults.{RefusalValue, fault_words}
 use Rattle.conversation.specs.State.{BegunValue}
 

@@ -2,7 +2,7 @@
 ghost use Rattle.std.specs.Prelude.{◌≡◌, ◌++◌, [], codes, true, false, if◌then◌else◌, string_bytes, IfOk, OnOk};
 ghost use Rattle.std.specs.Option.{option_map};
 ghost use Rattle.hickory_resolver.specs.Requests.{request_of};
-ghost use Rattle.replay.specs.Output.{request_text, sent_text};
+ghost use Rattle.replay_script.specs.Output.{request_text, sent_text};
 ghost use Rattle.replay_script.specs.Words.{texts};
 ghost use Rattle.conversation.specs.State.{begun_of};
 ghost use Rattle.conversation.specs.Texts.{cancelled_text, clear_text, edns_text, fault_text, field_text, fields_behind, fields_text, looked_up_text, options_text, send_text};
@@ -12,7 +12,7 @@ use crate::heard::Heard;
 use crate::in_flight::Begun;
 use hickory_proto_core::{DnsRequestOptions, NetError, Query};
 use hickory_resolver::{Lookup, Request};
-use replay::output::{push_cleared, push_question, push_request, push_result};
+use replay_script::output::{push_cleared, push_question, push_request, push_result};
 use std::alloc::{AllocError, Global};
 
 /// Nothing goes out.

@@ -15,7 +15,7 @@ use Rattle.hickory_resolver_model.specs.Run.{RequestValue, Lookup, LookupIp, Cle
 use Rattle.hickory_resolver_theorems.proofs.SentAlone.{CallSoFar, CallRelation}
 use Rattle.hickory_resolver_theorems.specs.ResumingCalls.{CallProgressValue, CallWaits, CallIsDone, StartsCall}
 use Rattle.hickory_resolver_theorems.proofs.CallsAlone.{started_call}
-use Rattle.replay.specs.Output.{reply_text, result_text}
+use Rattle.replay_script.specs.Output.{reply_text, result_text}
 use Rattle.conversation.specs.Answers.{Looks, Clears, ComesTo}
 
 -- the call of a request

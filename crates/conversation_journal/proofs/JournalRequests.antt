@@ -21,7 +21,7 @@ use Rattle.replay_script.specs.RequestLine.{asked_by, request_asked, lookup_aske
 use Rattle.replay_script.specs.Words.{◌>>=◌, number_field}
 use Rattle.replay_script.specs.Faults.{LineFaultValue, wrong_field}
 use Rattle.replay_script.specs.declared.fault.ScriptFault.TheVariants as fault
-use Rattle.replay.specs.Output.{request_text}
+use Rattle.replay_script.specs.Output.{request_text}
 use Rattle.conversation.specs.Texts.{fields_behind}
 use Rattle.conversation_journal.proofs.JournalTexts.{IsField, AreFields, line_of, whole_lines}
 

@@ -9,7 +9,7 @@ use Rattle.hickory_proto_core.specs.declared.dns_request.DnsRequestOptions.{DnsR
 use Rattle.hickory_proto_core.specs.declared.recorded.Exchange.{Exchange}
 use Rattle.hickory_resolver_model.specs.Cache.{CacheValue}
 use Rattle.hickory_resolver_model.specs.Run.{RequestValue, Settings, Stage, StepValue, IsStage, AreStages, exchanges_of, ends_run, first_cache}
-use Rattle.replay.specs.Output.{run_text, step_text}
+use Rattle.replay_script.specs.Output.{run_text, step_text}
 use Rattle.replay.specs.ScriptRun.{IsTold, is_remembered}
 
 -- the block of a stage

@@ -18,7 +18,7 @@ use Rattle.hickory_resolver_model.specs.Options.{bounds_of}
 use Rattle.hickory_resolver_model.specs.Run.{RequestValue, Lookup, LookupIp, ClearLookup, Clear, Settings, Call, IsServed, StepReply, Cleared, answers_at, call_context_at, ends_run, first_cache, moment_of, settings_of}
 use Rattle.hickory_resolver_model.specs.Run as run
 use Rattle.hickory_resolver_theorems.specs.ResumingCalls.{CallProgressValue, CallWaits, CallIsDone}
-use Rattle.replay.specs.Output.{request_text, result_text, sent_text, step_text}
+use Rattle.replay_script.specs.Output.{request_text, result_text, sent_text, step_text}
 use Rattle.replay.specs.ScriptRun.{IsTable, first_moment}
 use Rattle.replay_script.specs.Configuration.{ConfigurationValue}
 use Rattle.replay_script.specs.Reader.{ReaderValue, opened}

@@ -22,7 +22,7 @@ use Rattle.hickory_resolver_model.specs.Options.{bounds_of}
 use Rattle.hickory_resolver_model.specs.Run.{Settings, call_context_at, first_cache, moment_of, settings_of}
 use Rattle.hickory_resolver_theorems.specs.ResumingCalls.{CallProgressValue, CallWaits, CallIsDone, ResumesCall}
 use Rattle.hickory_resolver_theorems.proofs.CallsAlone.{resumed}
-use Rattle.replay.specs.Output.{request_text}
+use Rattle.replay_script.specs.Output.{request_text}
 use Rattle.replay_script.specs.Configuration.{ConfigurationValue, with_setting}
 use Rattle.replay_script.specs.FailLine.{error_of}
 use Rattle.replay_script.specs.Fields.{fields}

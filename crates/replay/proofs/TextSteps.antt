@@ -18,7 +18,7 @@ use Rattle.hickory_resolver_model.specs.Run.{RequestValue, Settings, StepValue, 
 use Rattle.hickory_resolver.specs.Listening.{Hears, HearsAll}
 use Rattle.hickory_resolver.specs.Transcripts.{IsRunFrom}
 use Rattle.replay.specs.Hearing.{AddsBlock}
-use Rattle.replay.specs.Output.{run_text, step_text}
+use Rattle.replay_script.specs.Output.{run_text, step_text}
 use Rattle.replay.specs.ScriptRun.{IsNoTable, IsRefused, IsReplayed, IsScriptTold, IsTable, IsTableTold, IsTold}
 use Rattle.replay.specs.ScriptRun.{config_of, first_moment, hosts_fault, is_remembered}
 use Rattle.replay_script.specs.Script.{IsWhole, ScriptValue, script_of}

@@ -2,7 +2,7 @@
 use Rattle.std.specs.Prelude.{◌≡◌, false, List, ℕ, ◌++◌, map}
 use Rattle.hickory_proto_core.specs.declared.recorded.Exchange.{Exchange}
 use Rattle.hickory_resolver_model.specs.Run.{RequestValue, StepValue, ends_run}
-use Rattle.replay.specs.Output.{step_text}
+use Rattle.replay_script.specs.Output.{step_text}
 
 -- there was memory for the step, and its block was added to the text
 abbrev pub AddsBlock : List ℕ → RequestValue → List Exchange → StepValue → List ℕ → Type 0

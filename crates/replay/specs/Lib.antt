@@ -1,5 +1,4 @@
 pub mod Hearing
-pub mod Output
 pub mod ScriptRun
 pub mod Statuses
 pub mod Writing

@@ -17,7 +17,7 @@ use Rattle.replay_script.specs.declared.fault.ScriptFault.TheVariants as fault
 use Rattle.replay_script.specs.declared.fault.ScriptFault.{ScriptFault}
 use Rattle.replay_script.specs.declared.fault.ScriptError.{ScriptError}
 use Rattle.replay_script.specs.declared.line.Line.{Line}
-use Rattle.replay.specs.Output.{run_text}
+use Rattle.replay_script.specs.Output.{run_text}
 use Rattle.replay.specs.declared.error.ReplayError.{ReplayError}
 use Rattle.replay.specs.declared.error.ReplayError.TheVariants.{Script, Hosts, Memory}
 

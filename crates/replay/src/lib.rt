@@ -2,8 +2,8 @@
 #![tactic(auto)]
 
 pub mod error;
-pub mod output;
 pub mod run;
+pub mod text_listener;
 pub mod writing;
 
 pub use error::ReplayError;

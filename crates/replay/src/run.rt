@@ -9,7 +9,7 @@ ghost use Rattle.hickory_resolver_model.specs.Run.{settings_of};
 ghost use Rattle.replay.specs.ScriptRun.{IsNoTable, IsRefused, IsReplayed, IsTable, IsTold, first_moment};
 
 use crate::error::ReplayError;
-use crate::output::TextListener;
+use crate::text_listener::TextListener;
 use hickory_proto_core::{DnsHandle, Outcome, Query, Recorded, ScriptHandle, TableHandle};
 use hickory_resolver::{Heard, Hosts, Request, ResolverConfig, ResolverOpts, run_told};
 use replay_script::{Script, read_script};

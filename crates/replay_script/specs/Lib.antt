@@ -4,6 +4,7 @@ pub mod Faults
 pub mod Fields
 pub mod Line
 pub mod OptionLine
+pub mod Output
 pub mod Reader
 pub mod DataFields
 pub mod RecordLine

@@ -1,5 +1,5 @@
 //! Scripts of a replay: what each line says, and what a whole one says: what an upstream answers, what is asked
-//! of the resolver, and how it is configured.
+//! of the resolver, and how it is configured; and the text of what was asked and answered.
 #![tactic(auto)]
 
 pub mod configuration;
@@ -10,6 +10,7 @@ pub mod fields;
 pub mod line;
 pub mod numbers;
 pub mod option_line;
+pub mod output;
 pub mod record_line;
 pub mod reply_line;
 pub mod request_line;

@@ -1,5 +1,5 @@
 use Rattle.std.proofs.Common.{◌≡◌, ◌++◌, take, string_bytes}
-use Rattle.replay.specs.Output.{sent_text}
+use Rattle.replay_script.specs.Output.{sent_text}
 use Rattle.conversation.proofs.writing.push_questions.Given as goal
 
 abbrev pub invariant-loop-question : goal.invariant-loop-question

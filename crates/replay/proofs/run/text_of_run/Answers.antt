@@ -2,7 +2,7 @@ use Rattle.std.proofs.Common.{List, ℕ, String, map, subst, sym, string_bytes}
 use Rattle.std.specs.Global.{Global}
 use Rattle.hickory_resolver.specs.Requests.{request_of}
 use Rattle.hickory_resolver_model.specs.Run.{settings_of}
-use Rattle.replay.specs.declared.output.TextListener.{TextListener}
+use Rattle.replay.specs.declared.text_listener.TextListener.{TextListener}
 use Rattle.replay.specs.ScriptRun.{IsTold}
 use Rattle.replay.proofs.TextSteps.{told_run}
 use Rattle.replay.proofs.run.text_of_run.Goals as goal

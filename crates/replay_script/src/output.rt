@@ -1,57 +1,19 @@
-//! The text that tells what happened.
+//! The text that tells what happened: requests, questions, look-ups and errors.
 ghost use Rattle.std.specs.Prelude.{◌≡◌, ◌++◌, OnOk, codes, map, string_bytes};
 ghost use Rattle.std.specs.List.{flat_map};
 ghost use Rattle.hickory_proto_core.specs.Records.{data_of};
 ghost use Rattle.hickory_proto_core.specs.Texts.{question_text};
-ghost use Rattle.hickory_resolver.specs.Replies.{reply_of};
-ghost use Rattle.hickory_resolver.specs.Requests.{request_of};
-ghost use Rattle.replay.specs.Output.{address_text, addresses_text, asked_text, error_text, line_text};
-ghost use Rattle.replay.specs.Output.{lookup_text, name_error_text, reply_text, request_text, result_text};
-ghost use Rattle.replay.specs.Output.{section_text, sent_text, step_text};
+ghost use Rattle.hickory_resolver_lookup.specs.Requests.{request_of};
+ghost use Rattle.replay_script.specs.Output.{address_text, addresses_text, asked_text, error_text, line_text};
+ghost use Rattle.replay_script.specs.Output.{lookup_text, name_error_text, request_text, result_text};
+ghost use Rattle.replay_script.specs.Output.{section_text, sent_text};
 
 use hickory_proto_core::{
     DnsError, Exchange, NameError, NetError, NoRecords, Query, RData, Record, RecordType,
 };
-use hickory_resolver::{Listener, Lookup, Reply, Request, Step};
+use hickory_resolver_lookup::{Lookup, Request};
 use std::alloc::AllocError;
 use std::fmt;
-
-/// Makes the text of a run out of its steps, each when it hears of it.
-#[derive(Drop)]
-pub struct TextListener {
-    pub text: String,
-}
-
-impl Listener for TextListener {
-    ghost use Rattle.replay.specs.Hearing.{AddsBlock};
-
-    ghost hears = { λ before request sent step after. AddsBlock (string_bytes before.text) request sent step
-        (string_bytes after.text) };
-
-    // There is no text of a run in which memory ran out.
-    fn hear(&mut self, request: &Request, sent: &[Exchange], step: Step) -> Result<(), AllocError> {
-        if step.reply.ends_run() {
-            return Err(AllocError);
-        }
-        push_step(&mut self.text, request, sent, &step.reply)
-    }
-}
-
-// Adds the block of a request.
-fn push_step(
-    text: &mut String,
-    request: &Request,
-    sent: &[Exchange],
-    reply: &Reply,
-) -> Result<(), AllocError>
-    ensures { OnOk result (string_bytes text.new
-        ≡ string_bytes text.old
-        ++ step_text (request_of request.now) (map (λ x. x.query) sent.now) (reply_of reply.now)) }
-{
-    push_request(text, request)?;
-    push_sent(text, sent)?;
-    push_reply(text, request, reply)
-}
 
 /// Adds a request as a line of a script has it.
 pub fn push_request(text: &mut String, request: &Request) -> Result<(), AllocError>
@@ -87,7 +49,8 @@ fn push_asked(
     write!(text, "at {now} {verb} {name} {record_type}\n")
 }
 
-fn push_sent(text: &mut String, exchanges: &[Exchange]) -> Result<(), AllocError>
+/// Adds the lines of the questions that were sent.
+pub fn push_sent(text: &mut String, exchanges: &[Exchange]) -> Result<(), AllocError>
     ensures { OnOk result (string_bytes text.new
         ≡ string_bytes text.old ++ sent_text (map (λ x. x.query) exchanges.now)) }
 {
@@ -103,18 +66,6 @@ pub fn push_question(text: &mut String, question: &Query) -> Result<(), AllocErr
         ≡ string_bytes text.old ++ line_text (codes "sent") (question_text question.now)) }
 {
     write!(text, "  sent {question}\n")
-}
-
-fn push_reply(text: &mut String, request: &Request, reply: &Reply) -> Result<(), AllocError>
-    ensures { OnOk result (string_bytes text.new
-        ≡ string_bytes text.old ++ reply_text (request_of request.now) (reply_of reply.now)) }
-{
-    match reply {
-        Reply::Lookup(result) => push_result(text, request, result),
-        Reply::LookupIp(Ok(lookup)) => push_lookup(text, request, lookup.as_lookup()),
-        Reply::Cleared(Ok(())) => push_cleared(text),
-        Reply::LookupIp(Err(error)) | Reply::Cleared(Err(error)) => push_error(text, error),
-    }
 }
 
 /// Adds what a look-up that was requested came to.
@@ -139,7 +90,8 @@ pub fn push_cleared(text: &mut String) -> Result<(), AllocError>
     text.push_str("  cleared\n")
 }
 
-fn push_lookup(text: &mut String, request: &Request, lookup: &Lookup) -> Result<(), AllocError>
+/// Adds what a look-up that was requested found.
+pub fn push_lookup(text: &mut String, request: &Request, lookup: &Lookup) -> Result<(), AllocError>
     ensures { OnOk result (string_bytes text.new
         ≡ string_bytes text.old ++ lookup_text (request_of request.now) lookup.now) }
 {
@@ -198,7 +150,8 @@ fn push_records(text: &mut String, section: &str, records: &[Record]) -> Result<
     Ok(())
 }
 
-fn push_error(text: &mut String, error: &NetError) -> Result<(), AllocError>
+/// Adds what went wrong.
+pub fn push_error(text: &mut String, error: &NetError) -> Result<(), AllocError>
     ensures { OnOk result (string_bytes text.new
         ≡ string_bytes text.old ++ line_text (codes "err") (error_text error.now)) }
 {
@@ -212,7 +165,7 @@ pub struct ShownError<'a>(pub &'a NetError);
 
 impl fmt::Display for ShownError<'_> {
     ghost use Rattle.std.specs.Prelude.{Some};
-    ghost use Rattle.replay.specs.Output.{error_text};
+    ghost use Rattle.replay_script.specs.Output.{error_text};
 
     ghost output = { λ x. Some (error_text x.0.now) };
 
@@ -242,7 +195,7 @@ pub struct ShownNoRecords<'a>(pub &'a NoRecords);
 
 impl fmt::Display for ShownNoRecords<'_> {
     ghost use Rattle.std.specs.Prelude.{Some};
-    ghost use Rattle.replay.specs.Output.{no_records_text};
+    ghost use Rattle.replay_script.specs.Output.{no_records_text};
 
     ghost output = { λ x. Some (no_records_text x.0.now) };
 
@@ -261,7 +214,7 @@ pub struct ShownTtl(pub Option<u32>);
 
 impl fmt::Display for ShownTtl {
     ghost use Rattle.std.specs.Prelude.{Some};
-    ghost use Rattle.replay.specs.Output.{ttl_text};
+    ghost use Rattle.replay_script.specs.Output.{ttl_text};
 
     ghost output = { λ x. Some (ttl_text x.0) };
 

@@ -1,6 +1,6 @@
 use Rattle.std.proofs.Common.{◌≡◌, ◌++◌, take, map, string_bytes}
-use Rattle.replay.specs.Output.{sent_text}
-use Rattle.replay.proofs.output.push_sent.Given as goal
+use Rattle.replay_script.specs.Output.{sent_text}
+use Rattle.replay_script.proofs.output.push_sent.Given as goal
 
 abbrev pub invariant-loop-exchange : goal.invariant-loop-exchange
 invariant-loop-exchange l = string_bytes l.text

@@ -1,6 +1,6 @@
 use Rattle.std.proofs.Common.{arith}
 use Rattle.std.proofs.lemmas.Grind.{common_steps}
-use Rattle.replay.proofs.output.push_lookup.Goals as goal
+use Rattle.replay_script.proofs.output.push_lookup.Goals as goal
 
 pub returns : goal.returns
 returns c = grind (arith, common_steps)
