@@ -3,6 +3,7 @@
 
 mod attempting;
 mod calling;
+mod driving;
 pub mod explaining;
 mod keeping;
 pub mod listener;

@@ -4,8 +4,7 @@ ghost use Rattle.hickory_resolver_model.specs.Resolver.{LooksUp};
 ghost use Rattle.hickory_resolver_model.specs.Run.{name_plan};
 
 use crate::attempting::Sought;
-use crate::calling::{resume_call, start_names};
-use crate::waiting_call::{CallProgress, WaitingCall};
+use crate::driving::look_up_names;
 use hickory_proto_core::{DnsHandle, DnsRequestOptions, Name, NetError, RecordType};
 use hickory_resolver_client::CachingClient;
 use hickory_resolver_hosts::Hosts;
@@ -32,22 +31,7 @@ impl LookupFuture {
     {
         let hosts: Hosts = Hosts::default(*names.allocator());
         let sought = Sought::Records(record_type);
-        let mut progress = start_names(names, sought, None, false, client, &hosts, now);
-        loop {
-            match progress {
-                CallProgress::Waiting(waiting) => {
-                    let WaitingCall { attempt, lookup } = waiting;
-                    let (lookup, outcome) = client.ask(lookup, options);
-                    progress = resume_call(
-                        WaitingCall { attempt, lookup },
-                        outcome,
-                        client,
-                        &hosts,
-                    );
-                }
-                CallProgress::Done(result) => return result,
-            }
-        }
+        look_up_names(names, sought, None, false, options, client, &hosts, now)
     }
 
     /// As `lookup`; for the first name that is attempted, the table of hosts is asked before the client.
@@ -63,16 +47,6 @@ impl LookupFuture {
             client.old result client.new }
     {
         let sought = Sought::Records(record_type);
-        let mut progress = start_names(names, sought, None, true, client, hosts, now);
-        loop {
-            match progress {
-                CallProgress::Waiting(waiting) => {
-                    let WaitingCall { attempt, lookup } = waiting;
-                    let (lookup, outcome) = client.ask(lookup, options);
-                    progress = resume_call(WaitingCall { attempt, lookup }, outcome, client, hosts);
-                }
-                CallProgress::Done(result) => return result,
-            }
-        }
+        look_up_names(names, sought, None, true, options, client, hosts, now)
     }
 }

@@ -7,9 +7,8 @@ ghost use Rattle.hickory_resolver_model.specs.Resolver.{LooksUp};
 ghost use Rattle.hickory_resolver_model.specs.Run.{address_plan};
 
 use crate::attempting::Sought;
-use crate::calling::{resume_call, start_names};
+use crate::driving::look_up_names;
 use crate::literals::as_addresses;
-use crate::waiting_call::{CallProgress, WaitingCall};
 use hickory_proto_core::{DnsHandle, DnsRequestOptions, Name, NetError, RData};
 use hickory_resolver_client::CachingClient;
 use hickory_resolver_config::LookupIpStrategy;
@@ -42,16 +41,15 @@ impl LookupIpFuture {
             true (reverse names.items) client.old result client.new }
     {
         let sought = Sought::Addresses(strategy);
-        let mut progress = start_names(names, sought, finally_ip_addr, true, client, hosts, now);
-        loop {
-            match progress {
-                CallProgress::Waiting(waiting) => {
-                    let WaitingCall { attempt, lookup } = waiting;
-                    let (lookup, outcome) = client.ask(lookup, options);
-                    progress = resume_call(WaitingCall { attempt, lookup }, outcome, client, hosts);
-                }
-                CallProgress::Done(result) => return as_addresses(result),
-            }
-        }
+        as_addresses(look_up_names(
+            names,
+            sought,
+            finally_ip_addr,
+            true,
+            options,
+            client,
+            hosts,
+            now,
+        ))
     }
 }

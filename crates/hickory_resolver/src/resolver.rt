@@ -21,10 +21,9 @@ ghost use Rattle.hickory_resolver.specs.Starting.{ResumesAt, StartsAt, StartsHos
 
 use crate::attempting::Sought;
 use crate::calling::{resume_call, start_names};
+use crate::driving::look_up_names;
 use crate::explaining::{Attempted, find_answerers, plan_questions};
 use crate::literals::{as_addresses, literal_at_once};
-use crate::lookup_future::LookupFuture;
-use crate::lookup_ip_future::LookupIpFuture;
 use crate::resolver_builder::ResolverBuilder;
 use crate::search::attempts;
 use crate::waiting_call::{CallProgress, WaitingCall};
@@ -130,9 +129,11 @@ impl<H: DnsHandle, S: BuildHasher> Resolver<H, S> {
         let mut names = self.attempts(name)?;
         names.reverse();
         let options = self.request_options();
-        LookupFuture::lookup_with_hosts(
+        look_up_names(
             names,
-            record_type,
+            Sought::Records(record_type),
+            None,
+            true,
             options,
             &mut self.client,
             &self.hosts,
@@ -438,15 +439,16 @@ impl<H: DnsHandle, S: BuildHasher> Resolver<H, S> {
         attempts.reverse();
         let strategy = self.ip_strategy();
         let options = self.request_options();
-        LookupIpFuture::lookup(
+        as_addresses(look_up_names(
             attempts,
-            strategy,
-            &mut self.client,
-            options,
-            &self.hosts,
+            Sought::Addresses(strategy),
             record_data(address),
+            true,
+            options,
+            &mut self.client,
+            &self.hosts,
             now,
-        )
+        ))
     }
 
     // Drops what the cache has for the attempts at a name.

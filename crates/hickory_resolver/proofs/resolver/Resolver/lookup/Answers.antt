@@ -25,7 +25,7 @@ returns-in_err-names g c =
 
 pub returns : goal.returns
 returns g c =
-    let with_client : ResolverValue _ → ResolverValue _ = λ r. record r { client = c.lookup_with_hosts.new.client } in
+    let with_client : ResolverValue _ → ResolverValue _ = λ r. record r { client = c.look_up_names.new.client } in
     promised_name g.H.DnsHandle.step _ c.args.record_type c.args.now c.args.self.now _ _
     c.alloc.ensures.cache (
       Ok c.in_ok-name.name,
@@ -35,6 +35,6 @@ returns g c =
           (ap (λ r. r.hosts) c.self.view_is)
           (ap (λ r. r.client) c.self.view_is)
           (ap (λ ns. reverse ns) c.reverse.ensures.items ∙ reverse-reverse _ ∙ c.in_ok-names.ensures)
-          c.lookup_with_hosts.ensures
+          c.look_up_names.ensures
           (ap with_client c.self.view_is),
     )
