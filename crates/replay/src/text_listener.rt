@@ -6,7 +6,9 @@ ghost use Rattle.replay_script.specs.Output.{reply_text, step_text};
 
 use hickory_proto_core::Exchange;
 use hickory_resolver::{Listener, Reply, Request, Step};
-use replay_script::output::{push_cleared, push_error, push_lookup, push_request, push_result, push_sent};
+use replay_script::output::{
+    push_cleared, push_error, push_lookup, push_request, push_result, push_sent,
+};
 use std::alloc::AllocError;
 
 /// Makes the text of a run out of its steps, each when it hears of it.
