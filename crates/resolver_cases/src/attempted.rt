@@ -1,7 +1,8 @@
 //! The names that are attempted for a name. A line of a file of cases is `ndots`, the domain or `-`, and the search
 //! domains, and behind a tab the name.
-use crate::shown::say;
-use hickory_proto_core::{Name, NameError, NetError};
+use crate::outcomes::{name, names};
+use crate::shown::{say, show_names};
+use hickory_proto_core::NetError;
 use hickory_resolver::attempts;
 use std::alloc::Global;
 
@@ -9,29 +10,20 @@ use std::alloc::Global;
 pub fn show_attempts(rt: &impl Print, alloc: Global, cases: &str) -> Result<(), NetError> {
     say(rt, &"# attempts");
     for line in cases.lines() {
+        let _ = rt.print(line);
+        let _ = rt.print("\t");
         show_line(rt, alloc, line)?;
     }
     Ok(())
 }
 
-fn show_line(rt: &impl Print, alloc: Global, line: &str) -> Result<(), NameError> {
-    let _ = rt.print(line);
-    let _ = rt.print("\t");
-    let (settings, name) = line.split_once('\t').unwrap_or((line, ""));
+fn show_line(rt: &impl Print, alloc: Global, line: &str) -> Result<(), NetError> {
+    let (settings, asked) = line.split_once('\t').unwrap_or((line, ""));
     let words: Vec<&str> = settings.split_whitespace().collect(alloc)?;
-    show_attempted(rt, alloc, &words, name)
-}
-
-fn show_attempted(
-    rt: &impl Print,
-    alloc: Global,
-    settings: &[&str],
-    name: &str,
-) -> Result<(), NameError> {
-    match settings {
+    match words.as_slice() {
         [ndots, domain, search @ ..] => {
-            let search = names(alloc, search)?;
-            show_found(rt, alloc, ndots.parse().unwrap_or(0), domain, &search, name)
+            let ndots = ndots.parse().unwrap_or(0);
+            show_attempted(rt, alloc, ndots, domain, search, asked)
         }
         _ => {
             say(rt, &"no settings");
@@ -40,47 +32,23 @@ fn show_attempted(
     }
 }
 
-fn show_found(
+fn show_attempted(
     rt: &impl Print,
     alloc: Global,
     ndots: usize,
     domain: &str,
-    search: &[Name],
-    name: &str,
-) -> Result<(), NameError> {
-    let domain = domain_of(alloc, domain)?;
-    let name = Name::from_ascii(alloc, name)?;
-    show_names(rt, &attempts(alloc, name, ndots, domain.as_ref(), search)?);
+    search: &[&str],
+    asked: &str,
+) -> Result<(), NetError> {
+    let domains = match domain {
+        "-" => Vec::new(alloc),
+        _ => names(alloc, &[domain])?,
+    };
+    let search = names(alloc, search)?;
+    let asked = name(alloc, asked)?;
+    show_names(
+        rt,
+        &attempts(alloc, asked, ndots, domains.first(), &search)?,
+    );
     Ok(())
-}
-
-fn names(alloc: Global, texts: &[&str]) -> Result<Vec<Name>, NameError> {
-    let mut names = Vec::new(alloc);
-    push_names(alloc, &mut names, texts)?;
-    Ok(names)
-}
-
-fn push_names(alloc: Global, names: &mut Vec<Name>, texts: &[&str]) -> Result<(), NameError> {
-    for text in texts {
-        names.push(Name::from_ascii(alloc, text)?)?;
-    }
-    Ok(())
-}
-
-fn domain_of(alloc: Global, text: &str) -> Result<Option<Name>, NameError> {
-    match text {
-        "-" => Ok(None),
-        _ => Ok(Some(Name::from_ascii(alloc, text)?)),
-    }
-}
-
-// The names with a blank between each two.
-fn show_names(rt: &impl Print, names: &[Name]) {
-    let mut lead = "";
-    for name in names {
-        let _ = rt.print(lead);
-        let _ = rt.print(name);
-        lead = " ";
-    }
-    say(rt, &"");
 }

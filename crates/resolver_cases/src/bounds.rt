@@ -1,10 +1,8 @@
 //! Builders whose bounds on times to live are reversed.
-use crate::shown::say;
-use crate::upstream::{Upstream, builder_of};
+use crate::shown::{say, say_of};
+use crate::upstream::builder_of;
 use hickory_proto_core::NetError;
-use hickory_resolver::Resolver;
 use std::alloc::Global;
-use std::fmt::Display;
 
 // More than the greatest lifetime where no other is given.
 const LONG: Option<u64> = Some(90_000);
@@ -12,10 +10,10 @@ const LONG: Option<u64> = Some(90_000);
 /// What comes of building them.
 pub fn show_bounds(rt: &impl Print, alloc: Global) -> Result<(), NetError> {
     say(rt, &"# reversed bounds");
-    show_built(rt, alloc, "positive answers", [LONG, None, None])?;
-    show_built(rt, alloc, "negative answers", [None, LONG, None])?;
-    show_built(rt, alloc, "both", [LONG, LONG, None])?;
-    show_built(rt, alloc, "one bound twice", [LONG, None, LONG])
+    show_built(rt, alloc, "positive answers: ", [LONG, None, None])?;
+    show_built(rt, alloc, "negative answers: ", [None, LONG, None])?;
+    show_built(rt, alloc, "both: ", [LONG, LONG, None])?;
+    show_built(rt, alloc, "one bound twice: ", [LONG, None, LONG])
 }
 
 // What comes of building with the least lifetime of positive answers, that of negative ones, and the greatest
@@ -31,18 +29,11 @@ fn show_built(
     options.positive_min_ttl = least;
     options.negative_min_ttl = negative;
     options.positive_max_ttl = greatest;
-    show_outcome(rt, what, builder.build());
-    Ok(())
-}
-
-fn show_outcome(rt: &impl Print, what: &str, built: Result<Resolver<Upstream>, NetError>) {
+    let built = builder.build();
     match &built {
         Ok(_) => say_of(rt, what, &"built"),
         Err(error) => say_of(rt, what, error),
     }
     drop(built);
-}
-
-fn say_of(rt: &impl Print, what: &str, outcome: &impl Display) {
-    let _ = println!(rt; "{what}: {outcome}");
+    Ok(())
 }

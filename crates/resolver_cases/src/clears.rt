@@ -1,58 +1,40 @@
 //! A resolver where every key of its cache has one hash, and whose cache is cleared.
-use crate::own_handle::OneAddress;
+use crate::own_handle::{OneAddress, resolver_with};
 use crate::shown::say;
 use case_hashers::OneHash;
-use hickory_proto_core::{Name, NetError, RecordType};
-use hickory_resolver::{Resolver, ResolverConfig};
+use hickory_proto_core::{NetError, RecordType};
+use hickory_resolver::Resolver;
 use std::alloc::Global;
 
-// Every question is answered with one address.
-type OneHashResolver = Resolver<OneAddress, OneHash>;
+// Each call and its name.
+const CALLS: [(&str, &str); 7] = [
+    ("lookup", "www"),
+    ("lookup", "www."),
+    ("lookup", "a."),
+    ("clear", "www"),
+    ("clear", "a..b"),
+    ("lookup", "a."),
+    ("clear", "all"),
+];
 
 /// How many questions it has sent after each call, and how many entries it keeps.
 pub fn show_clears(rt: &impl Print, alloc: Global) -> Result<(), NetError> {
     say(rt, &"# every key has one hash");
-    let mut resolver = resolver_of(alloc)?;
-    show_calls(rt, &mut resolver);
+    let mut resolver = resolver_with(alloc, OneHash, OneHash)?;
+    for (call, name) in CALLS {
+        take_call(&mut resolver, call, name);
+        let asked = resolver.client().handle().asked;
+        let kept = resolver.client().cache().len();
+        let _ = println!(rt; "{call} {name}: asked {asked}, kept {kept}");
+    }
     drop(resolver);
     Ok(())
 }
 
-fn resolver_of(alloc: Global) -> Result<OneHashResolver, NetError> {
-    let builder = Resolver::builder_with_config(config_of(alloc)?, OneAddress::new(alloc));
-    builder.with_hasher(OneHash, OneHash).build()
-}
-
-fn config_of(alloc: Global) -> Result<ResolverConfig, NetError> {
-    let mut config = ResolverConfig::default(alloc);
-    config.add_search(Name::from_ascii(alloc, "x.")?)?;
-    Ok(config)
-}
-
-fn show_calls(rt: &impl Print, resolver: &mut OneHashResolver) {
-    show_asked(rt, resolver, &["www", "www.", "a."]);
-    show_cleared(rt, resolver, &["www", "a..b"]);
-    show_asked(rt, resolver, &["a."]);
-    resolver.clear_cache();
-    show_counts(rt, resolver, "clear", "all");
-}
-
-fn show_asked(rt: &impl Print, resolver: &mut OneHashResolver, names: &[&str]) {
-    for name in names {
-        drop(resolver.lookup(*name, RecordType::A, 7));
-        show_counts(rt, resolver, "lookup", name);
+fn take_call(resolver: &mut Resolver<OneAddress, OneHash>, call: &str, name: &str) {
+    match (call, name) {
+        ("lookup", _) => drop(resolver.lookup(name, RecordType::A, 7)),
+        (_, "all") => resolver.clear_cache(),
+        _ => drop(resolver.clear_lookup_cache(name, RecordType::A)),
     }
-}
-
-fn show_cleared(rt: &impl Print, resolver: &mut OneHashResolver, names: &[&str]) {
-    for name in names {
-        drop(resolver.clear_lookup_cache(*name, RecordType::A));
-        show_counts(rt, resolver, "clear", name);
-    }
-}
-
-fn show_counts(rt: &impl Print, resolver: &OneHashResolver, call: &str, name: &str) {
-    let asked = resolver.client().handle().asked;
-    let kept = resolver.client().cache().len();
-    let _ = println!(rt; "{call} {name}: asked {asked}, kept {kept}");
 }

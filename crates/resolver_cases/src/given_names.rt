@@ -1,7 +1,8 @@
 //! Look-ups of all that may be given for a name, texts aside.
+use crate::outcomes::{address, name};
 use crate::shown::{say, show_reply};
 use crate::upstream::{Upstream, builder_of};
-use hickory_proto_core::{IntoName, Name, NetError, RecordType};
+use hickory_proto_core::{IntoName, NetError, RecordType};
 use hickory_resolver::Resolver;
 use std::alloc::Global;
 use std::net::{IpAddr, Ipv4Addr, Ipv6Addr};
@@ -9,24 +10,17 @@ use std::net::{IpAddr, Ipv4Addr, Ipv6Addr};
 /// What each of them sends, and the replies.
 pub fn show_given(rt: &impl Print, alloc: Global) -> Result<(), NetError> {
     say(rt, &"# what may be given for a name");
-    let (string, name) = (
-        String::from_str(alloc, "a.b")?,
-        Name::from_ascii(alloc, "192.0.2.7")?,
-    );
+    let string = String::from_str(alloc, "a.b")?;
+    let name = name(alloc, "192.0.2.7")?;
     let mut resolver = builder_of(alloc)?.build()?;
     show_asked(rt, &mut resolver, string, RecordType::A);
     show_asked(rt, &mut resolver, name, RecordType::A);
-    show_addresses(rt, &mut resolver);
+    let v6 = Ipv6Addr::new(0x2001, 0xdb8, 0, 0, 0, 0, 0, 1);
+    show_asked(rt, &mut resolver, IpAddr::V4(address(1)), RecordType::PTR);
+    show_asked(rt, &mut resolver, v6, RecordType::PTR);
+    show_asked(rt, &mut resolver, Ipv4Addr::LOCALHOST, RecordType::PTR);
     drop(resolver);
     Ok(())
-}
-
-fn show_addresses(rt: &impl Print, resolver: &mut Resolver<Upstream>) {
-    let address = IpAddr::V4(Ipv4Addr::new(192, 0, 2, 1));
-    show_asked(rt, resolver, address, RecordType::PTR);
-    let address = Ipv6Addr::new(0x2001, 0xdb8, 0, 0, 0, 0, 0, 1);
-    show_asked(rt, resolver, address, RecordType::PTR);
-    show_asked(rt, resolver, Ipv4Addr::LOCALHOST, RecordType::PTR);
 }
 
 fn show_asked<N: IntoName + Drop>(

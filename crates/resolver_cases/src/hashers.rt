@@ -1,37 +1,21 @@
 //! A resolver over two hashers, of which each counts: which of them a clear of a name asks.
-use crate::own_handle::OneAddress;
+use crate::own_handle::resolver_with;
 use crate::shown::say;
 use case_hashers::{Counting, no_calls};
 use hickory_proto_core::{NetError, RecordType};
-use hickory_resolver::{Resolver, ResolverConfig};
 use std::alloc::Global;
-use std::cell::Cell;
 
 /// Whether it asks the cache's, and whether it asks that of the table of hosts.
 pub fn show_hashers(rt: &impl Print, alloc: Global) -> Result<(), NetError> {
     say(rt, &"# a clear asks the hashers");
     let (cache, hosts) = (no_calls(alloc)?, no_calls(alloc)?);
     let (of_cache, of_hosts) = (Counting::over(&cache)?, Counting::over(&hosts)?);
-    let mut resolver = counted(alloc, of_cache, of_hosts)?;
+    let mut resolver = resolver_with(alloc, of_cache, of_hosts)?;
     drop(resolver.ipv4_lookup("a.", 0));
     let before = (cache.get(), hosts.get());
     drop(resolver.clear_lookup_cache("a.", RecordType::A));
     drop(resolver);
-    show_asked(rt, before, &cache, &hosts);
-    Ok(())
-}
-
-fn counted(
-    alloc: Global,
-    of_cache: Counting,
-    of_hosts: Counting,
-) -> Result<Resolver<OneAddress, Counting>, NetError> {
-    let config = ResolverConfig::default(alloc);
-    let builder = Resolver::builder_with_config(config, OneAddress::new(alloc));
-    builder.with_hasher(of_cache, of_hosts).build()
-}
-
-fn show_asked(rt: &impl Print, before: (u64, u64), cache: &Cell<u64>, hosts: &Cell<u64>) {
     let (of_cache, of_hosts) = (cache.get() > before.0, hosts.get() > before.1);
     let _ = println!(rt; "cache {of_cache}, hosts {of_hosts}");
+    Ok(())
 }

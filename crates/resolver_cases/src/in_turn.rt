@@ -1,7 +1,8 @@
 //! Look-ups of several names, one after another.
+use crate::outcomes;
 use crate::shown::{say, show_reply};
 use crate::upstream::{Upstream, client_over, hosts_of};
-use hickory_proto_core::{DnsRequestOptions, Name, NameError, NetError, RecordType};
+use hickory_proto_core::{DnsRequestOptions, NetError, RecordType};
 use hickory_resolver::{CachingClient, Lookup, LookupFuture};
 use std::alloc::Global;
 
@@ -10,20 +11,10 @@ pub fn show_in_turn(rt: &impl Print, alloc: Global) -> Result<(), NetError> {
     say(rt, &"# names in turn");
     show_names(rt, alloc, "c. b. a.", &["c.", "b.", "a."], "")?;
     show_names(rt, alloc, "no names", &[], "")?;
-    show_names(
-        rt,
-        alloc,
-        "b. a. where b is a host",
-        &["b.", "a."],
-        "10.0.0.2 b\n",
-    )?;
-    show_names(
-        rt,
-        alloc,
-        "b. a. where a is a host",
-        &["b.", "a."],
-        "10.0.0.1 a\n",
-    )
+    let (names, host) = (&["b.", "a."], "10.0.0.2 b\n");
+    show_names(rt, alloc, "b. a. where b is a host", names, host)?;
+    let host = "10.0.0.1 a\n";
+    show_names(rt, alloc, "b. a. where a is a host", names, host)
 }
 
 fn show_names(
@@ -46,39 +37,15 @@ fn looked_up(
     alloc: Global,
     client: &mut CachingClient<Upstream>,
     names: &[&str],
-    hosts: &str,
-) -> Result<Lookup, NetError> {
-    let names = names_of(alloc, names)?;
-    let options = DnsRequestOptions::default();
-    if hosts.is_empty() {
-        LookupFuture::lookup(names, RecordType::A, options, client, 0)
-    } else {
-        with_hosts(alloc, client, names, hosts)
-    }
-}
-
-fn with_hosts(
-    alloc: Global,
-    client: &mut CachingClient<Upstream>,
-    names: Vec<Name>,
     file: &str,
 ) -> Result<Lookup, NetError> {
+    let names = outcomes::names(alloc, names)?;
+    let (record_type, options) = (RecordType::A, DnsRequestOptions::default());
+    if file.is_empty() {
+        return LookupFuture::lookup(names, record_type, options, client, 0);
+    }
     let hosts = hosts_of(alloc, file)?;
-    let options = DnsRequestOptions::default();
-    let reply = LookupFuture::lookup_with_hosts(names, RecordType::A, options, client, &hosts, 0);
+    let reply = LookupFuture::lookup_with_hosts(names, record_type, options, client, &hosts, 0);
     drop(hosts);
     reply
-}
-
-fn names_of(alloc: Global, texts: &[&str]) -> Result<Vec<Name>, NameError> {
-    let mut names = Vec::new(alloc);
-    push_names(alloc, &mut names, texts)?;
-    Ok(names)
-}
-
-fn push_names(alloc: Global, names: &mut Vec<Name>, texts: &[&str]) -> Result<(), NameError> {
-    for text in texts {
-        names.push(Name::from_ascii(alloc, text)?)?;
-    }
-    Ok(())
 }

@@ -1,34 +1,20 @@
 //! A question of another class, and an answer whose data are of no kind that is known.
-use crate::outcomes::{add_answer_of, query_of};
+use crate::outcomes::{answered, query_of};
 use crate::shown::{say, show_reply};
 use crate::upstream::client_over;
 use hickory_proto_core::{DNSClass, DnsRequestOptions, NetError, Outcome, Query, RData};
 use std::alloc::Global;
 
 /// What a client sends for them, and the replies: a name is special in class IN alone, and unknown data lead to
-/// no other name, whatever their code.
+/// no other name, even where they have the code of a CNAME record.
 pub fn show_kinds(rt: &impl Print, alloc: Global) -> Result<(), NetError> {
     say(rt, &"# another class, unknown data");
-    show_asked(rt, alloc, Vec::new(alloc), query_of_chaos(alloc)?)?;
-    show_asked(rt, alloc, unknown_answer(alloc)?, query_of(alloc, "a.")?)
-}
-
-fn query_of_chaos(alloc: Global) -> Result<Query, NetError> {
-    let mut query = query_of(alloc, "localhost.")?;
-    query.query_class = DNSClass::CH;
-    Ok(query)
-}
-
-// A response with an answer of data that have the code of a CNAME record.
-fn unknown_answer(alloc: Global) -> Result<Vec<(Query, Outcome)>, NetError> {
-    let mut outcomes = Vec::new(alloc);
-    add_answer_of(alloc, &mut outcomes, "a.", unknown(alloc))?;
-    Ok(outcomes)
-}
-
-fn unknown(alloc: Global) -> RData {
+    let mut of_chaos = query_of(alloc, "localhost.")?;
+    of_chaos.query_class = DNSClass::CH;
+    show_asked(rt, alloc, Vec::new(alloc), of_chaos)?;
     let bytes = Vec::new(alloc);
-    RData::Unknown { code: 5, bytes }
+    let outcome = answered(alloc, "a.", RData::Unknown { code: 5, bytes })?;
+    show_asked(rt, alloc, vec![in alloc; outcome]?, query_of(alloc, "a.")?)
 }
 
 fn show_asked(

@@ -1,7 +1,8 @@
 //! Prints what clients, resolvers, their builders and configurations answer where no script can ask: by calls for
 //! which a script has no line, over handles of one's own, and with a hasher of one's own. Then come the lines of the
-//! file `attempts.cases`, each with the names that are attempted behind it. The output that is wanted stands beside
-//! this crate's sources.
+//! file `attempts.cases`, each with the names that are attempted behind it, and look-ups that wait, where others store,
+//! clear and evict between a question and what comes back to it: the steps of the file `steps.cases` over a client, and
+//! the events of the file `events.cases` over a resolver. The output that is wanted stands beside this crate's sources.
 #![tactic(auto)]
 
 mod attempted;
@@ -18,9 +19,11 @@ mod no_names;
 mod options;
 mod outcomes;
 mod own_handle;
+mod playing;
 mod replaced;
 mod servers;
 mod shown;
+mod stepping;
 mod table_run;
 mod types;
 mod upstream;
@@ -31,16 +34,20 @@ use std::fs;
 
 fn main(rt: HostRuntime) -> anyhow::Result<()> {
     let cases = fs::read_to_string(&rt, "attempts.cases")?;
-    show_all(&rt, rt.alloc(), &cases)?;
+    let steps = fs::read_to_string(&rt, "steps.cases")?;
+    let events = fs::read_to_string(&rt, "events.cases")?;
+    show_all(&rt, rt.alloc(), [&cases, &steps, &events])?;
     Ok(())
 }
 
-fn show_all(rt: &impl Print, alloc: Global, cases: &str) -> Result<(), NetError> {
+fn show_all(rt: &impl Print, alloc: Global, files: [&str; 3]) -> Result<(), NetError> {
+    let [cases, steps, events] = files;
     show_clients(rt, alloc)?;
     show_resolvers(rt, alloc)?;
-    show_parts(rt, alloc)?;
     table_run::show_run(rt, alloc)?;
-    attempted::show_attempts(rt, alloc, cases)
+    attempted::show_attempts(rt, alloc, cases)?;
+    stepping::show_steps(rt, alloc, steps)?;
+    playing::show_played(rt, alloc, events)
 }
 
 fn show_clients(rt: &impl Print, alloc: Global) -> Result<(), NetError> {
@@ -60,10 +67,7 @@ fn show_resolvers(rt: &impl Print, alloc: Global) -> Result<(), NetError> {
     bounds::show_bounds(rt, alloc)?;
     options::show_of_resolvers(rt, alloc)?;
     hashers::show_hashers(rt, alloc)?;
-    clears::show_clears(rt, alloc)
-}
-
-fn show_parts(rt: &impl Print, alloc: Global) -> Result<(), NetError> {
+    clears::show_clears(rt, alloc)?;
     servers::show_configuration(rt, alloc)?;
     copied_parts::show_copies(rt, alloc)?;
     replaced::show_replaced(rt, alloc)

@@ -1,10 +1,8 @@
 //! A client over a handle that knows no name: the SOA record of its replies, which a script's text leaves out.
-use crate::outcomes::{query_of, soa_of};
+use crate::outcomes::no_name;
 use crate::shown::say;
-use hickory_proto_core::{
-    DnsError, DnsHandle, DnsRequest, DnsRequestOptions, DnsResponse, Message, Name, NetError,
-    OpCode, ResponseCode,
-};
+use crate::upstream::ask;
+use hickory_proto_core::{DnsError, DnsHandle, DnsRequest, DnsResponse, NetError};
 use hickory_resolver::{CachingClient, Lookup};
 use std::alloc::Global;
 
@@ -15,12 +13,8 @@ struct NoName {
 }
 
 impl DnsHandle for NoName {
-    fn send(&mut self, _request: &DnsRequest) -> Result<DnsResponse, NetError> {
-        let mut message = Message::response(self.alloc, 0, OpCode::Query);
-        message.metadata.response_code = ResponseCode::NXDomain;
-        let (mname, rname) = (Name::root(self.alloc), Name::root(self.alloc));
-        message.add_authority(soa_of(self.alloc, mname, rname, 300, 60))?;
-        Ok(DnsResponse::from_message(message))
+    fn send(&mut self, request: &DnsRequest) -> Result<DnsResponse, NetError> {
+        no_name(self.alloc, &request.query, 300, 60)
     }
 }
 
@@ -29,21 +23,12 @@ pub fn show_negative(rt: &impl Print, alloc: Global) {
     say(rt, &"# the SOA record of a negative answer");
     let mut client = CachingClient::new(alloc, 8, NoName { alloc }, false);
     for now in [0, 45, 60, 61] {
-        show_ttl(rt, now, ask(alloc, &mut client, now));
+        let reply = ask(alloc, &mut client, "a.", now);
+        let ttl = soa_ttl(&reply).unwrap_or(0);
+        drop(reply);
+        let _ = println!(rt; "at {now} TTL {ttl}");
     }
     drop(client);
-}
-
-fn ask(alloc: Global, client: &mut CachingClient<NoName>, now: u64) -> Result<Lookup, NetError> {
-    let query = query_of(alloc, "a.")?;
-    client.lookup(query, DnsRequestOptions::default(), now)
-}
-
-fn show_ttl(rt: &impl Print, now: u64, reply: Result<Lookup, NetError>) {
-    let ttl = soa_ttl(&reply).unwrap_or(0);
-    // `drop` costs the prover less than the end of the block.
-    drop(reply);
-    let _ = println!(rt; "at {now} TTL {ttl}");
 }
 
 fn soa_ttl(reply: &Result<Lookup, NetError>) -> Option<u32> {

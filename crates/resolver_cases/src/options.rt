@@ -33,13 +33,6 @@ pub fn show_of_clients(rt: &impl Print, alloc: Global) -> Result<(), NetError> {
     show_of_client(rt, alloc, DnsRequestOptions::default())
 }
 
-/// The options that resolvers hand on: of other options than the default, and of the default.
-pub fn show_of_resolvers(rt: &impl Print, alloc: Global) -> Result<(), NetError> {
-    say(rt, &"# options are handed on by resolvers");
-    show_of_resolver(rt, alloc, other_options(alloc))?;
-    show_of_resolver(rt, alloc, ResolverOpts::default(alloc))
-}
-
 // What the upstream keeps of a client's look-up.
 fn show_of_client(
     rt: &impl Print,
@@ -54,26 +47,25 @@ fn show_of_client(
     Ok(())
 }
 
-fn other_options(alloc: Global) -> ResolverOpts {
+/// The options that resolvers hand on: of other options than the default, and of the default.
+pub fn show_of_resolvers(rt: &impl Print, alloc: Global) -> Result<(), NetError> {
+    say(rt, &"# options are handed on by resolvers");
     let mut options = ResolverOpts::default(alloc);
     options.recursion_desired = false;
     options.edns0 = false;
     options.edns_payload_len = 4096;
     options.case_randomization = true;
-    options
+    show_of_resolver(rt, alloc, options)?;
+    show_of_resolver(rt, alloc, ResolverOpts::default(alloc))
 }
 
 // What the upstream keeps of a resolver's look-up.
 fn show_of_resolver(rt: &impl Print, alloc: Global, options: ResolverOpts) -> Result<(), NetError> {
-    let mut resolver = resolver_with(alloc, options)?;
+    let handle = KeepsOptions { options: None };
+    let builder = Resolver::builder_with_config(ResolverConfig::default(alloc), handle);
+    let mut resolver = builder.with_options(options).build()?;
     drop(resolver.ipv4_lookup("a.", 0));
     say_value(rt, &resolver.client().handle().options);
     drop(resolver);
     Ok(())
-}
-
-fn resolver_with(alloc: Global, options: ResolverOpts) -> Result<Resolver<KeepsOptions>, NetError> {
-    let handle = KeepsOptions { options: None };
-    let builder = Resolver::builder_with_config(ResolverConfig::default(alloc), handle);
-    builder.with_options(options).build()
 }

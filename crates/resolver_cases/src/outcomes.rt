@@ -1,7 +1,7 @@
-//! What tables of outcomes hold.
+//! Names, questions, and what comes back to questions.
 use hickory_proto_core::{
     DnsResponse, Message, Name, NetError, OpCode, Outcome, Query, RData, Record, RecordType,
-    ResponseCode,
+    ResponseCode, read_ip,
 };
 use std::alloc::Global;
 use std::net::Ipv4Addr;
@@ -11,95 +11,78 @@ pub fn name(alloc: Global, text: &str) -> Result<Name, NetError> {
     Ok(Name::from_ascii(alloc, text)?)
 }
 
+/// Names, in order.
+pub fn names(alloc: Global, texts: &[&str]) -> Result<Vec<Name>, NetError> {
+    let mut names = Vec::new(alloc);
+    for text in texts {
+        names.push(name(alloc, text)?)?;
+    }
+    Ok(names)
+}
+
 /// A question for the A records of a name.
 pub fn query_of(alloc: Global, text: &str) -> Result<Query, NetError> {
     Ok(Query::query(name(alloc, text)?, RecordType::A))
 }
 
-fn add(
-    outcomes: &mut Vec<(Query, Outcome)>,
-    query: Query,
-    outcome: Outcome,
-) -> Result<(), NetError> {
-    Ok(outcomes.push((query, outcome))?)
+/// An address of 192.0.2.0/24, by its last part.
+pub fn address(last: u8) -> Ipv4Addr {
+    Ipv4Addr::new(192, 0, 2, last)
 }
 
-/// Adds that there is no answer in time for a name.
-pub fn add_late(
-    alloc: Global,
-    outcomes: &mut Vec<(Query, Outcome)>,
-    name: &str,
-) -> Result<(), NetError> {
-    add(outcomes, query_of(alloc, name)?, Err(NetError::Timeout))
+/// What words say that came back: `OWNER SECONDS TYPE DATA` is a response with that record, where the data is an
+/// address, or the target of an alias; `memory` is out of memory, and `timeout` no response in time.
+pub fn outcome_of(alloc: Global, words: &[&str]) -> Outcome {
+    match words {
+        [owner, seconds, _, data] => {
+            let query = query_of(alloc, owner)?;
+            let data = data_of(alloc, data)?;
+            answer_to(alloc, &query, seconds.parse().unwrap_or(0), data)
+        }
+        ["memory"] => Err(NetError::OutOfMemory),
+        _ => Err(NetError::Timeout),
+    }
 }
 
-/// Adds that a name has an address for twenty seconds, 192.0.2.1 or that with another last part.
-pub fn add_address(
-    alloc: Global,
-    outcomes: &mut Vec<(Query, Outcome)>,
-    name: &str,
-    last: u8,
-) -> Result<(), NetError> {
-    add_answer_of(
-        alloc,
-        outcomes,
-        name,
-        RData::A(Ipv4Addr::new(192, 0, 2, last)),
-    )
+fn data_of(alloc: Global, text: &str) -> Result<RData, NetError> {
+    match read_ip(text) {
+        Some(address) => Ok(RData::from(address)),
+        None => Ok(RData::CNAME(name(alloc, text)?)),
+    }
 }
 
-/// Adds that the answer for a name are these data for twenty seconds.
-pub fn add_answer_of(
-    alloc: Global,
-    outcomes: &mut Vec<(Query, Outcome)>,
-    name: &str,
-    rdata: RData,
-) -> Result<(), NetError> {
-    let query = query_of(alloc, name)?;
-    add(outcomes, query, answer(alloc, name, rdata))
+/// The question for the addresses of a name, and a response to it with these data for twenty seconds.
+pub fn answered(alloc: Global, owner: &str, data: RData) -> Result<(Query, Outcome), NetError> {
+    let query = query_of(alloc, owner)?;
+    let outcome = answer_to(alloc, &query, 20, data);
+    Ok((query, outcome))
 }
 
-fn answer(alloc: Global, owner: &str, rdata: RData) -> Outcome {
-    let added = Record::from_rdata(name(alloc, owner)?, 20, rdata);
-    let mut message = response(alloc, query_of(alloc, owner)?)?;
-    message.add_answer(added)?;
-    Ok(DnsResponse::from_message(message))
-}
-
-// A response to a question, without records.
-fn response(alloc: Global, query: Query) -> Result<Message, NetError> {
+/// A response to a question with one answer of these data, and its TTL in seconds.
+pub fn answer_to(alloc: Global, query: &Query, ttl: u32, data: RData) -> Outcome {
     let mut message = Message::response(alloc, 0, OpCode::Query);
-    message.add_query(query)?;
-    Ok(message)
-}
-
-/// Adds that there is no such name, which may be kept for forty seconds.
-pub fn add_no_name(
-    alloc: Global,
-    outcomes: &mut Vec<(Query, Outcome)>,
-    query: Query,
-) -> Result<(), NetError> {
-    let question = query.clone()?;
-    add(outcomes, query, no_name(alloc, question))
-}
-
-fn no_name(alloc: Global, query: Query) -> Outcome {
-    let mut message = response(alloc, query)?;
-    message.metadata.response_code = ResponseCode::NXDomain;
-    message.add_authority(soa(alloc)?)?;
+    fill(&mut message, query, ttl, data)?;
     Ok(DnsResponse::from_message(message))
 }
 
-fn soa(alloc: Global) -> Result<Record, NetError> {
-    let mname = name(alloc, "m.")?;
-    Ok(soa_of(alloc, mname, name(alloc, "r.")?, 50, 40))
+fn fill(message: &mut Message, query: &Query, ttl: u32, data: RData) -> Result<(), NetError> {
+    message.add_query(query.clone()?)?;
+    message.add_answer(Record::from_rdata(query.name.clone()?, ttl, data))
 }
 
-/// The SOA record of the root, with these names, this TTL and this minimum (seconds).
-pub fn soa_of(alloc: Global, mname: Name, rname: Name, ttl: u32, minimum: u32) -> Record {
+/// A response that there is no such name, with an SOA record of this TTL and this minimum (seconds).
+pub fn no_name(alloc: Global, query: &Query, ttl: u32, minimum: u32) -> Outcome {
+    let mut message = Message::response(alloc, 0, OpCode::Query);
+    message.metadata.response_code = ResponseCode::NXDomain;
+    message.add_query(query.clone()?)?;
+    message.add_authority(soa(alloc, ttl, minimum))?;
+    Ok(DnsResponse::from_message(message))
+}
+
+fn soa(alloc: Global, ttl: u32, minimum: u32) -> Record {
     let rdata = RData::SOA {
-        mname,
-        rname,
+        mname: Name::root(alloc),
+        rname: Name::root(alloc),
         serial: 1,
         refresh: 2,
         retry: 3,

@@ -1,6 +1,9 @@
-//! Clients and resolvers over tables of outcomes, and tables of hosts.
-use hickory_proto_core::{NetError, Outcome, Query, Recorded, TableHandle};
-use hickory_resolver::{CachingClient, Hosts, Resolver, ResolverBuilder, ResolverConfig};
+//! Clients and resolvers over tables of outcomes, tables of hosts, and the question that clients are asked.
+use crate::outcomes::query_of;
+use hickory_proto_core::{
+    DnsHandle, DnsRequestOptions, NetError, Outcome, Query, Recorded, TableHandle,
+};
+use hickory_resolver::{CachingClient, Hosts, Lookup, Resolver, ResolverBuilder, ResolverConfig};
 use std::alloc::Global;
 
 /// An upstream that is a table and records what it is asked.
@@ -14,6 +17,17 @@ pub fn client_over(
 ) -> Result<CachingClient<Upstream>, NetError> {
     let upstream = Recorded::new(alloc, TableHandle::new(outcomes)?);
     Ok(CachingClient::new(alloc, 8, upstream, false))
+}
+
+/// What a client answers for the addresses of a name at a moment (seconds).
+pub fn ask<H: DnsHandle>(
+    alloc: Global,
+    client: &mut CachingClient<H>,
+    name: &str,
+    now: u64,
+) -> Result<Lookup, NetError> {
+    let query = query_of(alloc, name)?;
+    client.lookup(query, DnsRequestOptions::default(), now)
 }
 
 /// A builder where nothing is set, over an upstream without outcomes.

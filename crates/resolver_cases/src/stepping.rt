@@ -6,20 +6,12 @@
 //! - `NUMBER gets OUTCOME`, the look-up is handed what came back to its question;
 //! - `NUMBER dropped`, it is let go;
 //! - `clear`, the cache is emptied.
-use crate::outcomes::{name, outcome_of};
-use crate::shown::{say, show_question, show_result};
-use hickory_proto_core::{NetError, Outcome, Query, RecordType, ScriptHandle};
+use crate::outcomes::{outcome_of, query_of};
+use crate::shown::{say, say_of, show_result};
+use hickory_proto_core::{NetError, Outcome, ScriptHandle};
 use hickory_resolver::{CachingClient, Progress, Waiting};
 use std::alloc::Global;
 use std::collections::BTreeMap;
-
-/// A client whose own handle is never asked, and its look-ups that wait.
-#[derive(Drop)]
-struct Session {
-    alloc: Global,
-    client: CachingClient<ScriptHandle>,
-    waiting: BTreeMap<u8, Waiting>,
-}
 
 /// Takes the steps in order, and shows what each comes to.
 pub fn show_steps(rt: &impl Print, alloc: Global, steps: &str) -> Result<(), NetError> {
@@ -40,32 +32,33 @@ fn take_line(rt: &impl Print, session: &mut Session, line: &str) -> Result<(), N
     let words: Vec<&str> = line.split_whitespace().collect(session.alloc)?;
     match words.as_slice() {
         ["#", ..] => say(rt, &line),
-        ["room", room] => session.renew(room.parse().unwrap_or(0)),
-        ["clear"] => session.clear(rt),
+        ["room", room] => *session = Session::new(session.alloc, room.parse().unwrap_or(0)),
+        ["clear"] => {
+            session.client.clear_cache();
+            say(rt, &"cleared");
+        }
         [number, words @ ..] => session.take(rt, line, number.parse().unwrap_or(0), words)?,
         [] => {}
     }
     Ok(())
 }
 
+// A client whose own handle is never asked, and its look-ups that wait.
+#[derive(Drop)]
+struct Session {
+    alloc: Global,
+    client: CachingClient<ScriptHandle>,
+    waiting: BTreeMap<u8, Waiting>,
+}
+
 impl Session {
     fn new(alloc: Global, room: u64) -> Session {
+        let handle = ScriptHandle::new(Vec::new(alloc));
         Session {
             alloc,
-            client: client_with(alloc, room),
+            client: CachingClient::new(alloc, room, handle, false),
             waiting: BTreeMap::new(alloc),
         }
-    }
-
-    // A new client in place of this one.
-    fn renew(&mut self, room: u64) {
-        self.client = client_with(self.alloc, room);
-        self.waiting.clear();
-    }
-
-    fn clear(&mut self, rt: &impl Print) {
-        self.client.clear_cache();
-        say(rt, &"cleared");
     }
 
     // Takes a step of the look-up of this number.
@@ -79,17 +72,17 @@ impl Session {
         match words {
             ["at", now, name] => {
                 say(rt, &line);
-                self.start(rt, number, name, now.parse().unwrap_or(0))
+                let query = query_of(self.alloc, name)?;
+                let progress = self.client.start(query, now.parse().unwrap_or(0));
+                self.show(rt, number, progress)
             }
             ["gets", outcome @ ..] => self.resume(rt, number, outcome_of(self.alloc, outcome)),
-            _ => self.let_go(rt, number),
+            _ => {
+                drop(self.waiting.remove(&number));
+                let _ = println!(rt; "{number} is dropped");
+                Ok(())
+            }
         }
-    }
-
-    fn start(&mut self, rt: &impl Print, number: u8, text: &str, now: u64) -> Result<(), NetError> {
-        let query = Query::query(name(self.alloc, text)?, RecordType::A);
-        let progress = self.client.start(query, now);
-        self.show(rt, number, progress)
     }
 
     fn resume(&mut self, rt: &impl Print, number: u8, outcome: Outcome) -> Result<(), NetError> {
@@ -100,23 +93,23 @@ impl Session {
             }
             None => {
                 drop(outcome);
-                show_other(rt, number, "does not wait");
+                let _ = println!(rt; "{number} does not wait");
                 Ok(())
             }
         }
     }
 
-    fn let_go(&mut self, rt: &impl Print, number: u8) -> Result<(), NetError> {
-        drop(self.waiting.remove(&number));
-        show_other(rt, number, "is dropped");
-        Ok(())
-    }
-
     // Shows how far a look-up came, and keeps it where it waits.
     fn show(&mut self, rt: &impl Print, number: u8, progress: Progress) -> Result<(), NetError> {
-        show_number(rt, number);
+        let _ = rt.print(format_args!("{number} "));
         match progress {
-            Progress::Waiting(waiting) => self.keep(rt, number, waiting),
+            Progress::Waiting(waiting) => {
+                say_of(rt, "asks ", waiting.question());
+                match self.waiting.insert(number, waiting) {
+                    Ok(_) => Ok(()),
+                    Err(_) => Err(NetError::OutOfMemory),
+                }
+            }
             Progress::Done(looked_up) => {
                 show_result(rt, &looked_up);
                 drop(looked_up);
@@ -124,25 +117,4 @@ impl Session {
             }
         }
     }
-
-    fn keep(&mut self, rt: &impl Print, number: u8, waiting: Waiting) -> Result<(), NetError> {
-        show_question(rt, waiting.question());
-        match self.waiting.insert(number, waiting) {
-            Ok(_) => Ok(()),
-            Err(_) => Err(NetError::OutOfMemory),
-        }
-    }
-}
-
-fn show_number(rt: &impl Print, number: u8) {
-    let _ = rt.print(number);
-    let _ = rt.print(" ");
-}
-
-fn show_other(rt: &impl Print, number: u8, what: &str) {
-    let _ = println!(rt; "{number} {what}");
-}
-
-fn client_with(alloc: Global, room: u64) -> CachingClient<ScriptHandle> {
-    CachingClient::new(alloc, room, ScriptHandle::new(Vec::new(alloc)), false)
 }
