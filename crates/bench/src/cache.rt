@@ -2,9 +2,10 @@
 ghost use Rattle.std.specs.Prelude.{◌<◌};
 
 use crate::measure::{Stopwatch, Subject};
-use crate::rows::{SIZES, print_row};
-use crate::samples::{BATCH, BATCHES, DAY, OPERATIONS, Visits, answer, question};
-use hickory_proto_core::{Message, NetError, Query};
+use crate::rows::{SIZES, print_rows};
+use crate::samples::{BATCH, BATCHES, DAY, OPERATIONS, answer, question};
+use crate::visits::{Visiting, Visitor, Visits};
+use hickory_proto_core::NetError;
 use hickory_resolver_cache::ResponseCache;
 use hickory_resolver_lookup::TtlConfig;
 use std::alloc::Global;
@@ -14,22 +15,14 @@ use std::rt::Clock;
 // of what leaves goes to the answers that come in next, and the C library has a few pieces of each size at hand.
 const FEW: u64 = 2;
 
-// Nanoseconds an operation at one size.
-#[derive(Clone, Copy)]
-struct CacheFigures {
-    hit: u64,
-    miss: u64,
-    clamped: u64,
-    clear_query: u64,
-    store: StoreFigures,
-}
-
-// Nanoseconds of a store with eviction, of answers that come in one after another or by the hundred.
-#[derive(Clone, Copy)]
-struct StoreFigures {
-    in_turn: u64,
-    by_hundreds: u64,
-}
+const OPERATIONS_OF_CACHE: [&str; 6] = [
+    "hit",
+    "miss",
+    "store with eviction",
+    "the same, by the hundred",
+    "clamped store",
+    "clear_query",
+];
 
 /// Times the cache at each size, and prints a row for each operation.
 pub fn print_times<R: Clock + Print>(
@@ -37,105 +30,53 @@ pub fn print_times<R: Clock + Print>(
     alloc: Global,
     watch: &mut Stopwatch<'_, R>,
 ) -> anyhow::Result<()> {
-    let a = cache_figures(alloc, watch, SIZES[0])?;
-    let b = cache_figures(alloc, watch, SIZES[1])?;
-    let c = cache_figures(alloc, watch, SIZES[2])?;
-    print_row(rt, "hit", [a.hit, b.hit, c.hit])?;
-    print_row(rt, "miss", [a.miss, b.miss, c.miss])?;
-    let (x, y, z) = (a.store, b.store, c.store);
-    print_row(rt, "store with eviction", [x.in_turn, y.in_turn, z.in_turn])?;
-    let by_hundreds = [x.by_hundreds, y.by_hundreds, z.by_hundreds];
-    print_row(rt, "the same, by the hundred", by_hundreds)?;
-    print_row(rt, "clamped store", [a.clamped, b.clamped, c.clamped])?;
-    let clear_query = [a.clear_query, b.clear_query, c.clear_query];
-    print_row(rt, "clear_query", clear_query)?;
+    let first = figures(alloc, watch, SIZES[0])?;
+    let middle = figures(alloc, watch, SIZES[1])?;
+    let last = figures(alloc, watch, SIZES[2])?;
+    print_rows(rt, OPERATIONS_OF_CACHE, [first, middle, last])?;
     Ok(())
 }
 
-fn cache_figures<R: Clock>(
+// Nanoseconds of each operation at one size, over a cache that is full with an answer for each of the first hosts.
+fn figures<R: Clock>(
     alloc: Global,
     watch: &mut Stopwatch<'_, R>,
     size: u64,
-) -> anyhow::Result<CacheFigures>
+) -> anyhow::Result<[u64; 6]>
     requires { 0 < size }
 {
-    let mut cache = filled(alloc, size)?;
+    let mut cache = ResponseCache::new(alloc, size, TtlConfig::default(alloc));
+    fill(alloc, &mut cache, size)?;
     figures_of(alloc, watch, &mut cache, size)
 }
 
-// The figures of a cache that is full.
+fn fill(alloc: Global, cache: &mut ResponseCache, size: u64) -> Result<(), NetError> {
+    for number in 0..size {
+        let query = question(alloc, number)?;
+        let message = answer(alloc, &query, number)?;
+        cache.insert(query, Ok(message), 0)?;
+    }
+    Ok(())
+}
+
 fn figures_of<R: Clock>(
     alloc: Global,
     watch: &mut Stopwatch<'_, R>,
     cache: &mut ResponseCache,
     size: u64,
-) -> anyhow::Result<CacheFigures>
+) -> anyhow::Result<[u64; 6]>
     requires { 0 < size }
 {
-    Ok(CacheFigures {
-        hit: time_gets(watch, cache, Visits::new(alloc, 0, size, BATCH))?,
-        miss: time_gets(watch, cache, Visits::new(alloc, size, size, BATCH))?,
-        clamped: time_clamped(watch, cache, Visits::new(alloc, 0, size, BATCH))?,
-        clear_query: time_clears(watch, cache, Visits::new(alloc, 0, size, BATCH))?,
-        store: time_evictions(alloc, watch, cache, size)?,
-    })
-}
-
-// A cache that is full, with an answer for each of the first hosts.
-fn filled(alloc: Global, size: u64) -> Result<ResponseCache, NetError> {
-    let mut cache = ResponseCache::new(alloc, size, TtlConfig::default(alloc));
-    match fill(alloc, &mut cache, size) {
-        Ok(()) => Ok(cache),
-        Err(error) => {
-            drop(cache);
-            Err(error)
-        }
-    }
-}
-
-fn fill(alloc: Global, cache: &mut ResponseCache, size: u64) -> Result<(), NetError> {
-    for number in 0..size {
-        store(alloc, cache, number)?;
-    }
-    Ok(())
-}
-
-// Stores an answer for a host.
-fn store(alloc: Global, cache: &mut ResponseCache, number: u64) -> Result<(), NetError> {
-    let query = question(alloc, number)?;
-    let message = answer(alloc, &query, number)?;
-    cache.insert(query, Ok(message), 0)?;
-    Ok(())
-}
-
-// Look-ups, a second after all was stored.
-#[derive(Drop)]
-struct Gets<'a> {
-    cache: &'a ResponseCache,
-    visits: Visits,
-}
-
-impl Subject for Gets<'_> {
-    fn prepare(&mut self) -> Result<(), NetError> {
-        self.visits.refill()
-    }
-
-    fn run(&mut self) -> Result<u64, NetError> {
-        let mut found: u64 = 0;
-        for query in &self.visits.asked {
-            found = found.wrapping_add(answers_of(self.cache.get(query, 1))?);
-        }
-        Ok(found)
-    }
-}
-
-// How many answers a hit has.
-fn answers_of(hit: Option<Result<Message, NetError>>) -> Result<u64, NetError> {
-    match hit {
-        Some(Ok(message)) => Ok(message.answers.len() as u64),
-        Some(Err(error)) => Err(error),
-        None => Ok(0),
-    }
+    let hit = time_gets(watch, cache, Visits::new(alloc, 0, size, BATCH))?;
+    let miss = time_gets(watch, cache, Visits::new(alloc, size, size, BATCH))?;
+    let clamped = &mut Visiting {
+        visits: Visits::new(alloc, 0, size, BATCH),
+        visitor: Clamped { cache },
+    };
+    let clamped = watch.best(clamped, BATCHES, OPERATIONS)?;
+    let clear_query = time_clears(watch, cache, Visits::new(alloc, 0, size, BATCH))?;
+    let [in_turn, by_hundreds] = time_evictions(alloc, watch, cache, size)?;
+    Ok([hit, miss, in_turn, by_hundreds, clamped, clear_query])
 }
 
 fn time_gets<R: Clock>(
@@ -143,46 +84,47 @@ fn time_gets<R: Clock>(
     cache: &ResponseCache,
     visits: Visits,
 ) -> anyhow::Result<u64> {
-    watch.best(&mut Gets { cache, visits }, BATCHES, OPERATIONS)
+    let visitor = Gets { cache };
+    watch.best(&mut Visiting { visits, visitor }, BATCHES, OPERATIONS)
+}
+
+// Look-ups, a second after all was stored.
+#[derive(Drop)]
+struct Gets<'a> {
+    cache: &'a ResponseCache,
+}
+
+impl Visitor for Gets<'_> {
+    const ANSWERED: bool = false;
+
+    fn visit(&mut self, visits: &mut Visits) -> Result<u64, NetError> {
+        let mut found: u64 = 0;
+        for query in &visits.asked {
+            if let Some(hit) = self.cache.get(query, 1) {
+                found = found.wrapping_add(hit?.answers.len() as u64);
+            }
+        }
+        Ok(found)
+    }
 }
 
 // Stores over entries that are current.
 #[derive(Drop)]
 struct Clamped<'a> {
     cache: &'a mut ResponseCache,
-    visits: Visits,
-    answers: Vec<(Query, Message)>,
 }
 
-impl Subject for Clamped<'_> {
-    fn prepare(&mut self) -> Result<(), NetError> {
-        self.visits.refill()?;
-        self.answers = self.visits.answers()?;
-        Ok(())
-    }
+impl Visitor for Clamped<'_> {
+    const ANSWERED: bool = true;
 
-    fn run(&mut self) -> Result<u64, NetError> {
+    fn visit(&mut self, visits: &mut Visits) -> Result<u64, NetError> {
         for _ in 0..BATCH {
-            if let Some((query, message)) = self.answers.pop() {
+            if let Some((query, message)) = visits.answers.pop() {
                 self.cache.upsert_clamped_ttl(query, Ok(message), 0, true)?;
             }
         }
         Ok(self.cache.len() as u64)
     }
-}
-
-fn time_clamped<R: Clock>(
-    watch: &mut Stopwatch<'_, R>,
-    cache: &mut ResponseCache,
-    visits: Visits,
-) -> anyhow::Result<u64> {
-    let answers = Vec::new(cache.allocator());
-    let mut clamped = Clamped {
-        cache,
-        visits,
-        answers,
-    };
-    watch.best(&mut clamped, BATCHES, OPERATIONS)
 }
 
 // Entries that are cleared, and stored again before the next batch.
@@ -192,30 +134,14 @@ struct Clears<'a> {
     visits: Visits,
 }
 
-impl Clears<'_> {
-    fn store_again(&mut self) -> Result<(), NetError> {
-        let mut answers = self.visits.answers()?;
-        let stored = store_each(self.cache, &mut answers);
-        drop(answers);
-        stored
-    }
-}
-
-fn store_each(
-    cache: &mut ResponseCache,
-    answers: &mut Vec<(Query, Message)>,
-) -> Result<(), NetError> {
-    for _ in 0..BATCH {
-        if let Some((query, message)) = answers.pop() {
-            cache.insert(query, Ok(message), 0)?;
-        }
-    }
-    Ok(())
-}
-
 impl Subject for Clears<'_> {
     fn prepare(&mut self) -> Result<(), NetError> {
-        self.store_again()?;
+        self.visits.answer()?;
+        for _ in 0..BATCH {
+            if let Some((query, message)) = self.visits.answers.pop() {
+                self.cache.insert(query, Ok(message), 0)?;
+            }
+        }
         self.visits.refill()
     }
 
@@ -236,7 +162,7 @@ fn time_clears<R: Clock>(
 ) -> anyhow::Result<u64> {
     let mut clears = Clears { cache, visits };
     let best = watch.best(&mut clears, BATCHES, OPERATIONS)?;
-    clears.store_again()?;
+    clears.prepare()?;
     Ok(best)
 }
 
@@ -245,23 +171,17 @@ fn time_clears<R: Clock>(
 #[derive(Drop)]
 struct Evictions<'a> {
     cache: &'a mut ResponseCache,
-    visits: Visits,
-    answers: Vec<(Query, Message)>,
     size: u64,
     stored: u64,
     ghost some: { 0 < size },
 }
 
-impl Subject for Evictions<'_> {
-    fn prepare(&mut self) -> Result<(), NetError> {
-        self.visits.refill()?;
-        self.answers = self.visits.answers()?;
-        Ok(())
-    }
+impl Visitor for Evictions<'_> {
+    const ANSWERED: bool = true;
 
-    fn run(&mut self) -> Result<u64, NetError> {
-        for _ in 0..self.visits.batch {
-            if let Some((query, message)) = self.answers.pop() {
+    fn visit(&mut self, visits: &mut Visits) -> Result<u64, NetError> {
+        for _ in 0..visits.batch {
+            if let Some((query, message)) = visits.answers.pop() {
                 let now = self.stored.wrapping_mul(DAY) / self.size;
                 self.cache.insert(query, Ok(message), now)?;
                 self.stored = self.stored.wrapping_add(1);
@@ -271,26 +191,26 @@ impl Subject for Evictions<'_> {
     }
 }
 
+// Of answers that come in one after another, and by the hundred.
 fn time_evictions<R: Clock>(
     alloc: Global,
     watch: &mut Stopwatch<'_, R>,
     cache: &mut ResponseCache,
     size: u64,
-) -> anyhow::Result<StoreFigures>
+) -> anyhow::Result<[u64; 2]>
     requires { 0 < size }
 {
-    let mut evictions = Evictions {
-        cache,
+    let stored = 0;
+    let mut evictions = Visiting {
         visits: Visits::new(alloc, size, u64::MAX, FEW),
-        answers: Vec::new(alloc),
-        size,
-        stored: 0,
+        visitor: Evictions {
+            cache,
+            size,
+            stored,
+        },
     };
     let in_turn = watch.best(&mut evictions, OPERATIONS / FEW, OPERATIONS)?;
     evictions.visits.batch = BATCH;
     let by_hundreds = watch.best(&mut evictions, BATCHES, OPERATIONS)?;
-    Ok(StoreFigures {
-        in_turn,
-        by_hundreds,
-    })
+    Ok([in_turn, by_hundreds])
 }

@@ -1,80 +1,166 @@
-//! Look-ups of a client: a chain of aliases, and a long response. Beside each, what its upstream takes alone.
+//! Look-ups of a client: hits, a question, a chain of aliases, and a long response. Beside each, what its upstream takes
+//! alone, or the same where the caller sends each question.
 ghost use Rattle.std.specs.Prelude.{◌<◌};
 
 use crate::measure::{Stopwatch, Subject};
-use crate::samples::{address, host, question, response};
-use hickory_proto_core::dns_handle::Outcome;
+use crate::samples::{address, host, list, question, response};
 use hickory_proto_core::{
-    DnsHandle, DnsRequest, DnsRequestOptions, DnsResponse, NetError, Query, RData, TableHandle,
+    DnsHandle, DnsRequest, DnsRequestOptions, DnsResponse, NetError, Outcome, Query, RData,
+    TableHandle,
 };
-use hickory_resolver::CachingClient;
+use hickory_resolver::{CachingClient, Lookup, Progress};
 use std::alloc::Global;
 use std::rt::Clock;
 
-// How many look-ups a round has.
-const LOOKUPS: u64 = 2_000;
+// How many batches a round has.
+const BATCHES: u64 = 2_000;
 
-/// Times look-ups over an empty cache, and prints a row for each.
+// How many look-ups a batch of hits has.
+const HITS: u32 = 100;
+
+/// Times look-ups, and prints a row for each.
 pub fn print_times<R: Clock + Print>(
     alloc: Global,
     watch: &mut Stopwatch<'_, R>,
 ) -> anyhow::Result<()> {
-    print_look_ups(alloc, watch, "look-up by three aliases", 3, 1)?;
-    print_sends(alloc, watch, "bare: its four responses", 3, 1)?;
-    print_look_ups(alloc, watch, "look-up of 1,000 answers, a record", 0, 1_000)?;
-    print_sends(alloc, watch, "bare: its response, a record", 0, 1_000)
+    let rows = ["look-up by three aliases", "bare: its four responses"];
+    print_sent(alloc, watch, rows, 3, 1)?;
+    let rows = [
+        "look-up of 1,000 answers, a record",
+        "bare: its response, a record",
+    ];
+    print_sent(alloc, watch, rows, 0, 1_000)?;
+    let rows = ["a look-up that is a hit", "the same, by `start`"];
+    print_fed(alloc, watch, rows, 0, HITS)?;
+    let rows = ["a look-up of one question", "the same, by `resume`"];
+    print_fed(alloc, watch, rows, 0, 1)?;
+    let rows = ["by three aliases", "the same, by `resume`"];
+    print_fed(alloc, watch, rows, 3, 1)
 }
 
-// The figure is for an address.
-fn print_look_ups<R: Clock + Print>(
+// A look-up that sends its questions, and its responses alone. The figures are for an address.
+fn print_sent<R: Clock + Print>(
     alloc: Global,
     watch: &mut Stopwatch<'_, R>,
-    what: &str,
+    rows: [&str; 2],
     aliases: u64,
     addresses: u32,
 ) -> anyhow::Result<()>
     requires { 0 < addresses }
 {
-    let first = question(alloc, 0)?;
+    let [look_up, bare] = rows;
+    let operations = BATCHES * u64::from(addresses);
+    let mut subject = look_ups_of(alloc, aliases, addresses, 1)?;
+    watch.print_best(look_up, &mut subject, BATCHES, operations)?;
+    drop(subject);
+    let requests = list(alloc, aliases.saturating_add(1), request)?;
     let handle = handle_of(alloc, aliases, addresses)?;
-    let client = CachingClient::new(alloc, 100, handle, true);
-    let operations = LOOKUPS * u64::from(addresses);
-    watch.print_best(what, &mut LookUps { client, first }, LOOKUPS, operations)
+    watch.print_best(bare, &mut Sends { handle, requests }, BATCHES, operations)
 }
 
-fn print_sends<R: Clock + Print>(
+// So many look-ups a batch in both ways.
+fn print_fed<R: Clock + Print>(
     alloc: Global,
     watch: &mut Stopwatch<'_, R>,
-    what: &str,
+    rows: [&str; 2],
     aliases: u64,
-    addresses: u32,
+    lookups: u32,
 ) -> anyhow::Result<()>
-    requires { 0 < addresses }
+    requires { 0 < lookups }
 {
-    let requests = requests(alloc, aliases)?;
-    let handle = handle_of(alloc, aliases, addresses)?;
-    let operations = LOOKUPS * u64::from(addresses);
-    watch.print_best(what, &mut Sends { handle, requests }, LOOKUPS, operations)
+    let [look_up, fed] = rows;
+    let operations = BATCHES * u64::from(lookups);
+    let mut subject = look_ups_of(alloc, aliases, 1, lookups)?;
+    watch.print_best(look_up, &mut subject, BATCHES, operations)?;
+    let upstream = handle_of(alloc, aliases, 1)?;
+    watch.print_best(fed, &mut Fed { subject, upstream }, BATCHES, operations)
 }
 
-// Look-ups of the first host, each over an empty cache.
+// Look-ups of the first host. More than one a batch are hits: a batch of one begins with an empty cache.
 #[derive(Drop)]
 struct LookUps {
     client: CachingClient<TableHandle>,
     first: Query,
+    lookups: u32,
+}
+
+fn look_ups_of(
+    alloc: Global,
+    aliases: u64,
+    addresses: u32,
+    lookups: u32,
+) -> Result<LookUps, NetError> {
+    let first = question(alloc, 0)?;
+    let handle = handle_of(alloc, aliases, addresses)?;
+    let client = CachingClient::new(alloc, 100, handle, true);
+    Ok(LookUps {
+        client,
+        first,
+        lookups,
+    })
 }
 
 impl Subject for LookUps {
     fn prepare(&mut self) -> Result<(), NetError> {
-        self.client.clear_cache();
+        if self.lookups == 1 {
+            self.client.clear_cache();
+        }
         Ok(())
     }
 
     fn run(&mut self) -> Result<u64, NetError> {
-        let query = self.first.clone()?;
-        let lookup = self.client.lookup(query, DnsRequestOptions::default(), 0)?;
-        Ok(lookup.answers().len() as u64)
+        let mut answers: u64 = 0;
+        for _ in 0..self.lookups {
+            let query = self.first.clone()?;
+            let found = self.client.lookup(query, DnsRequestOptions::default(), 0)?;
+            answers = answers.wrapping_add(found.answers().len() as u64);
+        }
+        Ok(answers)
     }
+}
+
+// The same look-ups, whose questions are sent to an upstream beside the client.
+#[derive(Drop)]
+struct Fed {
+    subject: LookUps,
+    upstream: TableHandle,
+}
+
+impl Subject for Fed {
+    fn prepare(&mut self) -> Result<(), NetError> {
+        self.subject.prepare()
+    }
+
+    fn run(&mut self) -> Result<u64, NetError> {
+        let mut answers: u64 = 0;
+        for _ in 0..self.subject.lookups {
+            let query = self.subject.first.clone()?;
+            let found = look_up(&mut self.subject.client, &mut self.upstream, query)?;
+            answers = answers.wrapping_add(found.answers().len() as u64);
+        }
+        Ok(answers)
+    }
+}
+
+fn look_up(
+    client: &mut CachingClient<TableHandle>,
+    upstream: &mut TableHandle,
+    query: Query,
+) -> Result<Lookup, NetError> {
+    let mut progress = client.start(query, 0);
+    for _ in 0..8 {
+        match progress {
+            Progress::Waiting(waiting) => {
+                let request = DnsRequest {
+                    query: waiting.question().clone()?,
+                    options: DnsRequestOptions::default(),
+                };
+                progress = client.resume(waiting, upstream.send(&request));
+            }
+            Progress::Done(found) => return found,
+        }
+    }
+    Err(NetError::NoOutcome)
 }
 
 // The same responses, with no client.
@@ -88,78 +174,29 @@ impl Subject for Sends {
     fn run(&mut self) -> Result<u64, NetError> {
         let mut answers: u64 = 0;
         for request in &self.requests {
-            answers = answers.wrapping_add(answers_of(self.handle.send(request))?);
+            let response = self.handle.send(request)?;
+            answers = answers.wrapping_add(response.message().answers.len() as u64);
         }
         Ok(answers)
     }
 }
 
-// How many answers a response has.
-fn answers_of(response: Result<DnsResponse, NetError>) -> Result<u64, NetError> {
-    match response {
-        Ok(response) => Ok(response.message().answers.len() as u64),
-        Err(error) => Err(error),
-    }
+// Asks a host.
+fn request(alloc: Global, number: u64) -> Result<DnsRequest, NetError> {
+    let (query, options) = (question(alloc, number)?, DnsRequestOptions::default());
+    Ok(DnsRequest { query, options })
 }
 
-// Asks each host.
-fn requests(alloc: Global, aliases: u64) -> Result<Vec<DnsRequest>, NetError> {
-    let mut requests = Vec::new(alloc);
-    match add_requests(alloc, &mut requests, aliases) {
-        Ok(()) => Ok(requests),
-        Err(error) => {
-            drop(requests);
-            Err(error)
-        }
-    }
-}
-
-fn add_requests(
-    alloc: Global,
-    requests: &mut Vec<DnsRequest>,
-    aliases: u64,
-) -> Result<(), NetError> {
-    for number in 0..=aliases {
-        requests.push(DnsRequest {
-            query: question(alloc, number)?,
-            options: DnsRequestOptions::default(),
-        })?;
-    }
-    Ok(())
-}
-
-/// Each host but the last is an alias of the next, and the last has so many addresses.
-pub fn handle_of(alloc: Global, aliases: u64, addresses: u32) -> Result<TableHandle, NetError> {
-    let mut outcomes = Vec::new(alloc);
-    match add_outcomes(alloc, &mut outcomes, aliases, addresses) {
-        Ok(()) => TableHandle::new(outcomes),
-        Err(error) => {
-            drop(outcomes);
-            Err(error)
-        }
-    }
-}
-
-fn add_outcomes(
-    alloc: Global,
-    outcomes: &mut Vec<(Query, Outcome)>,
-    aliases: u64,
-    addresses: u32,
-) -> Result<(), NetError> {
-    for number in 0..aliases {
-        outcomes.push(alias(alloc, number)?)?;
-    }
-    outcomes.push(last(alloc, aliases, addresses)?)?;
-    Ok(())
+// Each host but the last is an alias of the next, and the last has so many addresses.
+fn handle_of(alloc: Global, aliases: u64, addresses: u32) -> Result<TableHandle, NetError> {
+    let mut outcomes = list(alloc, aliases, alias)?;
+    outcomes.push(outcome(alloc, aliases, &address(), addresses)?)?;
+    TableHandle::new(outcomes)
 }
 
 fn alias(alloc: Global, number: u64) -> Result<(Query, Outcome), NetError> {
     let target = RData::CNAME(host(alloc, number.wrapping_add(1))?);
     outcome(alloc, number, &target, 1)
-}
-
-fn last(alloc: Global, number: u64, addresses: u32) -> Result<(Query, Outcome), NetError> {
-    outcome(alloc, number, &address(), addresses)
 }
 
 // A host's question, and a response to it with so many answers of these data.

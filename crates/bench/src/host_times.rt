@@ -4,7 +4,7 @@ ghost use Rattle.std.specs.Prelude.{◌<◌, ◌^◌};
 use crate::measure::{Stopwatch, Subject};
 use crate::samples::{BATCH, BATCHES, OPERATIONS, host, host_text, place};
 use hickory_proto_core::{Name, NetError, Query, RecordType};
-use hickory_resolver::{Hosts, Lookup};
+use hickory_resolver::Hosts;
 use std::alloc::Global;
 use std::net::Ipv4Addr;
 use std::rt::Clock;
@@ -20,7 +20,17 @@ pub fn print_times<R: Clock + Print>(
     print_read(alloc, watch, "read 1 address a name, a line", 1)?;
     print_read(alloc, watch, "read 1,000 addresses a name, a line", 1_000)?;
     print_read(alloc, watch, "read 10,000 addresses a name, a line", 10_000)?;
-    print_look_ups(alloc, watch)
+    let mut reads = Reads::new(alloc, 1)?;
+    reads.run()?;
+    let mut look_ups = LookUps {
+        reads,
+        record_type: RecordType::A,
+        asked: Vec::new(alloc),
+        next: 0,
+    };
+    watch.print_best("static look-up of A", &mut look_ups, BATCHES, OPERATIONS)?;
+    look_ups.record_type = RecordType::PTR;
+    watch.print_best("static look-up of PTR", &mut look_ups, BATCHES, OPERATIONS)
 }
 
 fn print_read<R: Clock + Print>(
@@ -33,16 +43,6 @@ fn print_read<R: Clock + Print>(
 {
     let mut reads = Reads::new(alloc, addresses)?;
     watch.print_best(what, &mut reads, 1, LINES)
-}
-
-fn print_look_ups<R: Clock + Print>(
-    alloc: Global,
-    watch: &mut Stopwatch<'_, R>,
-) -> anyhow::Result<()> {
-    let mut look_ups = LookUps::new(alloc)?;
-    watch.print_best("static look-up of A", &mut look_ups, BATCHES, OPERATIONS)?;
-    look_ups.record_type = RecordType::PTR;
-    watch.print_best("static look-up of PTR", &mut look_ups, BATCHES, OPERATIONS)
 }
 
 // A file that is read into an empty table.
@@ -94,19 +94,6 @@ struct LookUps {
     next: u64,
 }
 
-impl LookUps {
-    fn new(alloc: Global) -> anyhow::Result<LookUps> {
-        let mut reads = Reads::new(alloc, 1)?;
-        reads.run()?;
-        Ok(LookUps {
-            reads,
-            record_type: RecordType::A,
-            asked: Vec::new(alloc),
-            next: 0,
-        })
-    }
-}
-
 impl Subject for LookUps {
     fn prepare(&mut self) -> Result<(), NetError> {
         self.asked.clear();
@@ -122,19 +109,11 @@ impl Subject for LookUps {
     fn run(&mut self) -> Result<u64, NetError> {
         let mut found: u64 = 0;
         for query in &self.asked {
-            let reply = self.reads.hosts.lookup_static_host(query, 1);
-            found = found.wrapping_add(answers_of(reply)?);
+            if let Some(lookup) = self.reads.hosts.lookup_static_host(query, 1)? {
+                found = found.wrapping_add(lookup.answers().len() as u64);
+            }
         }
         Ok(found)
-    }
-}
-
-// How many answers a table gives.
-fn answers_of(reply: Result<Option<Lookup>, NetError>) -> Result<u64, NetError> {
-    match reply {
-        Ok(Some(lookup)) => Ok(lookup.answers().len() as u64),
-        Ok(None) => Ok(0),
-        Err(error) => Err(error),
     }
 }
 

@@ -1,11 +1,11 @@
 //! What a stranger can make long: a search list, and a negative answer of many name servers.
 use crate::measure::{Stopwatch, Subject};
-use crate::samples::{address, host, question};
+use crate::samples::{address, host, list, question};
 use hickory_proto_core::{
     DnsRequestOptions, DnsResponse, Message, Name, NetError, OpCode, Query, RData, Record,
     TableHandle,
 };
-use hickory_resolver::{CachingClient, attempts};
+use hickory_resolver::{CachingClient, Lookup, attempts};
 use std::alloc::Global;
 use std::rt::Clock;
 
@@ -23,7 +23,7 @@ pub fn print_times<R: Clock + Print>(
 ) -> anyhow::Result<()> {
     let searches = &mut Searches {
         alloc,
-        domains: domains(alloc)?,
+        domains: list(alloc, LENGTH, host)?,
     };
     watch.print_best(
         "a name below 2,000 domains, a domain",
@@ -34,7 +34,6 @@ pub fn print_times<R: Clock + Print>(
     let referrals = &mut Referrals {
         client: CachingClient::new(alloc, 1, referral_handle(alloc)?, true),
         query: question(alloc, 0)?,
-        now: 0,
     };
     watch.print_best(
         "2,000 records of one server, a record",
@@ -42,14 +41,6 @@ pub fn print_times<R: Clock + Print>(
         TIMES,
         TIMES * LENGTH,
     )
-}
-
-fn domains(alloc: Global) -> Result<Vec<Name>, NetError> {
-    let mut domains = Vec::new(alloc);
-    for number in 0..LENGTH {
-        domains.push(host(alloc, number)?)?;
-    }
-    Ok(domains)
 }
 
 // The names that are attempted for a short name.
@@ -72,7 +63,6 @@ impl Subject for Searches {
 struct Referrals {
     client: CachingClient<TableHandle>,
     query: Query,
-    now: u64,
 }
 
 impl Subject for Referrals {
@@ -82,19 +72,19 @@ impl Subject for Referrals {
     }
 
     fn run(&mut self) -> Result<u64, NetError> {
-        let stored = servers_of(&mut self.client, &self.query, self.now)?;
-        let hit = servers_of(&mut self.client, &self.query, self.now.wrapping_add(1))?;
-        Ok(stored.wrapping_add(hit))
+        let mut servers: u64 = 0;
+        for now in [0, 1] {
+            let query = self.query.clone()?;
+            let found = self.client.lookup(query, DnsRequestOptions::default(), now);
+            servers = servers.wrapping_add(servers_of(found)?);
+        }
+        Ok(servers)
     }
 }
 
 // How many name servers a negative answer refers to.
-fn servers_of(
-    client: &mut CachingClient<TableHandle>,
-    query: &Query,
-    now: u64,
-) -> Result<u64, NetError> {
-    match client.lookup(query.clone()?, DnsRequestOptions::default(), now) {
+fn servers_of(found: Result<Lookup, NetError>) -> Result<u64, NetError> {
+    match found {
         Ok(_) => Ok(0),
         Err(error) => match error.into_no_records() {
             Ok(none) => Ok(none.ns.map_or(0, |servers| servers.len() as u64)),
@@ -105,21 +95,11 @@ fn servers_of(
 
 fn referral_handle(alloc: Global) -> Result<TableHandle, NetError> {
     let query = question(alloc, 0)?;
-    let response = DnsResponse::from_message(referral(alloc, &query)?);
-    let mut outcomes = Vec::new(alloc);
-    outcomes.push((query, Ok(response)))?;
-    TableHandle::new(outcomes)
-}
-
-fn referral(alloc: Global, query: &Query) -> Result<Message, NetError> {
     let mut message = Message::response(alloc, 0, OpCode::Query);
-    match fill(alloc, &mut message, query) {
-        Ok(()) => Ok(message),
-        Err(error) => {
-            drop(message);
-            Err(error)
-        }
-    }
+    fill(alloc, &mut message, &query)?;
+    let mut outcomes = Vec::new(alloc);
+    outcomes.push((query, Ok(DnsResponse::from_message(message))))?;
+    TableHandle::new(outcomes)
 }
 
 fn fill(alloc: Global, message: &mut Message, query: &Query) -> Result<(), NetError> {

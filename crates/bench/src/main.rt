@@ -5,7 +5,6 @@
 mod bare;
 mod cache;
 mod client;
-mod fed_times;
 mod host_times;
 mod hostile_times;
 mod measure;
@@ -13,6 +12,7 @@ mod name_times;
 mod rows;
 mod samples;
 mod script_times;
+mod visits;
 
 use measure::Stopwatch;
 use rows::print_head;
@@ -29,17 +29,15 @@ fn main(rt: HostRuntime) -> anyhow::Result<()> {
 
 // What was computed is printed too, so that no operation is left out when the program is built.
 fn print_times<R: Clock + Print>(rt: &R, alloc: Global) -> anyhow::Result<()> {
-    let mut watch = Stopwatch::new(rt);
+    let mut watch = Stopwatch { rt, seen: 0 };
     print_head(rt)?;
     cache::print_times(rt, alloc, &mut watch)?;
     bare::print_times(rt, alloc, &mut watch)?;
     name_times::print_times(alloc, &mut watch)?;
     client::print_times(alloc, &mut watch)?;
-    fed_times::print_times(alloc, &mut watch)?;
     host_times::print_times(alloc, &mut watch)?;
     hostile_times::print_times(alloc, &mut watch)?;
     script_times::print_times(alloc, &mut watch)?;
-    let seen = watch.seen();
-    println!(rt; "check sum {seen}")?;
+    println!(rt; "check sum {}", watch.seen)?;
     Ok(())
 }

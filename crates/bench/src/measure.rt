@@ -19,11 +19,11 @@ pub trait Subject {
     fn run(&mut self) -> Result<u64, NetError>;
 }
 
-/// Times subjects, and keeps a sum of what they computed.
+/// Times subjects by a clock, and keeps a sum of what they computed.
 #[derive(Drop)]
 pub struct Stopwatch<'a, R> {
-    rt: &'a R,
-    seen: u64,
+    pub rt: &'a R,
+    pub seen: u64,
 }
 
 impl<'a, R: Clock + Print> Stopwatch<'a, R> {
@@ -44,16 +44,6 @@ impl<'a, R: Clock + Print> Stopwatch<'a, R> {
 }
 
 impl<'a, R: Clock> Stopwatch<'a, R> {
-    /// A stopwatch by this clock.
-    pub fn new(rt: &'a R) -> Stopwatch<'a, R> {
-        Stopwatch { rt, seen: 0 }
-    }
-
-    /// The sum of what the subjects computed so far.
-    pub fn seen(&self) -> u64 {
-        self.seen
-    }
-
     /// Nanoseconds an operation in the best of five rounds, each of so many batches and operations.
     pub fn best<S: Subject>(
         &mut self,
@@ -65,19 +55,14 @@ impl<'a, R: Clock> Stopwatch<'a, R> {
     {
         let mut best = u64::MAX;
         for _ in 0..ROUNDS {
-            best = best.min(self.round(subject, batches)?);
+            let mut round: u64 = 0;
+            for _ in 0..batches {
+                subject.prepare()?;
+                round = round.saturating_add(self.batch(subject)?);
+            }
+            best = best.min(round);
         }
         Ok(best / operations)
-    }
-
-    // Nanoseconds of a round.
-    fn round<S: Subject>(&mut self, subject: &mut S, batches: u64) -> anyhow::Result<u64> {
-        let mut sum: u64 = 0;
-        for _ in 0..batches {
-            subject.prepare()?;
-            sum = sum.saturating_add(self.batch(subject)?);
-        }
-        Ok(sum)
     }
 
     // Nanoseconds of a batch.

@@ -1,6 +1,6 @@
 //! Names: reading, comparing, hashing.
 use crate::measure::{Stopwatch, Subject};
-use crate::samples::{BATCH, BATCHES, OPERATIONS, host, host_text};
+use crate::samples::{BATCH, BATCHES, OPERATIONS, host, host_text, list};
 use hickory_proto_core::{Name, NetError};
 use std::alloc::Global;
 use std::hash::{BuildHasher, BuildHasherDefault, FoldHasher};
@@ -11,39 +11,15 @@ pub fn print_times<R: Clock + Print>(
     alloc: Global,
     watch: &mut Stopwatch<'_, R>,
 ) -> anyhow::Result<()> {
-    let texts = texts(alloc)?;
+    let texts = list(alloc, BATCH, host_text)?;
     let reads = &mut Reads { alloc, texts };
     watch.print_best("read a name's text", reads, BATCHES, OPERATIONS)?;
-    print_known(alloc, watch)
-}
-
-// The operations on names that were read.
-fn print_known<R: Clock + Print>(
-    alloc: Global,
-    watch: &mut Stopwatch<'_, R>,
-) -> anyhow::Result<()> {
-    let names = names(alloc)?;
+    let names = list(alloc, BATCH, host)?;
     let hashes = &mut Hashes { names: &names };
     watch.print_best("hash a name", hashes, BATCHES, OPERATIONS)?;
-    let others = self::names(alloc)?;
+    let others = list(alloc, BATCH, host)?;
     let pairs = &mut Compares { names, others };
     watch.print_best("compare two equal names", pairs, BATCHES, OPERATIONS)
-}
-
-fn texts(alloc: Global) -> Result<Vec<String>, NetError> {
-    let mut texts = Vec::new(alloc);
-    for number in 0..BATCH {
-        texts.push(host_text(alloc, number)?)?;
-    }
-    Ok(texts)
-}
-
-fn names(alloc: Global) -> Result<Vec<Name>, NetError> {
-    let mut names = Vec::new(alloc);
-    for number in 0..BATCH {
-        names.push(host(alloc, number)?)?;
-    }
-    Ok(names)
 }
 
 // Texts that are read.

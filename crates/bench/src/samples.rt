@@ -29,6 +29,21 @@ pub fn place(i: u64, count: u64) -> u64
     i.wrapping_mul(STRIDE) % count
 }
 
+/// What is made of each of the first numbers.
+pub fn list<T: Drop, F: Fn(Global, u64) -> Result<T, NetError>>(
+    alloc: Global,
+    count: u64,
+    make: F,
+) -> Result<Vec<T>, NetError>
+    requires { F.IsAlwaysCallable make }
+{
+    let mut list = Vec::new(alloc);
+    for number in 0..count {
+        list.push(make(alloc, number)?)?;
+    }
+    Ok(list)
+}
+
 /// The text of a host's name.
 pub fn host_text(alloc: Global, number: u64) -> Result<String, NetError> {
     Ok(format!(in alloc; "host{number}.example.com.")?)
@@ -45,9 +60,10 @@ pub fn question(alloc: Global, number: u64) -> Result<Query, NetError> {
     Ok(Query::query(host(alloc, number)?, RecordType::A))
 }
 
-/// A response to a question with one address, whose TTL follows from the number.
+/// A response to a question with one address, whose TTL follows from the number: from a minute to a day, in no order.
 pub fn answer(alloc: Global, query: &Query, number: u64) -> Result<Message, NetError> {
-    response(alloc, query, ttl(number), &address(), 1)
+    let ttl = 60 + place(number, 86_340) as u32;
+    response(alloc, query, ttl, &address(), 1)
 }
 
 /// A response to a question with so many answers of these data. A caller reads a name once: the names of the
@@ -60,13 +76,8 @@ pub fn response(
     answers: u64,
 ) -> Result<Message, NetError> {
     let mut message = Message::response(alloc, 0, OpCode::Query);
-    match fill(&mut message, query, ttl, rdata, answers) {
-        Ok(()) => Ok(message),
-        Err(error) => {
-            drop(message);
-            Err(error)
-        }
-    }
+    fill(&mut message, query, ttl, rdata, answers)?;
+    Ok(message)
 }
 
 fn fill(
@@ -78,95 +89,13 @@ fn fill(
 ) -> Result<(), NetError> {
     message.add_query(query.clone()?)?;
     for _ in 0..answers {
-        add_answer(message, query, ttl, rdata)?;
+        let owner = query.name().clone()?;
+        message.add_answer(Record::from_rdata(owner, ttl, rdata.clone()?))?;
     }
-    Ok(())
-}
-
-fn add_answer(
-    message: &mut Message,
-    query: &Query,
-    ttl: u32,
-    rdata: &RData,
-) -> Result<(), NetError> {
-    let owner = query.name().clone()?;
-    message.add_answer(Record::from_rdata(owner, ttl, rdata.clone()?))?;
     Ok(())
 }
 
 /// The data of an address.
 pub fn address() -> RData {
     RData::A(Ipv4Addr::new(192, 0, 2, 1))
-}
-
-// From a minute to a day, in no order.
-fn ttl(number: u64) -> u32 {
-    60 + place(number, 86_340) as u32
-}
-
-/// Hosts that are visited again and again, far from one another.
-#[derive(Drop)]
-pub struct Visits {
-    alloc: Global,
-    first: u64,
-    size: u64,
-    /// How many questions the next batch has.
-    pub batch: u64,
-    next: u64,
-    /// The questions of the batch.
-    pub asked: Vec<Query>,
-    ghost some: { 0 < size },
-}
-
-impl Visits {
-    /// Visits to so many hosts, from the first one on, so many a batch.
-    pub fn new(alloc: Global, first: u64, size: u64, batch: u64) -> Visits
-        requires { 0 < size }
-    {
-        Visits {
-            alloc,
-            first,
-            size,
-            batch,
-            next: 0,
-            asked: Vec::new(alloc),
-        }
-    }
-
-    /// Asks the questions of the next batch.
-    pub fn refill(&mut self) -> Result<(), NetError> {
-        self.asked.clear();
-        for _ in 0..self.batch {
-            let number = self.first.wrapping_add(place(self.next, self.size));
-            self.asked.push(question(self.alloc, number)?)?;
-            self.next = self.next.wrapping_add(1);
-        }
-        Ok(())
-    }
-
-    /// Responses to the questions of the batch, each with its question.
-    pub fn answers(&self) -> Result<Vec<(Query, Message)>, NetError> {
-        let mut answers = Vec::new(self.alloc);
-        match self.add_answers(&mut answers) {
-            Ok(()) => Ok(answers),
-            Err(error) => {
-                drop(answers);
-                Err(error)
-            }
-        }
-    }
-
-    fn add_answers(&self, answers: &mut Vec<(Query, Message)>) -> Result<(), NetError> {
-        for (i, query) in self.asked.iter().enumerate() {
-            let number = self.next.wrapping_add(i as u64);
-            answers.push(answered(self.alloc, query, number)?)?;
-        }
-        Ok(())
-    }
-}
-
-// A question, and a response to it.
-fn answered(alloc: Global, query: &Query, number: u64) -> Result<(Query, Message), NetError> {
-    let message = answer(alloc, query, number)?;
-    Ok((query.clone()?, message))
 }

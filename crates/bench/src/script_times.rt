@@ -16,25 +16,17 @@ pub fn print_times<R: Clock + Print>(
     alloc: Global,
     watch: &mut Stopwatch<'_, R>,
 ) -> anyhow::Result<()> {
-    let in_order = script(alloc, "", 8_000)?;
-    print_request(alloc, watch, "a request of 1,000,000 in a script", in_order)?;
-    let table = script(alloc, "upstream table\n", 1_000)?;
-    print_request(alloc, watch, "a request of 1,000,000 over a table", table)
-}
-
-fn print_request<R: Clock + Print>(
-    alloc: Global,
-    watch: &mut Stopwatch<'_, R>,
-    what: &str,
-    script: String,
-) -> anyhow::Result<()> {
+    let script = script_of(alloc, "", 8_000)?;
     let requests = &mut Requests { alloc, script };
-    watch.print_best(what, requests, 1, REQUESTS)
+    watch.print_best("a request of 1,000,000 in a script", requests, 1, REQUESTS)?;
+    let script = script_of(alloc, "upstream table\n", 1_000)?;
+    let requests = &mut Requests { alloc, script };
+    watch.print_best("a request of 1,000,000 over a table", requests, 1, REQUESTS)
 }
 
 // These lines, a reply for each of so many names, with an address for a day, and requests for the names in turn.
 // The first ones are asked upstream, and the others are hits.
-fn script(alloc: Global, lines: &str, names: u64) -> anyhow::Result<String>
+fn script_of(alloc: Global, lines: &str, names: u64) -> anyhow::Result<String>
     requires { 0 < names }
 {
     let mut script = String::from_str(alloc, lines)?;
