@@ -3,7 +3,7 @@ ghost use Rattle.std.specs.Prelude.{◌<◌};
 
 use crate::measure::{Stopwatch, Subject};
 use crate::rows::{SIZES, print_rows};
-use crate::samples::{BATCH, BATCHES, DAY, OPERATIONS, answer, list, place, question};
+use crate::samples::{BATCH, BATCHES, DAY, Numbered, OPERATIONS, answer, list, place};
 use crate::visits::{Visiting, Visitor, Visits};
 use hickory_proto_core::{Message, NetError, Query};
 use indexmap::IndexMap;
@@ -29,7 +29,7 @@ pub fn print_times<R: Clock + Print>(
     let first = figures(alloc, watch, SIZES[0])?;
     let middle = figures(alloc, watch, SIZES[1])?;
     let last = figures(alloc, watch, SIZES[2])?;
-    print_rows(rt, OPERATIONS_OF_PARTS, [first, middle, last])?;
+    print_rows(rt, &OPERATIONS_OF_PARTS, [&first, &middle, &last])?;
     Ok(())
 }
 
@@ -46,11 +46,11 @@ fn figures<R: Clock>(
     let map = numbers(alloc, size)?;
     let visits = Visits::new(alloc, 0, size, BATCH);
     let look_up = time_visits(watch, visits, LookUps { map })?;
-    let copy = watch.best(&mut messages(alloc, size)?, BATCHES, OPERATIONS)?;
-    let messages = messages(alloc, size)?;
+    let copy = watch.best(&mut messages_of(alloc, size)?, BATCHES, OPERATIONS)?;
+    let messages = messages_of(alloc, size)?;
     let visits = Visits::new(alloc, size, size, BATCH);
     let exchange = time_visits(watch, visits, Exchanges { messages })?;
-    let turn = watch.best(&mut turns(alloc, size)?, BATCHES, OPERATIONS)?;
+    let turn = watch.best(&mut turns_of(alloc, size)?, BATCHES, OPERATIONS)?;
     Ok([hash, look_up, copy, exchange, turn])
 }
 
@@ -101,7 +101,7 @@ impl Visitor for LookUps {
 fn numbers(alloc: Global, size: u64) -> Result<IndexMap<Query, u64>, NetError> {
     let mut map = IndexMap::new(alloc);
     for number in 0..size {
-        map.insert(question(alloc, number)?, number)?;
+        map.insert(Query::of(alloc, number)?, number)?;
     }
     Ok(map)
 }
@@ -125,10 +125,10 @@ impl Messages {
 }
 
 // The answers for the first hosts.
-fn messages(alloc: Global, size: u64) -> Result<Messages, NetError>
+fn messages_of(alloc: Global, size: u64) -> Result<Messages, NetError>
     requires { 0 < size }
 {
-    let messages = list(alloc, size, message)?;
+    let messages = list(alloc, size)?;
     let next = 0;
     Ok(Messages {
         messages,
@@ -138,9 +138,11 @@ fn messages(alloc: Global, size: u64) -> Result<Messages, NetError>
 }
 
 // The answer for a host.
-fn message(alloc: Global, number: u64) -> Result<Message, NetError> {
-    let query = question(alloc, number)?;
-    answer(alloc, &query, number)
+impl Numbered for Message {
+    fn of(alloc: Global, number: u64) -> Result<Message, NetError> {
+        let query = Query::of(alloc, number)?;
+        answer(alloc, &query, number)
+    }
 }
 
 // Copies of messages.
@@ -188,7 +190,7 @@ struct Turns {
     next: u64,
 }
 
-fn turns(alloc: Global, size: u64) -> Result<Turns, NetError> {
+fn turns_of(alloc: Global, size: u64) -> Result<Turns, NetError> {
     let order = BTreeMap::new(alloc);
     let mut turns = Turns { order, next: 0 };
     for _ in 0..size {

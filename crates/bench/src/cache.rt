@@ -3,9 +3,9 @@ ghost use Rattle.std.specs.Prelude.{◌<◌};
 
 use crate::measure::{Stopwatch, Subject};
 use crate::rows::{SIZES, print_rows};
-use crate::samples::{BATCH, BATCHES, DAY, OPERATIONS, answer, question};
+use crate::samples::{BATCH, BATCHES, DAY, Numbered, OPERATIONS, answer};
 use crate::visits::{Visiting, Visitor, Visits};
-use hickory_proto_core::NetError;
+use hickory_proto_core::{NetError, Query};
 use hickory_resolver_cache::ResponseCache;
 use hickory_resolver_lookup::TtlConfig;
 use std::alloc::Global;
@@ -33,7 +33,7 @@ pub fn print_times<R: Clock + Print>(
     let first = figures(alloc, watch, SIZES[0])?;
     let middle = figures(alloc, watch, SIZES[1])?;
     let last = figures(alloc, watch, SIZES[2])?;
-    print_rows(rt, OPERATIONS_OF_CACHE, [first, middle, last])?;
+    print_rows(rt, &OPERATIONS_OF_CACHE, [&first, &middle, &last])?;
     Ok(())
 }
 
@@ -52,7 +52,7 @@ fn figures<R: Clock>(
 
 fn fill(alloc: Global, cache: &mut ResponseCache, size: u64) -> Result<(), NetError> {
     for number in 0..size {
-        let query = question(alloc, number)?;
+        let query = Query::of(alloc, number)?;
         let message = answer(alloc, &query, number)?;
         cache.insert(query, Ok(message), 0)?;
     }

@@ -3,9 +3,9 @@
 ghost use Rattle.std.specs.Prelude.{◌<◌};
 
 use crate::measure::{Stopwatch, Subject};
-use crate::samples::{address, host, list, question, response};
+use crate::samples::{Numbered, address, list, response};
 use hickory_proto_core::{
-    DnsHandle, DnsRequest, DnsRequestOptions, DnsResponse, NetError, Outcome, Query, RData,
+    DnsHandle, DnsRequest, DnsRequestOptions, DnsResponse, Name, NetError, Outcome, Query, RData,
     TableHandle,
 };
 use hickory_resolver::{CachingClient, Lookup, Progress};
@@ -53,7 +53,7 @@ fn print_sent<R: Clock + Print>(
     let mut subject = look_ups_of(alloc, aliases, addresses, 1)?;
     watch.print_best(look_up, &mut subject, BATCHES, operations)?;
     drop(subject);
-    let requests = list(alloc, aliases.saturating_add(1), request)?;
+    let requests = list(alloc, aliases.saturating_add(1))?;
     let handle = handle_of(alloc, aliases, addresses)?;
     watch.print_best(bare, &mut Sends { handle, requests }, BATCHES, operations)
 }
@@ -90,7 +90,7 @@ fn look_ups_of(
     addresses: u32,
     lookups: u32,
 ) -> Result<LookUps, NetError> {
-    let first = question(alloc, 0)?;
+    let first = Query::of(alloc, 0)?;
     let handle = handle_of(alloc, aliases, addresses)?;
     let client = CachingClient::new(alloc, 100, handle, true);
     Ok(LookUps {
@@ -182,21 +182,26 @@ impl Subject for Sends {
 }
 
 // Asks a host.
-fn request(alloc: Global, number: u64) -> Result<DnsRequest, NetError> {
-    let (query, options) = (question(alloc, number)?, DnsRequestOptions::default());
-    Ok(DnsRequest { query, options })
+impl Numbered for DnsRequest {
+    fn of(alloc: Global, number: u64) -> Result<DnsRequest, NetError> {
+        let (query, options) = (Query::of(alloc, number)?, DnsRequestOptions::default());
+        Ok(DnsRequest { query, options })
+    }
 }
 
 // Each host but the last is an alias of the next, and the last has so many addresses.
 fn handle_of(alloc: Global, aliases: u64, addresses: u32) -> Result<TableHandle, NetError> {
-    let mut outcomes = list(alloc, aliases, alias)?;
+    let mut outcomes = list(alloc, aliases)?;
     outcomes.push(outcome(alloc, aliases, &address(), addresses)?)?;
     TableHandle::new(outcomes)
 }
 
-fn alias(alloc: Global, number: u64) -> Result<(Query, Outcome), NetError> {
-    let target = RData::CNAME(host(alloc, number.wrapping_add(1))?);
-    outcome(alloc, number, &target, 1)
+// That a host is an alias of the next.
+impl Numbered for (Query, Outcome) {
+    fn of(alloc: Global, number: u64) -> Result<(Query, Outcome), NetError> {
+        let target = RData::CNAME(Name::of(alloc, number.wrapping_add(1))?);
+        outcome(alloc, number, &target, 1)
+    }
 }
 
 // A host's question, and a response to it with so many answers of these data.
@@ -206,7 +211,7 @@ fn outcome(
     rdata: &RData,
     answers: u32,
 ) -> Result<(Query, Outcome), NetError> {
-    let query = question(alloc, number)?;
+    let query = Query::of(alloc, number)?;
     let message = response(alloc, &query, 60, rdata, u64::from(answers))?;
     Ok((query, Ok(DnsResponse::from_message(message))))
 }

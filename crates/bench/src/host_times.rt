@@ -2,7 +2,7 @@
 ghost use Rattle.std.specs.Prelude.{◌<◌, ◌^◌};
 
 use crate::measure::{Stopwatch, Subject};
-use crate::samples::{BATCH, BATCHES, OPERATIONS, host, host_text, place};
+use crate::samples::{BATCH, BATCHES, Numbered, OPERATIONS, place};
 use hickory_proto_core::{Name, NetError, Query, RecordType};
 use hickory_resolver::Hosts;
 use std::alloc::Global;
@@ -60,7 +60,7 @@ impl Reads {
     {
         let mut file = String::new(alloc);
         for number in 0..LINES {
-            let name = host_text(alloc, number / addresses)?;
+            let name = String::of(alloc, number / addresses)?;
             write!(file, "{} {name}\n", address(number))?;
         }
         Ok(Reads {
@@ -129,7 +129,7 @@ fn asked_name(alloc: Global, record_type: RecordType, number: u64) -> Result<Nam
     requires { number < 2 ^ 32 }
 {
     if record_type == RecordType::A {
-        return host(alloc, number);
+        return Name::of(alloc, number);
     }
     let [a, b, c, d] = address(number).octets();
     let text = format!(in alloc; "{d}.{c}.{b}.{a}.in-addr.arpa.")?;

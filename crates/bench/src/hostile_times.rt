@@ -1,6 +1,6 @@
 //! What a stranger can make long: a search list, and a negative answer of many name servers.
 use crate::measure::{Stopwatch, Subject};
-use crate::samples::{address, host, list, question};
+use crate::samples::{Numbered, address, list};
 use hickory_proto_core::{
     DnsRequestOptions, DnsResponse, Message, Name, NetError, OpCode, Query, RData, Record,
     TableHandle,
@@ -23,7 +23,7 @@ pub fn print_times<R: Clock + Print>(
 ) -> anyhow::Result<()> {
     let searches = &mut Searches {
         alloc,
-        domains: list(alloc, LENGTH, host)?,
+        domains: list(alloc, LENGTH)?,
     };
     watch.print_best(
         "a name below 2,000 domains, a domain",
@@ -33,7 +33,7 @@ pub fn print_times<R: Clock + Print>(
     )?;
     let referrals = &mut Referrals {
         client: CachingClient::new(alloc, 1, referral_handle(alloc)?, true),
-        query: question(alloc, 0)?,
+        query: Query::of(alloc, 0)?,
     };
     watch.print_best(
         "2,000 records of one server, a record",
@@ -94,7 +94,7 @@ fn servers_of(found: Result<Lookup, NetError>) -> Result<u64, NetError> {
 }
 
 fn referral_handle(alloc: Global) -> Result<TableHandle, NetError> {
-    let query = question(alloc, 0)?;
+    let query = Query::of(alloc, 0)?;
     let mut message = Message::response(alloc, 0, OpCode::Query);
     fill(alloc, &mut message, &query)?;
     let mut outcomes = Vec::new(alloc);
@@ -104,7 +104,7 @@ fn referral_handle(alloc: Global) -> Result<TableHandle, NetError> {
 
 fn fill(alloc: Global, message: &mut Message, query: &Query) -> Result<(), NetError> {
     message.add_query(query.clone()?)?;
-    let server = host(alloc, 1)?;
+    let server = Name::of(alloc, 1)?;
     for _ in 0..LENGTH {
         let owner = query.name().clone()?;
         message.add_authority(Record::from_rdata(owner, 60, RData::NS(server.clone()?)))?;

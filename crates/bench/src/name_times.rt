@@ -1,6 +1,6 @@
 //! Names: reading, comparing, hashing.
 use crate::measure::{Stopwatch, Subject};
-use crate::samples::{BATCH, BATCHES, OPERATIONS, host, host_text, list};
+use crate::samples::{BATCH, BATCHES, OPERATIONS, list};
 use hickory_proto_core::{Name, NetError};
 use std::alloc::Global;
 use std::hash::{BuildHasher, BuildHasherDefault, FoldHasher};
@@ -11,13 +11,13 @@ pub fn print_times<R: Clock + Print>(
     alloc: Global,
     watch: &mut Stopwatch<'_, R>,
 ) -> anyhow::Result<()> {
-    let texts = list(alloc, BATCH, host_text)?;
+    let texts = list(alloc, BATCH)?;
     let reads = &mut Reads { alloc, texts };
     watch.print_best("read a name's text", reads, BATCHES, OPERATIONS)?;
-    let names = list(alloc, BATCH, host)?;
+    let names: Vec<Name> = list(alloc, BATCH)?;
     let hashes = &mut Hashes { names: &names };
     watch.print_best("hash a name", hashes, BATCHES, OPERATIONS)?;
-    let others = list(alloc, BATCH, host)?;
+    let others = list(alloc, BATCH)?;
     let pairs = &mut Compares { names, others };
     watch.print_best("compare two equal names", pairs, BATCHES, OPERATIONS)
 }

@@ -14,15 +14,14 @@ pub fn print_head(rt: &impl Print) -> io::Result<()> {
 }
 
 /// Prints a row for each operation: what it takes at each size, and how many times the first the last is.
-pub fn print_rows<const N: usize>(
+pub fn print_rows(
     rt: &impl Print,
-    operations: [&str; N],
-    figures: [[u64; N]; 3],
+    operations: &[&str],
+    [first, middle, last]: [&[u64]; 3],
 ) -> io::Result<()> {
-    let [at_first, at_middle, at_last] = figures;
-    for i in 0..N {
-        let (what, first, middle, last) = (operations[i], at_first[i], at_middle[i], at_last[i]);
-        let tenths = last.saturating_mul(10) / first.max(1);
+    let figures = first.iter().zip(middle).zip(last);
+    for (what, ((first, middle), last)) in operations.iter().zip(figures) {
+        let tenths = last.saturating_mul(10) / (*first).max(1);
         let (whole, tenth) = (tenths / 10, tenths % 10);
         println!(rt; "{what:<36}{first:>10}{middle:>10}{last:>10}{whole:>10}.{tenth}")?;
     }

@@ -29,35 +29,41 @@ pub fn place(i: u64, count: u64) -> u64
     i.wrapping_mul(STRIDE) % count
 }
 
-/// What is made of each of the first numbers.
-pub fn list<T: Drop, F: Fn(Global, u64) -> Result<T, NetError>>(
-    alloc: Global,
-    count: u64,
-    make: F,
-) -> Result<Vec<T>, NetError>
-    requires { F.IsAlwaysCallable make }
-{
+/// What there is one of for each number.
+pub trait Numbered: Sized {
+    /// That of a number.
+    fn of(alloc: Global, number: u64) -> Result<Self, NetError>;
+}
+
+/// Those of the first numbers.
+pub fn list<T: Numbered + Drop>(alloc: Global, count: u64) -> Result<Vec<T>, NetError> {
     let mut list = Vec::new(alloc);
     for number in 0..count {
-        list.push(make(alloc, number)?)?;
+        list.push(T::of(alloc, number)?)?;
     }
     Ok(list)
 }
 
 /// The text of a host's name.
-pub fn host_text(alloc: Global, number: u64) -> Result<String, NetError> {
-    Ok(format!(in alloc; "host{number}.example.com.")?)
+impl Numbered for String {
+    fn of(alloc: Global, number: u64) -> Result<String, NetError> {
+        Ok(format!(in alloc; "host{number}.example.com.")?)
+    }
 }
 
 /// A host's name.
-pub fn host(alloc: Global, number: u64) -> Result<Name, NetError> {
-    let text = host_text(alloc, number)?;
-    Ok(Name::from_ascii(alloc, text.as_str())?)
+impl Numbered for Name {
+    fn of(alloc: Global, number: u64) -> Result<Name, NetError> {
+        let text = String::of(alloc, number)?;
+        Ok(Name::from_ascii(alloc, text.as_str())?)
+    }
 }
 
 /// The question for a host's address.
-pub fn question(alloc: Global, number: u64) -> Result<Query, NetError> {
-    Ok(Query::query(host(alloc, number)?, RecordType::A))
+impl Numbered for Query {
+    fn of(alloc: Global, number: u64) -> Result<Query, NetError> {
+        Ok(Query::query(Name::of(alloc, number)?, RecordType::A))
+    }
 }
 
 /// A response to a question with one address, whose TTL follows from the number: from a minute to a day, in no order.

@@ -2,7 +2,7 @@
 ghost use Rattle.std.specs.Prelude.{◌<◌};
 
 use crate::measure::{Stopwatch, Subject};
-use crate::samples::host_text;
+use crate::samples::Numbered;
 use hickory_proto_core::NetError;
 use replay::replay_text;
 use std::alloc::Global;
@@ -31,14 +31,14 @@ fn script_of(alloc: Global, lines: &str, names: u64) -> anyhow::Result<String>
 {
     let mut script = String::from_str(alloc, lines)?;
     for number in 0..names {
-        let name = host_text(alloc, number)?;
+        let name = String::of(alloc, number)?;
         write!(
             script,
             "reply NOERROR {name} A\nanswer {name} 86400 IN A 192.0.2.1\n"
         )?;
     }
     for number in 0..REQUESTS {
-        let name = host_text(alloc, number % names)?;
+        let name = String::of(alloc, number % names)?;
         write!(script, "at {} lookup {name} A\n", number / names)?;
     }
     Ok(script)

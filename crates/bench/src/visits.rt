@@ -2,7 +2,7 @@
 ghost use Rattle.std.specs.Prelude.{◌<◌};
 
 use crate::measure::Subject;
-use crate::samples::{answer, place, question};
+use crate::samples::{Numbered, answer, place};
 use hickory_proto_core::{Message, NetError, Query};
 use std::alloc::Global;
 
@@ -43,7 +43,7 @@ impl Visits {
         self.asked.clear();
         for _ in 0..self.batch {
             let number = self.first.wrapping_add(place(self.next, self.size));
-            self.asked.push(question(self.alloc, number)?)?;
+            self.asked.push(Query::of(self.alloc, number)?)?;
             self.next = self.next.wrapping_add(1);
         }
         Ok(())
