@@ -5,7 +5,7 @@ use crate::measure::{Stopwatch, Subject};
 use crate::rows::{SIZES, print_rows};
 use crate::samples::{BATCH, BATCHES, DAY, Numbered, OPERATIONS, answer};
 use crate::visits::{Visiting, Visitor, Visits};
-use hickory_proto_core::{NetError, Query};
+use hickory_proto_core::{Message, NetError, Query};
 use hickory_resolver_cache::ResponseCache;
 use hickory_resolver_lookup::TtlConfig;
 use std::alloc::Global;
@@ -69,23 +69,10 @@ fn figures_of<R: Clock>(
 {
     let hit = time_gets(watch, cache, Visits::new(alloc, 0, size, BATCH))?;
     let miss = time_gets(watch, cache, Visits::new(alloc, size, size, BATCH))?;
-    let clamped = &mut Visiting {
-        visits: Visits::new(alloc, 0, size, BATCH),
-        visitor: Clamped { cache },
-    };
-    let clamped = watch.best(clamped, BATCHES, OPERATIONS)?;
+    let clamped = time_clamped(watch, cache, Visits::new(alloc, 0, size, BATCH))?;
     let clear_query = time_clears(watch, cache, Visits::new(alloc, 0, size, BATCH))?;
     let [in_turn, by_hundreds] = time_evictions(alloc, watch, cache, size)?;
     Ok([hit, miss, in_turn, by_hundreds, clamped, clear_query])
-}
-
-fn time_gets<R: Clock>(
-    watch: &mut Stopwatch<'_, R>,
-    cache: &ResponseCache,
-    visits: Visits,
-) -> anyhow::Result<u64> {
-    let visitor = Gets { cache };
-    watch.best(&mut Visiting { visits, visitor }, BATCHES, OPERATIONS)
 }
 
 // Look-ups, a second after all was stored.
@@ -108,6 +95,15 @@ impl Visitor for Gets<'_> {
     }
 }
 
+fn time_gets<R: Clock>(
+    watch: &mut Stopwatch<'_, R>,
+    cache: &ResponseCache,
+    visits: Visits,
+) -> anyhow::Result<u64> {
+    let visitor = Gets { cache };
+    watch.best(&mut Visiting { visits, visitor }, BATCHES, OPERATIONS)
+}
+
 // Stores over entries that are current.
 #[derive(Drop)]
 struct Clamped<'a> {
@@ -127,6 +123,15 @@ impl Visitor for Clamped<'_> {
     }
 }
 
+fn time_clamped<R: Clock>(
+    watch: &mut Stopwatch<'_, R>,
+    cache: &mut ResponseCache,
+    visits: Visits,
+) -> anyhow::Result<u64> {
+    let visitor = Clamped { cache };
+    watch.best(&mut Visiting { visits, visitor }, BATCHES, OPERATIONS)
+}
+
 // Entries that are cleared, and stored again before the next batch.
 #[derive(Drop)]
 struct Clears<'a> {
@@ -137,11 +142,7 @@ struct Clears<'a> {
 impl Subject for Clears<'_> {
     fn prepare(&mut self) -> Result<(), NetError> {
         self.visits.answer()?;
-        for _ in 0..BATCH {
-            if let Some((query, message)) = self.visits.answers.pop() {
-                self.cache.insert(query, Ok(message), 0)?;
-            }
-        }
+        store_each(self.cache, &mut self.visits.answers)?;
         self.visits.refill()
     }
 
@@ -152,6 +153,18 @@ impl Subject for Clears<'_> {
         }
         Ok(self.cache.len() as u64)
     }
+}
+
+fn store_each(
+    cache: &mut ResponseCache,
+    answers: &mut Vec<(Query, Message)>,
+) -> Result<(), NetError> {
+    for _ in 0..BATCH {
+        if let Some((query, message)) = answers.pop() {
+            cache.insert(query, Ok(message), 0)?;
+        }
+    }
+    Ok(())
 }
 
 // Leaves the cache full again.
