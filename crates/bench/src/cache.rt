@@ -11,8 +11,8 @@ use hickory_resolver_lookup::TtlConfig;
 use std::alloc::Global;
 use std::rt::Clock;
 
-// How many stores with eviction a batch has where each answer is stored when it has come in, as in a program: the memory
-// of what leaves goes to the answers that come in next, and the C library has a few pieces of each size at hand.
+// How many stores with eviction a batch has where each answer is stored when it has come in, as in a program: the
+// memory of what leaves goes to the answers that come in next, and the C library has a few pieces of each size at hand.
 const FEW: u64 = 2;
 
 const OPERATIONS_OF_CACHE: [&str; 6] = [

@@ -1,5 +1,5 @@
-//! Look-ups of a client: hits, a question, a chain of aliases, and a long response. Beside each, what its upstream takes
-//! alone, or the same where the caller sends each question.
+//! Look-ups of a client: hits, a question, a chain of aliases, and a long response. Beside each, what its upstream
+//! takes alone, or the same where the caller sends each question.
 ghost use Rattle.std.specs.Prelude.{◌<◌};
 
 use crate::measure::{Stopwatch, Subject};
