@@ -1,15 +1,14 @@
 //! Clients and resolvers: what they answer, what was asked, and what the cache keeps then.
-use crate::handles::{outcomes, push};
+use crate::caches::has;
 use crate::marks::done;
-use crate::sample::{alias_outcome, name, outcome, query};
-use crate::shown::{show_done, show_exchanges, show_lookup};
+use crate::sample::{Pair, Said, name, outcomes, query, script};
+use crate::shown::{show, show_exchanges};
 use hickory_proto_core::{
-    DnsHandle, DnsRequestOptions, Exchange, Name, NetError, Outcome, Query, RecordType, Recorded,
-    ScriptHandle, TableHandle,
+    DnsHandle, DnsRequestOptions, Name, NetError, RecordType, Recorded, ScriptHandle, TableHandle,
 };
 use hickory_resolver::{
     CachingClient, Hosts, Lookup, LookupFuture, LookupIp, LookupIpFuture, LookupIpStrategy,
-    Resolver, ResolverConfig, ResponseCache,
+    Resolver, ResolverConfig, ResolverOpts, ResponseCache,
 };
 use std::alloc::Global;
 
@@ -18,6 +17,21 @@ pub type Upstream = Recorded<TableHandle>;
 
 /// An upstream that is a script and records what it is asked.
 pub type Scripted = Recorded<ScriptHandle>;
+
+const A: RecordType = RecordType::A;
+
+// What the upstream says.
+const PAIRS: [Pair; 3] = [
+    ("a", A, Said::Address),
+    ("b", A, Said::Late),
+    ("c", A, Said::Alias("a")),
+];
+
+/// The script of an alias, and of a handle that has no memory then.
+pub const BEHIND: [Pair; 2] = [("a", A, Said::Alias("b")), ("b", A, Said::NoMemory)];
+
+// The script of a handle that has no memory at first.
+const AT_FIRST: [Pair; 2] = [("a", A, Said::NoMemory), ("a", A, Said::Address)];
 
 // The types of the look-ups of one type each.
 const TYPES: [RecordType; 11] = [
@@ -40,34 +54,42 @@ const LABELS: [&str; 3] = ["a", "b", "c"];
 /// Makes the call of a case, and says whether there is such a case.
 pub fn make(rt: &impl Print, alloc: Global, case: &str) -> Result<bool, NetError> {
     match case {
-        "CachingClient::lookup" => done(look_up(rt, alloc, case, "a")),
-        "CachingClient::lookup of an alias" => done(look_up(rt, alloc, case, "c")),
-        "LookupFuture::lookup" | "LookupFuture::lookup_with_hosts" | "LookupIpFuture::lookup" => {
-            done(in_turn(rt, alloc, case))
-        }
-        "Resolver::lookup" | "Resolver::lookup_ip" | "Resolver::lookup_ip of an address" => {
-            done(resolve(rt, alloc, case))
-        }
-        "Resolver::clear_lookup_cache" => done(clear(rt, alloc, case)),
-        "the look-ups of one type each" => done(look_up_each(rt, alloc, case)),
-        "a handle without memory, behind an alias" => done(no_memory_behind(rt, alloc, case)),
-        "a handle without memory, at a search domain" => {
-            done(no_memory_at_first(rt, alloc, case))
-        }
+        "CachingClient::lookup"
+        | "CachingClient::lookup of an alias"
+        | "LookupFuture::lookup"
+        | "LookupFuture::lookup_with_hosts"
+        | "LookupIpFuture::lookup" => done(with_client(rt, alloc, case)),
+        "Resolver::lookup"
+        | "Resolver::lookup_ip"
+        | "Resolver::lookup_ip of an address"
+        | "Resolver::clear_lookup_cache"
+        | "the look-ups of one type each" => done(with_resolver(rt, alloc, case)),
+        "a handle without memory, behind an alias" => done(look_up_behind(rt, alloc, case)),
+        "a handle without memory, at a search domain" => done(look_up_at_first(rt, alloc, case)),
         _ => Ok(false),
     }
 }
 
-// What was asked, how many entries the cache has, and which of these names have one.
-fn show_state(
+/// What a client whose upstream is a table asked it, and what its cache keeps of these names.
+pub fn show_client(
     rt: &impl Print,
     alloc: Global,
-    exchanges: &[Exchange],
-    cache: &ResponseCache,
+    client: &CachingClient<Upstream>,
     labels: &[&str],
 ) -> Result<(), NetError> {
-    show_exchanges(rt, exchanges);
-    show_kept(rt, alloc, cache, labels)
+    show_exchanges(rt, client.handle().exchanges());
+    show_kept(rt, alloc, client.cache(), labels)
+}
+
+/// The same, where the upstream is a script.
+pub fn show_scripted(
+    rt: &impl Print,
+    alloc: Global,
+    client: &CachingClient<Scripted>,
+    labels: &[&str],
+) -> Result<(), NetError> {
+    show_exchanges(rt, client.handle().exchanges());
+    show_kept(rt, alloc, client.cache(), labels)
 }
 
 /// How many entries a cache has, and which of these names have one.
@@ -80,36 +102,18 @@ pub fn show_kept(
     let _ = rt.print("  kept ");
     let _ = rt.print(cache.len());
     for label in labels {
-        say_if_kept(rt, cache, label, &query(alloc, label)?);
+        let query = query(alloc, label)?;
+        if has(cache, &query, 0) {
+            let _ = rt.print(" ");
+            let _ = rt.print(label);
+        }
     }
     let _ = rt.println("");
     Ok(())
 }
 
-fn say_if_kept(rt: &impl Print, cache: &ResponseCache, label: &str, query: &Query) {
-    let hit = cache.get(query, 0);
-    let is_kept = hit.is_some();
-    // `drop` costs the prover less than the end of the block.
-    drop(hit);
-    if is_kept {
-        let _ = rt.print(" ");
-        let _ = rt.print(label);
-    }
-}
-
-/// The upstream answers for `a.`, has no answer in time for `b.`, and says that `c.` is an alias of `a.`.
-pub fn upstream(alloc: Global) -> Result<Upstream, NetError> {
-    Ok(Recorded::new(alloc, TableHandle::new(three_outcomes(alloc)?)?))
-}
-
-fn three_outcomes(alloc: Global) -> Result<Vec<(Query, Outcome)>, NetError> {
-    let mut outcomes = outcomes(alloc)?;
-    push_alias(alloc, &mut outcomes)?;
-    Ok(outcomes)
-}
-
-fn push_alias(alloc: Global, outcomes: &mut Vec<(Query, Outcome)>) -> Result<(), NetError> {
-    push(outcomes, query(alloc, "c")?, alias_outcome(alloc, "c", "a"))
+fn upstream(alloc: Global) -> Result<Upstream, NetError> {
+    Ok(Recorded::new(alloc, TableHandle::new(outcomes(alloc, &PAIRS)?)?))
 }
 
 /// A client over that.
@@ -117,51 +121,42 @@ pub fn client(alloc: Global) -> Result<CachingClient<Upstream>, NetError> {
     Ok(CachingClient::new(alloc, 8, upstream(alloc)?, false))
 }
 
-/// What a client whose upstream is a table asked it, and what its cache keeps of these names.
-pub fn show_client(
-    rt: &impl Print,
-    alloc: Global,
-    client: &CachingClient<Upstream>,
-    labels: &[&str],
-) -> Result<(), NetError> {
-    show_state(
-        rt,
-        alloc,
-        client.handle().exchanges(),
-        client.cache(),
-        labels,
-    )
-}
-
-fn look_up(rt: &impl Print, alloc: Global, case: &str, label: &str) -> Result<(), NetError> {
+fn with_client(rt: &impl Print, alloc: Global, case: &str) -> Result<(), NetError> {
     let mut client = client(alloc)?;
-    let shown = show_look_up(rt, alloc, case, &mut client, label);
+    let made = with_mut_client(rt, alloc, case, &mut client);
     drop(client);
-    shown
+    made
 }
 
-fn show_look_up(
+fn with_mut_client(
     rt: &impl Print,
     alloc: Global,
     case: &str,
     client: &mut CachingClient<Upstream>,
+) -> Result<(), NetError> {
+    match case {
+        "CachingClient::lookup" => look_up(rt, alloc, case, client, "a")?,
+        "CachingClient::lookup of an alias" => look_up(rt, alloc, case, client, "c")?,
+        _ => look_up_in_turn(rt, alloc, case, client)?,
+    }
+    show_client(rt, alloc, client, &LABELS)
+}
+
+fn look_up<H: DnsHandle>(
+    rt: &impl Print,
+    alloc: Global,
+    case: &str,
+    client: &mut CachingClient<H>,
     label: &str,
 ) -> Result<(), NetError> {
     let query = query(alloc, label)?;
     let options = DnsRequestOptions::default();
-    show_lookup(rt, call!(rt, case, client.lookup(query, options, 0)));
-    show_client(rt, alloc, client, &LABELS)
+    show(rt, call!(rt, case, client.lookup(query, options, 0)));
+    Ok(())
 }
 
-// A name with an answer, and one without, which is attempted first and which a table of hosts has.
-fn in_turn(rt: &impl Print, alloc: Global, case: &str) -> Result<(), NetError> {
-    let mut client = client(alloc)?;
-    let shown = show_in_turn(rt, alloc, case, &mut client);
-    drop(client);
-    shown
-}
-
-fn show_in_turn(
+// A name with an answer, and one without, which is attempted first and which a table of hosts may have.
+fn look_up_in_turn(
     rt: &impl Print,
     alloc: Global,
     case: &str,
@@ -169,67 +164,43 @@ fn show_in_turn(
 ) -> Result<(), NetError> {
     let names = two_names(alloc)?;
     let mut hosts = Hosts::default(alloc);
-    drop(hosts.read_hosts_bytes(b"10.0.0.2 b", 0));
-    let none = Hosts::default(alloc);
-    show_lookup(
+    if case == "LookupFuture::lookup_with_hosts" {
+        drop(hosts.read_hosts_bytes(b"10.0.0.2 b", 0));
+    }
+    show(
         rt,
-        call!(rt, case, ask_in_turn(case, client, &hosts, &none, names)),
+        call!(rt, case, ask_in_turn(case, client, &hosts, names)),
     );
     drop(hosts);
-    drop(none);
-    show_client(rt, alloc, client, &LABELS)
+    Ok(())
 }
 
 fn two_names(alloc: Global) -> Result<Vec<Name>, NetError> {
     let mut names = Vec::new(alloc);
-    push_names(alloc, &mut names)?;
+    for label in ["a", "b"] {
+        names.push(name(alloc, label)?)?;
+    }
     Ok(names)
-}
-
-fn push_names(alloc: Global, names: &mut Vec<Name>) -> Result<(), NetError> {
-    names.push(name(alloc, "a")?)?;
-    Ok(names.push(name(alloc, "b")?)?)
 }
 
 fn ask_in_turn(
     case: &str,
     client: &mut CachingClient<Upstream>,
     hosts: &Hosts,
-    none: &Hosts,
-    names: Vec<Name>,
-) -> Result<Lookup, NetError> {
-    let (asked, options) = (RecordType::A, DnsRequestOptions::default());
-    match case {
-        "LookupFuture::lookup" => LookupFuture::lookup(names, asked, options, client, 0),
-        "LookupFuture::lookup_with_hosts" => {
-            LookupFuture::lookup_with_hosts(names, asked, options, client, hosts, 0)
-        }
-        _ => ask_addresses(client, none, names),
-    }
-}
-
-fn ask_addresses(
-    client: &mut CachingClient<Upstream>,
-    hosts: &Hosts,
     names: Vec<Name>,
 ) -> Result<Lookup, NetError> {
     let (strategy, options) = (LookupIpStrategy::Ipv4Only, DnsRequestOptions::default());
-    let found = LookupIpFuture::lookup(names, strategy, client, options, hosts, None, 0);
-    lookup_of(found)
+    match case {
+        "LookupFuture::lookup" => LookupFuture::lookup(names, A, options, client, 0),
+        "LookupFuture::lookup_with_hosts" => {
+            LookupFuture::lookup_with_hosts(names, A, options, client, hosts, 0)
+        }
+        _ => lookup_of(LookupIpFuture::lookup(names, strategy, client, options, hosts, None, 0)),
+    }
 }
 
 fn lookup_of(answer: Result<LookupIp, NetError>) -> Result<Lookup, NetError> {
     Ok(Lookup::from(answer?))
-}
-
-/// A resolver over that, with a search domain.
-pub fn resolver(alloc: Global) -> Result<Resolver<Upstream>, NetError> {
-    resolver_over(alloc, upstream(alloc)?)
-}
-
-// A resolver with a search domain.
-fn resolver_over<H: DnsHandle + Drop>(alloc: Global, handle: H) -> Result<Resolver<H>, NetError> {
-    Resolver::builder_with_config(with_search(alloc)?, handle).build()
 }
 
 /// A configuration with a search domain.
@@ -239,57 +210,62 @@ pub fn with_search(alloc: Global) -> Result<ResolverConfig, NetError> {
     Ok(config)
 }
 
-fn resolve(rt: &impl Print, alloc: Global, case: &str) -> Result<(), NetError> {
-    let mut resolver = resolver(alloc)?;
-    show_lookup(rt, call!(rt, case, resolve_by(case, &mut resolver)));
-    let shown = show_client(rt, alloc, resolver.client(), &LABELS);
+/// A resolver over the same upstream, with a search domain.
+pub fn resolver(alloc: Global, options: ResolverOpts) -> Result<Resolver<Upstream>, NetError> {
+    let handle = upstream(alloc)?;
+    Resolver::builder_with_config(with_search(alloc)?, handle)
+        .with_options(options)
+        .build()
+}
+
+fn with_resolver(rt: &impl Print, alloc: Global, case: &str) -> Result<(), NetError> {
+    let mut resolver = resolver(alloc, ResolverOpts::default(alloc))?;
+    let made = with_mut_resolver(rt, alloc, case, &mut resolver);
     drop(resolver);
-    shown
+    made
+}
+
+// Of the look-ups of one type each it is shown how many were out of memory. A refused clear drops nothing.
+fn with_mut_resolver(
+    rt: &impl Print,
+    alloc: Global,
+    case: &str,
+    resolver: &mut Resolver<Upstream>,
+) -> Result<(), NetError> {
+    match case {
+        "the look-ups of one type each" => {
+            let refused = call!(rt, case, ask_each(resolver));
+            let _ = println!(rt; "{refused} out of memory");
+            return Ok(());
+        }
+        "Resolver::clear_lookup_cache" => {
+            drop(resolver.ipv4_lookup("a.", 0));
+            show(rt, call!(rt, case, resolver.clear_lookup_cache("a", A)));
+        }
+        _ => show(rt, call!(rt, case, resolve_by(case, resolver))),
+    }
+    show_client(rt, alloc, resolver.client(), &LABELS)
 }
 
 fn resolve_by(case: &str, resolver: &mut Resolver<Upstream>) -> Result<Lookup, NetError> {
     match case {
-        "Resolver::lookup" => resolver.lookup("a", RecordType::A, 0),
+        "Resolver::lookup" => resolver.lookup("a", A, 0),
         "Resolver::lookup_ip" => lookup_of(resolver.lookup_ip("a.", 0)),
         _ => lookup_of(resolver.lookup_ip("127.0.0.1", 0)),
     }
 }
 
-// A refused clear drops nothing.
-fn clear(rt: &impl Print, alloc: Global, case: &str) -> Result<(), NetError> {
-    let mut resolver = resolver(alloc)?;
-    drop(resolver.ipv4_lookup("a.", 0));
-    show_done(
-        rt,
-        call!(rt, case, resolver.clear_lookup_cache("a", RecordType::A)),
-    );
-    let shown = show_client(rt, alloc, resolver.client(), &LABELS);
-    drop(resolver);
-    shown
-}
-
 // How many of these look-ups, each of a name that the upstream knows nothing of, were out of memory.
-fn look_up_each(rt: &impl Print, alloc: Global, case: &str) -> Result<(), NetError> {
-    let mut resolver = resolver(alloc)?;
-    let refused = call!(rt, case, ask_each(&mut resolver));
-    drop(resolver);
-    let _ = println!(rt; "{refused} out of memory");
-    Ok(())
-}
-
 fn ask_each(resolver: &mut Resolver<Upstream>) -> u8 {
     let mut refused = 0_u8;
     for record_type in TYPES {
-        refused = refused.saturating_add(is_refused(ask(resolver, record_type)));
+        let answer = ask(resolver, record_type);
+        if matches!(&answer, Err(NetError::OutOfMemory)) {
+            refused = refused.saturating_add(1);
+        }
+        drop(answer);
     }
     refused
-}
-
-// 1 where the answer is that there was no memory, else 0.
-fn is_refused(answer: Result<Lookup, NetError>) -> u8 {
-    let is_refused = matches!(&answer, Err(NetError::OutOfMemory));
-    drop(answer);
-    u8::from(is_refused)
 }
 
 // The look-up of a type by its own call.
@@ -309,73 +285,25 @@ fn ask(resolver: &mut Resolver<Upstream>, record_type: RecordType) -> Result<Loo
     }
 }
 
-/// What a client whose upstream is a script asked it, and what its cache keeps of these names.
-pub fn show_scripted(
-    rt: &impl Print,
-    alloc: Global,
-    client: &CachingClient<Scripted>,
-    labels: &[&str],
-) -> Result<(), NetError> {
-    show_state(
-        rt,
-        alloc,
-        client.handle().exchanges(),
-        client.cache(),
-        labels,
-    )
-}
-
 // The canonical name of an alias is asked for, and the handle has no memory for its answer.
-fn no_memory_behind(rt: &impl Print, alloc: Global, case: &str) -> Result<(), NetError> {
-    let mut client = client_behind(alloc)?;
-    let shown = show_scripted_look_up(rt, alloc, case, &mut client);
+fn look_up_behind(rt: &impl Print, alloc: Global, case: &str) -> Result<(), NetError> {
+    let handle = Recorded::new(alloc, script(alloc, &BEHIND)?);
+    let mut client = CachingClient::new(alloc, 8, handle, false);
+    let shown = match look_up(rt, alloc, case, &mut client, "a") {
+        Ok(()) => show_scripted(rt, alloc, &client, &LABELS),
+        Err(error) => Err(error),
+    };
     drop(client);
     shown
 }
 
-fn client_behind(alloc: Global) -> Result<CachingClient<Scripted>, NetError> {
-    let mut outcomes = Vec::new(alloc);
-    push_behind(alloc, &mut outcomes)?;
-    Ok(CachingClient::new(alloc, 8, script(alloc, outcomes), false))
-}
-
-/// The outcomes of an alias, and of a handle that has no memory.
-pub fn push_behind(alloc: Global, outcomes: &mut Vec<Outcome>) -> Result<(), NetError> {
-    outcomes.push(alias_outcome(alloc, "a", "b"))?;
-    Ok(outcomes.push(Err(NetError::OutOfMemory))?)
-}
-
-fn script(alloc: Global, outcomes: Vec<Outcome>) -> Scripted {
-    Recorded::new(alloc, ScriptHandle::new(outcomes))
-}
-
-fn show_scripted_look_up(
-    rt: &impl Print,
-    alloc: Global,
-    case: &str,
-    client: &mut CachingClient<Scripted>,
-) -> Result<(), NetError> {
-    let (query, options) = (query(alloc, "a")?, DnsRequestOptions::default());
-    show_lookup(rt, call!(rt, case, client.lookup(query, options, 0)));
-    show_scripted(rt, alloc, client, &LABELS)
-}
-
 // Below the search domain the handle has no memory, so that the name itself is not attempted.
-fn no_memory_at_first(rt: &impl Print, alloc: Global, case: &str) -> Result<(), NetError> {
-    let mut resolver = resolver_over(alloc, script_at_first(alloc)?)?;
-    show_lookup(rt, call!(rt, case, resolver.ipv4_lookup("a", 0)));
+fn look_up_at_first(rt: &impl Print, alloc: Global, case: &str) -> Result<(), NetError> {
+    let config = with_search(alloc)?;
+    let handle = Recorded::new(alloc, script(alloc, &AT_FIRST)?);
+    let mut resolver = Resolver::builder_with_config(config, handle).build()?;
+    show(rt, call!(rt, case, resolver.ipv4_lookup("a", 0)));
     let shown = show_scripted(rt, alloc, resolver.client(), &LABELS);
     drop(resolver);
     shown
-}
-
-fn script_at_first(alloc: Global) -> Result<Scripted, NetError> {
-    let mut outcomes = Vec::new(alloc);
-    push_at_first(alloc, &mut outcomes)?;
-    Ok(script(alloc, outcomes))
-}
-
-fn push_at_first(alloc: Global, outcomes: &mut Vec<Outcome>) -> Result<(), NetError> {
-    outcomes.push(Err(NetError::OutOfMemory))?;
-    Ok(outcomes.push(outcome(alloc, "a"))?)
 }

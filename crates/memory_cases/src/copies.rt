@@ -3,28 +3,17 @@ use crate::marks::{begin, done, end};
 use crate::sample::{
     address, answer, glue, group, name, none, one, outcome, query, server, text, udp,
 };
-use crate::shown::{copied, say};
-use hickory_proto_core::{
-    DnsError, ForwardNSData, Glue, Name, NetError, Outcome, RData, Record, RecordType,
-    clone_outcome,
-};
+use crate::shown::say;
+use hickory_proto_core::{DnsError, ForwardNSData, NetError, RData, RecordType, clone_outcome};
 use hickory_resolver::{
-    ConnectionConfig, Lookup, LookupIp, NameServerConfig, ProtocolConfig, ResolverConfig,
-    ResolverOpts, TtlBounds, TtlConfig,
+    ConnectionConfig, Lookup, LookupIp, ProtocolConfig, ResolverConfig, ResolverOpts, TtlBounds,
+    TtlConfig,
 };
 use std::alloc::{AllocError, Global};
 use std::fmt::Debug;
 
 /// Makes the call of a case, and says whether there is such a case.
 pub fn make(rt: &impl Print, alloc: Global, case: &str) -> Result<bool, NetError> {
-    Ok(
-        make_of_message(rt, alloc, case)?
-            || make_of_lookup(rt, alloc, case)?
-            || make_of_config(rt, alloc, case)?,
-    )
-}
-
-fn make_of_message(rt: &impl Print, alloc: Global, case: &str) -> Result<bool, NetError> {
     match case {
         "Name::clone" => done(copy(rt, alloc, case, name(alloc, "a"))),
         "Query::clone" => done(copy(rt, alloc, case, query(alloc, "a"))),
@@ -36,17 +25,10 @@ fn make_of_message(rt: &impl Print, alloc: Global, case: &str) -> Result<bool, N
         "NoRecords::clone" => done(copy(rt, alloc, case, none(alloc))),
         "DnsError::clone" => done(copy(rt, alloc, case, dns_error(alloc))),
         "NetError::clone" => done(copy(rt, alloc, case, net_error(alloc))),
-        _ => Ok(false),
-    }
-}
-
-fn make_of_lookup(rt: &impl Print, alloc: Global, case: &str) -> Result<bool, NetError> {
-    match case {
-        "clone_outcome" => done(copy_outcome(rt, alloc, case, outcome(alloc, "a"))),
-        "Lookup::clone" => done(copy_lookup(rt, alloc, case, one(alloc, "a"))),
-        "LookupIp::clone" => done(copy_addresses(rt, alloc, case, one(alloc, "a"))),
-        "TtlConfig::clone" => done(copy_bounds(rt, alloc, case, bounds(alloc))),
-        _ => Ok(false),
+        "clone_outcome" | "Lookup::clone" | "LookupIp::clone" | "TtlConfig::clone" => {
+            done(copy_by_call(rt, alloc, case))
+        }
+        _ => make_of_config(rt, alloc, case),
     }
 }
 
@@ -62,6 +44,7 @@ fn make_of_config(rt: &impl Print, alloc: Global, case: &str) -> Result<bool, Ne
     }
 }
 
+// By the trait.
 fn copy<T: Clone + Debug + Drop>(
     rt: &impl Print,
     alloc: Global,
@@ -69,87 +52,61 @@ fn copy<T: Clone + Debug + Drop>(
     source: Result<T, NetError>,
 ) -> Result<(), NetError> {
     let source = source?;
-    copy_made(rt, alloc, case, &source)
-}
-
-fn copy_made<T: Clone + Debug + Drop>(
-    rt: &impl Print,
-    alloc: Global,
-    case: &str,
-    source: &T,
-) -> Result<(), NetError> {
     begin(rt, case);
     let copy: Result<T, AllocError> = source.clone();
     end(rt);
-    let text = copied(alloc, &copy, source);
-    drop(copy);
-    say(rt, &text?);
-    Ok(())
+    show_copy(rt, alloc, copy, source)
 }
 
-fn copy_outcome(
+// By a call of its own.
+fn copy_by_call(rt: &impl Print, alloc: Global, case: &str) -> Result<(), NetError> {
+    match case {
+        "clone_outcome" => {
+            let source = outcome(alloc, "a");
+            let copy = call!(rt, case, clone_outcome(&source));
+            show_copy(rt, alloc, copy, source)
+        }
+        "Lookup::clone" => {
+            let source = one(alloc, "a")?;
+            let copy: Result<Lookup, NetError> = call!(rt, case, source.clone());
+            show_copy(rt, alloc, copy, source)
+        }
+        "LookupIp::clone" => {
+            let source = LookupIp::from(one(alloc, "a")?);
+            let copy: Result<LookupIp, NetError> = call!(rt, case, source.clone());
+            show_copy(rt, alloc, copy, source)
+        }
+        _ => {
+            let mut source = TtlConfig::default(alloc);
+            source.with_query_type_ttl_bounds(RecordType::A, TtlBounds::default())?;
+            let copy: Result<TtlConfig, NetError> = call!(rt, case, source.clone());
+            show_copy(rt, alloc, copy, source)
+        }
+    }
+}
+
+// Whether the copy prints as its source does, or that there was no memory for it.
+fn show_copy<T: Debug + Drop, E: Drop>(
     rt: &impl Print,
     alloc: Global,
-    case: &str,
-    source: Outcome,
+    copy: Result<T, E>,
+    source: T,
 ) -> Result<(), NetError> {
-    let copy = call!(rt, case, clone_outcome(&source));
-    let text = copied(alloc, &copy, &source);
+    let text = match &copy {
+        Ok(copy) => compared(alloc, copy, &source),
+        Err(_) => Ok("out of memory"),
+    };
     drop(copy);
     drop(source);
     say(rt, &text?);
     Ok(())
 }
 
-fn copy_lookup(
-    rt: &impl Print,
-    alloc: Global,
-    case: &str,
-    source: Result<Lookup, NetError>,
-) -> Result<(), NetError> {
-    let source = source?;
-    let copy: Result<Lookup, NetError> = call!(rt, case, source.clone());
-    let text = copied(alloc, &copy, &source);
-    drop(copy);
-    drop(source);
-    say(rt, &text?);
-    Ok(())
-}
-
-fn copy_addresses(
-    rt: &impl Print,
-    alloc: Global,
-    case: &str,
-    source: Result<Lookup, NetError>,
-) -> Result<(), NetError> {
-    let source = LookupIp::from(source?);
-    let copy: Result<LookupIp, NetError> = call!(rt, case, source.clone());
-    let text = copied(alloc, &copy, &source);
-    drop(copy);
-    drop(source);
-    say(rt, &text?);
-    Ok(())
-}
-
-fn copy_bounds(
-    rt: &impl Print,
-    alloc: Global,
-    case: &str,
-    source: Result<TtlConfig, NetError>,
-) -> Result<(), NetError> {
-    let source = source?;
-    let copy: Result<TtlConfig, NetError> = call!(rt, case, source.clone());
-    let text = copied(alloc, &copy, &source);
-    drop(copy);
-    drop(source);
-    say(rt, &text?);
-    Ok(())
-}
-
-fn bounds(alloc: Global) -> Result<TtlConfig, NetError> {
-    let mut config = TtlConfig::default(alloc);
-    config.with_query_type_ttl_bounds(RecordType::A, TtlBounds::default())?;
-    Ok(config)
+fn compared<T: Debug>(alloc: Global, copy: &T, source: &T) -> Result<&'static str, AllocError> {
+    let source = format!(in alloc; "{source:?}")?;
+    let copy = format!(in alloc; "{copy:?}")?;
+    let is_same = copy == source;
+    Ok(if is_same { "a copy" } else { "another value" })
 }
 
 fn strings(alloc: Global) -> Result<RData, NetError> {
@@ -181,13 +138,9 @@ fn protocol(alloc: Global) -> Result<ProtocolConfig, NetError> {
 
 fn config(alloc: Global) -> Result<ResolverConfig, NetError> {
     let mut config = ResolverConfig::default(alloc);
-    add_parts(alloc, &mut config)?;
-    Ok(config)
-}
-
-fn add_parts(alloc: Global, config: &mut ResolverConfig) -> Result<(), NetError> {
     config.set_domain(name(alloc, "d")?)?;
-    config.add_name_server(udp(alloc)?)
+    config.add_name_server(udp(alloc)?)?;
+    Ok(config)
 }
 
 fn options(alloc: Global) -> Result<ResolverOpts, NetError> {

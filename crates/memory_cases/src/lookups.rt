@@ -1,10 +1,8 @@
 //! Look-ups, bounds and attempts.
 use crate::marks::done;
-use crate::sample::{
-    address, empty_message, five_addresses, name, one, one_address, query, with_answer,
-};
-use crate::shown::{show_done, show_lookup, show_names, show_parts};
-use hickory_proto_core::{Message, Name, NetError, Query, RData, Record, RecordType};
+use crate::sample::{address, five_addresses, name, one, one_address, query, with_answer};
+use crate::shown::{Shown, show};
+use hickory_proto_core::{Message, Name, NetError, OpCode, Query, RData, Record, RecordType};
 use hickory_resolver::{Lookup, TtlBounds, TtlConfig, attempts};
 use std::alloc::Global;
 use std::net::Ipv4Addr;
@@ -20,9 +18,8 @@ pub fn make(rt: &impl Print, alloc: Global, case: &str) -> Result<bool, NetError
             done(of_message(rt, alloc, case))
         }
         "Lookup::append" => done(append(rt, alloc, case)),
-        "Lookup::append_in_place" => done(append_in_place(rt, alloc, case)),
-        "Lookup::extend_authorities" | "Lookup::extend_additionals" => {
-            done(extend(rt, alloc, case))
+        "Lookup::append_in_place" | "Lookup::extend_authorities" | "Lookup::extend_additionals" => {
+            done(grow(rt, alloc, case))
         }
         "TtlConfig::with_query_type_ttl_bounds" => done(with_bounds(rt, alloc, case)),
         "attempts" => done(attempted(rt, alloc, case)),
@@ -33,7 +30,7 @@ pub fn make(rt: &impl Print, alloc: Global, case: &str) -> Result<bool, NetError
 fn from_rdata(rt: &impl Print, alloc: Global, case: &str) -> Result<(), NetError> {
     let query = query(alloc, "a")?;
     let data = RData::A(Ipv4Addr::LOCALHOST);
-    show_lookup(
+    show(
         rt,
         call!(rt, case, Lookup::from_rdata(alloc, query, data, 5)),
     );
@@ -43,7 +40,7 @@ fn from_rdata(rt: &impl Print, alloc: Global, case: &str) -> Result<(), NetError
 fn of_records(rt: &impl Print, alloc: Global, case: &str) -> Result<(), NetError> {
     let query = query(alloc, "a")?;
     let records = one_address(alloc, "a")?;
-    show_lookup(rt, call!(rt, case, made(case, query, records)));
+    show(rt, call!(rt, case, made(case, query, records)));
     Ok(())
 }
 
@@ -54,15 +51,12 @@ fn made(case: &str, query: Query, records: Vec<Record>) -> Result<Lookup, NetErr
     }
 }
 
-// A message without a question.
-fn without_question(alloc: Global) -> Result<Message, NetError> {
-    with_answer(empty_message(alloc), address(alloc, "a", 60))
-}
-
+// Of a message without a question.
 fn of_message(rt: &impl Print, alloc: Global, case: &str) -> Result<(), NetError> {
     let query = query(alloc, "a")?;
-    let message = without_question(alloc)?;
-    show_lookup(rt, call!(rt, case, read(alloc, case, query, message)));
+    let empty = Message::response(alloc, 0, OpCode::Query);
+    let message = with_answer(empty, address(alloc, "a", 60))?;
+    show(rt, call!(rt, case, read(alloc, case, query, message)));
     Ok(())
 }
 
@@ -77,41 +71,45 @@ fn read(alloc: Global, case: &str, query: Query, message: Message) -> Result<Loo
 fn append(rt: &impl Print, alloc: Global, case: &str) -> Result<(), NetError> {
     let first = one(alloc, "a")?;
     let second = one(alloc, "b")?;
-    show_lookup(rt, call!(rt, case, first.append(second)));
+    show(rt, call!(rt, case, first.append(second)));
     Ok(())
 }
 
-fn append_in_place(rt: &impl Print, alloc: Global, case: &str) -> Result<(), NetError> {
-    let second = one(alloc, "b")?;
+fn grow(rt: &impl Print, alloc: Global, case: &str) -> Result<(), NetError> {
     let mut first = one(alloc, "a")?;
-    show_done(rt, call!(rt, case, first.append_in_place(second)));
-    show_parts(rt, &first);
+    let grown = show_grown(rt, alloc, case, &mut first);
     drop(first);
+    grown
+}
+
+fn show_grown(
+    rt: &impl Print,
+    alloc: Global,
+    case: &str,
+    first: &mut Lookup,
+) -> Result<(), NetError> {
+    match case {
+        "Lookup::append_in_place" => {
+            let second = one(alloc, "b")?;
+            show(rt, call!(rt, case, first.append_in_place(second)));
+        }
+        _ => {
+            fill(alloc, first)?;
+            let records = five_addresses(alloc)?;
+            show(rt, call!(rt, case, extend(case, first, records)));
+        }
+    }
+    first.show(rt);
     Ok(())
 }
 
-// A look-up of one record in each section.
-fn full(alloc: Global) -> Result<Lookup, NetError> {
-    let mut lookup = one(alloc, "a")?;
-    fill(alloc, &mut lookup)?;
-    Ok(lookup)
-}
-
+// A record in each of the other sections.
 fn fill(alloc: Global, lookup: &mut Lookup) -> Result<(), NetError> {
     lookup.extend_authorities(one_address(alloc, "b")?)?;
     lookup.extend_additionals(one_address(alloc, "b")?)
 }
 
-fn extend(rt: &impl Print, alloc: Global, case: &str) -> Result<(), NetError> {
-    let records = five_addresses(alloc)?;
-    let mut lookup = full(alloc)?;
-    show_done(rt, call!(rt, case, extend_with(case, &mut lookup, records)));
-    show_parts(rt, &lookup);
-    drop(lookup);
-    Ok(())
-}
-
-fn extend_with(case: &str, lookup: &mut Lookup, records: Vec<Record>) -> Result<(), NetError> {
+fn extend(case: &str, lookup: &mut Lookup, records: Vec<Record>) -> Result<(), NetError> {
     match case {
         "Lookup::extend_authorities" => lookup.extend_authorities(records),
         _ => lookup.extend_additionals(records),
@@ -122,37 +120,27 @@ fn extend_with(case: &str, lookup: &mut Lookup, records: Vec<Record>) -> Result<
 fn with_bounds(rt: &impl Print, alloc: Global, case: &str) -> Result<(), NetError> {
     let bounds = TtlBounds::default().with_positive_max(60)?;
     let mut config = TtlConfig::default(alloc);
-    let is_done = call!(rt, case, put_bounds(&mut config, bounds));
-    say_bounds(rt, is_done, &config);
-    Ok(())
-}
-
-fn put_bounds(config: &mut TtlConfig, bounds: TtlBounds) -> bool {
-    let done = config.with_query_type_ttl_bounds(RecordType::A, bounds);
+    let done = call!(
+        rt,
+        case,
+        config.with_query_type_ttl_bounds(RecordType::A, bounds)
+    );
     let is_done = done.is_ok();
     drop(done);
-    is_done
-}
-
-fn say_bounds(rt: &impl Print, is_done: bool, config: &TtlConfig) {
     let (_, greatest) = config.positive_response_ttl_bounds(RecordType::A);
     let _ = println!(rt; "{is_done} {greatest}");
+    Ok(())
 }
 
 fn attempted(rt: &impl Print, alloc: Global, case: &str) -> Result<(), NetError> {
     let domain = name(alloc, "x")?;
     let search = vec![in alloc; name(alloc, "y")?]?;
-    show_names(rt, attempts_of(rt, alloc, case, &domain, &search));
-    Ok(())
-}
-
-fn attempts_of(
-    rt: &impl Print,
-    alloc: Global,
-    case: &str,
-    domain: &Name,
-    search: &[Name],
-) -> Result<Vec<Name>, NetError> {
     let asked = Name::from_ascii(alloc, "www")?;
-    Ok(call!(rt, case, attempts(alloc, asked, 1, Some(domain), search))?)
+    show(
+        rt,
+        call!(rt, case, attempts(alloc, asked, 1, Some(&domain), &search)),
+    );
+    drop(search);
+    drop(domain);
+    Ok(())
 }

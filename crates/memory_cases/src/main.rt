@@ -49,28 +49,23 @@ fn make_all<R: AllocGlobal + Env + Print>(rt: &R, alloc: Global) -> anyhow::Resu
 }
 
 fn make(rt: &impl Print, alloc: Global, case: &str) -> Result<(), NetError> {
-    if !is_made(rt, alloc, case)? {
+    let is_made = names::make(rt, alloc, case)?
+        || messages::make(rt, alloc, case)?
+        || copies::make(rt, alloc, case)?
+        || handles::make(rt, alloc, case)?
+        || lookups::make(rt, alloc, case)?
+        || caches::make(rt, alloc, case)?
+        || configs::make(rt, alloc, case)?
+        || tables::make(rt, alloc, case)?
+        || clients::make(rt, alloc, case)?
+        || runs::make(rt, alloc, case)?
+        || waits::make(rt, alloc, case)?
+        || calls::make(rt, alloc, case)?
+        || wire::make(rt, alloc, case)?
+        || scripts::make(rt, alloc, case)?
+        || without::make(rt, alloc, case)?;
+    if !is_made {
         let _ = println!(rt; "no such case: {case}");
     }
     Ok(())
-}
-
-fn is_made(rt: &impl Print, alloc: Global, case: &str) -> Result<bool, NetError> {
-    Ok(
-        names::make(rt, alloc, case)?
-            || messages::make(rt, alloc, case)?
-            || copies::make(rt, alloc, case)?
-            || handles::make(rt, alloc, case)?
-            || lookups::make(rt, alloc, case)?
-            || caches::make(rt, alloc, case)?
-            || configs::make(rt, alloc, case)?
-            || tables::make(rt, alloc, case)?
-            || clients::make(rt, alloc, case)?
-            || runs::make(rt, alloc, case)?
-            || waits::make(rt, alloc, case)?
-            || calls::make(rt, alloc, case)?
-            || wire::make(rt, alloc, case)?
-            || scripts::make(rt, alloc, case)?
-            || without::make(rt, alloc, case)?,
-    )
 }

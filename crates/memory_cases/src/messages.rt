@@ -1,64 +1,35 @@
 //! Messages that grow, shared addresses, and what responses come to.
 use crate::marks::done;
 use crate::sample::{
-    address, empty_for, five_addresses, glue, no_x, one_address, query, with_answer,
+    address, empty, five_addresses, glue, no_such_name, one_address, query, with_answer,
 };
-use crate::shown::{say, show_done, show_list, show_message, show_outcome};
-use hickory_proto_core::{DnsError, DnsResponse, Glue, Message, NetError, Outcome, Query, Record};
+use crate::shown::{Shown, say, show, show_message, show_outcome};
+use hickory_proto_core::{DnsError, DnsResponse, Glue, Message, NetError, Record};
 use std::alloc::Global;
 
 /// Makes the call of a case, and says whether there is such a case.
 pub fn make(rt: &impl Print, alloc: Global, case: &str) -> Result<bool, NetError> {
     match case {
-        "Message::add_query" => done(add_query(rt, alloc, case)),
-        "Message::add_answer" | "Message::add_authority" | "Message::add_additional" => {
-            done(add_one(rt, alloc, case))
-        }
+        "Message::add_query"
+        | "Message::add_answer"
+        | "Message::add_authority"
+        | "Message::add_additional" => done(grow(rt, alloc, case, empty_for_a(alloc))),
         "Message::add_answers" | "Message::add_authorities" | "Message::add_additionals" => {
-            done(add_all(rt, alloc, case))
+            done(grow(rt, alloc, case, full(alloc)))
         }
         "DnsError::from_response" => done(from_response(rt, case, no_x(alloc))),
-        "Glue::new" => done(new_glue(rt, case, one_address(alloc, "n"))),
-        "Glue::to_vec" | "Glue::into_vec" => done(show_older(rt, case, glue(alloc))),
+        "Glue::new" => done(new_glue(rt, alloc, case)),
+        "Glue::to_vec" | "Glue::into_vec" => done(show_older(rt, alloc, case)),
         _ => Ok(false),
     }
 }
 
-fn add_query(rt: &impl Print, alloc: Global, case: &str) -> Result<(), NetError> {
-    let added = query(alloc, "b")?;
-    let mut message = empty_for(alloc, "a")?;
-    show_done(rt, call!(rt, case, message.add_query(added)));
-    show_message(rt, &message);
-    drop(message);
-    Ok(())
+fn empty_for_a(alloc: Global) -> Result<Message, NetError> {
+    empty(alloc, query(alloc, "a")?)
 }
 
-// To a message without records.
-fn add_one(rt: &impl Print, alloc: Global, case: &str) -> Result<(), NetError> {
-    let mut message = empty_for(alloc, "a")?;
-    let added = show_one(rt, alloc, case, &mut message);
-    drop(message);
-    added
-}
-
-fn show_one(
-    rt: &impl Print,
-    alloc: Global,
-    case: &str,
-    message: &mut Message,
-) -> Result<(), NetError> {
-    let added = address(alloc, "a", 60)?;
-    show_done(rt, call!(rt, case, add(case, message, added)));
-    show_message(rt, message);
-    Ok(())
-}
-
-fn add(case: &str, message: &mut Message, added: Record) -> Result<(), NetError> {
-    match case {
-        "Message::add_answer" => message.add_answer(added),
-        "Message::add_authority" => message.add_authority(added),
-        _ => message.add_additional(added),
-    }
+fn no_x(alloc: Global) -> Result<Message, NetError> {
+    no_such_name(alloc, query(alloc, "x")?)
 }
 
 // A message with one record, or two, in each section.
@@ -66,16 +37,51 @@ fn full(alloc: Global) -> Result<Message, NetError> {
     with_answer(no_x(alloc)?, address(alloc, "x", 60))
 }
 
-fn add_all(rt: &impl Print, alloc: Global, case: &str) -> Result<(), NetError> {
-    let added = five_addresses(alloc)?;
-    let mut message = full(alloc)?;
-    show_done(rt, call!(rt, case, add_list(case, &mut message, added)));
-    show_message(rt, &message);
+fn grow(
+    rt: &impl Print,
+    alloc: Global,
+    case: &str,
+    message: Result<Message, NetError>,
+) -> Result<(), NetError> {
+    let mut message = message?;
+    let grown = show_grown(rt, alloc, case, &mut message);
     drop(message);
+    grown
+}
+
+fn show_grown(
+    rt: &impl Print,
+    alloc: Global,
+    case: &str,
+    message: &mut Message,
+) -> Result<(), NetError> {
+    match case {
+        "Message::add_query" => {
+            let added = query(alloc, "b")?;
+            show(rt, call!(rt, case, message.add_query(added)));
+        }
+        "Message::add_answers" | "Message::add_authorities" | "Message::add_additionals" => {
+            let added = five_addresses(alloc)?;
+            show(rt, call!(rt, case, add_all(case, message, added)));
+        }
+        _ => {
+            let added = address(alloc, "a", 60)?;
+            show(rt, call!(rt, case, add_one(case, message, added)));
+        }
+    }
+    show_message(rt, message);
     Ok(())
 }
 
-fn add_list(case: &str, message: &mut Message, added: Vec<Record>) -> Result<(), NetError> {
+fn add_one(case: &str, message: &mut Message, added: Record) -> Result<(), NetError> {
+    match case {
+        "Message::add_answer" => message.add_answer(added),
+        "Message::add_authority" => message.add_authority(added),
+        _ => message.add_additional(added),
+    }
+}
+
+fn add_all(case: &str, message: &mut Message, added: Vec<Record>) -> Result<(), NetError> {
     match case {
         "Message::add_answers" => message.add_answers(added),
         "Message::add_authorities" => message.add_authorities(added),
@@ -90,44 +96,31 @@ fn from_response(
     message: Result<Message, NetError>,
 ) -> Result<(), NetError> {
     let response = DnsResponse::from_message(message?);
-    let outcome = message_of(call!(rt, case, DnsError::from_response(response)));
+    let outcome = call!(rt, case, DnsError::from_response(response));
     show_outcome(rt, &outcome);
     drop(outcome);
     Ok(())
 }
 
-fn message_of(outcome: Outcome) -> Result<Message, NetError> {
-    Ok(outcome?.into_message())
+impl Shown for Glue {
+    fn show(&self, rt: &impl Print) {
+        let _ = println!(rt; "{} shared", self.len());
+    }
 }
 
-fn new_glue(
-    rt: &impl Print,
-    case: &str,
-    records: Result<Vec<Record>, NetError>,
-) -> Result<(), NetError> {
-    let records = records?;
-    show_glue(rt, call!(rt, case, Glue::new(records)));
+fn new_glue(rt: &impl Print, alloc: Global, case: &str) -> Result<(), NetError> {
+    let records = one_address(alloc, "n")?;
+    show(rt, call!(rt, case, Glue::new(records)));
     Ok(())
 }
 
-fn show_glue(rt: &impl Print, made: Result<Glue, NetError>) {
-    match &made {
-        Ok(made) => say_shared(rt, made),
-        Err(error) => say(rt, error),
-    }
-    drop(made);
-}
-
-fn say_shared(rt: &impl Print, made: &Glue) {
-    let _ = println!(rt; "{} shared", made.len());
-}
-
 // The addresses of which another copy holds the memory too, twenty seconds older.
-fn show_older(rt: &impl Print, case: &str, shared: Result<Glue, NetError>) -> Result<(), NetError> {
-    let shared = shared?;
+fn show_older(rt: &impl Print, alloc: Global, case: &str) -> Result<(), NetError> {
+    let shared = glue(alloc)?;
     let mut older = shared.clone()?;
     older.decrement_ttl(20);
-    show_list(rt, call!(rt, case, records(case, older)));
+    show(rt, call!(rt, case, records(case, older)));
+    drop(shared);
     Ok(())
 }
 

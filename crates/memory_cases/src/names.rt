@@ -31,9 +31,9 @@ pub fn make(rt: &impl Print, alloc: Global, case: &str) -> Result<bool, NetError
             show(rt, call!(rt, case, printed_text(alloc, IP)));
             Ok(true)
         }
-        "Name::append_domain" => done(append_domain(rt, alloc, case)),
-        "Name::base_name" | "Name::trim_to" => done(show_part(rt, alloc, case)),
-        "Name::to_ascii" => done(to_ascii(rt, alloc, case)),
+        "Name::append_domain" | "Name::base_name" | "Name::trim_to" | "Name::to_ascii" => {
+            done(of_name(rt, alloc, case))
+        }
         _ => Ok(false),
     }
 }
@@ -56,32 +56,15 @@ fn of_text(rt: &impl Print, alloc: Global, case: &str) -> Result<(), NetError> {
     Ok(())
 }
 
-fn append_domain(rt: &impl Print, alloc: Global, case: &str) -> Result<(), NetError> {
+fn of_name(rt: &impl Print, alloc: Global, case: &str) -> Result<(), NetError> {
     let first = name(alloc, "a")?;
-    let domain = www(alloc)?;
-    show(rt, call!(rt, case, first.append_domain(&domain)));
-    Ok(())
-}
-
-fn show_part(rt: &impl Print, alloc: Global, case: &str) -> Result<(), NetError> {
-    let name = www(alloc)?;
-    show(rt, part(rt, case, &name));
-    Ok(())
-}
-
-fn part(rt: &impl Print, case: &str, name: &Name) -> Result<Name, NameError> {
-    call!(
-        rt,
-        case,
-        match case {
-            "Name::base_name" => name.base_name(),
-            _ => name.trim_to(2),
-        }
-    )
-}
-
-fn to_ascii(rt: &impl Print, alloc: Global, case: &str) -> Result<(), NetError> {
-    let name = www(alloc)?;
-    show(rt, call!(rt, case, name.to_ascii(alloc)));
+    let www = www(alloc)?;
+    match case {
+        "Name::append_domain" => show(rt, call!(rt, case, first.append_domain(&www))),
+        "Name::base_name" => show(rt, call!(rt, case, www.base_name())),
+        "Name::trim_to" => show(rt, call!(rt, case, www.trim_to(2))),
+        _ => show(rt, call!(rt, case, www.to_ascii(alloc))),
+    }
+    drop(www);
     Ok(())
 }

@@ -1,49 +1,59 @@
 //! Runs: the replies, what was asked, and what the cache keeps then.
-use crate::clients::{Scripted, Upstream, push_behind, show_client, show_scripted};
-use crate::handles::push;
+use crate::clients::{BEHIND, show_client, show_scripted};
 use crate::marks::done;
-use crate::sample::{alias_outcome, ipv6_query, negative_outcome, outcome, query, text};
+use crate::sample::{Pair, Said, outcomes, script, text};
 use crate::shown::say;
 use hickory_proto_core::{
-    DnsHandle, Exchange, NetError, Outcome, Query, RecordType, Recorded, ScriptHandle, TableHandle,
+    DnsHandle, Exchange, NetError, RecordType, Recorded, ScriptHandle, TableHandle,
 };
 use hickory_resolver::{
-    Heard, Hosts, Listener, LookupIpStrategy, Reply, Request, Resolver, ResolverConfig,
-    ResolverOpts, Step, Transcript, run, run_told, run_with_hasher,
+    Heard, Hosts, Listener, LookupIpStrategy, Reply, Request, ResolverConfig, ResolverOpts, Step,
+    Transcript, run, run_told, run_with_hasher,
 };
 use std::alloc::{AllocError, Global};
-use std::fmt::Display;
 use std::hash::{BuildHasherDefault, FoldHasher};
 
+const A: RecordType = RecordType::A;
+
+// An alias, and the address of its canonical name, which is then asked for itself.
+const ALIASED: [Pair; 2] = [("a", A, Said::Alias("b")), ("b", A, Said::Address)];
+
 // Each name is an alias of the next.
-const CHAIN: [&str; 9] = ["n0", "n1", "n2", "n3", "n4", "n5", "n6", "n7", "n8"];
+const CHAIN: [Pair; 8] = [
+    ("n0", A, Said::Alias("n1")),
+    ("n1", A, Said::Alias("n2")),
+    ("n2", A, Said::Alias("n3")),
+    ("n3", A, Said::Alias("n4")),
+    ("n4", A, Said::Alias("n5")),
+    ("n5", A, Said::Alias("n6")),
+    ("n6", A, Said::Alias("n7")),
+    ("n7", A, Said::Alias("n8")),
+];
+
+const CHAINED: [&str; 9] = ["n0", "n1", "n2", "n3", "n4", "n5", "n6", "n7", "n8"];
+
+// A host that has one family, and a name that is not answered in time.
+const HOSTS: [Pair; 3] = [
+    ("h", A, Said::Address),
+    ("h", RecordType::AAAA, Said::NoName),
+    ("t", A, Said::Late),
+];
 
 /// Makes the call of a case, and says whether there is such a case.
 pub fn make(rt: &impl Print, alloc: Global, case: &str) -> Result<bool, NetError> {
+    let two = ["a", "b"];
     match case {
-        "run: an alias" | "run_with_hasher" => done(run_alias(rt, alloc, case)),
-        "run_told" => done(run_to_listener(rt, alloc, case)),
-        "run: eight hops" => done(run_chain(rt, alloc, case)),
-        "run: a table" => done(run_table(rt, alloc, case)),
-        "run: a handle without memory, and a later request" => {
-            done(run_to_its_end(rt, alloc, case))
+        "run: an alias" | "run_with_hasher" => {
+            done(run_table(rt, alloc, case, true, &ALIASED, &two))
         }
+        "run: eight hops" => done(run_table(rt, alloc, case, false, &CHAIN, &CHAINED)),
+        "run: a table" => done(run_table(rt, alloc, case, false, &HOSTS, &["h", "t"])),
+        "run: a handle without memory, and a later request" => {
+            done(run_script(rt, alloc, case, &two))
+        }
+        "run_told" => done(run_to_listener(rt, alloc, case, &two)),
         _ => Ok(false),
     }
-}
-
-fn lookup(
-    alloc: Global,
-    name: &str,
-    record_type: RecordType,
-    now: u64,
-) -> Result<Request, NetError> {
-    let name = text(alloc, name)?;
-    Ok(Request::Lookup {
-        name,
-        record_type,
-        now,
-    })
 }
 
 // Keeps the steps that it hears of.
@@ -67,23 +77,51 @@ impl Listener for Keeper {
 
 type Told = Heard<Recorded<TableHandle>, BuildHasherDefault<FoldHasher>, Keeper>;
 
-fn push_request(
-    requests: &mut Vec<Request>,
-    request: Result<Request, NetError>,
-) -> Result<(), NetError> {
-    Ok(requests.push(request?)?)
-}
-
-// A look-up of `a.` at 0, and one of `b.` at 4.
-fn two_lookups(alloc: Global) -> Result<Vec<Request>, NetError> {
+fn requests(alloc: Global, case: &str) -> Result<Vec<Request>, NetError> {
     let mut requests = Vec::new(alloc);
-    push_two(alloc, &mut requests)?;
+    push_requests(alloc, case, &mut requests)?;
     Ok(requests)
 }
 
-fn push_two(alloc: Global, requests: &mut Vec<Request>) -> Result<(), NetError> {
-    push_request(requests, lookup(alloc, "a.", RecordType::A, 0))?;
-    push_request(requests, lookup(alloc, "b.", RecordType::A, 4))
+// Of the table: the addresses of the host; that it lacks a family, out of the cache; its address, cleared and asked
+// again; the name that is not answered; and all is cleared.
+fn push_requests(alloc: Global, case: &str, requests: &mut Vec<Request>) -> Result<(), NetError> {
+    match case {
+        "run: eight hops" => requests.push(lookup(alloc, "n0.", A, 0)?)?,
+        "run: a table" => {
+            let (host, now) = (text(alloc, "h.")?, 10);
+            requests.push(Request::LookupIp { host, now })?;
+            requests.push(lookup(alloc, "h.", RecordType::AAAA, 25)?)?;
+            let (name, record_type, now) = (text(alloc, "h.")?, A, 25);
+            requests.push(Request::ClearLookup {
+                name,
+                record_type,
+                now,
+            })?;
+            requests.push(lookup(alloc, "h.", A, 26)?)?;
+            requests.push(lookup(alloc, "t.", A, 26)?)?;
+            requests.push(Request::Clear { now: 26 })?;
+        }
+        _ => {
+            requests.push(lookup(alloc, "a.", A, 0)?)?;
+            requests.push(lookup(alloc, "b.", A, 4)?)?;
+        }
+    }
+    Ok(())
+}
+
+fn lookup(
+    alloc: Global,
+    name: &str,
+    record_type: RecordType,
+    now: u64,
+) -> Result<Request, NetError> {
+    let name = text(alloc, name)?;
+    Ok(Request::Lookup {
+        name,
+        record_type,
+        now,
+    })
 }
 
 /// Options of a run, which asks for both families.
@@ -92,6 +130,39 @@ pub fn options(alloc: Global, preserves: bool) -> ResolverOpts {
     options.preserve_intermediates = preserves;
     options.ip_strategy = LookupIpStrategy::Ipv4AndIpv6;
     options
+}
+
+fn run_table(
+    rt: &impl Print,
+    alloc: Global,
+    case: &str,
+    preserves: bool,
+    pairs: &[Pair],
+    labels: &[&str],
+) -> Result<(), NetError> {
+    let requests = requests(alloc, case)?;
+    let handle = TableHandle::new(outcomes(alloc, pairs)?)?;
+    let options = options(alloc, preserves);
+    let answer = call!(rt, case, run_by(alloc, case, options, handle, &requests));
+    drop(requests);
+    show_run(rt, alloc, answer, labels)
+}
+
+fn run_by(
+    alloc: Global,
+    case: &str,
+    options: ResolverOpts,
+    handle: TableHandle,
+    requests: &[Request],
+) -> Result<Transcript<TableHandle>, NetError> {
+    match case {
+        "run_with_hasher" => {
+            let (config, hosts) = (ResolverConfig::default(alloc), Hosts::default(alloc));
+            let hasher = BuildHasherDefault::new();
+            run_with_hasher(config, options, hosts, handle, requests, hasher)
+        }
+        _ => run_over(alloc, options, handle, requests),
+    }
 }
 
 fn run_over<H: DnsHandle + Drop>(
@@ -107,28 +178,26 @@ fn run_over<H: DnsHandle + Drop>(
 fn show_steps(rt: &impl Print, steps: &[Step]) {
     say(rt, &"a run");
     for step in steps {
-        show_step(rt, step);
+        show_step(rt, step.now, &step.reply);
     }
 }
 
-fn show_step(rt: &impl Print, step: &Step) {
-    let now = step.now;
-    match &step.reply {
-        Reply::Lookup(Ok(found)) => say_until(rt, now, found.valid_until()),
-        Reply::LookupIp(Ok(found)) => say_until(rt, now, found.valid_until()),
-        Reply::Cleared(Ok(())) => say_at(rt, now, &"cleared"),
+fn show_step(rt: &impl Print, now: u64, reply: &Reply) {
+    let _ = rt.print("  at ");
+    let _ = rt.print(now);
+    let _ = rt.print(" ");
+    match reply {
+        Reply::Lookup(Ok(found)) => say_until(rt, found.valid_until()),
+        Reply::LookupIp(Ok(found)) => say_until(rt, found.valid_until()),
+        Reply::Cleared(Ok(())) => say(rt, &"cleared"),
         Reply::Lookup(Err(error)) | Reply::LookupIp(Err(error)) | Reply::Cleared(Err(error)) => {
-            say_at(rt, now, error)
+            say(rt, error)
         }
     }
 }
 
-fn say_until(rt: &impl Print, now: u64, until: u64) {
-    let _ = println!(rt; "  at {now} until {until}");
-}
-
-fn say_at(rt: &impl Print, now: u64, what: &impl Display) {
-    let _ = println!(rt; "  at {now} {what}");
+fn say_until(rt: &impl Print, until: u64) {
+    let _ = println!(rt; "until {until}");
 }
 
 // The replies, what was asked, and what the cache keeps; or that there is no run.
@@ -138,259 +207,79 @@ fn show_run(
     answer: Result<Transcript<TableHandle>, NetError>,
     labels: &[&str],
 ) -> Result<(), NetError> {
-    show_replies(rt, &answer);
-    let resolver = resolver_of(answer);
-    let shown = show_asked(rt, alloc, &resolver, labels);
-    drop(resolver);
-    shown
-}
-
-fn show_asked(
-    rt: &impl Print,
-    alloc: Global,
-    resolver: &Result<Resolver<Upstream>, NetError>,
-    labels: &[&str],
-) -> Result<(), NetError> {
-    match resolver {
-        Ok(resolver) => show_client(rt, alloc, resolver.client(), labels),
-        Err(_) => Ok(()),
+    match answer {
+        Ok(transcript) => {
+            show_steps(rt, transcript.steps());
+            let resolver = transcript.into_resolver();
+            let shown = show_client(rt, alloc, resolver.client(), labels);
+            drop(resolver);
+            shown
+        }
+        Err(error) => say_no_run(rt, &error),
     }
 }
 
-// The same of a run over a script: the replies, what was asked, and what the cache keeps; or that there is none.
+fn say_no_run(rt: &impl Print, error: &NetError) -> Result<(), NetError> {
+    say(rt, error);
+    Ok(())
+}
+
+// The same over a script.
+fn run_script(rt: &impl Print, alloc: Global, case: &str, labels: &[&str]) -> Result<(), NetError> {
+    let requests = requests(alloc, case)?;
+    let (handle, options) = (script(alloc, &BEHIND)?, options(alloc, false));
+    let answer = call!(rt, case, run_over(alloc, options, handle, &requests));
+    drop(requests);
+    show_scripted_run(rt, alloc, answer, labels)
+}
+
 fn show_scripted_run(
     rt: &impl Print,
     alloc: Global,
     answer: Result<Transcript<ScriptHandle>, NetError>,
     labels: &[&str],
 ) -> Result<(), NetError> {
-    show_replies(rt, &answer);
-    let resolver = resolver_of(answer);
-    let shown = show_asked_by_script(rt, alloc, &resolver, labels);
-    drop(resolver);
-    shown
+    match answer {
+        Ok(transcript) => {
+            show_steps(rt, transcript.steps());
+            let resolver = transcript.into_resolver();
+            let shown = show_scripted(rt, alloc, resolver.client(), labels);
+            drop(resolver);
+            shown
+        }
+        Err(error) => say_no_run(rt, &error),
+    }
 }
 
-fn show_asked_by_script(
+// The steps of a run, of which a listener hears. Where it has no room for one, there is no run.
+fn run_to_listener(
     rt: &impl Print,
     alloc: Global,
-    resolver: &Result<Resolver<Scripted>, NetError>,
+    case: &str,
     labels: &[&str],
 ) -> Result<(), NetError> {
-    match resolver {
-        Ok(resolver) => show_scripted(rt, alloc, resolver.client(), labels),
-        Err(_) => Ok(()),
-    }
-}
-
-fn show_replies<H: DnsHandle>(rt: &impl Print, answer: &Result<Transcript<H>, NetError>) {
-    match answer {
-        Ok(transcript) => show_steps(rt, transcript.steps()),
-        Err(error) => say(rt, error),
-    }
-}
-
-fn resolver_of<H: DnsHandle + Drop>(
-    answer: Result<Transcript<H>, NetError>,
-) -> Result<Resolver<Recorded<H>>, NetError> {
-    Ok(answer?.into_resolver())
-}
-
-// An alias, and the address of its canonical name, which is then asked for itself.
-fn run_alias(rt: &impl Print, alloc: Global, case: &str) -> Result<(), NetError> {
-    let requests = two_lookups(alloc)?;
-    let (handle, options) = (aliased(alloc)?, options(alloc, true));
-    let answer = call!(rt, case, run_by(alloc, case, options, handle, &requests));
-    show_run(rt, alloc, answer, &["a", "b"])
-}
-
-fn run_by(
-    alloc: Global,
-    case: &str,
-    options: ResolverOpts,
-    handle: TableHandle,
-    requests: &[Request],
-) -> Result<Transcript<TableHandle>, NetError> {
-    match case {
-        "run: an alias" => run_over(alloc, options, handle, requests),
-        _ => run_hashed(alloc, options, handle, requests),
-    }
-}
-
-fn run_hashed(
-    alloc: Global,
-    options: ResolverOpts,
-    handle: TableHandle,
-    requests: &[Request],
-) -> Result<Transcript<TableHandle>, NetError> {
-    let (config, hosts) = (ResolverConfig::default(alloc), Hosts::default(alloc));
-    run_with_hasher(
-        config,
-        options,
-        hosts,
-        handle,
-        requests,
-        BuildHasherDefault::new(),
-    )
-}
-
-fn aliased(alloc: Global) -> Result<TableHandle, NetError> {
-    let mut outcomes = Vec::new(alloc);
-    push_aliased(alloc, &mut outcomes)?;
-    TableHandle::new(outcomes)
-}
-
-fn push_aliased(alloc: Global, outcomes: &mut Vec<(Query, Outcome)>) -> Result<(), NetError> {
-    push(outcomes, query(alloc, "a")?, alias_outcome(alloc, "a", "b"))?;
-    push(outcomes, query(alloc, "b")?, outcome(alloc, "b"))
-}
-
-fn chain(alloc: Global) -> Result<TableHandle, NetError> {
-    let mut outcomes = Vec::new(alloc);
-    push_chain(alloc, &mut outcomes)?;
-    TableHandle::new(outcomes)
-}
-
-fn push_chain(alloc: Global, outcomes: &mut Vec<(Query, Outcome)>) -> Result<(), NetError> {
-    for two in CHAIN.windows(2) {
-        if let [owner, target] = two {
-            push(
-                outcomes,
-                query(alloc, owner)?,
-                alias_outcome(alloc, owner, target),
-            )?;
-        }
-    }
-    Ok(())
-}
-
-fn run_chain(rt: &impl Print, alloc: Global, case: &str) -> Result<(), NetError> {
-    let requests = one_lookup(alloc)?;
-    let (handle, options) = (chain(alloc)?, options(alloc, false));
-    let answer = call!(rt, case, run_over(alloc, options, handle, &requests));
-    show_run(rt, alloc, answer, &CHAIN)
-}
-
-fn one_lookup(alloc: Global) -> Result<Vec<Request>, NetError> {
-    Ok(vec![in alloc; lookup(alloc, "n0.", RecordType::A, 0)?]?)
-}
-
-// A host that has one family, and a name that is not answered in time.
-fn table(alloc: Global) -> Result<TableHandle, NetError> {
-    let mut outcomes = Vec::new(alloc);
-    push_hosts(alloc, &mut outcomes)?;
-    TableHandle::new(outcomes)
-}
-
-fn push_hosts(alloc: Global, outcomes: &mut Vec<(Query, Outcome)>) -> Result<(), NetError> {
-    push(outcomes, query(alloc, "h")?, outcome(alloc, "h"))?;
-    push(outcomes, ipv6_query(alloc, "h")?, lacks_family(alloc))?;
-    push(outcomes, query(alloc, "t")?, Err(NetError::Timeout))
-}
-
-fn lacks_family(alloc: Global) -> Outcome {
-    negative_outcome(alloc, ipv6_query(alloc, "h")?)
-}
-
-// The addresses of the host; that it lacks a family, out of the cache; its address, cleared and asked again; the name
-// that is not answered; and all is cleared.
-fn table_requests(alloc: Global) -> Result<Vec<Request>, NetError> {
-    let mut requests = Vec::new(alloc);
-    push_requests(alloc, &mut requests)?;
-    Ok(requests)
-}
-
-fn push_requests(alloc: Global, requests: &mut Vec<Request>) -> Result<(), NetError> {
-    push_request(requests, addresses(alloc))?;
-    push_request(requests, lookup(alloc, "h.", RecordType::AAAA, 25))?;
-    push_request(requests, clear_host(alloc))?;
-    push_request(requests, lookup(alloc, "h.", RecordType::A, 26))?;
-    push_request(requests, lookup(alloc, "t.", RecordType::A, 26))?;
-    push_request(requests, Ok(Request::Clear { now: 26 }))
-}
-
-fn addresses(alloc: Global) -> Result<Request, NetError> {
-    let host = text(alloc, "h.")?;
-    Ok(Request::LookupIp { host, now: 10 })
-}
-
-fn clear_host(alloc: Global) -> Result<Request, NetError> {
-    let (name, record_type, now) = (text(alloc, "h.")?, RecordType::A, 25);
-    Ok(Request::ClearLookup {
-        name,
-        record_type,
-        now,
-    })
-}
-
-fn run_table(rt: &impl Print, alloc: Global, case: &str) -> Result<(), NetError> {
-    let requests = table_requests(alloc)?;
-    let (handle, options) = (table(alloc)?, options(alloc, false));
-    let answer = call!(rt, case, run_over(alloc, options, handle, &requests));
-    show_run(rt, alloc, answer, &["h", "t"])
-}
-
-fn script(alloc: Global) -> Result<ScriptHandle, NetError> {
-    let mut outcomes = Vec::new(alloc);
-    push_behind(alloc, &mut outcomes)?;
-    Ok(ScriptHandle::new(outcomes))
-}
-
-fn run_to_its_end(rt: &impl Print, alloc: Global, case: &str) -> Result<(), NetError> {
-    let requests = two_lookups(alloc)?;
-    let (handle, options) = (script(alloc)?, options(alloc, false));
-    let answer = call!(rt, case, run_over(alloc, options, handle, &requests));
-    show_scripted_run(rt, alloc, answer, &["a", "b"])
-}
-
-// The same requests, of whose steps a listener hears. Where it has no room for one, there is no run.
-fn run_to_listener(rt: &impl Print, alloc: Global, case: &str) -> Result<(), NetError> {
-    let requests = two_lookups(alloc)?;
-    let (handle, options) = (aliased(alloc)?, options(alloc, true));
-    let told = call!(rt, case, tell(alloc, options, handle, &requests));
-    let shown = show_told(rt, alloc, &told);
+    let requests = requests(alloc, case)?;
+    let handle = TableHandle::new(outcomes(alloc, &ALIASED)?)?;
+    let told = call!(rt, case, tell(alloc, handle, &requests));
+    drop(requests);
+    let shown = match &told {
+        Ok(told) => show_told(rt, alloc, told, labels),
+        Err(error) => say_no_run(rt, error),
+    };
     drop(told);
     shown
 }
 
-fn tell(
-    alloc: Global,
-    options: ResolverOpts,
-    handle: TableHandle,
-    requests: &[Request],
-) -> Result<Told, NetError> {
+fn tell(alloc: Global, handle: TableHandle, requests: &[Request]) -> Result<Told, NetError> {
     let (config, hosts) = (ResolverConfig::default(alloc), Hosts::default(alloc));
     let keeper = Keeper {
         steps: Vec::new(alloc),
     };
-    run_told(
-        config,
-        options,
-        hosts,
-        handle,
-        requests,
-        BuildHasherDefault::new(),
-        keeper,
-    )
+    let (options, hasher) = (options(alloc, true), BuildHasherDefault::new());
+    run_told(config, options, hosts, handle, requests, hasher, keeper)
 }
 
-fn show_told(
-    rt: &impl Print,
-    alloc: Global,
-    told: &Result<Told, NetError>,
-) -> Result<(), NetError> {
-    match told {
-        Ok(told) => show_heard(rt, alloc, told),
-        Err(error) => say_no_run(rt, error),
-    }
-}
-
-fn show_heard(rt: &impl Print, alloc: Global, told: &Told) -> Result<(), NetError> {
+fn show_told(rt: &impl Print, alloc: Global, told: &Told, labels: &[&str]) -> Result<(), NetError> {
     show_steps(rt, &told.listener.steps);
-    show_client(rt, alloc, told.resolver.client(), &["a", "b"])
-}
-
-fn say_no_run(rt: &impl Print, error: &NetError) -> Result<(), NetError> {
-    say(rt, error);
-    Ok(())
+    show_client(rt, alloc, told.resolver.client(), labels)
 }

@@ -1,7 +1,7 @@
 //! Names, records, messages and outcomes that the calls are given. No copy shares the memory of a name of these yet.
 use hickory_proto_core::{
     DnsError, DnsResponse, Glue, Message, Name, NetError, NoRecords, OpCode, Outcome, Query, RData,
-    Record, RecordType, ResponseCode,
+    Record, RecordType, ResponseCode, ScriptHandle,
 };
 use hickory_resolver::{Lookup, NameServerConfig, ServerGroup};
 use std::alloc::Global;
@@ -9,13 +9,30 @@ use std::net::{IpAddr, Ipv4Addr, Ipv6Addr};
 
 pub const IP: IpAddr = IpAddr::V4(Ipv4Addr::LOCALHOST);
 
-/// The fully qualified name of one label.
-pub fn name(alloc: Global, label: &str) -> Result<Name, NetError> {
-    Ok(Name::from_labels(labels(alloc, label)?)?)
+/// What an upstream says of a name.
+#[derive(Clone, Copy)]
+pub enum Said {
+    /// Its IPv4 address, for a minute.
+    Address,
+    /// Its IPv6 address, for a minute.
+    Ipv6Address,
+    /// That it is an alias of another name, for five minutes.
+    Alias(&'static str),
+    /// That there is no such name.
+    NoName,
+    /// Nothing in time.
+    Late,
+    /// That the handle has no memory.
+    NoMemory,
 }
 
-fn labels(alloc: Global, label: &str) -> Result<Vec<Vec<u8>>, NetError> {
-    Ok(vec![in alloc; Vec::from_slice(alloc, label.as_bytes())?]?)
+/// A name, the type that is asked for, and what an upstream says then.
+pub type Pair = (&'static str, RecordType, Said);
+
+/// The fully qualified name of one label.
+pub fn name(alloc: Global, label: &str) -> Result<Name, NetError> {
+    let labels = vec![in alloc; Vec::from_slice(alloc, label.as_bytes())?]?;
+    Ok(Name::from_labels(labels)?)
 }
 
 /// A name of three labels.
@@ -28,7 +45,7 @@ pub fn text(alloc: Global, text: &str) -> Result<String, NetError> {
     Ok(String::from_str(alloc, text)?)
 }
 
-/// A question for the addresses of a name.
+/// A question for the IPv4 addresses of a name.
 pub fn query(alloc: Global, label: &str) -> Result<Query, NetError> {
     Ok(Query::query(name(alloc, label)?, RecordType::A))
 }
@@ -47,15 +64,10 @@ pub fn one_address(alloc: Global, owner: &str) -> Result<Vec<Record>, NetError> 
 /// More than there is room for behind the first one.
 pub fn five_addresses(alloc: Global) -> Result<Vec<Record>, NetError> {
     let mut records = Vec::new(alloc);
-    push_addresses(alloc, &mut records)?;
-    Ok(records)
-}
-
-fn push_addresses(alloc: Global, records: &mut Vec<Record>) -> Result<(), NetError> {
     for owner in ["a", "b", "c", "d", "e"] {
         records.push(address(alloc, owner, 60)?)?;
     }
-    Ok(())
+    Ok(records)
 }
 
 /// The record by which `a.` names its server.
@@ -70,11 +82,7 @@ pub fn glue(alloc: Global) -> Result<Glue, NetError> {
 }
 
 fn soa(alloc: Global) -> Result<Record, NetError> {
-    Ok(Record::from_rdata(name(alloc, "a")?, 50, soa_data(alloc)))
-}
-
-fn soa_data(alloc: Global) -> RData {
-    RData::SOA {
+    let data = RData::SOA {
         mname: Name::root(alloc),
         rname: Name::root(alloc),
         serial: 1,
@@ -82,29 +90,15 @@ fn soa_data(alloc: Global) -> RData {
         retry: 3,
         expire: 4,
         minimum: 40,
-    }
-}
-
-/// A response without a question, without records.
-pub fn empty_message(alloc: Global) -> Message {
-    Message::response(alloc, 0, OpCode::Query)
+    };
+    Ok(Record::from_rdata(name(alloc, "a")?, 50, data))
 }
 
 /// A response to a question, without records.
 pub fn empty(alloc: Global, asked: Query) -> Result<Message, NetError> {
-    let mut message = empty_message(alloc);
+    let mut message = Message::response(alloc, 0, OpCode::Query);
     message.add_query(asked)?;
     Ok(message)
-}
-
-/// A response to a question for addresses, without records.
-pub fn empty_for(alloc: Global, asked: &str) -> Result<Message, NetError> {
-    empty(alloc, query(alloc, asked)?)
-}
-
-/// A response to a question for addresses, with one.
-pub fn answer(alloc: Global, asked: &str, ttl: u32) -> Result<Message, NetError> {
-    with_answer(empty_for(alloc, asked)?, address(alloc, asked, ttl))
 }
 
 /// The message with one more answer.
@@ -112,12 +106,16 @@ pub fn with_answer(
     mut message: Message,
     added: Result<Record, NetError>,
 ) -> Result<Message, NetError> {
-    add_answer(&mut message, added)?;
+    message.add_answer(added?)?;
     Ok(message)
 }
 
-fn add_answer(message: &mut Message, added: Result<Record, NetError>) -> Result<(), NetError> {
-    message.add_answer(added?)
+/// A response to a question for addresses, with one.
+pub fn answer(alloc: Global, asked: &str, ttl: u32) -> Result<Message, NetError> {
+    with_answer(
+        empty(alloc, query(alloc, asked)?)?,
+        address(alloc, asked, ttl),
+    )
 }
 
 /// A response that there is no such name, with the SOA record of its zone, a server of it, and the server's address.
@@ -134,18 +132,10 @@ fn add_zone(alloc: Global, message: &mut Message) -> Result<(), NetError> {
     message.add_additional(address(alloc, "n", 60)?)
 }
 
-/// The response that there is no `x.`.
-pub fn no_x(alloc: Global) -> Result<Message, NetError> {
-    no_such_name(alloc, query(alloc, "x")?)
-}
-
-/// The negative answer that such a response comes to.
+/// The negative answer that a response comes to that there is no `x.`.
 pub fn none(alloc: Global) -> Result<NoRecords, NetError> {
-    none_of(DnsError::from_response(DnsResponse::from_message(no_x(alloc)?)))
-}
-
-fn none_of(outcome: Outcome) -> Result<NoRecords, NetError> {
-    match outcome {
+    let response = DnsResponse::from_message(no_such_name(alloc, query(alloc, "x")?)?);
+    match DnsError::from_response(response) {
         Ok(_) => Err(NetError::NoOutcome),
         Err(error) => error.into_no_records(),
     }
@@ -156,45 +146,70 @@ pub fn outcome(alloc: Global, asked: &str) -> Outcome {
     Ok(DnsResponse::from_message(answer(alloc, asked, 60)?))
 }
 
-/// The outcome that a name is an alias of another for five minutes.
-pub fn alias_outcome(alloc: Global, asked: &str, target: &str) -> Outcome {
-    let message = with_answer(empty_for(alloc, asked)?, alias(alloc, asked, target))?;
-    Ok(DnsResponse::from_message(message))
-}
-
-fn alias(alloc: Global, owner: &str, target: &str) -> Result<Record, NetError> {
-    let owner = name(alloc, owner)?;
-    Ok(Record::from_rdata(owner, 300, RData::CNAME(name(alloc, target)?)))
-}
-
 /// The outcome that there is no such name.
 pub fn negative_outcome(alloc: Global, asked: Query) -> Outcome {
     Ok(DnsResponse::from_message(no_such_name(alloc, asked)?))
 }
 
-/// A question for the IPv6 addresses of a name.
-pub fn ipv6_query(alloc: Global, label: &str) -> Result<Query, NetError> {
-    Ok(Query::query(name(alloc, label)?, RecordType::AAAA))
+/// The outcome of a question for the addresses of a name.
+pub fn said(alloc: Global, owner: &str, record_type: RecordType, said: Said) -> Outcome {
+    match said {
+        Said::Address => outcome(alloc, owner),
+        Said::Ipv6Address => {
+            with_data(
+                alloc,
+                owner,
+                record_type,
+                60,
+                Ok(RData::AAAA(Ipv6Addr::LOCALHOST)),
+            )
+        }
+        Said::Alias(target) => with_data(alloc, owner, record_type, 300, alias(alloc, target)),
+        Said::NoName => negative_outcome(alloc, Query::query(name(alloc, owner)?, record_type)),
+        Said::Late => Err(NetError::Timeout),
+        Said::NoMemory => Err(NetError::OutOfMemory),
+    }
 }
 
-/// The outcome with one IPv6 address for a minute.
-pub fn ipv6_outcome(alloc: Global, asked: &str) -> Outcome {
-    let message = with_answer(empty(alloc, ipv6_query(alloc, asked)?)?, ipv6(alloc, asked))?;
-    Ok(DnsResponse::from_message(message))
+fn alias(alloc: Global, target: &str) -> Result<RData, NetError> {
+    Ok(RData::CNAME(name(alloc, target)?))
 }
 
-fn ipv6(alloc: Global, owner: &str) -> Result<Record, NetError> {
-    let owner = name(alloc, owner)?;
-    Ok(Record::from_rdata(owner, 60, RData::AAAA(Ipv6Addr::LOCALHOST)))
+fn with_data(
+    alloc: Global,
+    owner: &str,
+    record_type: RecordType,
+    ttl: u32,
+    data: Result<RData, NetError>,
+) -> Outcome {
+    let record = Record::from_rdata(name(alloc, owner)?, ttl, data?);
+    let asked = Query::query(name(alloc, owner)?, record_type);
+    Ok(DnsResponse::from_message(with_answer(empty(alloc, asked)?, Ok(record))?))
+}
+
+/// The outcomes of an upstream that is a table.
+pub fn outcomes(alloc: Global, pairs: &[Pair]) -> Result<Vec<(Query, Outcome)>, NetError> {
+    let mut outcomes = Vec::new(alloc);
+    for (label, record_type, given) in pairs {
+        let query = Query::query(name(alloc, label)?, *record_type);
+        outcomes.push((query, said(alloc, label, *record_type, *given)))?;
+    }
+    Ok(outcomes)
+}
+
+/// An upstream that is a script.
+pub fn script(alloc: Global, pairs: &[Pair]) -> Result<ScriptHandle, NetError> {
+    let mut outcomes = Vec::new(alloc);
+    for (label, record_type, given) in pairs {
+        outcomes.push(said(alloc, label, *record_type, *given))?;
+    }
+    Ok(ScriptHandle::new(outcomes))
 }
 
 /// A look-up of one address.
 pub fn one(alloc: Global, owner: &str) -> Result<Lookup, NetError> {
-    one_of(query(alloc, owner)?, one_address(alloc, owner))
-}
-
-fn one_of(query: Query, records: Result<Vec<Record>, NetError>) -> Result<Lookup, NetError> {
-    Lookup::new_with_deadline(query, records?, 60)
+    let records = one_address(alloc, owner)?;
+    Lookup::new_with_deadline(query(alloc, owner)?, records, 60)
 }
 
 /// A server.

@@ -1,10 +1,31 @@
 //! The texts of answers. A line that is not written is missed by whoever reads the text.
 use hickory_proto_core::{
-    DnsError, Exchange, ForwardNSData, Message, Name, NetError, NoRecords, Outcome, Query, Record,
+    DnsError, DnsResponse, Exchange, ForwardNSData, Message, Name, NetError, NoRecords, Outcome,
+    Query, Record,
 };
 use hickory_resolver::Lookup;
-use std::alloc::{AllocError, Global};
-use std::fmt::{Debug, Display};
+use std::fmt::Display;
+
+/// What a call makes, and the text of it.
+pub trait Shown {
+    /// Prints the value, each of its lines whole.
+    fn show(&self, rt: &impl Print);
+}
+
+/// What was made, or the error.
+pub fn show<T: Shown + Drop, E: Display + Drop>(rt: &impl Print, answer: Result<T, E>) {
+    show_made(rt, &answer);
+    // `drop` costs the prover less than the end of the block.
+    drop(answer);
+}
+
+/// The same, of an answer that is kept.
+pub fn show_made<T: Shown, E: Display>(rt: &impl Print, answer: &Result<T, E>) {
+    match answer {
+        Ok(made) => made.show(rt),
+        Err(error) => say(rt, error),
+    }
+}
 
 /// A line.
 pub fn say(rt: &impl Print, line: &impl Display) {
@@ -16,77 +37,43 @@ pub fn say_part(rt: &impl Print, what: &str, part: &impl Display) {
     let _ = println!(rt; "  {what} {part}");
 }
 
-/// What was made, or the error.
-pub fn show<T: Display + Drop, E: Display + Drop>(rt: &impl Print, answer: Result<T, E>) {
-    match &answer {
-        Ok(made) => say(rt, made),
-        Err(error) => say(rt, error),
-    }
-    // `drop` costs the prover less than the end of the block.
-    drop(answer);
+/// The question that a look-up or a call waits for.
+pub fn say_waits(rt: &impl Print, question: &Query) {
+    let _ = println!(rt; "waits for {question}");
 }
 
-/// That it was done, or the error.
-pub fn show_done<E: Display + Drop>(rt: &impl Print, answer: Result<(), E>) {
-    match &answer {
-        Ok(()) => say(rt, &"done"),
-        Err(error) => say(rt, error),
-    }
-    drop(answer);
-}
-
-/// Whether the copy prints as its source does, or that there was no memory for it.
-pub fn copied<T: Debug, E>(
-    alloc: Global,
-    copy: &Result<T, E>,
-    source: &T,
-) -> Result<&'static str, AllocError> {
-    match copy {
-        Ok(copy) => compared(alloc, copy, source),
-        Err(_) => Ok("out of memory"),
+impl Shown for () {
+    fn show(&self, rt: &impl Print) {
+        say(rt, &"done");
     }
 }
 
-fn compared<T: Debug>(alloc: Global, copy: &T, source: &T) -> Result<&'static str, AllocError> {
-    let source = format!(in alloc; "{source:?}")?;
-    Ok(compared_text(&format!(in alloc; "{copy:?}")?, &source))
-}
-
-fn compared_text(copy: &str, source: &str) -> &'static str {
-    if copy == source {
-        "a copy"
-    } else {
-        "another value"
+impl Shown for Name {
+    fn show(&self, rt: &impl Print) {
+        say(rt, self);
     }
 }
 
-/// Names, each on a line, or the error.
-pub fn show_names(rt: &impl Print, answer: Result<Vec<Name>, NetError>) {
-    match &answer {
-        Ok(names) => say_names(rt, names),
-        Err(error) => say(rt, error),
-    }
-    drop(answer);
-}
-
-fn say_names(rt: &impl Print, names: &[Name]) {
-    for name in names {
-        say(rt, name);
+impl Shown for String {
+    fn show(&self, rt: &impl Print) {
+        say(rt, self);
     }
 }
 
-/// How many records there are, or the error, and the records.
-pub fn show_list(rt: &impl Print, answer: Result<Vec<Record>, NetError>) {
-    match &answer {
-        Ok(records) => say_list(rt, records),
-        Err(error) => say(rt, error),
+impl Shown for Vec<Name> {
+    fn show(&self, rt: &impl Print) {
+        for name in self {
+            say(rt, name);
+        }
     }
-    drop(answer);
 }
 
-fn say_list(rt: &impl Print, records: &[Record]) {
-    say(rt, &records.len());
-    show_records(rt, "record", records);
+// How many records there are, and the records.
+impl Shown for Vec<Record> {
+    fn show(&self, rt: &impl Print) {
+        say(rt, &self.len());
+        show_records(rt, "record", self);
+    }
 }
 
 fn show_records(rt: &impl Print, section: &str, records: &[Record]) {
@@ -105,56 +92,31 @@ pub fn show_message(rt: &impl Print, message: &Message) {
     show_records(rt, "additional", &message.additionals);
 }
 
-/// A look-up, or its error.
-pub fn show_lookup(rt: &impl Print, answer: Result<Lookup, NetError>) {
-    show_reply(rt, &answer);
-    drop(answer);
-}
-
-/// The same, of a reply that is kept.
-pub fn show_reply(rt: &impl Print, reply: &Result<Lookup, NetError>) {
-    match reply {
-        Ok(lookup) => show_parts(rt, lookup),
-        Err(error) => say(rt, error),
+impl Shown for Message {
+    fn show(&self, rt: &impl Print) {
+        say(rt, &"a message");
+        show_message(rt, self);
     }
 }
 
-/// The question that a look-up or a call waits for.
-pub fn say_waits(rt: &impl Print, question: &Query) {
-    let _ = println!(rt; "waits for {question}");
-}
-
-/// Whether there is an answer, or why not.
-pub fn show_answer(rt: &impl Print, outcome: &Outcome) {
-    match outcome {
-        Ok(_) => say(rt, &"an answer"),
-        Err(error) => say(rt, error),
+impl Shown for DnsResponse {
+    fn show(&self, rt: &impl Print) {
+        say(rt, &"an answer");
     }
 }
 
-/// Up to which moment a look-up may be used, and its message.
-pub fn show_parts(rt: &impl Print, lookup: &Lookup) {
-    let _ = println!(rt; "until {}", lookup.valid_until());
-    show_message(rt, lookup.message());
+// Up to which moment a look-up may be used, and its message.
+impl Shown for Lookup {
+    fn show(&self, rt: &impl Print) {
+        let _ = println!(rt; "until {}", self.valid_until());
+        show_message(rt, self.message());
+    }
 }
 
 /// An answer, or the error and what it says.
-pub fn show_outcome(rt: &impl Print, outcome: &Result<Message, NetError>) {
-    match outcome {
-        Ok(message) => say_message(rt, message),
-        Err(error) => show_error(rt, error),
-    }
-}
-
-/// A message.
-pub fn say_message(rt: &impl Print, message: &Message) {
-    say(rt, &"a message");
-    show_message(rt, message);
-}
-
-fn show_error(rt: &impl Print, error: &NetError) {
-    say(rt, error);
-    if let NetError::Dns(DnsError::NoRecordsFound(none)) = error {
+pub fn show_outcome<T: Shown>(rt: &impl Print, outcome: &Result<T, NetError>) {
+    show_made(rt, outcome);
+    if let Err(NetError::Dns(DnsError::NoRecordsFound(none))) = outcome {
         show_none(rt, none);
     }
 }
@@ -175,13 +137,9 @@ fn show_none(rt: &impl Print, none: &NoRecords) {
 
 fn show_servers(rt: &impl Print, servers: &[ForwardNSData]) {
     for server in servers {
-        show_server(rt, server);
+        let addresses = server.glue.len();
+        let _ = println!(rt; "  server {} with {addresses} addresses", server.ns);
     }
-}
-
-fn show_server(rt: &impl Print, server: &ForwardNSData) {
-    let addresses = server.glue.len();
-    let _ = println!(rt; "  server {} with {addresses} addresses", server.ns);
 }
 
 /// The questions that were asked, and whether each was answered or why not.
@@ -193,12 +151,13 @@ pub fn show_exchanges(rt: &impl Print, exchanges: &[Exchange]) {
 
 /// A question, and whether it is answered or why not.
 pub fn show_answered(rt: &impl Print, what: &str, query: &Query, outcome: &Outcome) {
+    let _ = rt.print("  ");
+    let _ = rt.print(what);
+    let _ = rt.print(" ");
+    let _ = rt.print(query);
+    let _ = rt.print(": ");
     match outcome {
-        Ok(_) => say_answered(rt, what, query, &"answered"),
-        Err(error) => say_answered(rt, what, query, error),
+        Ok(_) => say(rt, &"answered"),
+        Err(error) => say(rt, error),
     }
-}
-
-fn say_answered(rt: &impl Print, what: &str, query: &Query, how: &impl Display) {
-    let _ = println!(rt; "  {what} {query}: {how}");
 }

@@ -2,236 +2,147 @@
 use crate::caches::cache_of;
 use crate::clients::{Upstream, client, show_client, show_kept};
 use crate::marks::done;
-use crate::sample::{alias_outcome, negative_outcome, outcome, query};
-use crate::shown::{say_waits, show_answer, show_reply};
-use hickory_proto_core::{DnsRequestOptions, NetError, Outcome, Query, ScriptHandle};
+use crate::sample::{Said, outcome, query, said};
+use crate::shown::{say_waits, show_made};
+use hickory_proto_core::{DnsRequestOptions, NetError, Outcome, Query, RecordType, ScriptHandle};
 use hickory_resolver::{CachingClient, CachingCore, Progress, ResponseCache, Waiting};
 use std::alloc::Global;
 
 // The names of which it is shown whether they have an entry.
 const LABELS: [&str; 3] = ["a", "c", "x"];
 
-/// A client, or the part of it that has no handle.
-trait Client {
-    /// Starts a look-up at the moment 0.
-    fn begin(&mut self, query: Query) -> Progress;
-
-    /// Goes on with a look-up.
-    fn go_on(&mut self, waiting: Waiting, outcome: Outcome) -> Progress;
-
-    /// The cache.
-    fn kept(&self) -> &ResponseCache;
+/// A client whose own handle is not asked, or the part of one that has no handle.
+#[derive(Drop)]
+enum Client {
+    Core(CachingCore),
+    Whole(CachingClient<ScriptHandle>),
 }
 
-impl Client for CachingCore {
-    fn begin(&mut self, query: Query) -> Progress {
-        self.start(query, 0)
+impl Client {
+    // Starts a look-up at the moment 0.
+    fn start(&mut self, query: Query) -> Progress {
+        match self {
+            Client::Core(core) => core.start(query, 0),
+            Client::Whole(client) => client.start(query, 0),
+        }
     }
 
-    fn go_on(&mut self, waiting: Waiting, outcome: Outcome) -> Progress {
-        self.resume(waiting, outcome)
+    fn resume(&mut self, waiting: Waiting, outcome: Outcome) -> Progress {
+        match self {
+            Client::Core(core) => core.resume(waiting, outcome),
+            Client::Whole(client) => client.resume(waiting, outcome),
+        }
     }
 
-    fn kept(&self) -> &ResponseCache {
-        self.cache()
-    }
-}
-
-impl Client for CachingClient<ScriptHandle> {
-    fn begin(&mut self, query: Query) -> Progress {
-        self.start(query, 0)
-    }
-
-    fn go_on(&mut self, waiting: Waiting, outcome: Outcome) -> Progress {
-        self.resume(waiting, outcome)
-    }
-
-    fn kept(&self) -> &ResponseCache {
-        self.cache()
+    fn cache(&self) -> &ResponseCache {
+        match self {
+            Client::Core(core) => core.cache(),
+            Client::Whole(client) => client.cache(),
+        }
     }
 }
 
-/// Makes the call of a case, and says whether there is such a case.
+/// Makes the call of a case, and says whether there is such a case. A start is made over a cache that has an answer for
+/// `a.`, and the others over an empty one.
 pub fn make(rt: &impl Print, alloc: Global, case: &str) -> Result<bool, NetError> {
-    Ok(make_start(rt, alloc, case)? || make_resume(rt, alloc, case)? || make_ask(rt, alloc, case)?)
-}
-
-// Over a cache that has an answer for `a.`.
-fn make_start(rt: &impl Print, alloc: Global, case: &str) -> Result<bool, NetError> {
-    let kept = ["a"];
     match case {
-        "CachingCore::start of a hit" => done(start(rt, alloc, case, core(alloc, &kept), "a")),
-        "CachingCore::start of a special name" => {
-            done(start(rt, alloc, case, core(alloc, &kept), "localhost"))
+        "CachingCore::start of a hit" | "CachingClient::start of a hit" => {
+            done(with_client(rt, alloc, case, &["a"], "a"))
         }
-        "no memory: CachingCore::start of a question to ask" => {
-            done(start(rt, alloc, case, core(alloc, &kept), "c"))
+        "CachingCore::start of a special name" | "CachingClient::start of a special name" => {
+            done(with_client(rt, alloc, case, &["a"], "localhost"))
         }
-        "CachingClient::start of a hit" => done(start(rt, alloc, case, silent(alloc, &kept), "a")),
-        "CachingClient::start of a special name" => {
-            done(start(rt, alloc, case, silent(alloc, &kept), "localhost"))
+        "no memory: CachingCore::start of a question to ask"
+        | "no memory: CachingClient::start of a question to ask" => {
+            done(with_client(rt, alloc, case, &["a"], "c"))
         }
-        "no memory: CachingClient::start of a question to ask" => {
-            done(start(rt, alloc, case, silent(alloc, &kept), "c"))
-        }
-        _ => Ok(false),
-    }
-}
-
-// Over an empty cache.
-fn make_resume(rt: &impl Print, alloc: Global, case: &str) -> Result<bool, NetError> {
-    match case {
-        "CachingCore::resume behind an alias"
-        | "CachingCore::resume with an alias"
-        | "CachingCore::resume with a negative answer" => {
-            done(resume(rt, alloc, case, core(alloc, &[])))
-        }
-        "CachingClient::resume behind an alias"
+        "CachingCore::resume with an alias"
         | "CachingClient::resume with an alias"
-        | "CachingClient::resume with a negative answer" => {
-            done(resume(rt, alloc, case, silent(alloc, &[])))
+        | "CachingCore::resume behind an alias"
+        | "CachingClient::resume behind an alias" => {
+            done(with_client(rt, alloc, case, &[], "c"))
         }
-        _ => Ok(false),
-    }
-}
-
-fn make_ask(rt: &impl Print, alloc: Global, case: &str) -> Result<bool, NetError> {
-    match case {
+        "CachingCore::resume with a negative answer"
+        | "CachingClient::resume with a negative answer" => {
+            done(with_client(rt, alloc, case, &[], "x"))
+        }
         "CachingClient::ask" => done(ask(rt, alloc, case)),
         _ => Ok(false),
     }
 }
 
-fn core(alloc: Global, kept: &[&str]) -> Result<CachingCore, NetError> {
-    Ok(CachingCore::with_cache(cache_of(alloc, kept)?, false))
+fn with_client(
+    rt: &impl Print,
+    alloc: Global,
+    case: &str,
+    kept: &[&str],
+    label: &str,
+) -> Result<(), NetError> {
+    let cache = cache_of(alloc, kept)?;
+    let mut client = if case.contains("CachingCore") {
+        Client::Core(CachingCore::with_cache(cache, false))
+    } else {
+        let handle = ScriptHandle::new(Vec::new(alloc));
+        Client::Whole(CachingClient::with_cache(cache, handle, false))
+    };
+    let made = with_mut_client(rt, alloc, case, &mut client, label);
+    drop(client);
+    made
 }
 
-// A client whose own handle is not asked.
-fn silent(alloc: Global, kept: &[&str]) -> Result<CachingClient<ScriptHandle>, NetError> {
-    let cache = cache_of(alloc, kept)?;
-    Ok(CachingClient::with_cache(cache, ScriptHandle::new(Vec::new(alloc)), false))
+// What the step gives, what the cache keeps, and what a look-up of the name starts with then.
+fn with_mut_client(
+    rt: &impl Print,
+    alloc: Global,
+    case: &str,
+    client: &mut Client,
+    label: &str,
+) -> Result<(), NetError> {
+    let asked = query(alloc, label)?;
+    if case.contains("start") {
+        show_progress(rt, call!(rt, case, client.start(asked)));
+    } else {
+        let waiting = waiting_of(client.start(asked))?;
+        resume(rt, alloc, case, client, waiting)?;
+    }
+    show_kept(rt, alloc, client.cache(), &LABELS)?;
+    let again = query(alloc, label)?;
+    let _ = rt.print("again: ");
+    show_progress(rt, client.start(again));
+    Ok(())
+}
+
+// An alias leads to a question. Behind it the answer is kept under the canonical name, and then under the alias.
+fn resume(
+    rt: &impl Print,
+    alloc: Global,
+    case: &str,
+    client: &mut Client,
+    waiting: Waiting,
+) -> Result<(), NetError> {
+    if case.contains("negative") {
+        let outcome = said(alloc, "x", RecordType::A, Said::NoName);
+        show_progress(rt, call!(rt, case, client.resume(waiting, outcome)));
+        return Ok(());
+    }
+    let alias = said(alloc, "c", RecordType::A, Said::Alias("a"));
+    if case.contains("behind") {
+        let next = waiting_of(client.resume(waiting, alias))?;
+        let outcome = outcome(alloc, "a");
+        show_progress(rt, call!(rt, case, client.resume(next, outcome)));
+    } else {
+        show_progress(rt, call!(rt, case, client.resume(waiting, alias)));
+    }
+    Ok(())
 }
 
 // What a look-up came to.
 fn show_progress(rt: &impl Print, progress: Progress) {
     match &progress {
         Progress::Waiting(waiting) => say_waits(rt, waiting.question()),
-        Progress::Done(reply) => show_reply(rt, reply),
+        Progress::Done(reply) => show_made(rt, reply),
     }
     drop(progress);
-}
-
-fn start<C: Client + Drop>(
-    rt: &impl Print,
-    alloc: Global,
-    case: &str,
-    client: Result<C, NetError>,
-    label: &str,
-) -> Result<(), NetError> {
-    let mut client = client?;
-    let shown = show_start(rt, alloc, case, &mut client, label);
-    drop(client);
-    shown
-}
-
-fn show_start<C: Client>(
-    rt: &impl Print,
-    alloc: Global,
-    case: &str,
-    client: &mut C,
-    label: &str,
-) -> Result<(), NetError> {
-    let query = query(alloc, label)?;
-    show_progress(rt, call!(rt, case, client.begin(query)));
-    show_after(rt, alloc, client, label)
-}
-
-// What the cache keeps, and what a look-up of a name starts with then.
-fn show_after<C: Client>(
-    rt: &impl Print,
-    alloc: Global,
-    client: &mut C,
-    label: &str,
-) -> Result<(), NetError> {
-    show_kept(rt, alloc, client.kept(), &LABELS)?;
-    let query = query(alloc, label)?;
-    let _ = rt.print("again: ");
-    show_progress(rt, client.begin(query));
-    Ok(())
-}
-
-fn resume<C: Client + Drop>(
-    rt: &impl Print,
-    alloc: Global,
-    case: &str,
-    client: Result<C, NetError>,
-) -> Result<(), NetError> {
-    let mut client = client?;
-    let shown = resume_by(rt, alloc, case, &mut client);
-    drop(client);
-    shown
-}
-
-fn resume_by<C: Client>(
-    rt: &impl Print,
-    alloc: Global,
-    case: &str,
-    client: &mut C,
-) -> Result<(), NetError> {
-    match case {
-        "CachingCore::resume with an alias" | "CachingClient::resume with an alias" => {
-            resume_with_alias(rt, alloc, case, client)
-        }
-        "CachingCore::resume with a negative answer"
-        | "CachingClient::resume with a negative answer" => {
-            resume_with_negative(rt, alloc, case, client)
-        }
-        _ => resume_behind_alias(rt, alloc, case, client),
-    }
-}
-
-// The alias leads to a question.
-fn resume_with_alias<C: Client>(
-    rt: &impl Print,
-    alloc: Global,
-    case: &str,
-    client: &mut C,
-) -> Result<(), NetError> {
-    let waiting = begun(alloc, client, "c")?;
-    show_resume(rt, case, client, waiting, alias_outcome(alloc, "c", "a"));
-    show_after(rt, alloc, client, "c")
-}
-
-// The answer is kept under the canonical name, and then under the alias.
-fn resume_behind_alias<C: Client>(
-    rt: &impl Print,
-    alloc: Global,
-    case: &str,
-    client: &mut C,
-) -> Result<(), NetError> {
-    let waiting = begun(alloc, client, "c")?;
-    let next = waiting_of(client.go_on(waiting, alias_outcome(alloc, "c", "a")))?;
-    show_resume(rt, case, client, next, outcome(alloc, "a"));
-    show_after(rt, alloc, client, "c")
-}
-
-fn resume_with_negative<C: Client>(
-    rt: &impl Print,
-    alloc: Global,
-    case: &str,
-    client: &mut C,
-) -> Result<(), NetError> {
-    let waiting = begun(alloc, client, "x")?;
-    show_resume(rt, case, client, waiting, no_name(alloc));
-    show_after(rt, alloc, client, "x")
-}
-
-fn no_name(alloc: Global) -> Outcome {
-    negative_outcome(alloc, query(alloc, "x")?)
-}
-
-fn begun<C: Client>(alloc: Global, client: &mut C, label: &str) -> Result<Waiting, NetError> {
-    waiting_of(client.begin(query(alloc, label)?))
 }
 
 fn waiting_of(progress: Progress) -> Result<Waiting, NetError> {
@@ -242,16 +153,6 @@ fn waiting_of(progress: Progress) -> Result<Waiting, NetError> {
             Err(NetError::NoOutcome)
         }
     }
-}
-
-fn show_resume<C: Client>(
-    rt: &impl Print,
-    case: &str,
-    client: &mut C,
-    waiting: Waiting,
-    outcome: Outcome,
-) {
-    show_progress(rt, call!(rt, case, client.go_on(waiting, outcome)));
 }
 
 // The handle records what it is asked. The look-up waits as before.
@@ -271,14 +172,10 @@ fn show_ask(
     let waiting = waiting_of(client.start(query(alloc, "a")?, 0))?;
     let options = DnsRequestOptions::default();
     let (waiting, outcome) = call!(rt, case, client.ask(waiting, options));
-    show_asked(rt, &waiting, &outcome);
+    show_made(rt, &outcome);
     drop(outcome);
-    drop(waiting);
-    show_client(rt, alloc, client, &LABELS)
-}
-
-fn show_asked(rt: &impl Print, waiting: &Waiting, outcome: &Outcome) {
-    show_answer(rt, outcome);
     let _ = rt.print("  ");
     say_waits(rt, waiting.question());
+    drop(waiting);
+    show_client(rt, alloc, client, &LABELS)
 }

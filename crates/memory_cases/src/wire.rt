@@ -1,7 +1,7 @@
 //! Messages as bytes.
-use crate::shown::{say, say_message, say_part};
+use crate::shown::{Shown, say_part, show};
 use hickory_proto_core::NetError;
-use hickory_proto_wire::{Edns, WireError, WireMessage};
+use hickory_proto_wire::WireMessage;
 use std::alloc::Global;
 
 // A response to a question for the addresses of `www.a.`: its address, a record of another type and the server of the
@@ -15,38 +15,21 @@ const BYTES: &[u8] = b"\x00\x07\x81\x80\x00\x01\x00\x02\x00\x01\x00\x01\
 
 /// Makes the call of a case, and says whether there is such a case.
 pub fn make(rt: &impl Print, alloc: Global, case: &str) -> Result<bool, NetError> {
-    match case {
-        "WireMessage::from_wire" => {
-            show_read(rt, call!(rt, case, WireMessage::from_wire(alloc, BYTES)));
-            Ok(true)
+    let bytes = match case {
+        "WireMessage::from_wire" => BYTES,
+        "no memory: WireMessage::from_wire of half a header" => b"\x00\x07\x81\x80",
+        _ => return Ok(false),
+    };
+    show(rt, call!(rt, case, WireMessage::from_wire(alloc, bytes)));
+    Ok(true)
+}
+
+impl Shown for WireMessage {
+    fn show(&self, rt: &impl Print) {
+        self.message.show(rt);
+        if let Some(edns) = &self.edns {
+            say_part(rt, "size", &edns.size);
+            say_part(rt, "octets of options", &edns.options.len());
         }
-        "no memory: WireMessage::from_wire of half a header" => {
-            show_read(
-                rt,
-                call!(rt, case, WireMessage::from_wire(alloc, b"\x00\x07\x81\x80")),
-            );
-            Ok(true)
-        }
-        _ => Ok(false),
     }
-}
-
-fn show_read(rt: &impl Print, answer: Result<WireMessage, WireError>) {
-    match &answer {
-        Ok(read) => say_read(rt, read),
-        Err(error) => say(rt, error),
-    }
-    drop(answer);
-}
-
-fn say_read(rt: &impl Print, read: &WireMessage) {
-    say_message(rt, &read.message);
-    if let Some(edns) = &read.edns {
-        say_edns(rt, edns);
-    }
-}
-
-fn say_edns(rt: &impl Print, edns: &Edns) {
-    say_part(rt, "size", &edns.size);
-    say_part(rt, "octets of options", &edns.options.len());
 }

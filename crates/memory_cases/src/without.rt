@@ -2,57 +2,48 @@
 use crate::clients::with_search;
 use crate::handles::request;
 use crate::marks::done;
-use crate::sample::{glue, one, outcome, query, www};
-use crate::shown::{say, show};
+use crate::sample::{Pair, Said, glue, one, query, script, www};
+use crate::shown::{Shown, say, show};
 use hickory_proto_core::{
-    DnsHandle, DnsRequest, DnsRequestOptions, Glue, Name, NetError, Outcome, Query, RecordType,
-    ScriptHandle, clone_outcome, read_ip,
+    DnsHandle, DnsRequestOptions, Name, NetError, Outcome, RecordType, ScriptHandle, clone_outcome,
+    read_ip,
 };
-use hickory_resolver::{
-    CachingClient, Lookup, LookupIp, Resolver, ResolverConfig, ResolverOpts, TtlBounds, TtlConfig,
-};
+use hickory_resolver::{CachingClient, LookupIp, Resolver, ResolverOpts, TtlBounds, TtlConfig};
 use std::alloc::Global;
+
+const A: RecordType = RecordType::A;
+
+// What the scripts say.
+const PAIRS: [Pair; 2] = [("a", A, Said::Address), ("b", A, Said::Address)];
 
 /// Makes the calls of a case, and says whether there is such a case.
 pub fn make(rt: &impl Print, alloc: Global, case: &str) -> Result<bool, NetError> {
     match case {
-        "no memory: Name::from_labels" => done(from_labels(rt, case, labels(alloc))),
+        "no memory: Name::from_labels" => done(from_labels(rt, alloc, case)),
         "no memory: names" => done(names(rt, alloc, case)),
         "no memory: addresses" => done(addresses(rt, alloc, case)),
         "no memory: copies of a failure" => {
             failures(rt, case);
             Ok(true)
         }
-        "no memory: Glue::clone and decrement_ttl" => done(share(rt, case, glue(alloc))),
-        "no memory: ScriptHandle::send" => done(send(rt, alloc, case, script(alloc))),
-        "no memory: look-ups" => done(lookups(rt, case, one(alloc, "a"))),
+        "no memory: Glue::clone and decrement_ttl" => done(share(rt, alloc, case)),
+        "no memory: ScriptHandle::send" => done(send(rt, alloc, case)),
+        "no memory: look-ups" => done(lookups(rt, alloc, case)),
         "no memory: bounds" => {
             bounds(rt, alloc, case);
             Ok(true)
         }
-        "no memory: clears of a client" => done(clears(rt, alloc, case, client(alloc))),
-        "no memory: ResolverBuilder::build" => done(build(rt, alloc, case, with_search(alloc))),
+        "no memory: clears of a client" => done(clears(rt, alloc, case)),
+        "no memory: ResolverBuilder::build" => done(build(rt, alloc, case)),
         _ => Ok(false),
     }
 }
 
-fn labels(alloc: Global) -> Result<Vec<Vec<u8>>, NetError> {
+fn from_labels(rt: &impl Print, alloc: Global, case: &str) -> Result<(), NetError> {
     let mut labels = Vec::new(alloc);
-    push_labels(alloc, &mut labels)?;
-    Ok(labels)
-}
-
-fn push_labels(alloc: Global, labels: &mut Vec<Vec<u8>>) -> Result<(), NetError> {
-    labels.push(Vec::from_slice(alloc, b"www")?)?;
-    Ok(labels.push(Vec::from_slice(alloc, b"com")?)?)
-}
-
-fn from_labels(
-    rt: &impl Print,
-    case: &str,
-    labels: Result<Vec<Vec<u8>>, NetError>,
-) -> Result<(), NetError> {
-    let labels = labels?;
+    for label in ["www", "com"] {
+        labels.push(Vec::from_slice(alloc, label.as_bytes())?)?;
+    }
     show(rt, call!(rt, case, Name::from_labels(labels)));
     Ok(())
 }
@@ -62,14 +53,11 @@ fn from_labels(
 fn names(rt: &impl Print, alloc: Global, case: &str) -> Result<(), NetError> {
     let mut zone = Name::from_ascii(alloc, "Example.com")?;
     let other = www(alloc)?;
-    show_zone(rt, case, &mut zone, &other);
-    Ok(())
-}
-
-fn show_zone(rt: &impl Print, case: &str, zone: &mut Name, other: &Name) {
-    let (labels, before, after, is_zone) = call!(rt, case, set_mark(zone, other));
+    let (labels, before, after, is_zone) = call!(rt, case, set_mark(&mut zone, &other));
     let _ = println!(rt; "{labels} {before} {after} {is_zone}");
-    show_order(rt, zone, other);
+    let (is_equal, is_less, is_localhost) = (zone == other, zone < other, zone.is_localhost());
+    let _ = println!(rt; "  {is_equal} {is_less} {is_localhost}");
+    Ok(())
 }
 
 fn set_mark(zone: &mut Name, other: &Name) -> (usize, bool, bool, bool) {
@@ -77,12 +65,6 @@ fn set_mark(zone: &mut Name, other: &Name) -> (usize, bool, bool, bool) {
     zone.set_fqdn(true);
     let labels = zone.labels().len();
     (labels, before, zone.is_fqdn(), zone.zone_of(other))
-}
-
-fn show_order(rt: &impl Print, zone: &Name, other: &Name) {
-    let is_equal = *zone == *other;
-    let is_less = *zone < *other;
-    let _ = println!(rt; "  {is_equal} {is_less} {}", zone.is_localhost());
 }
 
 // Whether a text is an address, whether a name is that of one, and how many labels it has.
@@ -105,88 +87,50 @@ fn read(name: &Name) -> (bool, bool, u8) {
 // Whether the copy of an error that is no negative answer is that error.
 fn failures(rt: &impl Print, case: &str) {
     let failed: Outcome = Err(NetError::Timeout);
-    let is_timeout = is_copied(rt, case, &failed);
+    let copy = call!(rt, case, clone_outcome(&failed));
+    let is_timeout = matches!(&copy, Ok(Err(NetError::Timeout)));
+    drop(copy);
     drop(failed);
     say(rt, &is_timeout);
 }
 
-fn is_copied(rt: &impl Print, case: &str, failed: &Outcome) -> bool {
-    is_timeout(call!(rt, case, clone_outcome(failed)))
-}
-
-fn is_timeout<E: Drop>(copy: Result<Outcome, E>) -> bool {
-    let is_timeout = matches!(&copy, Ok(Err(NetError::Timeout)));
-    drop(copy);
-    is_timeout
-}
-
-// How many addresses a copy has, and whether it was made.
-fn share(rt: &impl Print, case: &str, glue: Result<Glue, NetError>) -> Result<(), NetError> {
-    let mut glue = glue?;
-    show_copy(rt, call!(rt, case, aged(&mut glue)), &glue);
-    Ok(())
-}
-
-fn show_copy(rt: &impl Print, copy: Result<Glue, NetError>, glue: &Glue) {
+// How many addresses an older copy has, or that it was not made, and how many there are.
+fn share(rt: &impl Print, alloc: Global, case: &str) -> Result<(), NetError> {
+    let mut glue = glue(alloc)?;
+    let copy = call!(
+        rt,
+        case,
+        {
+            glue.decrement_ttl(20);
+            glue.clone()
+        }
+    );
     match &copy {
-        Ok(copy) => say_lengths(rt, copy, glue),
+        Ok(copy) => {
+            let _ = println!(rt; "{} of {}", copy.len(), glue.len());
+        }
         Err(error) => say(rt, error),
     }
     drop(copy);
-}
-
-fn aged(glue: &mut Glue) -> Result<Glue, NetError> {
-    glue.decrement_ttl(20);
-    glue.clone()
-}
-
-fn say_lengths(rt: &impl Print, copy: &Glue, glue: &Glue) {
-    let _ = println!(rt; "{} of {}", copy.len(), glue.len());
-}
-
-fn script(alloc: Global) -> Result<ScriptHandle, NetError> {
-    Ok(ScriptHandle::new(vec![in alloc; outcome(alloc, "a")]?))
-}
-
-// Whether an outcome is given, and whether one is behind the last.
-fn send(
-    rt: &impl Print,
-    alloc: Global,
-    case: &str,
-    handle: Result<ScriptHandle, NetError>,
-) -> Result<(), NetError> {
-    let mut handle = handle?;
-    let sent = send_twice(rt, alloc, case, &mut handle);
-    drop(handle);
-    sent
-}
-
-fn send_twice(
-    rt: &impl Print,
-    alloc: Global,
-    case: &str,
-    handle: &mut ScriptHandle,
-) -> Result<(), NetError> {
-    let request = request(alloc, "a")?;
-    let (first, second) = call!(rt, case, send_both(handle, &request));
-    show_sent(rt, &first, &second);
-    drop(first);
-    drop(second);
+    drop(glue);
     Ok(())
 }
 
-fn send_both(handle: &mut ScriptHandle, request: &DnsRequest) -> (Outcome, Outcome) {
-    let first = handle.send(request);
-    (first, handle.send(request))
-}
-
-fn show_sent(rt: &impl Print, first: &Outcome, second: &Outcome) {
+// Whether an outcome is given, and whether one is behind the last.
+fn send(rt: &impl Print, alloc: Global, case: &str) -> Result<(), NetError> {
+    let request = request(alloc, "a")?;
+    let mut handle = script(alloc, &[("a", A, Said::Address)])?;
+    let (first, second) = call!(rt, case, (handle.send(&request), handle.send(&request)));
     let _ = println!(rt; "{} {}", first.is_ok(), second.is_ok());
+    drop(first);
+    drop(second);
+    drop(handle);
+    Ok(())
 }
 
 // How many addresses there are, by reference and by value, and the deadline.
-fn lookups(rt: &impl Print, case: &str, lookup: Result<Lookup, NetError>) -> Result<(), NetError> {
-    let found = LookupIp::from(lookup?);
+fn lookups(rt: &impl Print, alloc: Global, case: &str) -> Result<(), NetError> {
+    let found = LookupIp::from(one(alloc, "a")?);
     let (listed, until, given) = call!(rt, case, read_addresses(found));
     let _ = println!(rt; "{listed} {until} {given}");
     Ok(())
@@ -214,29 +158,19 @@ fn bounds(rt: &impl Print, alloc: Global, case: &str) {
 fn take_bounds(alloc: Global, options: &ResolverOpts) -> (bool, bool, u64) {
     let is_taken = TtlConfig::from_opts(alloc, options).is_ok();
     let is_refused = TtlBounds::new(Some(9), None, Some(8), None).is_err();
-    let (_, greatest) = TtlConfig::default(alloc).positive_response_ttl_bounds(RecordType::A);
+    let (_, greatest) = TtlConfig::default(alloc).positive_response_ttl_bounds(A);
     (is_taken, is_refused, greatest)
 }
 
-fn client(alloc: Global) -> Result<CachingClient<ScriptHandle>, NetError> {
-    let mut outcomes = vec![in alloc; outcome(alloc, "a")]?;
-    outcomes.push(outcome(alloc, "b"))?;
-    Ok(CachingClient::new(alloc, 8, ScriptHandle::new(outcomes), false))
-}
-
-// How many entries there are, after one is cleared and after all are.
-fn clears(
-    rt: &impl Print,
-    alloc: Global,
-    case: &str,
-    client: Result<CachingClient<ScriptHandle>, NetError>,
-) -> Result<(), NetError> {
-    let mut client = client?;
+fn clears(rt: &impl Print, alloc: Global, case: &str) -> Result<(), NetError> {
+    let handle = script(alloc, &PAIRS)?;
+    let mut client = CachingClient::new(alloc, 8, handle, false);
     let shown = show_clears(rt, alloc, case, &mut client);
     drop(client);
     shown
 }
 
+// How many entries there are, after one is cleared and after all are.
 fn show_clears(
     rt: &impl Print,
     alloc: Global,
@@ -247,46 +181,30 @@ fn show_clears(
         drop(client.lookup(query(alloc, asked)?, DnsRequestOptions::default(), 0));
     }
     let query = query(alloc, "a")?;
-    let (before, one, none) = call!(rt, case, clear_both(client, &query));
+    let (before, one, none) = call!(
+        rt,
+        case,
+        {
+            let before = client.cache().len();
+            client.clear_cache_query(&query);
+            let one = client.cache().len();
+            client.clear_cache();
+            (before, one, client.cache().len())
+        }
+    );
     let _ = println!(rt; "{before} {one} {none}");
     Ok(())
 }
 
-fn clear_both(client: &mut CachingClient<ScriptHandle>, query: &Query) -> (usize, usize, usize) {
-    let before = client.cache().len();
-    client.clear_cache_query(query);
-    let one = client.cache().len();
-    client.clear_cache();
-    (before, one, client.cache().len())
-}
-
-fn build(
-    rt: &impl Print,
-    alloc: Global,
-    case: &str,
-    config: Result<ResolverConfig, NetError>,
-) -> Result<(), NetError> {
-    let config = config?;
-    let handle = ScriptHandle::new(Vec::new(alloc));
-    show_built(
-        rt,
-        call!(
-            rt,
-            case,
-            Resolver::builder_with_config(config, handle).build()
-        ),
-    );
-    Ok(())
-}
-
-fn show_built(rt: &impl Print, built: Result<Resolver<ScriptHandle>, NetError>) {
-    match &built {
-        Ok(resolver) => say_resolver(rt, resolver),
-        Err(error) => say(rt, error),
+impl Shown for Resolver<ScriptHandle> {
+    fn show(&self, rt: &impl Print) {
+        let _ = println!(rt; "{self:?}");
     }
-    drop(built);
 }
 
-fn say_resolver(rt: &impl Print, resolver: &Resolver<ScriptHandle>) {
-    let _ = println!(rt; "{resolver:?}");
+fn build(rt: &impl Print, alloc: Global, case: &str) -> Result<(), NetError> {
+    let config = with_search(alloc)?;
+    let builder = Resolver::builder_with_config(config, ScriptHandle::new(Vec::new(alloc)));
+    show(rt, call!(rt, case, builder.build()));
+    Ok(())
 }
