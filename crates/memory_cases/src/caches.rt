@@ -61,7 +61,8 @@ fn with_mut_cache(
     match case {
         "get" => show_got(rt, call!(rt, case, cache.get(&asked, 4))),
         "get of a negative answer" => {
-            cache.insert(query(alloc, "p")?, negative(alloc), 0)?;
+            let stored = stored(alloc, case, "p");
+            cache.insert(query(alloc, "p")?, stored, 0)?;
             show_got(rt, call!(rt, case, cache.get(&asked, 4)));
         }
         "get_with_deadline" => {
@@ -83,15 +84,14 @@ fn with_mut_cache(
     Ok(())
 }
 
-fn negative(alloc: Global) -> Result<Message, NetError> {
-    Err(NetError::from(none(alloc)?))
-}
-
 // What is stored under a name.
 fn stored(alloc: Global, case: &str, label: &str) -> Result<Message, NetError> {
     match case {
         "no memory: insert of a failure" => Err(NetError::Timeout),
-        "insert in place of an entry" | "insert_until" | "upsert_clamped_ttl" => negative(alloc),
+        "insert in place of an entry"
+        | "insert_until"
+        | "upsert_clamped_ttl"
+        | "get of a negative answer" => Err(NetError::from(none(alloc)?)),
         _ => answer(alloc, label, 5),
     }
 }

@@ -3,7 +3,7 @@
 use crate::clients::{Upstream, resolver, show_kept};
 use crate::marks::done;
 use crate::runs::options;
-use crate::sample::{Said, negative_outcome, outcome, said};
+use crate::sample::{Said, negative_outcome, outcome, outcome_of};
 use crate::shown::{say_waits, show_made};
 use hickory_proto_core::{Name, NetError, Query, RecordType};
 use hickory_resolver::{CallProgress, Resolver, ResolverOpts, WaitingCall};
@@ -79,7 +79,7 @@ fn resume_family(
 ) -> Result<(), NetError> {
     let first = waiting_of(start(case, resolver))?;
     let second = waiting_of(resolver.resume(first, outcome(alloc, "h")))?;
-    let outcome = said(alloc, "h", RecordType::AAAA, Said::Ipv6Address);
+    let outcome = outcome_of(alloc, "h", RecordType::AAAA, Said::Ipv6Address);
     show_progress(rt, call!(rt, case, resolver.resume(second, outcome)));
     Ok(())
 }

@@ -2,7 +2,7 @@
 use crate::caches::has;
 use crate::marks::done;
 use crate::sample::{Pair, Said, name, outcomes, query, script};
-use crate::shown::{show, show_exchanges};
+use crate::shown::{Shown, show, show_exchanges};
 use hickory_proto_core::{
     DnsHandle, DnsRequestOptions, Name, NetError, RecordType, Recorded, ScriptHandle, TableHandle,
 };
@@ -162,45 +162,57 @@ fn look_up_in_turn(
     case: &str,
     client: &mut CachingClient<Upstream>,
 ) -> Result<(), NetError> {
-    let names = two_names(alloc)?;
-    let mut hosts = Hosts::default(alloc);
-    if case == "LookupFuture::lookup_with_hosts" {
-        drop(hosts.read_hosts_bytes(b"10.0.0.2 b", 0));
-    }
-    show(
-        rt,
-        call!(rt, case, ask_in_turn(case, client, &hosts, names)),
-    );
-    drop(hosts);
-    Ok(())
-}
-
-fn two_names(alloc: Global) -> Result<Vec<Name>, NetError> {
     let mut names = Vec::new(alloc);
     for label in ["a", "b"] {
         names.push(name(alloc, label)?)?;
     }
-    Ok(names)
+    let mut hosts = Hosts::default(alloc);
+    if case == "LookupFuture::lookup_with_hosts" {
+        drop(hosts.read_hosts_bytes(b"10.0.0.2 b", 0));
+    }
+    show_in_turn(rt, case, client, &hosts, names);
+    drop(hosts);
+    Ok(())
 }
 
-fn ask_in_turn(
+fn show_in_turn(
+    rt: &impl Print,
     case: &str,
     client: &mut CachingClient<Upstream>,
     hosts: &Hosts,
     names: Vec<Name>,
-) -> Result<Lookup, NetError> {
+) {
     let (strategy, options) = (LookupIpStrategy::Ipv4Only, DnsRequestOptions::default());
     match case {
-        "LookupFuture::lookup" => LookupFuture::lookup(names, A, options, client, 0),
-        "LookupFuture::lookup_with_hosts" => {
-            LookupFuture::lookup_with_hosts(names, A, options, client, hosts, 0)
+        "LookupFuture::lookup" => {
+            show(
+                rt,
+                call!(rt, case, LookupFuture::lookup(names, A, options, client, 0)),
+            );
         }
-        _ => lookup_of(LookupIpFuture::lookup(names, strategy, client, options, hosts, None, 0)),
+        "LookupFuture::lookup_with_hosts" => show(
+            rt,
+            call!(
+                rt,
+                case,
+                LookupFuture::lookup_with_hosts(names, A, options, client, hosts, 0)
+            ),
+        ),
+        _ => show(
+            rt,
+            call!(
+                rt,
+                case,
+                LookupIpFuture::lookup(names, strategy, client, options, hosts, None, 0)
+            ),
+        ),
     }
 }
 
-fn lookup_of(answer: Result<LookupIp, NetError>) -> Result<Lookup, NetError> {
-    Ok(Lookup::from(answer?))
+impl Shown for LookupIp {
+    fn show(&self, rt: &impl Print) {
+        self.as_lookup().show(rt);
+    }
 }
 
 /// A configuration with a search domain.
@@ -242,17 +254,11 @@ fn with_mut_resolver(
             drop(resolver.ipv4_lookup("a.", 0));
             show(rt, call!(rt, case, resolver.clear_lookup_cache("a", A)));
         }
-        _ => show(rt, call!(rt, case, resolve_by(case, resolver))),
+        "Resolver::lookup" => show(rt, call!(rt, case, resolver.lookup("a", A, 0))),
+        "Resolver::lookup_ip" => show(rt, call!(rt, case, resolver.lookup_ip("a.", 0))),
+        _ => show(rt, call!(rt, case, resolver.lookup_ip("127.0.0.1", 0))),
     }
     show_client(rt, alloc, resolver.client(), &LABELS)
-}
-
-fn resolve_by(case: &str, resolver: &mut Resolver<Upstream>) -> Result<Lookup, NetError> {
-    match case {
-        "Resolver::lookup" => resolver.lookup("a", A, 0),
-        "Resolver::lookup_ip" => lookup_of(resolver.lookup_ip("a.", 0)),
-        _ => lookup_of(resolver.lookup_ip("127.0.0.1", 0)),
-    }
 }
 
 // How many of these look-ups, each of a name that the upstream knows nothing of, were out of memory.

@@ -1,8 +1,8 @@
 //! Servers, groups of them, and configurations.
 use crate::marks::done;
-use crate::sample::{IP, group, name, text, udp};
+use crate::sample::{IP, group, name, text};
 use crate::shown::{Shown, say, show};
-use hickory_proto_core::{Name, NetError};
+use hickory_proto_core::NetError;
 use hickory_resolver::{
     ConnectionConfig, NameServerConfig, ResolverConfig, ServerGroup, cloudflare, google, quad9,
 };
@@ -11,7 +11,12 @@ use std::alloc::Global;
 /// Makes the call of a case, and says whether there is such a case.
 pub fn make(rt: &impl Print, alloc: Global, case: &str) -> Result<bool, NetError> {
     match case {
-        "ConnectionConfig::https" | "ConnectionConfig::h3" => done(connect(rt, alloc, case)),
+        "ConnectionConfig::https"
+        | "ConnectionConfig::h3"
+        | "NameServerConfig::tls"
+        | "NameServerConfig::https"
+        | "NameServerConfig::quic"
+        | "NameServerConfig::h3" => done(with_name(rt, alloc, case)),
         "NameServerConfig::udp_and_tcp"
         | "NameServerConfig::udp"
         | "NameServerConfig::tcp"
@@ -19,10 +24,6 @@ pub fn make(rt: &impl Print, alloc: Global, case: &str) -> Result<bool, NetError
             show(rt, call!(rt, case, plain(alloc, case)));
             Ok(true)
         }
-        "NameServerConfig::tls"
-        | "NameServerConfig::https"
-        | "NameServerConfig::quic"
-        | "NameServerConfig::h3" => done(serve(rt, alloc, case)),
         "ResolverConfig::udp_and_tcp"
         | "ResolverConfig::tls"
         | "ResolverConfig::https"
@@ -75,17 +76,14 @@ fn show_connections(rt: &impl Print, server: &NameServerConfig) {
     }
 }
 
-fn connect(rt: &impl Print, alloc: Global, case: &str) -> Result<(), NetError> {
-    let server_name = text(alloc, "s.")?;
-    show(rt, call!(rt, case, encrypted(case, server_name)));
-    Ok(())
-}
-
-fn encrypted(case: &str, server_name: String) -> Result<ConnectionConfig, NetError> {
+fn with_name(rt: &impl Print, alloc: Global, case: &str) -> Result<(), NetError> {
+    let name = text(alloc, "s.")?;
     match case {
-        "ConnectionConfig::https" => ConnectionConfig::https(server_name, None),
-        _ => ConnectionConfig::h3(server_name, None),
+        "ConnectionConfig::https" => show(rt, call!(rt, case, ConnectionConfig::https(name, None))),
+        "ConnectionConfig::h3" => show(rt, call!(rt, case, ConnectionConfig::h3(name, None))),
+        _ => show(rt, call!(rt, case, named(case, name))),
     }
+    Ok(())
 }
 
 fn plain(alloc: Global, case: &str) -> Result<NameServerConfig, NetError> {
@@ -97,18 +95,12 @@ fn plain(alloc: Global, case: &str) -> Result<NameServerConfig, NetError> {
     }
 }
 
-fn serve(rt: &impl Print, alloc: Global, case: &str) -> Result<(), NetError> {
-    let server_name = text(alloc, "s.")?;
-    show(rt, call!(rt, case, named(case, server_name)));
-    Ok(())
-}
-
-fn named(case: &str, server_name: String) -> Result<NameServerConfig, NetError> {
+fn named(case: &str, name: String) -> Result<NameServerConfig, NetError> {
     match case {
-        "NameServerConfig::tls" => NameServerConfig::tls(IP, server_name),
-        "NameServerConfig::https" => NameServerConfig::https(IP, server_name, None),
-        "NameServerConfig::quic" => NameServerConfig::quic(IP, server_name),
-        _ => NameServerConfig::h3(IP, server_name, None),
+        "NameServerConfig::tls" => NameServerConfig::tls(IP, name),
+        "NameServerConfig::https" => NameServerConfig::https(IP, name, None),
+        "NameServerConfig::quic" => NameServerConfig::quic(IP, name),
+        _ => NameServerConfig::h3(IP, name, None),
     }
 }
 
@@ -159,22 +151,19 @@ fn show_changed(
 ) -> Result<(), NetError> {
     match case {
         "ResolverConfig::add_name_server" => {
-            let server = udp(alloc)?;
+            let server = NameServerConfig::udp(alloc, IP)?;
             show(rt, call!(rt, case, config.add_name_server(server)));
+        }
+        "ResolverConfig::set_domain" => {
+            let name = name(alloc, "d")?;
+            show(rt, call!(rt, case, config.set_domain(name)));
         }
         _ => {
             let name = name(alloc, "d")?;
-            show(rt, call!(rt, case, put_name(case, config, name)));
+            show(rt, call!(rt, case, config.add_search(name)));
         }
     }
     let (has_domain, search) = (config.domain().is_some(), config.search().len());
     let _ = println!(rt; "  {has_domain} {search} {}", config.name_servers().len());
     Ok(())
-}
-
-fn put_name(case: &str, config: &mut ResolverConfig, name: Name) -> Result<(), NetError> {
-    match case {
-        "ResolverConfig::set_domain" => config.set_domain(name),
-        _ => config.add_search(name),
-    }
 }

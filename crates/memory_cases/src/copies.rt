@@ -1,13 +1,13 @@
 //! Copies of values that hold a collection.
 use crate::marks::{begin, done, end};
 use crate::sample::{
-    address, answer, glue, group, name, none, one, outcome, query, server, text, udp,
+    IP, address, answer, glue, group, name, none, one, outcome, query, server, text,
 };
 use crate::shown::say;
 use hickory_proto_core::{DnsError, ForwardNSData, NetError, RData, RecordType, clone_outcome};
 use hickory_resolver::{
-    ConnectionConfig, Lookup, LookupIp, ProtocolConfig, ResolverConfig, ResolverOpts, TtlBounds,
-    TtlConfig,
+    ConnectionConfig, Lookup, LookupIp, NameServerConfig, ProtocolConfig, ResolverConfig,
+    ResolverOpts, TtlBounds, TtlConfig,
 };
 use std::alloc::{AllocError, Global};
 use std::fmt::Debug;
@@ -28,15 +28,9 @@ pub fn make(rt: &impl Print, alloc: Global, case: &str) -> Result<bool, NetError
         "clone_outcome" | "Lookup::clone" | "LookupIp::clone" | "TtlConfig::clone" => {
             done(copy_by_call(rt, alloc, case))
         }
-        _ => make_of_config(rt, alloc, case),
-    }
-}
-
-fn make_of_config(rt: &impl Print, alloc: Global, case: &str) -> Result<bool, NetError> {
-    match case {
         "ConnectionConfig::clone" => done(copy(rt, alloc, case, connection(alloc))),
         "ProtocolConfig::clone" => done(copy(rt, alloc, case, protocol(alloc))),
-        "NameServerConfig::clone" => done(copy(rt, alloc, case, udp(alloc))),
+        "NameServerConfig::clone" => done(copy(rt, alloc, case, NameServerConfig::udp(alloc, IP))),
         "ResolverConfig::clone" => done(copy(rt, alloc, case, config(alloc))),
         "ServerGroup::clone" => done(copy(rt, alloc, case, group(alloc))),
         "ResolverOpts::clone" => done(copy(rt, alloc, case, options(alloc))),
@@ -139,7 +133,7 @@ fn protocol(alloc: Global) -> Result<ProtocolConfig, NetError> {
 fn config(alloc: Global) -> Result<ResolverConfig, NetError> {
     let mut config = ResolverConfig::default(alloc);
     config.set_domain(name(alloc, "d")?)?;
-    config.add_name_server(udp(alloc)?)?;
+    config.add_name_server(NameServerConfig::udp(alloc, IP)?)?;
     Ok(config)
 }
 

@@ -3,8 +3,7 @@ use crate::marks::done;
 use crate::sample::{Pair, Said, outcomes, query};
 use crate::shown::{say, show, show_exchanges};
 use hickory_proto_core::{
-    DnsHandle, DnsRequest, DnsRequestOptions, NetError, Outcome, Query, RecordType, Recorded,
-    TableHandle,
+    DnsHandle, DnsRequest, DnsRequestOptions, NetError, RecordType, Recorded, TableHandle,
 };
 use std::alloc::Global;
 use std::hash::BuildHasherDefault;
@@ -33,17 +32,17 @@ pub fn request(alloc: Global, label: &str) -> Result<DnsRequest, NetError> {
 // A table, and what it answers.
 fn new_table(rt: &impl Print, alloc: Global, case: &str) -> Result<(), NetError> {
     let outcomes = outcomes(alloc, &PAIRS)?;
-    let mut made = call!(rt, case, table_by(case, outcomes));
+    let mut made = call!(
+        rt,
+        case,
+        match case {
+            "TableHandle::new" => TableHandle::new(outcomes),
+            _ => TableHandle::with_hasher(outcomes, BuildHasherDefault::new()),
+        }
+    );
     let asked = ask_made(rt, alloc, &mut made);
     drop(made);
     asked
-}
-
-fn table_by(case: &str, outcomes: Vec<(Query, Outcome)>) -> Result<TableHandle, NetError> {
-    match case {
-        "TableHandle::new" => TableHandle::new(outcomes),
-        _ => TableHandle::with_hasher(outcomes, BuildHasherDefault::new()),
-    }
 }
 
 fn ask_made(

@@ -2,7 +2,7 @@
 use crate::marks::done;
 use crate::sample::{address, five_addresses, name, one, one_address, query, with_answer};
 use crate::shown::{Shown, show};
-use hickory_proto_core::{Message, Name, NetError, OpCode, Query, RData, Record, RecordType};
+use hickory_proto_core::{Message, Name, NetError, OpCode, Query, RData, RecordType};
 use hickory_resolver::{Lookup, TtlBounds, TtlConfig, attempts};
 use std::alloc::Global;
 use std::net::Ipv4Addr;
@@ -10,8 +10,7 @@ use std::net::Ipv4Addr;
 /// Makes the call of a case, and says whether there is such a case.
 pub fn make(rt: &impl Print, alloc: Global, case: &str) -> Result<bool, NetError> {
     match case {
-        "Lookup::from_rdata" => done(from_rdata(rt, alloc, case)),
-        "Lookup::new_with_max_ttl" | "Lookup::new_with_deadline" => {
+        "Lookup::from_rdata" | "Lookup::new_with_max_ttl" | "Lookup::new_with_deadline" => {
             done(of_records(rt, alloc, case))
         }
         "Lookup::of_message" | "Lookup::of_hit" | "Lookup::of_response" => {
@@ -27,28 +26,29 @@ pub fn make(rt: &impl Print, alloc: Global, case: &str) -> Result<bool, NetError
     }
 }
 
-fn from_rdata(rt: &impl Print, alloc: Global, case: &str) -> Result<(), NetError> {
-    let query = query(alloc, "a")?;
-    let data = RData::A(Ipv4Addr::LOCALHOST);
-    show(
-        rt,
-        call!(rt, case, Lookup::from_rdata(alloc, query, data, 5)),
-    );
-    Ok(())
-}
-
 fn of_records(rt: &impl Print, alloc: Global, case: &str) -> Result<(), NetError> {
-    let query = query(alloc, "a")?;
     let records = one_address(alloc, "a")?;
-    show(rt, call!(rt, case, made(case, query, records)));
-    Ok(())
-}
-
-fn made(case: &str, query: Query, records: Vec<Record>) -> Result<Lookup, NetError> {
+    let query = query(alloc, "a")?;
     match case {
-        "Lookup::new_with_max_ttl" => Lookup::new_with_max_ttl(query, records, 5),
-        _ => Lookup::new_with_deadline(query, records, 9),
+        "Lookup::from_rdata" => {
+            let data = RData::A(Ipv4Addr::LOCALHOST);
+            show(
+                rt,
+                call!(rt, case, Lookup::from_rdata(alloc, query, data, 5)),
+            );
+        }
+        "Lookup::new_with_max_ttl" => {
+            show(
+                rt,
+                call!(rt, case, Lookup::new_with_max_ttl(query, records, 5)),
+            );
+        }
+        _ => show(
+            rt,
+            call!(rt, case, Lookup::new_with_deadline(query, records, 9)),
+        ),
     }
+    Ok(())
 }
 
 // Of a message without a question.
@@ -96,7 +96,17 @@ fn show_grown(
         _ => {
             fill(alloc, first)?;
             let records = five_addresses(alloc)?;
-            show(rt, call!(rt, case, extend(case, first, records)));
+            show(
+                rt,
+                call!(
+                    rt,
+                    case,
+                    match case {
+                        "Lookup::extend_authorities" => first.extend_authorities(records),
+                        _ => first.extend_additionals(records),
+                    }
+                ),
+            );
         }
     }
     first.show(rt);
@@ -107,13 +117,6 @@ fn show_grown(
 fn fill(alloc: Global, lookup: &mut Lookup) -> Result<(), NetError> {
     lookup.extend_authorities(one_address(alloc, "b")?)?;
     lookup.extend_additionals(one_address(alloc, "b")?)
-}
-
-fn extend(case: &str, lookup: &mut Lookup, records: Vec<Record>) -> Result<(), NetError> {
-    match case {
-        "Lookup::extend_authorities" => lookup.extend_authorities(records),
-        _ => lookup.extend_additionals(records),
-    }
 }
 
 // Bounds for one type: whether they were put in, and the greatest TTL of that type then.

@@ -35,15 +35,10 @@ mod without;
 use hickory_proto_core::NetError;
 use std::alloc::Global;
 use std::env;
-use std::rt::Env;
 
 fn main(rt: HostRuntime) -> anyhow::Result<()> {
-    make_all(&rt, rt.alloc())
-}
-
-fn make_all<R: AllocGlobal + Env + Print>(rt: &R, alloc: Global) -> anyhow::Result<()> {
-    for case in env::args(rt)?.skip(1) {
-        make(rt, alloc, case.as_str())?;
+    for case in env::args(&rt)?.skip(1) {
+        make(&rt, rt.alloc(), case.as_str())?;
     }
     Ok(())
 }

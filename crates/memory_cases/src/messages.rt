@@ -13,37 +13,31 @@ pub fn make(rt: &impl Print, alloc: Global, case: &str) -> Result<bool, NetError
         "Message::add_query"
         | "Message::add_answer"
         | "Message::add_authority"
-        | "Message::add_additional" => done(grow(rt, alloc, case, empty_for_a(alloc))),
-        "Message::add_answers" | "Message::add_authorities" | "Message::add_additionals" => {
-            done(grow(rt, alloc, case, full(alloc)))
-        }
-        "DnsError::from_response" => done(from_response(rt, case, no_x(alloc))),
-        "Glue::new" => done(new_glue(rt, alloc, case)),
-        "Glue::to_vec" | "Glue::into_vec" => done(show_older(rt, alloc, case)),
+        | "Message::add_additional"
+        | "Message::add_answers"
+        | "Message::add_authorities"
+        | "Message::add_additionals" => done(grow(rt, alloc, case)),
+        "DnsError::from_response" => done(from_response(rt, alloc, case)),
+        "Glue::new" | "Glue::to_vec" | "Glue::into_vec" => done(share(rt, alloc, case)),
         _ => Ok(false),
     }
 }
 
-fn empty_for_a(alloc: Global) -> Result<Message, NetError> {
-    empty(alloc, query(alloc, "a")?)
+// An empty message, or one that has records in each section where a list of them is added.
+fn message_of(alloc: Global, case: &str) -> Result<Message, NetError> {
+    match case {
+        "Message::add_answers" | "Message::add_authorities" | "Message::add_additionals" => {
+            with_answer(
+                no_such_name(alloc, query(alloc, "x")?)?,
+                address(alloc, "x", 60),
+            )
+        }
+        _ => empty(alloc, query(alloc, "a")?),
+    }
 }
 
-fn no_x(alloc: Global) -> Result<Message, NetError> {
-    no_such_name(alloc, query(alloc, "x")?)
-}
-
-// A message with one record, or two, in each section.
-fn full(alloc: Global) -> Result<Message, NetError> {
-    with_answer(no_x(alloc)?, address(alloc, "x", 60))
-}
-
-fn grow(
-    rt: &impl Print,
-    alloc: Global,
-    case: &str,
-    message: Result<Message, NetError>,
-) -> Result<(), NetError> {
-    let mut message = message?;
+fn grow(rt: &impl Print, alloc: Global, case: &str) -> Result<(), NetError> {
+    let mut message = message_of(alloc, case)?;
     let grown = show_grown(rt, alloc, case, &mut message);
     drop(message);
     grown
@@ -90,12 +84,8 @@ fn add_all(case: &str, message: &mut Message, added: Vec<Record>) -> Result<(), 
 }
 
 // What a response that there is no such name comes to.
-fn from_response(
-    rt: &impl Print,
-    case: &str,
-    message: Result<Message, NetError>,
-) -> Result<(), NetError> {
-    let response = DnsResponse::from_message(message?);
+fn from_response(rt: &impl Print, alloc: Global, case: &str) -> Result<(), NetError> {
+    let response = DnsResponse::from_message(no_such_name(alloc, query(alloc, "x")?)?);
     let outcome = call!(rt, case, DnsError::from_response(response));
     show_outcome(rt, &outcome);
     drop(outcome);
@@ -108,14 +98,13 @@ impl Shown for Glue {
     }
 }
 
-fn new_glue(rt: &impl Print, alloc: Global, case: &str) -> Result<(), NetError> {
-    let records = one_address(alloc, "n")?;
-    show(rt, call!(rt, case, Glue::new(records)));
-    Ok(())
-}
-
-// The addresses of which another copy holds the memory too, twenty seconds older.
-fn show_older(rt: &impl Print, alloc: Global, case: &str) -> Result<(), NetError> {
+// Addresses that are shared, or are got back where another copy holds the memory too, twenty seconds older.
+fn share(rt: &impl Print, alloc: Global, case: &str) -> Result<(), NetError> {
+    if case == "Glue::new" {
+        let records = one_address(alloc, "n")?;
+        show(rt, call!(rt, case, Glue::new(records)));
+        return Ok(());
+    }
     let shared = glue(alloc)?;
     let mut older = shared.clone()?;
     older.decrement_ttl(20);

@@ -178,14 +178,14 @@ fn run_over<H: DnsHandle + Drop>(
 fn show_steps(rt: &impl Print, steps: &[Step]) {
     say(rt, &"a run");
     for step in steps {
-        show_step(rt, step.now, &step.reply);
+        let _ = rt.print("  at ");
+        let _ = rt.print(step.now);
+        let _ = rt.print(" ");
+        show_reply(rt, &step.reply);
     }
 }
 
-fn show_step(rt: &impl Print, now: u64, reply: &Reply) {
-    let _ = rt.print("  at ");
-    let _ = rt.print(now);
-    let _ = rt.print(" ");
+fn show_reply(rt: &impl Print, reply: &Reply) {
     match reply {
         Reply::Lookup(Ok(found)) => say_until(rt, found.valid_until()),
         Reply::LookupIp(Ok(found)) => say_until(rt, found.valid_until()),
@@ -215,13 +215,11 @@ fn show_run(
             drop(resolver);
             shown
         }
-        Err(error) => say_no_run(rt, &error),
+        Err(error) => {
+            say(rt, &error);
+            Ok(())
+        }
     }
-}
-
-fn say_no_run(rt: &impl Print, error: &NetError) -> Result<(), NetError> {
-    say(rt, error);
-    Ok(())
 }
 
 // The same over a script.
@@ -247,7 +245,10 @@ fn show_scripted_run(
             drop(resolver);
             shown
         }
-        Err(error) => say_no_run(rt, &error),
+        Err(error) => {
+            say(rt, &error);
+            Ok(())
+        }
     }
 }
 
@@ -263,8 +264,14 @@ fn run_to_listener(
     let told = call!(rt, case, tell(alloc, handle, &requests));
     drop(requests);
     let shown = match &told {
-        Ok(told) => show_told(rt, alloc, told, labels),
-        Err(error) => say_no_run(rt, error),
+        Ok(told) => {
+            show_steps(rt, &told.listener.steps);
+            show_client(rt, alloc, told.resolver.client(), labels)
+        }
+        Err(error) => {
+            say(rt, error);
+            Ok(())
+        }
     };
     drop(told);
     shown
@@ -277,9 +284,4 @@ fn tell(alloc: Global, handle: TableHandle, requests: &[Request]) -> Result<Told
     };
     let (options, hasher) = (options(alloc, true), BuildHasherDefault::new());
     run_told(config, options, hosts, handle, requests, hasher, keeper)
-}
-
-fn show_told(rt: &impl Print, alloc: Global, told: &Told, labels: &[&str]) -> Result<(), NetError> {
-    show_steps(rt, &told.listener.steps);
-    show_client(rt, alloc, told.resolver.client(), labels)
 }

@@ -3,7 +3,7 @@ use hickory_proto_core::{
     DnsError, DnsResponse, Glue, Message, Name, NetError, NoRecords, OpCode, Outcome, Query, RData,
     Record, RecordType, ResponseCode, ScriptHandle,
 };
-use hickory_resolver::{Lookup, NameServerConfig, ServerGroup};
+use hickory_resolver::{Lookup, ServerGroup};
 use std::alloc::Global;
 use std::net::{IpAddr, Ipv4Addr, Ipv6Addr};
 
@@ -81,19 +81,6 @@ pub fn glue(alloc: Global) -> Result<Glue, NetError> {
     Glue::new(one_address(alloc, "n")?)
 }
 
-fn soa(alloc: Global) -> Result<Record, NetError> {
-    let data = RData::SOA {
-        mname: Name::root(alloc),
-        rname: Name::root(alloc),
-        serial: 1,
-        refresh: 2,
-        retry: 3,
-        expire: 4,
-        minimum: 40,
-    };
-    Ok(Record::from_rdata(name(alloc, "a")?, 50, data))
-}
-
 /// A response to a question, without records.
 pub fn empty(alloc: Global, asked: Query) -> Result<Message, NetError> {
     let mut message = Message::response(alloc, 0, OpCode::Query);
@@ -127,7 +114,16 @@ pub fn no_such_name(alloc: Global, asked: Query) -> Result<Message, NetError> {
 }
 
 fn add_zone(alloc: Global, message: &mut Message) -> Result<(), NetError> {
-    message.add_authority(soa(alloc)?)?;
+    let data = RData::SOA {
+        mname: Name::root(alloc),
+        rname: Name::root(alloc),
+        serial: 1,
+        refresh: 2,
+        retry: 3,
+        expire: 4,
+        minimum: 40,
+    };
+    message.add_authority(Record::from_rdata(name(alloc, "a")?, 50, data))?;
     message.add_authority(server(alloc)?)?;
     message.add_additional(address(alloc, "n", 60)?)
 }
@@ -152,7 +148,7 @@ pub fn negative_outcome(alloc: Global, asked: Query) -> Outcome {
 }
 
 /// The outcome of a question for the addresses of a name.
-pub fn said(alloc: Global, owner: &str, record_type: RecordType, said: Said) -> Outcome {
+pub fn outcome_of(alloc: Global, owner: &str, record_type: RecordType, said: Said) -> Outcome {
     match said {
         Said::Address => outcome(alloc, owner),
         Said::Ipv6Address => {
@@ -192,7 +188,7 @@ pub fn outcomes(alloc: Global, pairs: &[Pair]) -> Result<Vec<(Query, Outcome)>, 
     let mut outcomes = Vec::new(alloc);
     for (label, record_type, given) in pairs {
         let query = Query::query(name(alloc, label)?, *record_type);
-        outcomes.push((query, said(alloc, label, *record_type, *given)))?;
+        outcomes.push((query, outcome_of(alloc, label, *record_type, *given)))?;
     }
     Ok(outcomes)
 }
@@ -201,7 +197,7 @@ pub fn outcomes(alloc: Global, pairs: &[Pair]) -> Result<Vec<(Query, Outcome)>, 
 pub fn script(alloc: Global, pairs: &[Pair]) -> Result<ScriptHandle, NetError> {
     let mut outcomes = Vec::new(alloc);
     for (label, record_type, given) in pairs {
-        outcomes.push(said(alloc, label, *record_type, *given))?;
+        outcomes.push(outcome_of(alloc, label, *record_type, *given))?;
     }
     Ok(ScriptHandle::new(outcomes))
 }
@@ -210,11 +206,6 @@ pub fn script(alloc: Global, pairs: &[Pair]) -> Result<ScriptHandle, NetError> {
 pub fn one(alloc: Global, owner: &str) -> Result<Lookup, NetError> {
     let records = one_address(alloc, owner)?;
     Lookup::new_with_deadline(query(alloc, owner)?, records, 60)
-}
-
-/// A server.
-pub fn udp(alloc: Global) -> Result<NameServerConfig, NetError> {
-    NameServerConfig::udp(alloc, IP)
 }
 
 /// A group of one server.

@@ -1,7 +1,6 @@
 //! The texts of answers. A line that is not written is missed by whoever reads the text.
 use hickory_proto_core::{
-    DnsError, DnsResponse, Exchange, ForwardNSData, Message, Name, NetError, NoRecords, Outcome,
-    Query, Record,
+    DnsError, DnsResponse, Exchange, Message, Name, NetError, NoRecords, Outcome, Query, Record,
 };
 use hickory_resolver::Lookup;
 use std::fmt::Display;
@@ -128,17 +127,13 @@ fn show_none(rt: &impl Print, none: &NoRecords) {
         say_part(rt, "soa", soa);
     }
     if let Some(servers) = &none.ns {
-        show_servers(rt, servers);
+        for server in servers {
+            let addresses = server.glue.len();
+            let _ = println!(rt; "  server {} with {addresses} addresses", server.ns);
+        }
     }
     if let Some(authorities) = &none.authorities {
         show_records(rt, "authority", authorities);
-    }
-}
-
-fn show_servers(rt: &impl Print, servers: &[ForwardNSData]) {
-    for server in servers {
-        let addresses = server.glue.len();
-        let _ = println!(rt; "  server {} with {addresses} addresses", server.ns);
     }
 }
 

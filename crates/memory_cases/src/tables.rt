@@ -3,7 +3,7 @@ use crate::marks::done;
 use crate::sample::{name, one, query};
 use crate::shown::{Shown, say, say_part, show};
 use hickory_proto_core::{Name, NetError, Query, RecordType};
-use hickory_resolver::{Hosts, HostsError, Lookup, Watched};
+use hickory_resolver::{Hosts, Lookup, Watched};
 use std::alloc::Global;
 
 // A mark at the front, a line without names, one without an address, a name that is none, and a line that is no text.
@@ -50,7 +50,12 @@ fn show_changed(
     match case {
         "Hosts::insert of a name" => insert(rt, alloc, case, hosts, "good2")?,
         "Hosts::insert of another address" => insert(rt, alloc, case, hosts, "good1")?,
-        _ => show(rt, call!(rt, case, read_by(case, hosts))),
+        "Hosts::read_hosts_bytes" => show(rt, call!(rt, case, hosts.read_hosts_bytes(FILE, 0))),
+        "Hosts::read_hosts_conf" => show(rt, call!(rt, case, hosts.read_hosts_conf(FILE, 0))),
+        _ => {
+            let mut file = Watched::new(FILE);
+            show(rt, call!(rt, case, hosts.read_hosts_watched(&mut file, 0)));
+        }
     }
     for label in ["localhost", "good1", "good2", "bad"] {
         let query = query(alloc, label)?;
@@ -79,14 +84,6 @@ fn insert(
         call!(rt, case, hosts.insert(added, RecordType::A, lookup, 0)),
     );
     Ok(())
-}
-
-fn read_by(case: &str, hosts: &mut Hosts) -> Result<(), HostsError> {
-    match case {
-        "Hosts::read_hosts_bytes" => hosts.read_hosts_bytes(FILE, 0),
-        "Hosts::read_hosts_watched" => hosts.read_hosts_watched(&mut Watched::new(FILE), 0),
-        _ => hosts.read_hosts_conf(FILE, 0),
-    }
 }
 
 // What the table of the file has for a question, whose name gets its mark there.

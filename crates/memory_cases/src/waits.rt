@@ -2,7 +2,7 @@
 use crate::caches::cache_of;
 use crate::clients::{Upstream, client, show_client, show_kept};
 use crate::marks::done;
-use crate::sample::{Said, outcome, query, said};
+use crate::sample::{Said, outcome, query, outcome_of};
 use crate::shown::{say_waits, show_made};
 use hickory_proto_core::{DnsRequestOptions, NetError, Outcome, Query, RecordType, ScriptHandle};
 use hickory_resolver::{CachingClient, CachingCore, Progress, ResponseCache, Waiting};
@@ -121,11 +121,11 @@ fn resume(
     waiting: Waiting,
 ) -> Result<(), NetError> {
     if case.contains("negative") {
-        let outcome = said(alloc, "x", RecordType::A, Said::NoName);
+        let outcome = outcome_of(alloc, "x", RecordType::A, Said::NoName);
         show_progress(rt, call!(rt, case, client.resume(waiting, outcome)));
         return Ok(());
     }
-    let alias = said(alloc, "c", RecordType::A, Said::Alias("a"));
+    let alias = outcome_of(alloc, "c", RecordType::A, Said::Alias("a"));
     if case.contains("behind") {
         let next = waiting_of(client.resume(waiting, alias))?;
         let outcome = outcome(alloc, "a");

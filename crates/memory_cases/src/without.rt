@@ -53,35 +53,39 @@ fn from_labels(rt: &impl Print, alloc: Global, case: &str) -> Result<(), NetErro
 fn names(rt: &impl Print, alloc: Global, case: &str) -> Result<(), NetError> {
     let mut zone = Name::from_ascii(alloc, "Example.com")?;
     let other = www(alloc)?;
-    let (labels, before, after, is_zone) = call!(rt, case, set_mark(&mut zone, &other));
+    let (labels, before, after, is_zone) = call!(
+        rt,
+        case,
+        {
+            let before = zone.is_fqdn();
+            zone.set_fqdn(true);
+            let labels = zone.labels().len();
+            (labels, before, zone.is_fqdn(), zone.zone_of(&other))
+        }
+    );
     let _ = println!(rt; "{labels} {before} {after} {is_zone}");
     let (is_equal, is_less, is_localhost) = (zone == other, zone < other, zone.is_localhost());
     let _ = println!(rt; "  {is_equal} {is_less} {is_localhost}");
     Ok(())
 }
 
-fn set_mark(zone: &mut Name, other: &Name) -> (usize, bool, bool, bool) {
-    let before = zone.is_fqdn();
-    zone.set_fqdn(true);
-    let labels = zone.labels().len();
-    (labels, before, zone.is_fqdn(), zone.zone_of(other))
-}
-
 // Whether a text is an address, whether a name is that of one, and how many labels it has.
 fn addresses(rt: &impl Print, alloc: Global, case: &str) -> Result<(), NetError> {
     let name = Name::from_ascii(alloc, "1.2.0.192.in-addr.arpa.")?;
-    let (is_address, is_arpa, labels) = call!(rt, case, read(&name));
+    let (is_address, is_arpa, labels) = call!(
+        rt,
+        case,
+        {
+            let is_address = read_ip("2001:db8::1").is_some();
+            (
+                is_address,
+                name.parse_arpa_name().is_ok(),
+                name.num_labels()
+            )
+        }
+    );
     let _ = println!(rt; "{is_address} {is_arpa} {labels}");
     Ok(())
-}
-
-fn read(name: &Name) -> (bool, bool, u8) {
-    let is_address = read_ip("2001:db8::1").is_some();
-    (
-        is_address,
-        name.parse_arpa_name().is_ok(),
-        name.num_labels(),
-    )
 }
 
 // Whether the copy of an error that is no negative answer is that error.
