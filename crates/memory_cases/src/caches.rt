@@ -106,26 +106,22 @@ fn store(
 ) -> Result<(), NetError> {
     let asked = query(alloc, label)?;
     let stored = stored(alloc, case, label);
-    show(rt, call!(rt, case, put(case, cache, asked, stored)));
+    let done = call!(
+        rt,
+        case,
+        match case {
+            "insert_until" => cache.insert_until(asked, stored, 0, 7),
+            "upsert_clamped_ttl" => cache.upsert_clamped_ttl(asked, stored, 0, true),
+            _ => cache.insert(asked, stored, 0),
+        }
+    );
+    show(rt, done);
     say_part(rt, "kept", &cache.len());
     for label in ["p", "q", "r"] {
         let asked = query(alloc, label)?;
         say_kept(rt, label, cache.get_with_deadline(&asked, 0));
     }
     Ok(())
-}
-
-fn put(
-    case: &str,
-    cache: &mut ResponseCache,
-    query: Query,
-    outcome: Result<Message, NetError>,
-) -> Result<(), NetError> {
-    match case {
-        "insert_until" => cache.insert_until(query, outcome, 0, 7),
-        "upsert_clamped_ttl" => cache.upsert_clamped_ttl(query, outcome, 0, true),
-        _ => cache.insert(query, outcome, 0),
-    }
 }
 
 fn say_kept(rt: &impl Print, label: &str, hit: Option<(Result<Message, NetError>, u64)>) {

@@ -3,9 +3,9 @@
 use crate::clients::{Upstream, resolver, show_kept};
 use crate::marks::done;
 use crate::runs::options;
-use crate::sample::{Said, negative_outcome, outcome, outcome_of};
+use crate::sample::{Said, no_such_name, outcome, outcome_of};
 use crate::shown::{say_waits, show_made};
-use hickory_proto_core::{Name, NetError, Query, RecordType};
+use hickory_proto_core::{DnsResponse, Name, NetError, Query, RecordType};
 use hickory_resolver::{CallProgress, Resolver, ResolverOpts, WaitingCall};
 use std::alloc::Global;
 
@@ -92,9 +92,12 @@ fn resume_next(
     resolver: &mut Resolver<Upstream>,
 ) -> Result<(), NetError> {
     let name = Name::from_ascii(alloc, "a.x.")?;
-    let outcome = negative_outcome(alloc, Query::query(name, RecordType::A));
+    let outcome = DnsResponse::from_message(no_such_name(
+        alloc,
+        Query::query(name, RecordType::A),
+    )?);
     let waiting = waiting_of(start(case, resolver))?;
-    show_progress(rt, call!(rt, case, resolver.resume(waiting, outcome)));
+    show_progress(rt, call!(rt, case, resolver.resume(waiting, Ok(outcome))));
     Ok(())
 }
 

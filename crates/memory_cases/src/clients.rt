@@ -2,7 +2,8 @@
 use crate::caches::has;
 use crate::marks::done;
 use crate::sample::{Pair, Said, name, outcomes, query, script};
-use crate::shown::{Shown, show, show_exchanges};
+use crate::shown::{Shown, say_waits, show, show_exchanges};
+use crate::waits::waiting_of;
 use hickory_proto_core::{
     DnsHandle, DnsRequestOptions, Name, NetError, RecordType, Recorded, ScriptHandle, TableHandle,
 };
@@ -58,7 +59,8 @@ pub fn make(rt: &impl Print, alloc: Global, case: &str) -> Result<bool, NetError
         | "CachingClient::lookup of an alias"
         | "LookupFuture::lookup"
         | "LookupFuture::lookup_with_hosts"
-        | "LookupIpFuture::lookup" => done(with_client(rt, alloc, case)),
+        | "LookupIpFuture::lookup"
+        | "CachingClient::ask" => done(with_client(rt, alloc, case)),
         "Resolver::lookup"
         | "Resolver::lookup_ip"
         | "Resolver::lookup_ip of an address"
@@ -116,13 +118,8 @@ fn upstream(alloc: Global) -> Result<Upstream, NetError> {
     Ok(Recorded::new(alloc, TableHandle::new(outcomes(alloc, &PAIRS)?)?))
 }
 
-/// A client over that.
-pub fn client(alloc: Global) -> Result<CachingClient<Upstream>, NetError> {
-    Ok(CachingClient::new(alloc, 8, upstream(alloc)?, false))
-}
-
 fn with_client(rt: &impl Print, alloc: Global, case: &str) -> Result<(), NetError> {
-    let mut client = client(alloc)?;
+    let mut client = CachingClient::new(alloc, 8, upstream(alloc)?, false);
     let made = with_mut_client(rt, alloc, case, &mut client);
     drop(client);
     made
@@ -137,6 +134,7 @@ fn with_mut_client(
     match case {
         "CachingClient::lookup" => look_up(rt, alloc, case, client, "a")?,
         "CachingClient::lookup of an alias" => look_up(rt, alloc, case, client, "c")?,
+        "CachingClient::ask" => ask(rt, alloc, case, client)?,
         _ => look_up_in_turn(rt, alloc, case, client)?,
     }
     show_client(rt, alloc, client, &LABELS)
@@ -152,6 +150,23 @@ fn look_up<H: DnsHandle>(
     let query = query(alloc, label)?;
     let options = DnsRequestOptions::default();
     show(rt, call!(rt, case, client.lookup(query, options, 0)));
+    Ok(())
+}
+
+// The handle records what it is asked. The look-up waits as before.
+fn ask(
+    rt: &impl Print,
+    alloc: Global,
+    case: &str,
+    client: &mut CachingClient<Upstream>,
+) -> Result<(), NetError> {
+    let waiting = waiting_of(client.start(query(alloc, "a")?, 0))?;
+    let options = DnsRequestOptions::default();
+    let (waiting, outcome) = call!(rt, case, client.ask(waiting, options));
+    show(rt, outcome);
+    let _ = rt.print("  ");
+    say_waits(rt, waiting.question());
+    drop(waiting);
     Ok(())
 }
 
@@ -265,7 +280,7 @@ fn with_mut_resolver(
 fn ask_each(resolver: &mut Resolver<Upstream>) -> u8 {
     let mut refused = 0_u8;
     for record_type in TYPES {
-        let answer = ask(resolver, record_type);
+        let answer = ask_for(resolver, record_type);
         if matches!(&answer, Err(NetError::OutOfMemory)) {
             refused = refused.saturating_add(1);
         }
@@ -275,7 +290,7 @@ fn ask_each(resolver: &mut Resolver<Upstream>) -> u8 {
 }
 
 // The look-up of a type by its own call.
-fn ask(resolver: &mut Resolver<Upstream>, record_type: RecordType) -> Result<Lookup, NetError> {
+fn ask_for(resolver: &mut Resolver<Upstream>, record_type: RecordType) -> Result<Lookup, NetError> {
     match record_type {
         RecordType::A => resolver.ipv4_lookup("d.", 0),
         RecordType::AAAA => resolver.ipv6_lookup("d.", 0),

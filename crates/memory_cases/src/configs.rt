@@ -21,7 +21,7 @@ pub fn make(rt: &impl Print, alloc: Global, case: &str) -> Result<bool, NetError
         | "NameServerConfig::udp"
         | "NameServerConfig::tcp"
         | "NameServerConfig::opportunistic_encryption" => {
-            show(rt, call!(rt, case, plain(alloc, case)));
+            show(rt, call!(rt, case, without_name(alloc, case)));
             Ok(true)
         }
         "ResolverConfig::udp_and_tcp"
@@ -30,8 +30,16 @@ pub fn make(rt: &impl Print, alloc: Global, case: &str) -> Result<bool, NetError
         | "ResolverConfig::quic"
         | "ResolverConfig::h3"
         | "ServerGroupIter::next" => done(with_group(rt, alloc, case)),
-        "google" | "cloudflare" | "quad9" => {
-            show(rt, call!(rt, case, public(alloc, case)));
+        "google" => {
+            show(rt, call!(rt, case, google(alloc)));
+            Ok(true)
+        }
+        "cloudflare" => {
+            show(rt, call!(rt, case, cloudflare(alloc)));
+            Ok(true)
+        }
+        "quad9" => {
+            show(rt, call!(rt, case, quad9(alloc)));
             Ok(true)
         }
         "ResolverConfig::set_domain"
@@ -81,26 +89,22 @@ fn with_name(rt: &impl Print, alloc: Global, case: &str) -> Result<(), NetError>
     match case {
         "ConnectionConfig::https" => show(rt, call!(rt, case, ConnectionConfig::https(name, None))),
         "ConnectionConfig::h3" => show(rt, call!(rt, case, ConnectionConfig::h3(name, None))),
-        _ => show(rt, call!(rt, case, named(case, name))),
+        "NameServerConfig::tls" => show(rt, call!(rt, case, NameServerConfig::tls(IP, name))),
+        "NameServerConfig::https" => {
+            show(rt, call!(rt, case, NameServerConfig::https(IP, name, None)));
+        }
+        "NameServerConfig::quic" => show(rt, call!(rt, case, NameServerConfig::quic(IP, name))),
+        _ => show(rt, call!(rt, case, NameServerConfig::h3(IP, name, None))),
     }
     Ok(())
 }
 
-fn plain(alloc: Global, case: &str) -> Result<NameServerConfig, NetError> {
+fn without_name(alloc: Global, case: &str) -> Result<NameServerConfig, NetError> {
     match case {
         "NameServerConfig::udp_and_tcp" => NameServerConfig::udp_and_tcp(alloc, IP),
         "NameServerConfig::udp" => NameServerConfig::udp(alloc, IP),
         "NameServerConfig::tcp" => NameServerConfig::tcp(alloc, IP),
         _ => NameServerConfig::opportunistic_encryption(alloc, IP),
-    }
-}
-
-fn named(case: &str, name: String) -> Result<NameServerConfig, NetError> {
-    match case {
-        "NameServerConfig::tls" => NameServerConfig::tls(IP, name),
-        "NameServerConfig::https" => NameServerConfig::https(IP, name, None),
-        "NameServerConfig::quic" => NameServerConfig::quic(IP, name),
-        _ => NameServerConfig::h3(IP, name, None),
     }
 }
 
@@ -124,14 +128,6 @@ fn servers(case: &str, group: &ServerGroup<'_>) -> Result<ResolverConfig, NetErr
         "ResolverConfig::https" => ResolverConfig::https(group),
         "ResolverConfig::quic" => ResolverConfig::quic(group),
         _ => ResolverConfig::h3(group),
-    }
-}
-
-fn public(alloc: Global, case: &str) -> Result<ServerGroup<'static>, NetError> {
-    match case {
-        "google" => google(alloc),
-        "cloudflare" => cloudflare(alloc),
-        _ => quad9(alloc),
     }
 }
 

@@ -2,7 +2,7 @@
 use crate::marks::done;
 use crate::sample::{address, five_addresses, name, one, one_address, query, with_answer};
 use crate::shown::{Shown, show};
-use hickory_proto_core::{Message, Name, NetError, OpCode, Query, RData, RecordType};
+use hickory_proto_core::{Message, Name, NetError, OpCode, RData, RecordType};
 use hickory_resolver::{Lookup, TtlBounds, TtlConfig, attempts};
 use std::alloc::Global;
 use std::net::Ipv4Addr;
@@ -56,16 +56,20 @@ fn of_message(rt: &impl Print, alloc: Global, case: &str) -> Result<(), NetError
     let query = query(alloc, "a")?;
     let empty = Message::response(alloc, 0, OpCode::Query);
     let message = with_answer(empty, address(alloc, "a", 60))?;
-    show(rt, call!(rt, case, read(alloc, case, query, message)));
-    Ok(())
-}
-
-fn read(alloc: Global, case: &str, query: Query, message: Message) -> Result<Lookup, NetError> {
     match case {
-        "Lookup::of_message" => Lookup::of_message(query, message, 9),
-        "Lookup::of_hit" => Lookup::of_hit(query, message, 5),
-        _ => Lookup::of_response(&TtlConfig::default(alloc), query, message, 5),
+        "Lookup::of_message" => {
+            show(rt, call!(rt, case, Lookup::of_message(query, message, 9)));
+        }
+        "Lookup::of_hit" => show(rt, call!(rt, case, Lookup::of_hit(query, message, 5))),
+        _ => {
+            let bounds = TtlConfig::default(alloc);
+            show(
+                rt,
+                call!(rt, case, Lookup::of_response(&bounds, query, message, 5)),
+            );
+        }
     }
+    Ok(())
 }
 
 fn append(rt: &impl Print, alloc: Global, case: &str) -> Result<(), NetError> {

@@ -108,14 +108,10 @@ fn share(rt: &impl Print, alloc: Global, case: &str) -> Result<(), NetError> {
     let shared = glue(alloc)?;
     let mut older = shared.clone()?;
     older.decrement_ttl(20);
-    show(rt, call!(rt, case, records(case, older)));
+    match case {
+        "Glue::to_vec" => show(rt, call!(rt, case, older.to_vec())),
+        _ => show(rt, call!(rt, case, older.into_vec())),
+    }
     drop(shared);
     Ok(())
-}
-
-fn records(case: &str, glue: Glue) -> Result<Vec<Record>, NetError> {
-    match case {
-        "Glue::to_vec" => glue.to_vec(),
-        _ => glue.into_vec(),
-    }
 }

@@ -1,7 +1,7 @@
 //! Names, and what makes them.
 use crate::marks::done;
 use crate::sample::{IP, name, text, www};
-use crate::shown::show;
+use crate::shown::show_text;
 use hickory_proto_core::{IntoName, Name, NameError, NetError, ip_text};
 use hickory_proto_names::ip::printed_text;
 use std::alloc::Global;
@@ -19,16 +19,16 @@ pub fn make(rt: &impl Print, alloc: Global, case: &str) -> Result<bool, NetError
         | "IntoName of an address"
         | "IntoName of an IPv4 address"
         | "IntoName of an address of either family" => {
-            show(rt, call!(rt, case, made(alloc, case)));
+            show_text(rt, call!(rt, case, made(alloc, case)));
             Ok(true)
         }
         "IntoName of a text that is owned" => done(of_text(rt, alloc, case)),
         "ip_text" => {
-            show(rt, call!(rt, case, ip_text(alloc, IP)));
+            show_text(rt, call!(rt, case, ip_text(alloc, IP)));
             Ok(true)
         }
         "printed_text" => {
-            show(rt, call!(rt, case, printed_text(alloc, IP)));
+            show_text(rt, call!(rt, case, printed_text(alloc, IP)));
             Ok(true)
         }
         "Name::append_domain" | "Name::base_name" | "Name::trim_to" | "Name::to_ascii" => {
@@ -52,7 +52,7 @@ fn made(alloc: Global, case: &str) -> Result<Name, NameError> {
 
 fn of_text(rt: &impl Print, alloc: Global, case: &str) -> Result<(), NetError> {
     let text = text(alloc, WWW)?;
-    show(rt, call!(rt, case, text.into_name(alloc)));
+    show_text(rt, call!(rt, case, text.into_name(alloc)));
     Ok(())
 }
 
@@ -60,10 +60,10 @@ fn of_name(rt: &impl Print, alloc: Global, case: &str) -> Result<(), NetError> {
     let first = name(alloc, "a")?;
     let www = www(alloc)?;
     match case {
-        "Name::append_domain" => show(rt, call!(rt, case, first.append_domain(&www))),
-        "Name::base_name" => show(rt, call!(rt, case, www.base_name())),
-        "Name::trim_to" => show(rt, call!(rt, case, www.trim_to(2))),
-        _ => show(rt, call!(rt, case, www.to_ascii(alloc))),
+        "Name::append_domain" => show_text(rt, call!(rt, case, first.append_domain(&www))),
+        "Name::base_name" => show_text(rt, call!(rt, case, www.base_name())),
+        "Name::trim_to" => show_text(rt, call!(rt, case, www.trim_to(2))),
+        _ => show_text(rt, call!(rt, case, www.to_ascii(alloc))),
     }
     drop(www);
     Ok(())

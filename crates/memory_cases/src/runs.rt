@@ -187,17 +187,17 @@ fn show_steps(rt: &impl Print, steps: &[Step]) {
 
 fn show_reply(rt: &impl Print, reply: &Reply) {
     match reply {
-        Reply::Lookup(Ok(found)) => say_until(rt, found.valid_until()),
-        Reply::LookupIp(Ok(found)) => say_until(rt, found.valid_until()),
+        Reply::Lookup(Ok(found)) => {
+            let _ = println!(rt; "until {}", found.valid_until());
+        }
+        Reply::LookupIp(Ok(found)) => {
+            let _ = println!(rt; "until {}", found.valid_until());
+        }
         Reply::Cleared(Ok(())) => say(rt, &"cleared"),
         Reply::Lookup(Err(error)) | Reply::LookupIp(Err(error)) | Reply::Cleared(Err(error)) => {
             say(rt, error)
         }
     }
-}
-
-fn say_until(rt: &impl Print, until: u64) {
-    let _ = println!(rt; "until {until}");
 }
 
 // The replies, what was asked, and what the cache keeps; or that there is no run.

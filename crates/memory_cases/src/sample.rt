@@ -142,11 +142,6 @@ pub fn outcome(alloc: Global, asked: &str) -> Outcome {
     Ok(DnsResponse::from_message(answer(alloc, asked, 60)?))
 }
 
-/// The outcome that there is no such name.
-pub fn negative_outcome(alloc: Global, asked: Query) -> Outcome {
-    Ok(DnsResponse::from_message(no_such_name(alloc, asked)?))
-}
-
 /// The outcome of a question for the addresses of a name.
 pub fn outcome_of(alloc: Global, owner: &str, record_type: RecordType, said: Said) -> Outcome {
     match said {
@@ -157,18 +152,25 @@ pub fn outcome_of(alloc: Global, owner: &str, record_type: RecordType, said: Sai
                 owner,
                 record_type,
                 60,
-                Ok(RData::AAAA(Ipv6Addr::LOCALHOST)),
+                RData::AAAA(Ipv6Addr::LOCALHOST),
             )
         }
-        Said::Alias(target) => with_data(alloc, owner, record_type, 300, alias(alloc, target)),
-        Said::NoName => negative_outcome(alloc, Query::query(name(alloc, owner)?, record_type)),
+        Said::Alias(target) => {
+            with_data(
+                alloc,
+                owner,
+                record_type,
+                300,
+                RData::CNAME(name(alloc, target)?),
+            )
+        }
+        Said::NoName => {
+            let asked = Query::query(name(alloc, owner)?, record_type);
+            Ok(DnsResponse::from_message(no_such_name(alloc, asked)?))
+        }
         Said::Late => Err(NetError::Timeout),
         Said::NoMemory => Err(NetError::OutOfMemory),
     }
-}
-
-fn alias(alloc: Global, target: &str) -> Result<RData, NetError> {
-    Ok(RData::CNAME(name(alloc, target)?))
 }
 
 fn with_data(
@@ -176,9 +178,9 @@ fn with_data(
     owner: &str,
     record_type: RecordType,
     ttl: u32,
-    data: Result<RData, NetError>,
+    data: RData,
 ) -> Outcome {
-    let record = Record::from_rdata(name(alloc, owner)?, ttl, data?);
+    let record = Record::from_rdata(name(alloc, owner)?, ttl, data);
     let asked = Query::query(name(alloc, owner)?, record_type);
     Ok(DnsResponse::from_message(with_answer(empty(alloc, asked)?, Ok(record))?))
 }

@@ -18,7 +18,16 @@ pub fn show<T: Shown + Drop, E: Display + Drop>(rt: &impl Print, answer: Result<
     drop(answer);
 }
 
-/// The same, of an answer that is kept.
+/// The text that was made, or the error.
+pub fn show_text<T: Display + Drop, E: Display + Drop>(rt: &impl Print, answer: Result<T, E>) {
+    match &answer {
+        Ok(text) => say(rt, text),
+        Err(error) => say(rt, error),
+    }
+    drop(answer);
+}
+
+/// What was made, or the error, of an answer that is kept.
 pub fn show_made<T: Shown, E: Display>(rt: &impl Print, answer: &Result<T, E>) {
     match answer {
         Ok(made) => made.show(rt),
@@ -44,18 +53,6 @@ pub fn say_waits(rt: &impl Print, question: &Query) {
 impl Shown for () {
     fn show(&self, rt: &impl Print) {
         say(rt, &"done");
-    }
-}
-
-impl Shown for Name {
-    fn show(&self, rt: &impl Print) {
-        say(rt, self);
-    }
-}
-
-impl Shown for String {
-    fn show(&self, rt: &impl Print) {
-        say(rt, self);
     }
 }
 

@@ -1,10 +1,10 @@
 //! Look-ups that wait: what a step gives, what the cache keeps then, and what the same look-up starts with after it.
 use crate::caches::cache_of;
-use crate::clients::{Upstream, client, show_client, show_kept};
+use crate::clients::show_kept;
 use crate::marks::done;
-use crate::sample::{Said, outcome, query, outcome_of};
+use crate::sample::{Said, outcome, outcome_of, query};
 use crate::shown::{say_waits, show_made};
-use hickory_proto_core::{DnsRequestOptions, NetError, Outcome, Query, RecordType, ScriptHandle};
+use hickory_proto_core::{NetError, Outcome, Query, RecordType, ScriptHandle};
 use hickory_resolver::{CachingClient, CachingCore, Progress, ResponseCache, Waiting};
 use std::alloc::Global;
 
@@ -66,7 +66,6 @@ pub fn make(rt: &impl Print, alloc: Global, case: &str) -> Result<bool, NetError
         | "CachingClient::resume with a negative answer" => {
             done(with_client(rt, alloc, case, &[], "x"))
         }
-        "CachingClient::ask" => done(ask(rt, alloc, case)),
         _ => Ok(false),
     }
 }
@@ -145,7 +144,8 @@ fn show_progress(rt: &impl Print, progress: Progress) {
     drop(progress);
 }
 
-fn waiting_of(progress: Progress) -> Result<Waiting, NetError> {
+/// The look-up that waits, or an error where it is done.
+pub fn waiting_of(progress: Progress) -> Result<Waiting, NetError> {
     match progress {
         Progress::Waiting(waiting) => Ok(waiting),
         done => {
@@ -153,29 +153,4 @@ fn waiting_of(progress: Progress) -> Result<Waiting, NetError> {
             Err(NetError::NoOutcome)
         }
     }
-}
-
-// The handle records what it is asked. The look-up waits as before.
-fn ask(rt: &impl Print, alloc: Global, case: &str) -> Result<(), NetError> {
-    let mut client = client(alloc)?;
-    let shown = show_ask(rt, alloc, case, &mut client);
-    drop(client);
-    shown
-}
-
-fn show_ask(
-    rt: &impl Print,
-    alloc: Global,
-    case: &str,
-    client: &mut CachingClient<Upstream>,
-) -> Result<(), NetError> {
-    let waiting = waiting_of(client.start(query(alloc, "a")?, 0))?;
-    let options = DnsRequestOptions::default();
-    let (waiting, outcome) = call!(rt, case, client.ask(waiting, options));
-    show_made(rt, &outcome);
-    drop(outcome);
-    let _ = rt.print("  ");
-    say_waits(rt, waiting.question());
-    drop(waiting);
-    show_client(rt, alloc, client, &LABELS)
 }

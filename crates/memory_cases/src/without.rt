@@ -3,7 +3,7 @@ use crate::clients::with_search;
 use crate::handles::request;
 use crate::marks::done;
 use crate::sample::{Pair, Said, glue, one, query, script, www};
-use crate::shown::{Shown, say, show};
+use crate::shown::{Shown, say, show, show_text};
 use hickory_proto_core::{
     DnsHandle, DnsRequestOptions, Name, NetError, Outcome, RecordType, ScriptHandle, clone_outcome,
     read_ip,
@@ -44,7 +44,7 @@ fn from_labels(rt: &impl Print, alloc: Global, case: &str) -> Result<(), NetErro
     for label in ["www", "com"] {
         labels.push(Vec::from_slice(alloc, label.as_bytes())?)?;
     }
-    show(rt, call!(rt, case, Name::from_labels(labels)));
+    show_text(rt, call!(rt, case, Name::from_labels(labels)));
     Ok(())
 }
 
@@ -155,15 +155,17 @@ fn read_addresses(found: LookupIp) -> (usize, u64, usize) {
 // Whether bounds are taken, by themselves and out of options, and the greatest TTL by default.
 fn bounds(rt: &impl Print, alloc: Global, case: &str) {
     let options = ResolverOpts::default(alloc);
-    let (is_taken, is_refused, greatest) = call!(rt, case, take_bounds(alloc, &options));
+    let (is_taken, is_refused, greatest) = call!(
+        rt,
+        case,
+        {
+            let is_taken = TtlConfig::from_opts(alloc, &options).is_ok();
+            let is_refused = TtlBounds::new(Some(9), None, Some(8), None).is_err();
+            let (_, greatest) = TtlConfig::default(alloc).positive_response_ttl_bounds(A);
+            (is_taken, is_refused, greatest)
+        }
+    );
     let _ = println!(rt; "{is_taken} {is_refused} {greatest}");
-}
-
-fn take_bounds(alloc: Global, options: &ResolverOpts) -> (bool, bool, u64) {
-    let is_taken = TtlConfig::from_opts(alloc, options).is_ok();
-    let is_refused = TtlBounds::new(Some(9), None, Some(8), None).is_err();
-    let (_, greatest) = TtlConfig::default(alloc).positive_response_ttl_bounds(A);
-    (is_taken, is_refused, greatest)
 }
 
 fn clears(rt: &impl Print, alloc: Global, case: &str) -> Result<(), NetError> {
