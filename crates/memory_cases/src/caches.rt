@@ -1,5 +1,5 @@
 //! The cache: what a store or a look into it answers, and what it keeps then.
-use crate::marks::done;
+use crate::marks::{done, whole};
 use crate::sample::{answer, none, query};
 use crate::shown::{say, say_part, show, show_outcome};
 use hickory_proto_core::{Message, NetError, Query};
@@ -31,8 +31,7 @@ pub fn make(rt: &impl Print, alloc: Global, case: &str) -> Result<bool, NetError
 /// A cache of two entries at most, with an answer for each name: for ten seconds, for twenty ..
 pub fn cache_of(alloc: Global, labels: &[&str]) -> Result<ResponseCache, NetError> {
     let mut cache = ResponseCache::new(alloc, 2, TtlConfig::default(alloc));
-    fill(alloc, &mut cache, labels)?;
-    Ok(cache)
+    whole(fill(alloc, &mut cache, labels), cache)
 }
 
 fn fill(alloc: Global, cache: &mut ResponseCache, labels: &[&str]) -> Result<(), NetError> {

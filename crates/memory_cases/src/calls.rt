@@ -2,11 +2,10 @@
 //! after it.
 use crate::clients::{Upstream, resolver, show_kept};
 use crate::marks::done;
-use crate::runs::options;
-use crate::sample::{Said, no_such_name, outcome, outcome_of};
+use crate::sample::{Said, no_such_name, outcome_of};
 use crate::shown::{say_waits, show_made};
 use hickory_proto_core::{DnsResponse, Name, NetError, Query, RecordType};
-use hickory_resolver::{CallProgress, Resolver, ResolverOpts, WaitingCall};
+use hickory_resolver::{CallProgress, LookupIpStrategy, Resolver, WaitingCall};
 use std::alloc::Global;
 
 /// Makes the call of a case, and says whether there is such a case.
@@ -17,10 +16,10 @@ pub fn make(rt: &impl Print, alloc: Global, case: &str) -> Result<bool, NetError
         | "Resolver::start_lookup_ip"
         | "Resolver::start_lookup_ip of an address"
         | "Resolver::resume to the next name" => {
-            done(with_resolver(rt, alloc, case, ResolverOpts::default(alloc)))
+            done(with_resolver(rt, alloc, case, LookupIpStrategy::default()))
         }
         "Resolver::resume with the other family" => {
-            done(with_resolver(rt, alloc, case, options(alloc, false)))
+            done(with_resolver(rt, alloc, case, LookupIpStrategy::Ipv4AndIpv6))
         }
         _ => Ok(false),
     }
@@ -30,9 +29,9 @@ fn with_resolver(
     rt: &impl Print,
     alloc: Global,
     case: &str,
-    options: ResolverOpts,
+    strategy: LookupIpStrategy,
 ) -> Result<(), NetError> {
-    let mut resolver = resolver(alloc, options)?;
+    let mut resolver = resolver(alloc, strategy)?;
     let made = with_mut_resolver(rt, alloc, case, &mut resolver);
     drop(resolver);
     made
@@ -78,7 +77,10 @@ fn resume_family(
     resolver: &mut Resolver<Upstream>,
 ) -> Result<(), NetError> {
     let first = waiting_of(start(case, resolver))?;
-    let second = waiting_of(resolver.resume(first, outcome(alloc, "h")))?;
+    let second = waiting_of(resolver.resume(
+        first,
+        outcome_of(alloc, "h", RecordType::A, Said::Address),
+    ))?;
     let outcome = outcome_of(alloc, "h", RecordType::AAAA, Said::Ipv6Address);
     show_progress(rt, call!(rt, case, resolver.resume(second, outcome)));
     Ok(())

@@ -1,7 +1,7 @@
 //! Clients and resolvers: what they answer, what was asked, and what the cache keeps then.
 use crate::caches::has;
-use crate::marks::done;
-use crate::sample::{Pair, Said, name, outcomes, query, script};
+use crate::marks::{both, done, whole};
+use crate::sample::{Pair, Said, name, query, script, table};
 use crate::shown::{Shown, say_waits, show, show_exchanges};
 use crate::waits::waiting_of;
 use hickory_proto_core::{
@@ -115,7 +115,7 @@ pub fn show_kept(
 }
 
 fn upstream(alloc: Global) -> Result<Upstream, NetError> {
-    Ok(Recorded::new(alloc, TableHandle::new(outcomes(alloc, &PAIRS)?)?))
+    Ok(Recorded::new(alloc, table(alloc, &PAIRS)?))
 }
 
 fn with_client(rt: &impl Print, alloc: Global, case: &str) -> Result<(), NetError> {
@@ -177,10 +177,7 @@ fn look_up_in_turn(
     case: &str,
     client: &mut CachingClient<Upstream>,
 ) -> Result<(), NetError> {
-    let mut names = Vec::new(alloc);
-    for label in ["a", "b"] {
-        names.push(name(alloc, label)?)?;
-    }
+    let names = vec![in alloc; name(alloc, "a")?, name(alloc, "b")?]?;
     let mut hosts = Hosts::default(alloc);
     if case == "LookupFuture::lookup_with_hosts" {
         drop(hosts.read_hosts_bytes(b"10.0.0.2 b", 0));
@@ -232,21 +229,23 @@ impl Shown for LookupIp {
 
 /// A configuration with a search domain.
 pub fn with_search(alloc: Global) -> Result<ResolverConfig, NetError> {
+    let search = name(alloc, "x")?;
     let mut config = ResolverConfig::default(alloc);
-    config.add_search(name(alloc, "x")?)?;
-    Ok(config)
+    whole(config.add_search(search), config)
 }
 
 /// A resolver over the same upstream, with a search domain.
-pub fn resolver(alloc: Global, options: ResolverOpts) -> Result<Resolver<Upstream>, NetError> {
-    let handle = upstream(alloc)?;
-    Resolver::builder_with_config(with_search(alloc)?, handle)
+pub fn resolver(alloc: Global, strategy: LookupIpStrategy) -> Result<Resolver<Upstream>, NetError> {
+    let (config, handle) = both(with_search(alloc), upstream(alloc))?;
+    let mut options = ResolverOpts::default(alloc);
+    options.ip_strategy = strategy;
+    Resolver::builder_with_config(config, handle)
         .with_options(options)
         .build()
 }
 
 fn with_resolver(rt: &impl Print, alloc: Global, case: &str) -> Result<(), NetError> {
-    let mut resolver = resolver(alloc, ResolverOpts::default(alloc))?;
+    let mut resolver = resolver(alloc, LookupIpStrategy::default())?;
     let made = with_mut_resolver(rt, alloc, case, &mut resolver);
     drop(resolver);
     made
@@ -320,8 +319,8 @@ fn look_up_behind(rt: &impl Print, alloc: Global, case: &str) -> Result<(), NetE
 
 // Below the search domain the handle has no memory, so that the name itself is not attempted.
 fn look_up_at_first(rt: &impl Print, alloc: Global, case: &str) -> Result<(), NetError> {
-    let config = with_search(alloc)?;
-    let handle = Recorded::new(alloc, script(alloc, &AT_FIRST)?);
+    let (config, script) = both(with_search(alloc), script(alloc, &AT_FIRST))?;
+    let handle = Recorded::new(alloc, script);
     let mut resolver = Resolver::builder_with_config(config, handle).build()?;
     show(rt, call!(rt, case, resolver.ipv4_lookup("a", 0)));
     let shown = show_scripted(rt, alloc, resolver.client(), &LABELS);

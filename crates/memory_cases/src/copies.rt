@@ -1,7 +1,7 @@
 //! Copies of values that hold a collection.
-use crate::marks::{begin, done, end};
+use crate::marks::{begin, both, done, end, whole};
 use crate::sample::{
-    IP, address, answer, glue, group, name, none, one, outcome, query, server, text,
+    IP, Said, address, answer, glue, group, name, none, one, outcome_of, query, server, text,
 };
 use crate::shown::say;
 use hickory_proto_core::{DnsError, ForwardNSData, NetError, RData, RecordType, clone_outcome};
@@ -20,16 +20,21 @@ pub fn make(rt: &impl Print, alloc: Global, case: &str) -> Result<bool, NetError
         "RData::clone" => done(copy(rt, alloc, case, strings(alloc))),
         "Record::clone" => done(copy(rt, alloc, case, address(alloc, "a", 60))),
         "Message::clone" => done(copy(rt, alloc, case, answer(alloc, "a", 60))),
-        "DnsResponse::clone" => done(copy(rt, alloc, case, outcome(alloc, "a"))),
+        "DnsResponse::clone" => done(copy(
+            rt,
+            alloc,
+            case,
+            outcome_of(alloc, "a", RecordType::A, Said::Address),
+        )),
         "ForwardNSData::clone" => done(copy(rt, alloc, case, forward(alloc))),
         "NoRecords::clone" => done(copy(rt, alloc, case, none(alloc))),
-        "DnsError::clone" => done(copy(rt, alloc, case, dns_error(alloc))),
-        "NetError::clone" => done(copy(rt, alloc, case, net_error(alloc))),
+        "DnsError::clone" | "NetError::clone" => done(copy_error(rt, alloc, case)),
+        "ConnectionConfig::clone" | "ProtocolConfig::clone" => {
+            done(copy_protocol(rt, alloc, case))
+        }
         "clone_outcome" | "Lookup::clone" | "LookupIp::clone" | "TtlConfig::clone" => {
             done(copy_by_call(rt, alloc, case))
         }
-        "ConnectionConfig::clone" => done(copy(rt, alloc, case, connection(alloc))),
-        "ProtocolConfig::clone" => done(copy(rt, alloc, case, protocol(alloc))),
         "NameServerConfig::clone" => done(copy(rt, alloc, case, NameServerConfig::udp(alloc, IP))),
         "ResolverConfig::clone" => done(copy(rt, alloc, case, config(alloc))),
         "ServerGroup::clone" => done(copy(rt, alloc, case, group(alloc))),
@@ -52,11 +57,29 @@ fn copy<T: Clone + Debug + Drop>(
     show_copy(rt, alloc, copy, source)
 }
 
+fn copy_error(rt: &impl Print, alloc: Global, case: &str) -> Result<(), NetError> {
+    let none = none(alloc)?;
+    match case {
+        "DnsError::clone" => copy(rt, alloc, case, Ok(DnsError::NoRecordsFound(none))),
+        _ => copy(rt, alloc, case, Ok(NetError::from(none))),
+    }
+}
+
+fn copy_protocol(rt: &impl Print, alloc: Global, case: &str) -> Result<(), NetError> {
+    let server_name = text(alloc, "s.")?;
+    match case {
+        "ConnectionConfig::clone" => {
+            copy(rt, alloc, case, ConnectionConfig::https(server_name, None))
+        }
+        _ => copy(rt, alloc, case, Ok(ProtocolConfig::Tls { server_name })),
+    }
+}
+
 // By a call of its own.
 fn copy_by_call(rt: &impl Print, alloc: Global, case: &str) -> Result<(), NetError> {
     match case {
         "clone_outcome" => {
-            let source = outcome(alloc, "a");
+            let source = outcome_of(alloc, "a", RecordType::A, Said::Address);
             let copy = call!(rt, case, clone_outcome(&source));
             show_copy(rt, alloc, copy, source)
         }
@@ -72,7 +95,7 @@ fn copy_by_call(rt: &impl Print, alloc: Global, case: &str) -> Result<(), NetErr
         }
         _ => {
             let mut source = TtlConfig::default(alloc);
-            source.with_query_type_ttl_bounds(RecordType::A, TtlBounds::default())?;
+            drop(source.with_query_type_ttl_bounds(RecordType::A, TtlBounds::default()));
             let copy: Result<TtlConfig, NetError> = call!(rt, case, source.clone());
             show_copy(rt, alloc, copy, source)
         }
@@ -107,34 +130,19 @@ fn strings(alloc: Global) -> Result<RData, NetError> {
     Ok(RData::TXT(vec![in alloc; Vec::from_slice(alloc, b"one")?]?))
 }
 
-fn dns_error(alloc: Global) -> Result<DnsError, NetError> {
-    Ok(DnsError::NoRecordsFound(none(alloc)?))
-}
-
-fn net_error(alloc: Global) -> Result<NetError, NetError> {
-    Ok(NetError::from(none(alloc)?))
-}
-
 fn forward(alloc: Global) -> Result<ForwardNSData, NetError> {
-    let glue = glue(alloc)?;
-    let ns = server(alloc)?;
+    let (ns, glue) = both(server(alloc), glue(alloc))?;
     Ok(ForwardNSData { ns, glue })
-}
-
-fn connection(alloc: Global) -> Result<ConnectionConfig, NetError> {
-    ConnectionConfig::https(text(alloc, "s.")?, None)
-}
-
-fn protocol(alloc: Global) -> Result<ProtocolConfig, NetError> {
-    let server_name = text(alloc, "s.")?;
-    Ok(ProtocolConfig::Tls { server_name })
 }
 
 fn config(alloc: Global) -> Result<ResolverConfig, NetError> {
     let mut config = ResolverConfig::default(alloc);
+    whole(add_parts(alloc, &mut config), config)
+}
+
+fn add_parts(alloc: Global, config: &mut ResolverConfig) -> Result<(), NetError> {
     config.set_domain(name(alloc, "d")?)?;
-    config.add_name_server(NameServerConfig::udp(alloc, IP)?)?;
-    Ok(config)
+    config.add_name_server(NameServerConfig::udp(alloc, IP)?)
 }
 
 fn options(alloc: Global) -> Result<ResolverOpts, NetError> {

@@ -1,6 +1,6 @@
 //! Handles: a table that is made and asked, and one that records what it is asked.
-use crate::marks::done;
-use crate::sample::{Pair, Said, outcomes, query};
+use crate::marks::{both, done};
+use crate::sample::{Pair, Said, outcomes, query, table};
 use crate::shown::{say, show, show_exchanges};
 use hickory_proto_core::{
     DnsHandle, DnsRequest, DnsRequestOptions, NetError, RecordType, Recorded, TableHandle,
@@ -66,8 +66,7 @@ fn ask_made(
 
 // What a table answers, and what it answers the next time.
 fn send(rt: &impl Print, alloc: Global, case: &str) -> Result<(), NetError> {
-    let request = request(alloc, "a")?;
-    let mut table = TableHandle::new(outcomes(alloc, &PAIRS)?)?;
+    let (request, mut table) = both(request(alloc, "a"), table(alloc, &PAIRS))?;
     show(rt, call!(rt, case, table.send(&request)));
     show(rt, table.send(&request));
     drop(table);
@@ -76,8 +75,8 @@ fn send(rt: &impl Print, alloc: Global, case: &str) -> Result<(), NetError> {
 
 // What a recording handle answers, and what it keeps.
 fn send_recorded(rt: &impl Print, alloc: Global, case: &str) -> Result<(), NetError> {
-    let request = request(alloc, "a")?;
-    let mut handle = Recorded::new(alloc, TableHandle::new(outcomes(alloc, &PAIRS)?)?);
+    let (request, table) = both(request(alloc, "a"), table(alloc, &PAIRS))?;
+    let mut handle = Recorded::new(alloc, table);
     show(rt, call!(rt, case, handle.send(&request)));
     show_exchanges(rt, handle.exchanges());
     drop(handle);

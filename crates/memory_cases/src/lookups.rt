@@ -1,7 +1,7 @@
 //! Look-ups, bounds and attempts.
-use crate::marks::done;
+use crate::marks::{both, done};
 use crate::sample::{address, five_addresses, name, one, one_address, query, with_answer};
-use crate::shown::{Shown, show};
+use crate::shown::{Shown, say, show};
 use hickory_proto_core::{Message, Name, NetError, OpCode, RData, RecordType};
 use hickory_resolver::{Lookup, TtlBounds, TtlConfig, attempts};
 use std::alloc::Global;
@@ -27,8 +27,7 @@ pub fn make(rt: &impl Print, alloc: Global, case: &str) -> Result<bool, NetError
 }
 
 fn of_records(rt: &impl Print, alloc: Global, case: &str) -> Result<(), NetError> {
-    let records = one_address(alloc, "a")?;
-    let query = query(alloc, "a")?;
+    let (query, records) = both(query(alloc, "a"), one_address(alloc, "a"))?;
     match case {
         "Lookup::from_rdata" => {
             let data = RData::A(Ipv4Addr::LOCALHOST);
@@ -53,9 +52,9 @@ fn of_records(rt: &impl Print, alloc: Global, case: &str) -> Result<(), NetError
 
 // Of a message without a question.
 fn of_message(rt: &impl Print, alloc: Global, case: &str) -> Result<(), NetError> {
-    let query = query(alloc, "a")?;
     let empty = Message::response(alloc, 0, OpCode::Query);
-    let message = with_answer(empty, address(alloc, "a", 60))?;
+    let message = with_answer(empty, address(alloc, "a", 60));
+    let (query, message) = both(query(alloc, "a"), message)?;
     match case {
         "Lookup::of_message" => {
             show(rt, call!(rt, case, Lookup::of_message(query, message, 9)));
@@ -73,8 +72,7 @@ fn of_message(rt: &impl Print, alloc: Global, case: &str) -> Result<(), NetError
 }
 
 fn append(rt: &impl Print, alloc: Global, case: &str) -> Result<(), NetError> {
-    let first = one(alloc, "a")?;
-    let second = one(alloc, "b")?;
+    let (first, second) = both(one(alloc, "a"), one(alloc, "b"))?;
     show(rt, call!(rt, case, first.append(second)));
     Ok(())
 }
@@ -143,10 +141,16 @@ fn attempted(rt: &impl Print, alloc: Global, case: &str) -> Result<(), NetError>
     let domain = name(alloc, "x")?;
     let search = vec![in alloc; name(alloc, "y")?]?;
     let asked = Name::from_ascii(alloc, "www")?;
-    show(
-        rt,
-        call!(rt, case, attempts(alloc, asked, 1, Some(&domain), &search)),
-    );
+    let names = call!(rt, case, attempts(alloc, asked, 1, Some(&domain), &search));
+    match &names {
+        Ok(names) => {
+            for name in names {
+                say(rt, name);
+            }
+        }
+        Err(error) => say(rt, error),
+    }
+    drop(names);
     drop(search);
     drop(domain);
     Ok(())

@@ -1,6 +1,6 @@
 //! Names, and what makes them.
 use crate::marks::done;
-use crate::sample::{IP, name, text, www};
+use crate::sample::{IP, name, text};
 use crate::shown::show_text;
 use hickory_proto_core::{IntoName, Name, NameError, NetError, ip_text};
 use hickory_proto_names::ip::printed_text;
@@ -58,7 +58,7 @@ fn of_text(rt: &impl Print, alloc: Global, case: &str) -> Result<(), NetError> {
 
 fn of_name(rt: &impl Print, alloc: Global, case: &str) -> Result<(), NetError> {
     let first = name(alloc, "a")?;
-    let www = www(alloc)?;
+    let www = Name::from_ascii(alloc, WWW)?;
     match case {
         "Name::append_domain" => show_text(rt, call!(rt, case, first.append_domain(&www))),
         "Name::base_name" => show_text(rt, call!(rt, case, www.base_name())),

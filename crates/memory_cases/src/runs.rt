@@ -1,11 +1,9 @@
 //! Runs: the replies, what was asked, and what the cache keeps then.
 use crate::clients::{BEHIND, show_client, show_scripted};
-use crate::marks::done;
-use crate::sample::{Pair, Said, outcomes, script, text};
+use crate::marks::{both, done, whole};
+use crate::sample::{Pair, Said, script, table, text};
 use crate::shown::say;
-use hickory_proto_core::{
-    DnsHandle, Exchange, NetError, RecordType, Recorded, ScriptHandle, TableHandle,
-};
+use hickory_proto_core::{Exchange, NetError, RecordType, Recorded, ScriptHandle, TableHandle};
 use hickory_resolver::{
     Heard, Hosts, Listener, LookupIpStrategy, Reply, Request, ResolverConfig, ResolverOpts, Step,
     Transcript, run, run_told, run_with_hasher,
@@ -79,8 +77,7 @@ type Told = Heard<Recorded<TableHandle>, BuildHasherDefault<FoldHasher>, Keeper>
 
 fn requests(alloc: Global, case: &str) -> Result<Vec<Request>, NetError> {
     let mut requests = Vec::new(alloc);
-    push_requests(alloc, case, &mut requests)?;
-    Ok(requests)
+    whole(push_requests(alloc, case, &mut requests), requests)
 }
 
 // Of the table: the addresses of the host; that it lacks a family, out of the cache; its address, cleared and asked
@@ -124,8 +121,8 @@ fn lookup(
     })
 }
 
-/// Options of a run, which asks for both families.
-pub fn options(alloc: Global, preserves: bool) -> ResolverOpts {
+// Options of a run, which asks for both families.
+fn options(alloc: Global, preserves: bool) -> ResolverOpts {
     let mut options = ResolverOpts::default(alloc);
     options.preserve_intermediates = preserves;
     options.ip_strategy = LookupIpStrategy::Ipv4AndIpv6;
@@ -140,8 +137,7 @@ fn run_table(
     pairs: &[Pair],
     labels: &[&str],
 ) -> Result<(), NetError> {
-    let requests = requests(alloc, case)?;
-    let handle = TableHandle::new(outcomes(alloc, pairs)?)?;
+    let (requests, handle) = both(requests(alloc, case), table(alloc, pairs))?;
     let options = options(alloc, preserves);
     let answer = call!(rt, case, run_by(alloc, case, options, handle, &requests));
     drop(requests);
@@ -155,24 +151,14 @@ fn run_by(
     handle: TableHandle,
     requests: &[Request],
 ) -> Result<Transcript<TableHandle>, NetError> {
+    let (config, hosts) = (ResolverConfig::default(alloc), Hosts::default(alloc));
     match case {
         "run_with_hasher" => {
-            let (config, hosts) = (ResolverConfig::default(alloc), Hosts::default(alloc));
             let hasher = BuildHasherDefault::new();
             run_with_hasher(config, options, hosts, handle, requests, hasher)
         }
-        _ => run_over(alloc, options, handle, requests),
+        _ => run(config, options, hosts, handle, requests),
     }
-}
-
-fn run_over<H: DnsHandle + Drop>(
-    alloc: Global,
-    options: ResolverOpts,
-    handle: H,
-    requests: &[Request],
-) -> Result<Transcript<H>, NetError> {
-    let (config, hosts) = (ResolverConfig::default(alloc), Hosts::default(alloc));
-    run(config, options, hosts, handle, requests)
 }
 
 fn show_steps(rt: &impl Print, steps: &[Step]) {
@@ -224,9 +210,10 @@ fn show_run(
 
 // The same over a script.
 fn run_script(rt: &impl Print, alloc: Global, case: &str, labels: &[&str]) -> Result<(), NetError> {
-    let requests = requests(alloc, case)?;
-    let (handle, options) = (script(alloc, &BEHIND)?, options(alloc, false));
-    let answer = call!(rt, case, run_over(alloc, options, handle, &requests));
+    let (requests, handle) = both(requests(alloc, case), script(alloc, &BEHIND))?;
+    let (config, hosts) = (ResolverConfig::default(alloc), Hosts::default(alloc));
+    let options = options(alloc, false);
+    let answer = call!(rt, case, run(config, options, hosts, handle, &requests));
     drop(requests);
     show_scripted_run(rt, alloc, answer, labels)
 }
@@ -259,8 +246,7 @@ fn run_to_listener(
     case: &str,
     labels: &[&str],
 ) -> Result<(), NetError> {
-    let requests = requests(alloc, case)?;
-    let handle = TableHandle::new(outcomes(alloc, &ALIASED)?)?;
+    let (requests, handle) = both(requests(alloc, case), table(alloc, &ALIASED))?;
     let told = call!(rt, case, tell(alloc, handle, &requests));
     drop(requests);
     let shown = match &told {

@@ -1,7 +1,8 @@
 //! Names, records, messages and outcomes that the calls are given. No copy shares the memory of a name of these yet.
+use crate::marks::{both, whole};
 use hickory_proto_core::{
     DnsError, DnsResponse, Glue, Message, Name, NetError, NoRecords, OpCode, Outcome, Query, RData,
-    Record, RecordType, ResponseCode, ScriptHandle,
+    Record, RecordType, ResponseCode, ScriptHandle, TableHandle,
 };
 use hickory_resolver::{Lookup, ServerGroup};
 use std::alloc::Global;
@@ -35,11 +36,6 @@ pub fn name(alloc: Global, label: &str) -> Result<Name, NetError> {
     Ok(Name::from_labels(labels)?)
 }
 
-/// A name of three labels.
-pub fn www(alloc: Global) -> Result<Name, NetError> {
-    Ok(Name::from_ascii(alloc, "www.example.com.")?)
-}
-
 /// A text.
 pub fn text(alloc: Global, text: &str) -> Result<String, NetError> {
     Ok(String::from_str(alloc, text)?)
@@ -64,16 +60,20 @@ pub fn one_address(alloc: Global, owner: &str) -> Result<Vec<Record>, NetError> 
 /// More than there is room for behind the first one.
 pub fn five_addresses(alloc: Global) -> Result<Vec<Record>, NetError> {
     let mut records = Vec::new(alloc);
+    whole(push_addresses(alloc, &mut records), records)
+}
+
+fn push_addresses(alloc: Global, records: &mut Vec<Record>) -> Result<(), NetError> {
     for owner in ["a", "b", "c", "d", "e"] {
         records.push(address(alloc, owner, 60)?)?;
     }
-    Ok(records)
+    Ok(())
 }
 
 /// The record by which `a.` names its server.
 pub fn server(alloc: Global) -> Result<Record, NetError> {
-    let owner = name(alloc, "a")?;
-    Ok(Record::from_rdata(owner, 9, RData::NS(name(alloc, "n")?)))
+    let (owner, target) = both(name(alloc, "a"), name(alloc, "n"))?;
+    Ok(Record::from_rdata(owner, 9, RData::NS(target)))
 }
 
 /// The addresses of that server.
@@ -84,8 +84,7 @@ pub fn glue(alloc: Global) -> Result<Glue, NetError> {
 /// A response to a question, without records.
 pub fn empty(alloc: Global, asked: Query) -> Result<Message, NetError> {
     let mut message = Message::response(alloc, 0, OpCode::Query);
-    message.add_query(asked)?;
-    Ok(message)
+    whole(message.add_query(asked), message)
 }
 
 /// The message with one more answer.
@@ -93,8 +92,11 @@ pub fn with_answer(
     mut message: Message,
     added: Result<Record, NetError>,
 ) -> Result<Message, NetError> {
-    message.add_answer(added?)?;
-    Ok(message)
+    let done = match added {
+        Ok(added) => message.add_answer(added),
+        Err(error) => Err(error),
+    };
+    whole(done, message)
 }
 
 /// A response to a question for addresses, with one.
@@ -109,8 +111,7 @@ pub fn answer(alloc: Global, asked: &str, ttl: u32) -> Result<Message, NetError>
 pub fn no_such_name(alloc: Global, asked: Query) -> Result<Message, NetError> {
     let mut message = empty(alloc, asked)?;
     message.metadata.response_code = ResponseCode::NXDomain;
-    add_zone(alloc, &mut message)?;
-    Ok(message)
+    whole(add_zone(alloc, &mut message), message)
 }
 
 fn add_zone(alloc: Global, message: &mut Message) -> Result<(), NetError> {
@@ -137,77 +138,71 @@ pub fn none(alloc: Global) -> Result<NoRecords, NetError> {
     }
 }
 
-/// The outcome with one address for a minute.
-pub fn outcome(alloc: Global, asked: &str) -> Outcome {
-    Ok(DnsResponse::from_message(answer(alloc, asked, 60)?))
-}
-
 /// The outcome of a question for the addresses of a name.
 pub fn outcome_of(alloc: Global, owner: &str, record_type: RecordType, said: Said) -> Outcome {
-    match said {
-        Said::Address => outcome(alloc, owner),
-        Said::Ipv6Address => {
-            with_data(
-                alloc,
-                owner,
-                record_type,
-                60,
-                RData::AAAA(Ipv6Addr::LOCALHOST),
-            )
-        }
-        Said::Alias(target) => {
-            with_data(
-                alloc,
-                owner,
-                record_type,
-                300,
-                RData::CNAME(name(alloc, target)?),
-            )
-        }
-        Said::NoName => {
-            let asked = Query::query(name(alloc, owner)?, record_type);
-            Ok(DnsResponse::from_message(no_such_name(alloc, asked)?))
-        }
+    let asked = Query::query(name(alloc, owner)?, record_type);
+    let message = match said {
+        Said::Address => with_answer(empty(alloc, asked)?, address(alloc, owner, 60)),
+        Said::Ipv6Address => with_answer(empty(alloc, asked)?, ipv6(alloc, owner)),
+        Said::Alias(target) => with_answer(empty(alloc, asked)?, alias(alloc, owner, target)),
+        Said::NoName => no_such_name(alloc, asked),
         Said::Late => Err(NetError::Timeout),
         Said::NoMemory => Err(NetError::OutOfMemory),
-    }
+    };
+    Ok(DnsResponse::from_message(message?))
 }
 
-fn with_data(
-    alloc: Global,
-    owner: &str,
-    record_type: RecordType,
-    ttl: u32,
-    data: RData,
-) -> Outcome {
-    let record = Record::from_rdata(name(alloc, owner)?, ttl, data);
-    let asked = Query::query(name(alloc, owner)?, record_type);
-    Ok(DnsResponse::from_message(with_answer(empty(alloc, asked)?, Ok(record))?))
+fn ipv6(alloc: Global, owner: &str) -> Result<Record, NetError> {
+    let owner = name(alloc, owner)?;
+    Ok(Record::from_rdata(owner, 60, RData::AAAA(Ipv6Addr::LOCALHOST)))
+}
+
+fn alias(alloc: Global, owner: &str, target: &str) -> Result<Record, NetError> {
+    let (owner, target) = both(name(alloc, owner), name(alloc, target))?;
+    Ok(Record::from_rdata(owner, 300, RData::CNAME(target)))
 }
 
 /// The outcomes of an upstream that is a table.
 pub fn outcomes(alloc: Global, pairs: &[Pair]) -> Result<Vec<(Query, Outcome)>, NetError> {
     let mut outcomes = Vec::new(alloc);
+    whole(push_outcomes(alloc, pairs, &mut outcomes), outcomes)
+}
+
+fn push_outcomes(
+    alloc: Global,
+    pairs: &[Pair],
+    outcomes: &mut Vec<(Query, Outcome)>,
+) -> Result<(), NetError> {
     for (label, record_type, given) in pairs {
         let query = Query::query(name(alloc, label)?, *record_type);
         outcomes.push((query, outcome_of(alloc, label, *record_type, *given)))?;
     }
-    Ok(outcomes)
+    Ok(())
+}
+
+/// An upstream that is a table.
+pub fn table(alloc: Global, pairs: &[Pair]) -> Result<TableHandle, NetError> {
+    TableHandle::new(outcomes(alloc, pairs)?)
 }
 
 /// An upstream that is a script.
 pub fn script(alloc: Global, pairs: &[Pair]) -> Result<ScriptHandle, NetError> {
     let mut outcomes = Vec::new(alloc);
+    let pushed = push_script(alloc, pairs, &mut outcomes);
+    Ok(ScriptHandle::new(whole(pushed, outcomes)?))
+}
+
+fn push_script(alloc: Global, pairs: &[Pair], outcomes: &mut Vec<Outcome>) -> Result<(), NetError> {
     for (label, record_type, given) in pairs {
         outcomes.push(outcome_of(alloc, label, *record_type, *given))?;
     }
-    Ok(ScriptHandle::new(outcomes))
+    Ok(())
 }
 
 /// A look-up of one address.
 pub fn one(alloc: Global, owner: &str) -> Result<Lookup, NetError> {
-    let records = one_address(alloc, owner)?;
-    Lookup::new_with_deadline(query(alloc, owner)?, records, 60)
+    let (query, records) = both(query(alloc, owner), one_address(alloc, owner))?;
+    Lookup::new_with_deadline(query, records, 60)
 }
 
 /// A group of one server.

@@ -1,6 +1,6 @@
 //! The texts of answers. A line that is not written is missed by whoever reads the text.
 use hickory_proto_core::{
-    DnsError, DnsResponse, Exchange, Message, Name, NetError, NoRecords, Outcome, Query, Record,
+    DnsError, DnsResponse, Exchange, Message, NetError, NoRecords, Outcome, Query, Record,
 };
 use hickory_resolver::Lookup;
 use std::fmt::Display;
@@ -53,14 +53,6 @@ pub fn say_waits(rt: &impl Print, question: &Query) {
 impl Shown for () {
     fn show(&self, rt: &impl Print) {
         say(rt, &"done");
-    }
-}
-
-impl Shown for Vec<Name> {
-    fn show(&self, rt: &impl Print) {
-        for name in self {
-            say(rt, name);
-        }
     }
 }
 

@@ -1,5 +1,5 @@
 //! Tables of hosts.
-use crate::marks::done;
+use crate::marks::{both, done};
 use crate::sample::{name, one, query};
 use crate::shown::{Shown, say, say_part, show};
 use hickory_proto_core::{Name, NetError, Query, RecordType};
@@ -76,9 +76,9 @@ fn insert(
     hosts: &mut Hosts,
     label: &str,
 ) -> Result<(), NetError> {
-    let (kept, lookup) = (name(alloc, "good1")?, one(alloc, "good1")?);
+    let (kept, lookup) = both(name(alloc, "good1"), one(alloc, "good1"))?;
     drop(hosts.insert(kept, RecordType::A, lookup, 0));
-    let (added, lookup) = (name(alloc, label)?, one(alloc, label)?);
+    let (added, lookup) = both(name(alloc, label), one(alloc, label))?;
     show(
         rt,
         call!(rt, case, hosts.insert(added, RecordType::A, lookup, 0)),

@@ -2,7 +2,7 @@
 use crate::caches::cache_of;
 use crate::clients::show_kept;
 use crate::marks::done;
-use crate::sample::{Said, outcome, outcome_of, query};
+use crate::sample::{Said, outcome_of, query};
 use crate::shown::{say_waits, show_made};
 use hickory_proto_core::{NetError, Outcome, Query, RecordType, ScriptHandle};
 use hickory_resolver::{CachingClient, CachingCore, Progress, ResponseCache, Waiting};
@@ -127,7 +127,7 @@ fn resume(
     let alias = outcome_of(alloc, "c", RecordType::A, Said::Alias("a"));
     if case.contains("behind") {
         let next = waiting_of(client.resume(waiting, alias))?;
-        let outcome = outcome(alloc, "a");
+        let outcome = outcome_of(alloc, "a", RecordType::A, Said::Address);
         show_progress(rt, call!(rt, case, client.resume(next, outcome)));
     } else {
         show_progress(rt, call!(rt, case, client.resume(waiting, alias)));

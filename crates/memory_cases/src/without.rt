@@ -1,9 +1,9 @@
 //! Calls that take no memory.
 use crate::clients::with_search;
 use crate::handles::request;
-use crate::marks::done;
-use crate::sample::{Pair, Said, glue, one, query, script, www};
-use crate::shown::{Shown, say, show, show_text};
+use crate::marks::{both, done};
+use crate::sample::{Pair, Said, glue, one, query, script};
+use crate::shown::{say, show_text};
 use hickory_proto_core::{
     DnsHandle, DnsRequestOptions, Name, NetError, Outcome, RecordType, ScriptHandle, clone_outcome,
     read_ip,
@@ -51,8 +51,8 @@ fn from_labels(rt: &impl Print, alloc: Global, case: &str) -> Result<(), NetErro
 // The count of labels, whether the mark is set, before and after it is, whether it is a zone of another, whether it
 // equals that and comes before it, and whether it is a loopback name.
 fn names(rt: &impl Print, alloc: Global, case: &str) -> Result<(), NetError> {
+    let other = Name::from_ascii(alloc, "www.example.com.")?;
     let mut zone = Name::from_ascii(alloc, "Example.com")?;
-    let other = www(alloc)?;
     let (labels, before, after, is_zone) = call!(
         rt,
         case,
@@ -122,8 +122,8 @@ fn share(rt: &impl Print, alloc: Global, case: &str) -> Result<(), NetError> {
 
 // Whether an outcome is given, and whether one is behind the last.
 fn send(rt: &impl Print, alloc: Global, case: &str) -> Result<(), NetError> {
-    let request = request(alloc, "a")?;
-    let mut handle = script(alloc, &[("a", A, Said::Address)])?;
+    let script = script(alloc, &[("a", A, Said::Address)]);
+    let (request, mut handle) = both(request(alloc, "a"), script)?;
     let (first, second) = call!(rt, case, (handle.send(&request), handle.send(&request)));
     let _ = println!(rt; "{} {}", first.is_ok(), second.is_ok());
     drop(first);
@@ -202,15 +202,16 @@ fn show_clears(
     Ok(())
 }
 
-impl Shown for Resolver<ScriptHandle> {
-    fn show(&self, rt: &impl Print) {
-        let _ = println!(rt; "{self:?}");
-    }
-}
-
 fn build(rt: &impl Print, alloc: Global, case: &str) -> Result<(), NetError> {
     let config = with_search(alloc)?;
     let builder = Resolver::builder_with_config(config, ScriptHandle::new(Vec::new(alloc)));
-    show(rt, call!(rt, case, builder.build()));
+    let built = call!(rt, case, builder.build());
+    match &built {
+        Ok(resolver) => {
+            let _ = println!(rt; "{resolver:?}");
+        }
+        Err(error) => say(rt, error),
+    }
+    drop(built);
     Ok(())
 }
