@@ -17,7 +17,7 @@ pub fn done(answer: Result<(), NetError>) -> Result<bool, NetError> {
     answer.map(|()| true)
 }
 
-/// The value, where all that was done to it was done. A `?` while it is alive would cost the prover more, in each place.
+/// The value, where what was done to it was done. Each `?` while it is alive would cost the prover more.
 pub fn whole<T: Drop>(done: Result<(), NetError>, value: T) -> Result<T, NetError> {
     match done {
         Ok(()) => Ok(value),
