@@ -182,7 +182,8 @@ pub fn put(
         (requests_of requests.old.entries) (requests_of requests.new.entries)) }
     ensures unchanged { OnErr result (requests.new.entries ≡ requests.old.entries) }
 {
-    requests.insert(key, in_flight)?;
+    let replaced = requests.insert(key, in_flight)?;
+    drop(replaced);
     Ok(())
 }
 
