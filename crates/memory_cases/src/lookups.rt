@@ -148,7 +148,7 @@ fn attempted(rt: &impl Print, alloc: Global, case: &str) -> Result<(), NetError>
                 say(rt, name);
             }
         }
-        Err(error) => say(rt, error),
+        Err(error) => say(rt, &NetError::from(*error)),
     }
     drop(names);
     drop(search);
