@@ -1,10 +1,13 @@
-//! A small caching forwarder: a zone as its own upstream, below a resolver and below a client.
+//! A small caching forwarder: a zone as its own upstream, below a resolver and below a client; and look-ups in a loop
+//! of one's own.
 #![tactic(auto)]
 
 mod ask;
+mod event_loop;
 mod zone;
 
 use ask::ask;
+use event_loop::push_loop;
 use hickory_proto_core::{Name, NetError, Query, RData, Record, RecordType};
 use hickory_resolver::{
     CachingClient, Lookup, Resolver, ResolverConfig, ResolverOpts, ResponseCache, TtlBounds,
@@ -21,25 +24,31 @@ fn main(rt: HostRuntime) -> anyhow::Result<()> {
     let mut text = String::new(alloc);
     push_resolver(alloc, &mut text)?;
     push_client(alloc, &mut text)?;
+    push_loop(alloc, &mut text)?;
     Ok(rt.print(text)?)
 }
 
 // The zone: an address below example.com, and the name server of example.com.
 fn example_zone(alloc: Global) -> Result<Zone, NetError> {
-    let address = RData::A(Ipv4Addr::new(192, 0, 2, 1));
-    let server = RData::NS(Name::from_ascii(alloc, "ns.example.com.")?);
     let mut records = Vec::new(alloc);
-    records.push(owned(alloc, "www.example.com.", 300, address)?)?;
-    records.push(owned(alloc, "example.com.", 3_600, server)?)?;
+    records.push(address(alloc)?)?;
+    records.push(server(alloc)?)?;
     Ok(Zone::new(alloc, soa(alloc)?, records))
 }
 
-fn owned(alloc: Global, owner: &str, ttl: u32, rdata: RData) -> Result<Record, NetError> {
-    let name = Name::from_ascii(alloc, owner)?;
-    Ok(Record::from_rdata(name, ttl, rdata))
+fn address(alloc: Global) -> Result<Record, NetError> {
+    let owner = Name::from_ascii(alloc, "www.example.com.")?;
+    Ok(Record::from_rdata(owner, 300, RData::A(Ipv4Addr::new(192, 0, 2, 1))))
+}
+
+fn server(alloc: Global) -> Result<Record, NetError> {
+    let owner = Name::from_ascii(alloc, "example.com.")?;
+    let target = Name::from_ascii(alloc, "ns.example.com.")?;
+    Ok(Record::from_rdata(owner, 3_600, RData::NS(target)))
 }
 
 fn soa(alloc: Global) -> Result<Record, NetError> {
+    let owner = Name::from_ascii(alloc, "example.com.")?;
     let rdata = RData::SOA {
         mname: Name::from_ascii(alloc, "ns.example.com.")?,
         rname: Name::from_ascii(alloc, "admin.example.com.")?,
@@ -49,21 +58,29 @@ fn soa(alloc: Global) -> Result<Record, NetError> {
         expire: 1_209_600,
         minimum: 60,
     };
-    owned(alloc, "example.com.", 60, rdata)
+    Ok(Record::from_rdata(owner, 60, rdata))
 }
 
 // A resolver that keeps no answer for more than ten minutes, and looks short names up below example.com.
 fn resolver(alloc: Global) -> Result<Resolver<Zone>, NetError> {
-    let mut config = ResolverConfig::default(alloc);
-    config.add_search(Name::from_ascii(alloc, "example.com.")?)?;
+    let zone = example_zone(alloc)?;
     let mut options = ResolverOpts::default(alloc);
     options.positive_max_ttl = Some(600);
-    let builder = Resolver::builder_with_config(config, example_zone(alloc)?);
+    let builder = Resolver::builder_with_config(config(alloc)?, zone);
     builder.with_options(options).build()
 }
 
+fn config(alloc: Global) -> Result<ResolverConfig, NetError> {
+    let mut config = ResolverConfig::default(alloc);
+    config.add_search(Name::from_ascii(alloc, "example.com.")?)?;
+    Ok(config)
+}
+
 fn push_resolver(alloc: Global, text: &mut String) -> Result<(), NetError> {
-    push_names(text, &mut resolver(alloc)?)
+    let mut resolver = resolver(alloc)?;
+    let pushed = push_names(text, &mut resolver);
+    drop(resolver);
+    pushed
 }
 
 fn push_names(text: &mut String, resolver: &mut Resolver<Zone>) -> Result<(), NetError> {
@@ -74,17 +91,25 @@ fn push_names(text: &mut String, resolver: &mut Resolver<Zone>) -> Result<(), Ne
     Ok(write!(text, "asked so far: {}\n", zone.asked)?)
 }
 
-// A client with room for a thousand answers. None is kept for more than an hour, and name servers for a minute.
-fn client(alloc: Global) -> Result<Client, NetError> {
+// A cache with room for a thousand answers. None is kept for more than an hour, and name servers for a minute.
+fn cache(alloc: Global) -> Result<ResponseCache, NetError> {
     let bounds = TtlBounds::default().with_positive_max(3_600)?;
+    let of_servers = bounds.with_positive_max(60)?;
     let mut config = TtlConfig::from(alloc, bounds);
-    config.with_query_type_ttl_bounds(RecordType::NS, bounds.with_positive_max(60)?)?;
-    let cache = ResponseCache::new(alloc, 1_000, config);
-    Ok(CachingClient::with_cache(cache, example_zone(alloc)?, false))
+    config.with_query_type_ttl_bounds(RecordType::NS, of_servers)?;
+    Ok(ResponseCache::new(alloc, 1_000, config))
+}
+
+fn client(alloc: Global) -> Result<Client, NetError> {
+    let zone = example_zone(alloc)?;
+    Ok(CachingClient::with_cache(cache(alloc)?, zone, false))
 }
 
 fn push_client(alloc: Global, text: &mut String) -> Result<(), NetError> {
-    push_servers(alloc, text, &mut client(alloc)?)
+    let mut client = client(alloc)?;
+    let pushed = push_servers(alloc, text, &mut client);
+    drop(client);
+    pushed
 }
 
 fn push_servers(alloc: Global, text: &mut String, client: &mut Client) -> Result<(), NetError> {
@@ -101,13 +126,29 @@ fn servers(alloc: Global, client: &mut Client, now: u64) -> Result<Lookup, NetEr
 
 // What a look-up came to: its answers, a line each, or that there is no such name.
 fn push_reply(text: &mut String, reply: Result<Lookup, NetError>) -> Result<(), NetError> {
-    let lookup = match reply {
-        Ok(lookup) => lookup,
-        Err(error) if error.is_nx_domain() => return Ok(text.push_str("no such name\n")?),
-        Err(error) => return Err(error),
-    };
-    for answer in lookup.answers() {
-        write!(text, "{answer}\n")?;
+    match reply {
+        Ok(lookup) => push_answers(text, lookup),
+        Err(error) => push_error(text, error),
+    }
+}
+
+fn push_answers(text: &mut String, lookup: Lookup) -> Result<(), NetError> {
+    let pushed = push_records(text, lookup.answers());
+    drop(lookup);
+    pushed
+}
+
+fn push_records(text: &mut String, records: &[Record]) -> Result<(), NetError> {
+    for record in records {
+        write!(text, "{record}\n")?;
     }
     Ok(())
+}
+
+fn push_error(text: &mut String, error: NetError) -> Result<(), NetError> {
+    if !error.is_nx_domain() {
+        return Err(error);
+    }
+    drop(error);
+    Ok(text.push_str("no such name\n")?)
 }

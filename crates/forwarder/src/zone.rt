@@ -34,9 +34,14 @@ impl Zone {
         }
     }
 
-    // The records of the name and type, or else the SOA record, and NXDOMAIN unless the name has other records.
     fn answer(&self, query: &Query) -> Result<Message, NetError> {
         let mut message = Message::response(self.alloc, 0, OpCode::Query);
+        self.fill(&mut message, query)?;
+        Ok(message)
+    }
+
+    // The records of the name and type, or else the SOA record, and NXDOMAIN unless the name has other records.
+    fn fill(&self, message: &mut Message, query: &Query) -> Result<(), NetError> {
         message.add_query(query.clone()?)?;
         for found in &self.records {
             if found.name == query.name && found.record_type() == query.query_type {
@@ -44,9 +49,9 @@ impl Zone {
             }
         }
         if message.answers.is_empty() {
-            self.refer(&mut message, &query.name)?;
+            self.refer(message, &query.name)?;
         }
-        Ok(message)
+        Ok(())
     }
 
     fn refer(&self, message: &mut Message, name: &Name) -> Result<(), NetError> {
