@@ -49,11 +49,7 @@ impl From<AllocError> for ServeError {
     }
 }
 
-/// Out of memory, or the other error.
-pub fn memory_or(error: io::Error, other: ServeError) -> ServeError {
-    if error.kind() == io::ErrorKind::OutOfMemory {
-        ServeError::Memory
-    } else {
-        other
-    }
+/// Whether memory ran out.
+pub fn is_memory(error: &io::Error) -> bool {
+    error.kind() == io::ErrorKind::OutOfMemory
 }

@@ -6,7 +6,7 @@ mod arguments;
 mod error;
 mod serving;
 
-use arguments::read_arguments;
+use arguments::{Arguments, read_arguments};
 use error::ServeError;
 use serving::{serve, table_bytes};
 use std::process::ExitCode;
@@ -24,14 +24,43 @@ fn main(rt: HostRuntime) -> ExitCode {
 }
 
 fn run(rt: &HostRuntime) -> Result<(), ServeError> {
-    let alloc = rt.alloc();
-    let arguments = read_arguments(rt)?;
-    let hosts = table_bytes(rt, arguments.hosts)?;
-    match arguments.journal {
-        Some(path) => match fs::create(rt, path.as_str()) {
-            Ok(journal) => serve(alloc, hosts, &mut rt.reader(), &mut rt.stdout(), journal),
-            Err(_) => Err(ServeError::Unwritable(path)),
-        },
-        None => serve(alloc, hosts, &mut rt.reader(), &mut rt.stdout(), io::sink()),
+    let mut arguments = Arguments::default();
+    let served = match read_arguments(rt, &mut arguments) {
+        Ok(()) => serve_files(rt, &mut arguments),
+        Err(error) => Err(error),
+    };
+    drop(arguments);
+    served
+}
+
+fn serve_files(rt: &HostRuntime, arguments: &mut Arguments) -> Result<(), ServeError> {
+    let hosts = table_bytes(rt, arguments.hosts.take())?;
+    match arguments.journal.take() {
+        Some(path) => serve_into(rt, hosts, path),
+        None => serve(
+            rt.alloc(),
+            hosts,
+            &mut rt.reader(),
+            &mut rt.stdout(),
+            &mut io::sink(),
+        ),
+    }
+}
+
+// With a journal in the file of this path.
+fn serve_into(rt: &HostRuntime, hosts: Vec<u8>, path: String) -> Result<(), ServeError> {
+    match fs::create(rt, path.as_str()) {
+        Ok(mut journal) => {
+            let served = serve(
+                rt.alloc(),
+                hosts,
+                &mut rt.reader(),
+                &mut rt.stdout(),
+                &mut journal,
+            );
+            drop(journal);
+            served
+        }
+        Err(_) => Err(ServeError::Unwritable(path)),
     }
 }
