@@ -9,12 +9,12 @@ use Rattle.hickory_proto_core.specs.names.name_error.NameError.{NameError}
 use Rattle.hickory_proto_core.specs.names.name_error.NameError.TheVariants as name_error
 use Rattle.hickory_proto_core.specs.declared.net_error.NetError.TheVariants.{OutOfMemory}
 use Rattle.hickory_resolver_model.specs.Cache.{CacheValue}
-use Rattle.hickory_resolver_model.specs.Calls.{IsAnsweredFor, SubLookup, is_out_of_memory}
+use Rattle.hickory_resolver_model.specs.Calls.{IsAnsweredAlone, SubLookup, is_out_of_memory}
 use Rattle.hickory_resolver_model.specs.Lookup.{LookupResult}
 use Rattle.hickory_resolver_model.specs.Run.{RequestValue, Lookup, LookupIp, ClearLookup, Clear, Settings, GivenName, IsGivenBy, Call, IsCall, IsServed, StepReply, LookedUp, LookedUpIp, Cleared, address_call, answers_at, call_context_at, ends_run, moment_of, name_call}
 use Rattle.hickory_resolver_theorems.proofs.SentAlone.{CallSoFar, CallRelation}
 use Rattle.hickory_resolver_theorems.specs.ResumingCalls.{CallProgressValue, CallWaits, CallIsDone, StartsCall}
-use Rattle.hickory_resolver_theorems.proofs.CallsAlone.{started_call}
+use Rattle.hickory_resolver_theorems.proofs.CallsAlone.{call-alone, started_call}
 use Rattle.replay_script.specs.Output.{reply_text, result_text}
 use Rattle.conversation.specs.Answers.{Looks, Clears, ComesTo}
 
@@ -27,7 +27,7 @@ HasCall s (Clear now) call = ⊥
 
 -- what a call comes to by its parts, from a cache
 abbrev pub WholeCall : Settings → RequestValue → CacheValue → Call → CallRelation
-WholeCall s q start call parts result after = IsCall (IsAnsweredFor (call_context_at s (moment_of q))) s start call parts result after
+WholeCall s q start call parts result after = IsCall (IsAnsweredAlone (call_context_at s (moment_of q))) s start call parts result after
 
 -- how far the call of a request came
 abbrev pub RequestSoFar : Settings → RequestValue → CacheValue → Call → List Exchange → CallProgressValue → CacheValue → Type 0
@@ -52,13 +52,13 @@ pub record IsLookedUp (s : Settings) (q : RequestValue) (start : CacheValue) (pa
 pub looked_up : (s : Settings) (q : RequestValue) (start : CacheValue) (call : Call) (parts : List SubLookup) (result : LookupResult) (after : CacheValue) → HasCall s q call → WholeCall s q start call parts result after → IsLookedUp s q start parts result after
 looked_up s (Lookup text t now) start call parts result after (name, reads, same) whole = record {
   reply = LookedUp result;
-  served = inl (name, reads, subst (λ c. WholeCall s (Lookup text t now) start c parts result after) same whole);
+  served = inl (name, reads, call-alone (call_context_at s now) s start (name_call t name) parts result after (subst (λ c. WholeCall s (Lookup text t now) start c parts result after) same whole));
   text_is = refl;
   ends = refl;
 }
 looked_up s (LookupIp text now) start call parts result after (given, gives, same) whole = record {
   reply = LookedUpIp result;
-  served = inl (given, gives, subst (λ c. WholeCall s (LookupIp text now) start c parts result after) same whole);
+  served = inl (given, gives, call-alone (call_context_at s now) s start (address_call s given.address given.name now) parts result after (subst (λ c. WholeCall s (LookupIp text now) start c parts result after) same whole));
   text_is = refl;
   ends = refl;
 }

@@ -5,7 +5,7 @@ use Rattle.hickory_proto_core.specs.Handles.{OutcomeValue, HandleStep, Leads, Le
 use Rattle.hickory_proto_core.specs.declared.dns_request.DnsRequestOptions.{DnsRequestOptions}
 use Rattle.hickory_proto_core.specs.declared.recorded.Exchange.{Exchange}
 use Rattle.hickory_resolver_model.specs.Cache.{CacheValue}
-use Rattle.hickory_resolver_model.specs.Calls.{CallContext, CallPlan, IsAnsweredFor, Says, AreAttempts}
+use Rattle.hickory_resolver_model.specs.Calls.{CallContext, CallPlan, IsAnsweredAlone, Says, AreAttempts}
 use Rattle.hickory_resolver_model.specs.Client.{ClientValue, KeepsHandle}
 use Rattle.hickory_resolver_model.specs.Hosts.{Host}
 use Rattle.hickory_resolver_model.specs.Lookup.{LookupResult}
@@ -22,7 +22,7 @@ use Rattle.hickory_resolver.specs.declared.attempting.Attempt.{Attempt}
 -- the attempts at some names, by the definition
 abbrev pub whole_attempts : CallContext → CallPlan → Bool → List NameValue → CacheValue → CallRelation
 whole_attempts s plan with_hosts names before =
-    λ parts result after. AreAttempts (IsAnsweredFor s) plan with_hosts before names (Says plan.no_names) parts result after
+    λ parts result after. AreAttempts (IsAnsweredAlone s) plan with_hosts before names (Says plan.no_names) parts result after
 
 -- a call that waits, whose sub-look-up is this
 abbrev pub waiting_of : Attempt → WaitingValue → WaitingCallValue

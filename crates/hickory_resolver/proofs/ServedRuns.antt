@@ -32,6 +32,7 @@ use Rattle.hickory_resolver_model.specs.Run.{exchanges_of, moment_of, settings_o
 use Rattle.hickory_resolver_theorems.specs.CallFacts.{PromisesName, PromisesHost}
 use Rattle.hickory_resolver_theorems.specs.Promises.{IsPromisedRun}
 use Rattle.hickory_resolver_theorems.specs.Keeping.{IsServedOver}
+use Rattle.hickory_resolver_theorems.proofs.CallsAlone.{call_by-alone}
 use Rattle.hickory_resolver_theorems.proofs.KeptCalls.{kept_request}
 use Rattle.hickory_resolver_theorems.proofs.PromisesHold.{promised_run}
 use Rattle.hickory_resolver.specs.Listening.{Hears, HearsAll}
@@ -90,7 +91,8 @@ module _ {R : Type 0} (step : HandleStep R) (before : ResolverValue R) where
       record {
         parts = a.parts;
         led = a.led;
-        served = name_served text t now name a.parts reply after.client.cache given a.is;
+        served = name_served text t now name a.parts reply after.client.cache given
+            (call_by-alone (call_context_at (settings before) now) (settings before) before.client.cache (name_call t name) a.parts reply after.client.cache a.is);
         option_stays = a.option_stays;
         others_stay = a.others_stay;
       }
@@ -140,7 +142,7 @@ module _ {R : Type 0} (step : HandleStep R) (before : ResolverValue R) where
       → PromisesHost step (IsReadAddress text) (IsReadName text) now before reply after
       → Answered step (LookupIp text now) before (LookedUpIp reply) after
   answered_host text now reply after (address, spells, name, given, inl (live, promised)) = let a = promised.is in
-      record { parts = a.parts; led = a.led; served = by a.is; option_stays = a.option_stays; others_stay = a.others_stay }
+      record { parts = a.parts; led = a.led; served = by (call_by-alone (call_context_at (settings before) now) (settings before) before.client.cache (address_call (settings before) address name now) a.parts reply after.client.cache a.is); option_stays = a.option_stays; others_stay = a.others_stay }
     where
       by : IsCall (IsAnsweredFor (call_context_at (settings before) now)) (settings before) before.client.cache
           (address_call (settings before) address name now) promised.is.parts reply after.client.cache

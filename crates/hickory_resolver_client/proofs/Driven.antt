@@ -20,6 +20,8 @@ use Rattle.hickory_resolver_model.specs.Client.{ClientValue, start_of, IsLookup,
 use Rattle.hickory_resolver_model.specs.Resuming.{PassedValue, WaitingValue, ProgressValue, Waits, IsDone, passed_by, limit_back, stores_back, is_asked, stores_at, reply_at, TakesMemory, EndsAs, ComesTo, Starts, FollowsAlias, IsEndedBy, Resumes}
 use Rattle.hickory_resolver_client.proofs.PassedStores.{unchanged}
 use Rattle.hickory_resolver_theorems.proofs.Lists.{all-append}
+use Rattle.hickory_resolver_theorems.proofs.LookupsAlone.{unasked_end}
+use Rattle.hickory_resolver_client.proofs.PassedStores.{some_left}
 
 abbrev pub passed_of : LookupContext → Exchange → PassedValue
 passed_of s x = record { query = x.query; limit = alias_limit s x.query (kind_of x.outcome) }
@@ -143,7 +145,7 @@ module _ {H : Type 0} (step : HandleStep H) (options : DnsRequestOptions) (now :
 
     cut_stores : (last : ChainEnd) → IsChainEnd s (length ps) hop last → is_kept (result_of s hop last) ≡ true → IsBeginning (stores_at s ps hop last) s.cache after.cache → IsCutShort s question (asks ++ asks_of hop last) after.cache
     cut_stores last ends kept b =
-        inl (record { hops = hops_of last ends; kept = kept; begun = record { front = b.front; back = b.back; parts = b.parts ∙ stores_same s asks hop last; after_is = b.after_is } })
+        inl (record { hops = hops_of last ends; kept = kept; begun = record { front = b.front; back = b.back; parts = b.parts ∙ stores_same s asks hop last; not_all = λ none. sym (stores_same s asks hop last) ∙ b.not_all none; after_is = b.after_is } })
 
     cut_unasked : (last : ChainEnd) → is_asked last ≡ false → last_stores s hop last ≡ [] → IsChainEnd s (length ps) hop last → IsBeginning (stores_at s ps hop last) s.cache after.cache → (kept : Bool) → is_kept (result_of s hop last) ≡ kept → IsCutShort s question (asks ++ asks_of hop last) after.cache
     cut_unasked last unasked own ends b true kept = cut_stores last ends kept b
@@ -163,8 +165,8 @@ module _ {H : Type 0} (step : HandleStep H) (options : DnsRequestOptions) (now :
     cut_short (Hit entry) ends takes b = cut_unasked (Hit entry) refl refl ends b (is_kept (result_of s hop (Hit entry))) refl
     cut_short (Asked outcome) ends takes b = cut_stores (Asked outcome) ends (kind_kept s hop (kind_of outcome) takes) b
 
-    ends_on : (last : ChainEnd) → IsChainEnd s (length ps) hop last → (result : LookupResult) → EndsAs s ps hop last result after.cache → Leads step options before.handle (asks ++ asks_of hop last) after.handle → IsLookup step options now before question result after
-    ends_on last ends result (inl (is, e)) led =
+    ends_on : (last : ChainEnd) → IsChainEnd s (length ps) hop last → (asks ++ asks_of hop last ≡ [] → GoesUpstream s question → ⊥) → (result : LookupResult) → EndsAs s ps hop last result after.cache → Leads step options before.handle (asks ++ asks_of hop last) after.handle → IsLookup step options now before question result after
+    ends_on last ends at_once result (inl (is, e)) led =
         record {
           asks = asks ++ asks_of hop last;
           led = led;
@@ -173,27 +175,40 @@ module _ {H : Type 0} (step : HandleStep H) (options : DnsRequestOptions) (now :
             result_is = is ∙ reply_same s asks hop last;
             after_is = e ∙ ap (λ ss. after_stores ss s.cache) (stores_same s asks hop last);
           });
+          runs_out = λ none out. at_once none;
           option_stays = stays;
         }
-    ends_on last ends result (inr (oom, takes, b)) led =
-        record { asks = asks ++ asks_of hop last; led = led; reply = inr (oom, cut_short last ends takes b); option_stays = stays }
+    ends_on last ends at_once result (inr (oom, takes, b)) led =
+        record { asks = asks ++ asks_of hop last; led = led; reply = inr (oom, cut_short last ends takes b); runs_out = λ none out. at_once none; option_stays = stays }
 
     -- memory ran out before the next hop
-    cut_on : after.cache ≡ s.cache → Leads step options before.handle asks after.handle → IsLookup step options now before question (Err OutOfMemory) after
-    cut_on e led =
+    cut_on : (asks ≡ [] → ⊥) → after.cache ≡ s.cache → Leads step options before.handle asks after.handle → IsLookup step options now before question (Err OutOfMemory) after
+    cut_on some e led =
         record {
           asks = asks;
           led = led;
           reply = inr (refl, inr (record { passed = asks; last_hop = hop; leads = follows; short = few; asks_are = inl refl; after_is = e }));
+          runs_out = λ none out. absurd (some none);
           option_stays = stays;
         }
+
+    -- with nothing asked it ends at the question of the look-up, which does not go upstream
+    at_first : (xs : List Exchange) → FollowsAliases s (first_hop question) xs hop → xs ≡ [] → hop ≡ first_hop question
+    at_first [] same none = same
+    at_first (x ∷ xs) leads none = cc
+
+    unasked : (last : ChainEnd) → is_asked last ≡ false → IsChainEnd s (length ps) hop last → asks ++ asks_of hop last ≡ [] → GoesUpstream s question → ⊥
+    unasked last idle ends none up =
+        let first : hop ≡ first_hop question = at_first asks follows (sym (nothing_asked asks hop last idle) ∙ none) in
+        let Up : Hop → Type 0 = λ h. GoesUpstream s h.query in
+        unasked_end s hop last (length ps) idle ends (subst Up (sym first) up)
 
     comes_on : (progress : ProgressValue) → ComesTo s ps hop progress after.cache → Leads step options before.handle asks after.handle → IsDriven step options now before question progress after
     comes_on (Waits w) (upstream, is, e) led =
         let P : WaitingValue → Type 0 = λ v. IsSent step options now before question v after in
         subst P (sym is) (record { asks = asks; led = led; follows = follows; passed_are = refl; now_is = refl; few = few; upstream = upstream; cache_is = e; option_is = stays })
-    comes_on (IsDone result) (last, unasked, ends, is) led =
-        ends_on last ends result is (subst (λ xs. Leads step options before.handle xs after.handle) (sym (nothing_asked asks hop last unasked)) led)
+    comes_on (IsDone result) (last, idle, ends, is) led =
+        ends_on last ends (unasked last idle ends) result is (subst (λ xs. Leads step options before.handle xs after.handle) (sym (nothing_asked asks hop last idle)) led)
 
   pub starts_on : (progress : ProgressValue) (after : ClientValue H) → after.handle ≡ before.handle → after.preserve_intermediates ≡ before.preserve_intermediates → Starts s question progress after.cache → IsDriven step options now before question progress after
   starts_on progress after same stays starts = comes_on [] (first_hop question) refl (omega arith) after stays progress starts same
@@ -222,14 +237,14 @@ module _ {H : Type 0} (step : HandleStep H) (options : DnsRequestOptions) (now :
         let passed_are : w.passed ++ passed_by s w.hop outcome ∷ [] ≡ map (passed_of s) asks = ap (λ ps. ps ++ passed_by s w.hop outcome ∷ []) sent.passed_are ∙ sym (map-append (passed_of s) sent.asks (x ∷ [])) in
         elim f.goes_on [
           | inl comes ↦ comes_on asks f.next follows few after option_is progress (subst (λ ps. ComesTo s ps f.next progress after.cache) passed_are comes) led_on
-          | inr out ↦ subst (λ p. IsDriven step options now before question p after) (sym out.0) (cut_on asks f.next follows few after option_is out.1 led_on)
+          | inr out ↦ subst (λ p. IsDriven step options now before question p after) (sym out.0) (cut_on asks f.next follows few after option_is (some_left sent.asks (x ∷ []) (λ e. cc)) out.1 led_on)
         ]
 
     ended_on : (progress : ProgressValue) → IsEndedBy s w outcome progress after.cache → IsDriven step options now before question progress after
     ended_on progress e =
         let no_alias : (next : Hop) → verdict_on s w.hop (kind_of outcome) ≡ Some (Alias next) → length (map (passed_of s) sent.asks) ≡ 7 = λ next v. ap length (sym sent.passed_are) ∙ e.no_alias next v in
         subst (λ p. IsDriven step options now before question p after) (sym e.progress_is)
-        (ends_on sent.asks w.hop sent.follows sent.few after option_is (Asked outcome) (sent.upstream, no_alias) e.result (subst (λ ps. EndsAs s ps w.hop (Asked outcome) e.result after.cache) sent.passed_are e.ends) led_on)
+        (ends_on sent.asks w.hop sent.follows sent.few after option_is (Asked outcome) (sent.upstream, no_alias) (λ none. absurd (some_left sent.asks (x ∷ []) (λ e. cc) none)) e.result (subst (λ ps. EndsAs s ps w.hop (Asked outcome) e.result after.cache) sent.passed_are e.ends) led_on)
 
     resumed_on : (progress : ProgressValue) → Resumes s w outcome progress after.cache → IsDriven step options now before question progress after
     resumed_on progress (inl f) = alias_on progress f

@@ -12,7 +12,7 @@ use Rattle.hickory_resolver_model.specs.Cache.{CacheValue, store_until}
 use Rattle.hickory_resolver_model.specs.Lookup.{LookupResult}
 use Rattle.hickory_resolver_model.specs.Hops.{IsBeginning, Store, store_of, as_outcome, result_until, is_kept, earlier_store, after_store, after_stores}
 use Rattle.hickory_resolver_model.specs.Resuming.{PassedValue, limit_back, stores_back}
-use Rattle.hickory_resolver_client.specs.Steps.{IsFinished}
+use Rattle.hickory_resolver_client.specs.Steps.{RunsOutAmong, IsFinished}
 
 pub after_stores-append : (xs ys : List Store) (cache : CacheValue) → after_stores (xs ++ ys) cache ≡ after_stores ys (after_stores xs cache)
 after_stores-append [] ys cache = refl
@@ -61,8 +61,23 @@ stored_lower now reply limit lower first passed earlier all p outcome before mid
     let P : ℕ → Type 0 = λ n. after ≡ store_until mid p.query outcome now n → StoresOn reply now n first passed all before after in
     subst P (sym lowest) (stored_more now reply limit first passed earlier all p outcome before mid after popped made on) e
 
-pub stored_beginning : (rest all : List Store) (before mid after : CacheValue) → StoredSoFar rest all before mid → after ≡ mid → IsBeginning all before after
-stored_beginning rest all before mid after k e = record { front = k.front; back = rest; parts = k.parts; after_is = e ∙ k.after_is }
+pub some_left : {A : Type 0} (front rest : List A) → (rest ≡ [] → ⊥) → front ++ rest ≡ [] → ⊥
+some_left [] rest some e = some e
+some_left (s ∷ ss) rest some e = cc
+
+stored_beginning : (rest all : List Store) (before mid after : CacheValue) → (rest ≡ [] → ⊥) → StoredSoFar rest all before mid → after ≡ mid → RunsOutAmong all before after
+stored_beginning rest all before mid after some k e = (
+  (λ none. some_left k.front rest some (k.parts ∙ none)),
+  record { front = k.front; back = rest; parts = k.parts; not_all = λ none. absurd (some none); after_is = e ∙ k.after_is },
+)
+
+-- memory ran out for the store under the last of the questions that were left
+pub cut_before_last : (now : ℕ) (reply : LookupResult) (limit first : ℕ) (passed earlier all : List PassedValue) (p : PassedValue) (before mid after : CacheValue) → earlier ≡ passed ++ p ∷ [] → StoresOn reply now limit first earlier all before mid → after ≡ mid
+    → RunsOutAmong (stores_back reply now first all) before after
+cut_before_last now reply limit first passed earlier all p before mid after popped on e =
+    stored_beginning (stores_back reply now limit earlier) (stores_back reply now first all) before mid after
+    (λ none. let is = sym (ap (stores_back reply now limit) popped ∙ stores_back-push reply now limit passed p) ∙ none in cc)
+    on.stored e
 
 pub stored_all : (now : ℕ) (reply : LookupResult) (limit first : ℕ) (left all : List PassedValue) (before after : CacheValue) → left ≡ [] → StoresOn reply now limit first left all before after → (limit ≡ limit_back all first) × (after ≡ after_stores (stores_back reply now first all) before)
 stored_all now reply limit first left all before after none on =

@@ -50,7 +50,7 @@ module _ (s : LookupContext) (passed : List PassedValue) (hop : Hop) (last : Cha
             ∙ sym (after_stores-append (last_stores s hop last) (stores_back result s.now limit passed) s.cache)
             ∙ ap₂ (λ r l. after_stores (last_stores s hop last ++ stores_back r s.now l passed) s.cache) result_is limit_is,
       )
-  ended result mid result_is limit_is asked_is mid_is (inr (oom, kept, b)) =
+  ended result mid result_is limit_is asked_is mid_is (inr (oom, kept, some, b)) =
       inr (
         oom,
         kept_takes s hop last (ap is_kept (sym result_is) ∙ kept),
@@ -60,6 +60,7 @@ module _ (s : LookupContext) (passed : List PassedValue) (hop : Hop) (last : Cha
           parts = append_assoc (last_stores s hop last) b.front b.back
               ∙ ap (λ ss. last_stores s hop last ++ ss) b.parts
               ∙ ap₂ (λ r l. last_stores s hop last ++ stores_back r s.now l passed) result_is limit_is;
+          not_all = λ none. absurd (some (b.not_all none));
           after_is = b.after_is ∙ ap (after_stores b.front) mid_is
               ∙ sym (after_stores-append (last_stores s hop last) b.front s.cache);
         },
@@ -75,7 +76,7 @@ module _ (s : LookupContext) (passed : List PassedValue) (hop : Hop) (last : Cha
   ended_out result e takes finished =
       let P : LookupResult → Type 0 = λ r. IsFinished passed r limit asked s.now s.cache answer after in
       let out = out_ended (subst P e finished) in
-      inr (out.0, takes, record { front = []; back = stores_at s passed hop last; parts = refl; after_is = out.1 })
+      inr (out.0, takes, record { front = []; back = stores_at s passed hop last; parts = refl; not_all = λ none. none; after_is = out.1 })
 
 -- ---- the next hop
 
@@ -136,7 +137,7 @@ module _ (s : LookupContext) (w : WaitingValue) (outcome : OutcomeValue) where
         result = Err OutOfMemory;
         progress_is = refl;
         no_alias = no_alias;
-        ends = inr (refl, worked, record { front = []; back = stores_at s w.passed w.hop (Asked outcome); parts = refl; after_is = refl });
+        ends = inr (refl, worked, record { front = []; back = stores_at s w.passed w.hop (Asked outcome); parts = refl; not_all = λ none. none; after_is = refl });
       })
 
       on : (v : Option Verdict) → verdict_on s w.hop (kind_of outcome) ≡ v → Resumes s w outcome (IsDone (Err OutOfMemory)) s.cache

@@ -1,5 +1,5 @@
 -- A look-up hop by hop: what a hop comes to that was asked, and how a look-up is finished.
-use Rattle.std.specs.Prelude.{◌≡◌, ◌⊎◌, ◌<◌, ℕ, Bool, true, not, ◌||◌, List, Result, Some, Ok, Err, if◌then◌else◌}
+use Rattle.std.specs.Prelude.{◌≡◌, ◌⊎◌, ◌<◌, ℕ, Bool, true, not, ◌||◌, List, [], Result, Some, Ok, Err, if◌then◌else◌}
 use Rattle.hickory_proto_core.specs.Errors.{NoRecordsValue}
 use Rattle.hickory_proto_core.specs.ResponseKind.{ResponseKind, Failed, is_empty}
 use Rattle.hickory_proto_core.specs.declared.net_error.NetError.{NetError}
@@ -43,12 +43,16 @@ IsSettled s hop depth kind (Ok (Done result limit)) after =
     ⊎ ((result ≡ Err OutOfMemory) × IsWorkedOn kind × (after ≡ s.cache))
 IsSettled s hop depth kind (Err error) after = (error ≡ OutOfMemory) × IsWorkedOn kind × (after ≡ s.cache)
 
+-- memory ran out among stores: there are some, and a beginning of them was made
+abbrev pub RunsOutAmong : List Store → CacheValue → CacheValue → Type 0
+RunsOutAmong stores before after = (stores ≡ [] → ⊥) × IsBeginning stores before after
+
 -- what a look-up comes to after its last hop: the result is kept under each question that was passed, and given up
--- to the limit of the first hop where that was asked; or memory ran out, and a beginning of the stores was made
+-- to the limit of the first hop where that was asked; or memory ran out among these stores
 abbrev pub IsFinished : List PassedValue → LookupResult → ℕ → Bool → ℕ → CacheValue → LookupResult → CacheValue
     → Type 0
 IsFinished passed result limit last_asked now before answer after =
     ((answer ≡ (if last_asked || not (is_empty passed) then result_until (limit_back passed limit) result else result))
     × (after ≡ after_stores (stores_back result now limit passed) before))
     ⊎ ((answer ≡ Err OutOfMemory) × (is_kept result ≡ true)
-    × IsBeginning (stores_back result now limit passed) before after)
+    × RunsOutAmong (stores_back result now limit passed) before after)

@@ -3,7 +3,9 @@ use Rattle.std.proofs.Common.{◌≡◌, ◌⊎◌, ◌∙◌, ℕ, zero, suc, L
 use Rattle.std.proofs.lemmas.List.{append-nil, append_assoc, map-append, map-set, set-get_or}
 use Rattle.hickory_proto_core.specs.Handles.{OutcomeValue}
 use Rattle.hickory_proto_core.specs.declared.recorded.Exchange.{Exchange}
+use Rattle.hickory_proto_core.specs.declared.net_error.NetError.TheVariants.{OutOfMemory}
 use Rattle.hickory_resolver_model.specs.Cache.{CacheValue}
+use Rattle.hickory_resolver_model.specs.Lookup.{LookupResult}
 use Rattle.hickory_resolver_model.specs.Hosts.{Host}
 use Rattle.hickory_resolver_model.specs.Resolver.{ResolverValue, settings}
 use Rattle.hickory_resolver_model.specs.Resuming.{ProgressValue, Waits, IsDone}
@@ -248,13 +250,21 @@ module _ {H : Type 0} (first : ResolverValue H) where
           waiting_is = still_is ∙ kept-set table number None None refl;
         }
 
+    -- a call that is done is told with its result
+    done-told : (result : LookupResult) (told : EventReply) → TellsProgress (CallIsDone result) told → told ≡ reply.Done result
+    done-told result (reply.Done said) same = ap reply.Done same
+    done-told result (reply.Waits question) never = absurd never
+    done-told result reply.Dropped never = absurd never
+    done-told result (reply.Cleared done) never = absurd never
+    done-told result reply.NoCall never = absurd never
+
     goes : (event : Event) (reply : EventReply) → Takes event (over cache) (map waiting_of table) reply after still → Goes event reply cache calls table after still
     goes (Start name t now) reply (progress, (given, gives, starts), tells, still_is) = goes_started (Start name t now) reply (name_call t given) now (λ told next is. (given, gives, is)) progress tells starts.starts starts.others_stay still_is
     goes (StartIp host now) reply (progress, (address, spells, given, gives, inl (live, starts)), tells, still_is) =
-        goes_started (StartIp host now) reply (address_call s address given now) now (λ told next is. (address, spells, given, gives, is)) progress tells starts.starts starts.others_stay still_is
+        goes_started (StartIp host now) reply (address_call s address given now) now (λ told next is. (address, spells, given, gives, (λ out. absurd (live out)), is)) progress tells starts.starts starts.others_stay still_is
     goes (StartIp host now) reply (progress, (address, spells, given, gives, inr (out, progress_is, same)), tells, still_is) =
         let left : after.client.cache ≡ cache = ap (λ (r : ResolverValue H). r.client.cache) same in
-        goes_started (StartIp host now) reply (address_call s address given now) now (λ told next is. (address, spells, given, gives, is)) progress tells (inr (progress_is, left)) (same ∙ ap over (sym left)) still_is
+        goes_started (StartIp host now) reply (address_call s address given now) now (λ told next is. (address, spells, given, gives, (λ never. done-told (Err OutOfMemory) reply (subst (λ p. TellsProgress p reply) progress_is tells)), is)) progress tells (inr (progress_is, left)) (same ∙ ap over (sym left)) still_is
     goes (Resume number outcome) reply (place, takes, still_is) = goes_fed number outcome reply place (get_or table number None) refl (subst (λ o. TakesOutcome o outcome (over cache) reply after place) (kept-at table number) takes) still_is
     goes (Abandon number) reply (takes, after_is, still_is) = goes_dropped number reply (get_or table number None) refl (subst (λ o. TakesDrop o reply) (kept-at table number) takes) after_is still_is
     goes (ClearLookup name t) (reply.Cleared (Ok u)) ((given, gives, live, after_is), unchanged, out, still_is) = goes_cleared (ClearLookup name t) (reply.Cleared (Ok u)) (NameCleared t given) (after_clear s t given cache) (given, gives, live, refl, refl) refl after_is still_is

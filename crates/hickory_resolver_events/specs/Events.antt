@@ -71,6 +71,7 @@ IsTold s calls (Start name t now) reply told after =
 IsTold s calls (StartIp host now) reply told after =
     (address : Option IpAddr) × IsReadAddress (string_bytes host) address
     × (given : Result NameValue NameError) × IsReadName (string_bytes host) given
+    × (given ≡ Err name_fault.OutOfMemory → reply ≡ Done (Err OutOfMemory))
     × IsStarted (address_call s address given now) now calls reply told after
 IsTold s calls (Resume number outcome) reply told after =
     (still : Option PendingCallValue) × IsFed (get_or calls number None) outcome reply told still

@@ -15,7 +15,7 @@ use Rattle.hickory_proto_core.specs.declared.net_error.NetError.TheVariants.{Mes
 use Rattle.hickory_resolver_model.specs.Bounds.{day}
 use Rattle.hickory_resolver_model.specs.Cache.{CacheValue}
 use Rattle.hickory_resolver_model.specs.Lookup.{LookupValue, LookupResult, question_of, answers_for_day}
-use Rattle.hickory_resolver_model.specs.Hops.{LookupContext, IsReply}
+use Rattle.hickory_resolver_model.specs.Hops.{LookupContext, RunsOutForAReply, IsReply}
 use Rattle.hickory_resolver_model.specs.Hosts.{Host, append, IsStatic}
 
 -- where a call starts, the cache aside: the moment, whether intermediate records are preserved, and the table
@@ -69,6 +69,13 @@ SubLookupRelation = Bool → CacheValue → Query → SubLookup → CacheValue �
 -- by the table of hosts or by the client
 abbrev pub IsAnsweredFor : CallContext → SubLookupRelation
 IsAnsweredFor s with_hosts before q p after = (p.question ≡ q) × IsAnsweredFrom p.source s with_hosts before p after
+
+-- The same of a call by itself, over exchanges that were answered. Over those that a recording handle keeps, as in a
+-- run, there may be none where memory ran out: the handle may have had none to keep the question, which it did not send
+abbrev pub IsAnsweredAlone : CallContext → SubLookupRelation
+IsAnsweredAlone s with_hosts before q p after =
+    IsAnsweredFor s with_hosts before q p after
+    × (p.source ≡ Client → RunsOutForAReply (start_at s before) p.question p.asks p.result)
 
 -- which types are looked up for a name: one; both; or the second where the first has no answers
 pub data Plan : Type 0 where

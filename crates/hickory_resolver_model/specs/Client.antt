@@ -7,7 +7,7 @@ use Rattle.hickory_proto_core.specs.declared.recorded.Exchange.{Exchange}
 use Rattle.hickory_resolver_model.specs.Bounds.{no_bounds}
 use Rattle.hickory_resolver_model.specs.Cache.{CacheValue}
 use Rattle.hickory_resolver_model.specs.Lookup.{LookupResult}
-use Rattle.hickory_resolver_model.specs.Hops.{LookupContext, IsReply}
+use Rattle.hickory_resolver_model.specs.Hops.{LookupContext, RunsOutForAReply, IsReply}
 
 -- what a caller sees of a client
 pub record ClientValue (H : Type 0) : Type 0 where
@@ -28,6 +28,7 @@ pub record IsLookup
   pub asks : List Exchange
   pub led : Leads step options before.handle asks after.handle
   pub reply : IsReply (start_of before now) question asks result after.cache
+  pub runs_out : RunsOutForAReply (start_of before now) question asks result
   pub option_stays : after.preserve_intermediates ≡ before.preserve_intermediates
 
 -- the cache alone may have changed

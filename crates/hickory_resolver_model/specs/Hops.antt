@@ -31,6 +31,10 @@ pub record LookupContext : Type 0 where
 abbrev pub GoesUpstream : LookupContext → Query → Type 0
 GoesUpstream s q = (special_use_result q s.now ≡ None) × (current q s.now s.cache.entries ≡ None)
 
+-- where nothing was asked and memory ran out, there was a reply to copy: that of a special name or of a current entry
+abbrev pub RunsOutForAReply : LookupContext → Query → List Exchange → LookupResult → Type 0
+RunsOutForAReply s question asks result = asks ≡ [] → result ≡ Err OutOfMemory → GoesUpstream s question → ⊥
+
 -- the verdict on a response of the kind Answer
 abbrev pub verdict_on : LookupContext → Hop → ResponseKind → Option Verdict
 verdict_on s hop (Answer response) = Some (verdict s.preserve_intermediates hop response)
@@ -251,11 +255,12 @@ abbrev pub is_kept : LookupResult → Bool
 is_kept (Ok lookup) = true
 is_kept (Err error) = is_no_records_found error
 
--- a beginning of some stores was made
+-- a beginning of some stores was made, and not all of them: after the last one no memory is taken
 pub record IsBeginning (stores : List Store) (before after : CacheValue) : Type 0 where
   pub front : List Store
   pub back : List Store
   pub parts : front ++ back ≡ stores
+  pub not_all : back ≡ [] → stores ≡ []
   pub after_is : after ≡ after_stores front before
 
 -- memory ran out among the stores of a result that is kept: a beginning of them was made

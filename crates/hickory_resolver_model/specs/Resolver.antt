@@ -16,7 +16,7 @@ use Rattle.hickory_resolver_model.specs.Options.{bounds_of}
 use Rattle.hickory_resolver_model.specs.Lookup.{LookupResult}
 use Rattle.hickory_resolver_model.specs.Hosts.{Host}
 use Rattle.hickory_resolver_model.specs.Client.{ClientValue}
-use Rattle.hickory_resolver_model.specs.Calls.{CallContext, SubLookup, CallPlan, IsAnsweredFor, Says, AreAttempts, asks_of_sub_lookups}
+use Rattle.hickory_resolver_model.specs.Calls.{CallContext, SubLookup, CallPlan, IsAnsweredAlone, Says, AreAttempts, asks_of_sub_lookups}
 use Rattle.hickory_resolver_model.specs.Run.{Settings, settings_of, call_context_at, first_cache, Call, IsCall, RanOutBeforeAsking, name_call, address_call, after_clear}
 
 -- where a call of a client starts, over a table of hosts
@@ -35,7 +35,7 @@ pub record LooksUp
   pub parts : List SubLookup
   pub led : Leads step options before.handle (asks_of_sub_lookups parts) after.handle
   pub are : AreAttempts
-      (IsAnsweredFor
+      (IsAnsweredAlone
       (call_context_of before hosts now)) plan with_hosts before.cache names
       (Says plan.no_names) parts result after.cache
   pub option_stays : after.preserve_intermediates ≡ before.preserve_intermediates
@@ -78,7 +78,7 @@ pub record AnswersCall
   pub led : Leads step (settings before).request_options before.client.handle (asks_of_sub_lookups parts)
       after.client.handle
   pub is :
-      IsCall (IsAnsweredFor (call_context_at (settings before) now)) (settings before) before.client.cache call
+      IsCall (IsAnsweredAlone (call_context_at (settings before) now)) (settings before) before.client.cache call
       parts result after.client.cache
       ⊎ RanOutBeforeAsking before.client.cache parts result after.client.cache
   pub option_stays : after.client.preserve_intermediates ≡ before.client.preserve_intermediates

@@ -69,27 +69,27 @@ module _ (s : LookupContext) (zero : LeastTtlIsZero s.cache.config (type_code ty
   store-limited : (asks : List Exchange) (last : ChainEnd) (store : Store) → ((deadline : ℕ) → deadline ≤ store.limit → OutlivesNoAlias s asks last deadline) → StoreOutlivesNoAlias s asks last store
   store-limited asks last store below = cut (OutlivesNoAlias s asks last) store.limit (entry_of config store.query store.outcome store.now) below
 
-  kind-limited : (P : ℕ → Type 0) (hop : Hop) (kind : ResponseKind) → ((deadline : ℕ) → deadline ≤ alias_limit s hop.query kind → P deadline) → AllByRecursion (λ store. IfSome (made_entry config store) (λ e. P e.valid_until)) (stores_when_asked s hop kind)
-  kind-limited P hop (Answer m) below = on (verdict s.preserve_intermediates hop m)
+  -- the last hop stores once at most, under its own question
+  kind-limited : (hop : Hop) (last : ChainEnd) (kind : ResponseKind) → ((deadline : ℕ) → deadline ≤ alias_limit s hop.query kind → OutlivesNoAlias s (asks_of hop last) last deadline) → StoresOutliveNoAlias s [] hop last (stores_when_asked s hop kind)
+  kind-limited hop last (Answer m) below = on (verdict s.preserve_intermediates hop m)
     where
       limit : ℕ
       limit = alias_limit s hop.query (Answer m)
 
-      on : (v : Verdict) → AllByRecursion (λ store. IfSome (made_entry config store) (λ e. P e.valid_until)) (stores_of_verdict hop.query s.now limit v)
-      on (Accepted found) = (cut P limit (entry_of config hop.query (Ok found) s.now) below, tt)
+      on : (v : Verdict) → StoresOutliveNoAlias s [] hop last (stores_of_verdict hop.query s.now limit v)
+      on (Accepted found) = (refl, cut (OutlivesNoAlias s (asks_of hop last) last) limit (entry_of config hop.query (Ok found) s.now) below)
       on (Alias next) = tt
       on NoMatch = tt
-  kind-limited P hop (Negative none) below = (cut P last_moment (entry_of config hop.query (Err (Dns (NoRecordsFound none))) s.now) below, tt)
-  kind-limited P hop (Failed error) below = tt
+  kind-limited hop last (Negative none) below = (refl, cut (OutlivesNoAlias s (asks_of hop last) last) last_moment (entry_of config hop.query (Err (Dns (NoRecordsFound none))) s.now) below)
+  kind-limited hop last (Failed error) below = tt
 
-  own-limited : (hop : Hop) (last : ChainEnd) → AllByRecursion (StoreOutlivesNoAlias s (asks_of hop last) last) (last_stores s hop last)
+  own-limited : (hop : Hop) (last : ChainEnd) → StoresOutliveNoAlias s [] hop last (last_stores s hop last)
   own-limited hop (Special reply) = tt
   own-limited hop (Hit entry) = tt
-  own-limited hop (Asked outcome) =
-      kind-limited (OutlivesNoAlias s (asks_of hop (Asked outcome)) (Asked outcome)) hop (kind_of outcome) (λ deadline le. below-end deadline hop (Asked outcome) le)
+  own-limited hop (Asked outcome) = kind-limited hop (Asked outcome) (kind_of outcome) (λ deadline le. below-end deadline hop (Asked outcome) le)
 
   pub stores-limited : (passed : List Exchange) (hop : Hop) (last : ChainEnd) → StoresOutliveNoAlias s passed hop last (stores_of s passed hop last)
-  stores-limited [] hop last = subst (AllByRecursion (StoreOutlivesNoAlias s (asks_of hop last) last)) (sym (append-nil (last_stores s hop last))) (own-limited hop last)
+  stores-limited [] hop last = subst (StoresOutliveNoAlias s [] hop last) (sym (append-nil (last_stores s hop last))) (own-limited hop last)
   stores-limited (x ∷ xs) hop last =
       let own : Store = earlier_store (result_of s hop last) s.now x.query (limit_of s (x ∷ xs) hop last) in (
         stores_of s xs hop last,
@@ -120,27 +120,14 @@ module _ (s : LookupContext) (zero : LeastTtlIsZero s.cache.config (type_code ty
 
 pub no_alias_outlives-over : (s : LookupContext) (question : Query) (asks : List Exchange) (result : LookupResult) (after : CacheValue) → (reply : IsReplyOver s question asks result after) → NoAliasOutlivesOver s question asks result after reply
 no_alias_outlives-over s question asks result after (inl whole) = λ zero.
-    let h = whole.hops in
-    let all = stores_of s h.passed h.last_hop h.last in (
-      (
-        all,
-        record {
-          after_is = whole.after_is;
-          in_time = subst (StoresOutliveNoAlias s h.passed h.last_hop h.last) (sym (append-nil all)) (stores-limited s zero h.passed h.last_hop h.last);
-        },
-      ),
+    let h = whole.hops in (
+      stores-limited s zero h.passed h.last_hop h.last,
       λ l e some. subst (λ xs. OutlivesNoAlias s xs h.last l.valid_until) (sym h.asks_are)
           (reply-limited s zero h.passed h.last_hop h.last l (sym whole.result_is ∙ e) (ap is_empty (sym h.asks_are) ∙ some)),
     )
 no_alias_outlives-over s question asks result after (inr (out, inl cut)) = λ zero.
-    let h = cut.hops in (
-      cut.begun.front,
-      cut.begun.back,
-      record {
-        after_is = cut.begun.after_is;
-        in_time = subst (StoresOutliveNoAlias s h.passed h.last_hop h.last) (sym cut.begun.parts) (stores-limited s zero h.passed h.last_hop h.last);
-      },
-    )
+    let h = cut.hops in
+    subst (StoresOutliveNoAlias s h.passed h.last_hop h.last) (sym cut.begun.parts) (stores-limited s zero h.passed h.last_hop h.last)
 no_alias_outlives-over s question asks result after (inr (out, inr cut)) = tt
 
 pub no_alias_outlives : (s : LookupContext) (question : Query) (asks : List Exchange) (result : LookupResult) (after : CacheValue) → (reply : IsReply s question asks result after) → NoAliasOutlives s question asks result after reply

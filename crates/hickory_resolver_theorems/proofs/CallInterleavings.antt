@@ -18,29 +18,13 @@ use Rattle.hickory_resolver_model.specs.Run.{Settings, Call, AtOnce, Attempt, Is
 use Rattle.hickory_resolver_theorems.proofs.SentAlone.{IsRestOfCall, LeadsToWhole}
 use Rattle.hickory_resolver_theorems.specs.Covered.{Dated, dated_exchanges}
 use Rattle.hickory_resolver_theorems.specs.Interleaved.{PendingValue, DoneValue, WorldValue, world_of, EventValue, Started, Fed, Dropped, ClearedOfAll, ClearedOf, asks_with, caches_with, Happens, Happen, ended_by, received_by, ended_in, received_in}
-use Rattle.hickory_resolver_theorems.specs.InterleavedCalls.{PendingCallValue, DoneCallValue, CallWorldValue, call_world_of, call_context_over, CallEventValue, CallStarted, CallFed, CallDropped, AllCleared, NameCleared, HostsReplaced, exchange_with, call_pending, call_done, placed, CallHappens, CallsHappen, calls_ended_by, calls_received_by, calls_received_in, tables_by, tables_in, IsQuestionOf, IsStartedIn, IsAskedIn, IsPromisedAmong, InterleavedSubLookup, IsPromisedCallEnd, IsPromisedCallInterleaving}
+use Rattle.hickory_resolver_theorems.specs.InterleavedCalls.{PendingCallValue, DoneCallValue, CallWorldValue, call_world_of, call_context_over, CallEventValue, CallStarted, CallFed, CallDropped, AllCleared, NameCleared, HostsReplaced, exchange_with, call_pending, call_done, placed, CallHappens, CallsHappen, calls_ended_by, calls_received_by, calls_received_in, tables_by, tables_in, IsQuestionOf, last_table, StoodSince, IsStartedIn, IsAskedIn, IsPromisedAmong, InterleavedSubLookup, IsPromisedCallEnd, IsPromisedCallEndSince, IsPromisedCallInterleaving}
 use Rattle.hickory_resolver_theorems.specs.ResumingCalls.{AttemptValue, WaitingCallValue, CallProgressValue, CallWaits, CallIsDone, with_result, at_next, FindsStatic, StartsSub, GoesOn, by_hosts, waits, at_once, stopped, next_name, no_name, StartsNames, StartsCall, RunsOutAtStart, GoesOnAfter}
+use Rattle.hickory_resolver_theorems.proofs.Fronts.{IsFront, front-self, front-more, front-trans, contains-front}
 use Rattle.hickory_resolver_theorems.proofs.Interleavings.{interleaved}
-use Rattle.hickory_resolver_theorems.proofs.Lists.{all-weaker, all-append, all-front, all-back, contains-from_recursion, contains-to_recursion, has-left, has-right}
+use Rattle.hickory_resolver_theorems.proofs.Lists.{ContainsByRecursion, all-weaker, all-append, all-front, all-back, contains-from_recursion, contains-to_recursion, has-left, has-right}
 use Rattle.hickory_resolver_theorems.proofs.RunEvents.{happen-append, received-append, ended-append}
 use Rattle.hickory_resolver_theorems.proofs.RestOfCall.{asks-append, by_client, static, rest_stopped, attempts_of, rest_next, rest_none, more_done}
-
--- ---- lists that go on
-
-abbrev IsFront : {A : Type 0} → List A → List A → Type 0
-IsFront {A} xs ys = (more : List A) × (ys ≡ xs ++ more)
-
-front-self : {A : Type 0} (xs : List A) → IsFront xs xs
-front-self xs = ([], sym (append-nil xs))
-
-front-more : {A : Type 0} (xs ys : List A) → IsFront xs (xs ++ ys)
-front-more xs ys = (ys, refl)
-
-front-trans : {A : Type 0} (xs ys zs : List A) → IsFront xs ys → IsFront ys zs → IsFront xs zs
-front-trans xs ys zs (m, e) (n, k) = (m ++ n, k ∙ ap (λ l. l ++ n) e ∙ append_assoc xs m n)
-
-contains-front : {A : Type 0} (xs ys : List A) (x : A) → Contains xs x → IsFront xs ys → Contains ys x
-contains-front xs ys x has (more, e) = subst (λ l. Contains l x) (sym e) (contains-from_recursion (xs ++ more) x (has-left xs more x (contains-to_recursion xs x has)))
 
 happen-more : (preserve : Bool) (first : WorldValue) (events : List EventValue) (mid : WorldValue) (event : EventValue) (after : WorldValue) → Happen preserve first events mid → Happens preserve mid event after → Happen preserve first (events ++ event ∷ []) after
 happen-more preserve first [] mid event after e happens = (after, subst (λ w. Happens preserve w event after) e happens, refl)
@@ -73,7 +57,7 @@ among-later preserve empty xs ys d is (more, e) = record {
   promised = is.promised;
 }
 
-module _ (s : Settings) (empty : CacheValue) (none : empty.entries ≡ []) where
+module _ (s : Settings) (empty : CacheValue) (none : empty.entries ≡ []) (opening : List Host) where
   abbrev preserve : Bool
   preserve = s.preserve_intermediates
 
@@ -143,35 +127,103 @@ module _ (s : Settings) (empty : CacheValue) (none : empty.entries ≡ []) where
   Match tables lookups [] (p ∷ ps) = ⊥
   Match tables lookups (c ∷ cs) [] = ⊥
 
-  match-later : (tables others : List (List Host)) (lookups more : List EventValue) → IsFront tables others → IsFront lookups more → (cs : List PendingCallValue) (ps : List PendingValue) → Match tables lookups cs ps → Match others more cs ps
-  match-later tables others lookups more f g [] [] all = tt
-  match-later tables others lookups more f g (c ∷ cs) (p ∷ ps) (one, all) = (known-later tables others lookups more c p f g one, match-later tables others lookups more f g cs ps all)
-  match-later tables others lookups more f g [] (p ∷ ps) never = absurd never
-  match-later tables others lookups more f g (c ∷ cs) [] never = absurd never
+  -- ---- the tables that stood since the start of a call
 
-  match-append : (tables : List (List Host)) (lookups : List EventValue) (cs ds : List PendingCallValue) (ps qs : List PendingValue) → Match tables lookups cs ps → Match tables lookups ds qs → Match tables lookups (cs ++ ds) (ps ++ qs)
-  match-append tables lookups [] ds [] qs all more = more
-  match-append tables lookups (c ∷ cs) ds (p ∷ ps) qs (one, all) more = (one, match-append tables lookups cs ds ps qs all more)
-  match-append tables lookups [] ds (p ∷ ps) qs never more = absurd never
-  match-append tables lookups (c ∷ cs) ds [] qs never more = absurd never
+  tables-append : (xs ys : List CallEventValue) → tables_in (xs ++ ys) ≡ tables_in xs ++ tables_in ys
+  tables-append [] ys = refl
+  tables-append (x ∷ xs) ys = ap (λ l. tables_by x ++ l) (tables-append xs ys) ∙ sym (append_assoc (tables_by x) (tables_in xs) (tables_in ys))
+
+  last-append : (hosts : List Host) (xs ys : List (List Host)) → last_table hosts (xs ++ ys) ≡ last_table (last_table hosts xs) ys
+  last-append hosts [] ys = refl
+  last-append hosts (x ∷ xs) ys = last-append x xs ys
+
+  last-has : (hosts : List Host) (tables : List (List Host)) → ContainsByRecursion (hosts ∷ tables) (last_table hosts tables)
+  last-has hosts [] = inl refl
+  last-has hosts (x ∷ xs) = inr (last-has x xs)
+
+  stood-later : (events more : List CallEventValue) (call : Call) (now : ℕ) (tables : List (List Host)) → StoodSince opening events call now tables → StoodSince opening (events ++ more) call now (tables ++ tables_in more)
+  stood-later events more call now tables is = record {
+    earlier = is.earlier;
+    progress = is.progress;
+    later = is.later ++ more;
+    are = ap (λ l. l ++ more) is.are ∙ append_assoc is.earlier (CallStarted call now is.progress ∷ is.later) more;
+    tables_are = ap (λ l. l ++ tables_in more) is.tables_are ∙ ap (λ l. last_table opening (tables_in is.earlier) ∷ l) (sym (tables-append is.later more));
+  }
+
+  -- the one that stands now is among them
+  stands-since : (events : List CallEventValue) (call : Call) (now : ℕ) (tables : List (List Host)) (hosts : List Host) → StoodSince opening events call now tables → last_table opening (tables_in events) ≡ hosts → Contains tables hosts
+  stands-since events call now tables hosts is stands =
+      let at_start = last_table opening (tables_in is.earlier) in
+      let now_is : last_table at_start (tables_in is.later) ≡ hosts =
+      sym (last-append opening (tables_in is.earlier) (tables_in is.later))
+      ∙ ap (last_table opening) (sym (tables-append is.earlier (CallStarted call now is.progress ∷ is.later)))
+      ∙ ap (λ es. last_table opening (tables_in es)) (sym is.are) ∙ stands in
+      subst (λ h. Contains tables h) now_is
+      (subst (λ ts. Contains ts (last_table at_start (tables_in is.later))) (sym is.tables_are)
+      (contains-from_recursion (at_start ∷ tables_in is.later) (last_table at_start (tables_in is.later)) (last-has at_start (tables_in is.later))))
+
+  -- what is known of a call in flight, by the tables that stood since its start
+  record IsKnownSince (events : List CallEventValue) (lookups : List EventValue) (c : PendingCallValue) (p : PendingValue) : Type 0 where
+    tables : List (List Host)
+    since : StoodSince opening events c.call c.waiting.lookup.now tables
+    known : IsKnownCall tables lookups c p
+
+  since-later : (events more : List CallEventValue) (lookups others : List EventValue) (c : PendingCallValue) (p : PendingValue) → IsFront lookups others → IsKnownSince events lookups c p → IsKnownSince (events ++ more) others c p
+  since-later events more lookups others c p g is = record {
+    tables = is.tables ++ tables_in more;
+    since = stood-later events more c.call c.waiting.lookup.now is.tables is.since;
+    known = known-later is.tables (is.tables ++ tables_in more) lookups others c p (front-more is.tables (tables_in more)) g is.known;
+  }
+
+  abbrev MatchSince : List CallEventValue → List EventValue → List PendingCallValue → List PendingValue → Type 0
+  MatchSince events lookups [] [] = Unit {0}
+  MatchSince events lookups (c ∷ cs) (p ∷ ps) = IsKnownSince events lookups c p × MatchSince events lookups cs ps
+  MatchSince events lookups [] (p ∷ ps) = ⊥
+  MatchSince events lookups (c ∷ cs) [] = ⊥
+
+  match_since-later : (events more : List CallEventValue) (lookups others : List EventValue) → IsFront lookups others → (cs : List PendingCallValue) (ps : List PendingValue) → MatchSince events lookups cs ps → MatchSince (events ++ more) others cs ps
+  match_since-later events more lookups others g [] [] all = tt
+  match_since-later events more lookups others g (c ∷ cs) (p ∷ ps) (one, all) = (since-later events more lookups others c p g one, match_since-later events more lookups others g cs ps all)
+  match_since-later events more lookups others g [] (p ∷ ps) never = absurd never
+  match_since-later events more lookups others g (c ∷ cs) [] never = absurd never
+
+  match_since-append : (events : List CallEventValue) (lookups : List EventValue) (cs ds : List PendingCallValue) (ps qs : List PendingValue) → MatchSince events lookups cs ps → MatchSince events lookups ds qs → MatchSince events lookups (cs ++ ds) (ps ++ qs)
+  match_since-append events lookups [] ds [] qs all more = more
+  match_since-append events lookups (c ∷ cs) ds (p ∷ ps) qs (one, all) more = (one, match_since-append events lookups cs ds ps qs all more)
+  match_since-append events lookups [] ds (p ∷ ps) qs never more = absurd never
+  match_since-append events lookups (c ∷ cs) ds [] qs never more = absurd never
+
+  -- the same of one call alone
+  match-since : (events : List CallEventValue) (tables : List (List Host)) (lookups : List EventValue) (call : Call) (now : ℕ) → StoodSince opening events call now tables → (cs : List PendingCallValue) (ps : List PendingValue) → AllByRecursion (IsThisCall call now) cs → Match tables lookups cs ps → MatchSince events lookups cs ps
+  match-since events tables lookups call now since [] [] own all = tt
+  match-since events tables lookups call now since (c ∷ cs) (p ∷ ps) ((same, now_is), own) (one, all) = (
+    record {
+      tables = tables;
+      since = subst (λ k. StoodSince opening events k c.waiting.lookup.now tables) (sym same) (subst (λ n. StoodSince opening events call n tables) (sym now_is) since);
+      known = one;
+    },
+    match-since events tables lookups call now since cs ps own all,
+  )
+  match-since events tables lookups call now since [] (p ∷ ps) own never = absurd never
+  match-since events tables lookups call now since (c ∷ cs) [] own never = absurd never
 
   -- the look-ups around that of a call
-  record IsAround (tables : List (List Host)) (lookups : List EventValue) (front : List PendingCallValue) (c : PendingCallValue) (back : List PendingCallValue) (ps : List PendingValue) : Type 0 where
+  record IsAround (events : List CallEventValue) (lookups : List EventValue) (front : List PendingCallValue) (c : PendingCallValue) (back : List PendingCallValue) (ps : List PendingValue) : Type 0 where
     first : List PendingValue
     own : PendingValue
     rest : List PendingValue
     are : ps ≡ first ++ own ∷ rest
-    fronts : Match tables lookups front first
-    known : IsKnownCall tables lookups c own
-    backs : Match tables lookups back rest
+    fronts : MatchSince events lookups front first
+    known : IsKnownSince events lookups c own
+    backs : MatchSince events lookups back rest
 
-  match-around : (tables : List (List Host)) (lookups : List EventValue) (front : List PendingCallValue) (c : PendingCallValue) (back : List PendingCallValue) (ps : List PendingValue) → Match tables lookups (front ++ c ∷ back) ps → IsAround tables lookups front c back ps
-  match-around tables lookups [] c back (p ∷ ps) (one, all) = record { first = []; own = p; rest = ps; are = refl; fronts = tt; known = one; backs = all }
-  match-around tables lookups (d ∷ front) c back (p ∷ ps) (one, all) =
-      let there = match-around tables lookups front c back ps all in
+  match-around : (events : List CallEventValue) (lookups : List EventValue) (front : List PendingCallValue) (c : PendingCallValue) (back : List PendingCallValue) (ps : List PendingValue) → MatchSince events lookups (front ++ c ∷ back) ps → IsAround events lookups front c back ps
+  match-around events lookups [] c back (p ∷ ps) (one, all) = record { first = []; own = p; rest = ps; are = refl; fronts = tt; known = one; backs = all }
+  match-around events lookups (d ∷ front) c back (p ∷ ps) (one, all) =
+      let there = match-around events lookups front c back ps all in
       record { first = p ∷ there.first; own = there.own; rest = there.rest; are = ap (λ l. p ∷ l) there.are; fronts = (one, there.fronts); known = there.known; backs = there.backs }
-  match-around tables lookups [] c back [] never = absurd never
-  match-around tables lookups (d ∷ front) c back [] never = absurd never
+  match-around events lookups [] c back [] never = absurd never
+  match-around events lookups (d ∷ front) c back [] never = absurd never
 
   -- ---- a part
 
@@ -408,48 +460,60 @@ module _ (s : Settings) (empty : CacheValue) (none : empty.entries ≡ []) where
   own-begun events call now started cs own = all-weaker (IsThisCall call now) (IsBegun events) (this-begun events call now started) cs own
 
   -- what is known of the resolver after some events
-  record Good (events : List CallEventValue) (tables : List (List Host)) (received : List Dated) (world : CallWorldValue) : Type 0 where
+  record Good (events : List CallEventValue) (received : List Dated) (world : CallWorldValue) : Type 0 where
     lookups : List EventValue
     pending : List PendingValue
     happened : Happen preserve (world_of empty) lookups (record { cache = world.cache; pending = pending })
     received_is : received_in lookups ≡ received
-    stood : Contains tables world.hosts
-    known : Match tables lookups world.calls pending
+    stands : last_table opening (tables_in events) ≡ world.hosts
+    known : MatchSince events lookups world.calls pending
     asked : AllByRecursion (IsAskedIn s events) (ended_in lookups)
     begun_in : AllByRecursion (IsBegun events) world.calls
 
   -- and of the calls that the last one ended
-  record GoodStep (events : List CallEventValue) (tables : List (List Host)) (received : List Dated) (ended : List DoneCallValue) (world : CallWorldValue) : Type 0 where
-    good : Good events tables received world
-    ends : AllByRecursion (IsPromisedCallEnd s empty tables good.lookups) ended
+  record GoodStep (events : List CallEventValue) (received : List Dated) (ended : List DoneCallValue) (world : CallWorldValue) : Type 0 where
+    good : Good events received world
+    ends : AllByRecursion (IsPromisedCallEndSince s empty opening events good.lookups) ended
 
-  same_tables : (events : List CallEventValue) (tables : List (List Host)) (received : List Dated) (ended : List DoneCallValue) (world : CallWorldValue) → GoodStep events tables received ended world → GoodStep events (tables ++ []) received ended world
-  same_tables events tables received ended world is = subst (λ T. GoodStep events T received ended world) (sym (append-nil tables)) is
+  -- a call that is done, by the tables that stood since its start
+  ends-since : (events : List CallEventValue) (tables : List (List Host)) (lookups : List EventValue) (call : Call) (now : ℕ) (asks : List Exchange) (progress : CallProgressValue) → StoodSince opening events call now tables → AllByRecursion (IsPromisedCallEnd s empty tables lookups) (call_done call now asks progress)
+      → AllByRecursion (IsPromisedCallEndSince s empty opening events lookups) (call_done call now asks progress)
+  ends-since events tables lookups call now asks (CallWaits w) since ends = tt
+  ends-since events tables lookups call now asks (CallIsDone result) since (ends, none_else) = ((tables, since, ends), tt)
 
-  module _ (events : List CallEventValue) (tables : List (List Host)) (received : List Dated) (before : CallWorldValue) (good : Good events tables received before) (after : CallWorldValue) where
-    started-good : (call : Call) (now : ℕ) (progress : CallProgressValue) → CallHappens s before (CallStarted call now progress) after → GoodStep (events ++ CallStarted call now progress ∷ []) tables (received ++ []) (call_done call now [] progress) after
+  -- an event that leaves the table of hosts
+  stands-on : (events : List CallEventValue) (event : CallEventValue) (hosts others : List Host) → tables_by event ≡ [] → last_table opening (tables_in events) ≡ hosts → others ≡ hosts → last_table opening (tables_in (events ++ event ∷ [])) ≡ others
+  stands-on events event hosts others left stands same =
+      ap (last_table opening) (tables-append events (event ∷ []) ∙ ap (λ l. tables_in events ++ l) (append-nil (tables_by event) ∙ left) ∙ append-nil (tables_in events)) ∙ stands ∙ sym same
+
+  module _ (events : List CallEventValue) (received : List Dated) (before : CallWorldValue) (good : Good events received before) (after : CallWorldValue) where
+    started-good : (call : Call) (now : ℕ) (progress : CallProgressValue) → CallHappens s before (CallStarted call now progress) after → GoodStep (events ++ CallStarted call now progress ∷ []) (received ++ []) (call_done call now [] progress) after
     started-good call now progress (starts, hosts_is, calls_is) =
         let event = CallStarted call now progress in
-        let now_begun : IsStartedIn (events ++ event ∷ []) call now = (progress, contains-from_recursion (events ++ event ∷ []) event (has-right events (event ∷ []) event (inl refl))) in
-        let g = begun tables before.hosts good.stood now good.lookups before.cache good.pending good.happened progress after.cache call starts in
+        let now_events = events ++ event ∷ [] in
+        let now_begun : IsStartedIn now_events call now = (progress, contains-from_recursion now_events event (has-right events (event ∷ []) event (inl refl))) in
+        let tables = before.hosts ∷ [] in
+        let since : StoodSince opening now_events call now tables = record { earlier = events; progress = progress; later = []; are = refl; tables_are = ap (λ h. h ∷ []) (sym good.stands) } in
+        let g = begun tables before.hosts (contains-from_recursion tables before.hosts (inl refl)) now good.lookups before.cache good.pending good.happened progress after.cache call starts in
         let all = good.lookups ++ g.more in
-        let others = match-later tables tables good.lookups all (front-self tables) (front-more good.lookups g.more) before.calls good.pending good.known in
+        let others = match_since-later events (event ∷ []) good.lookups all (front-more good.lookups g.more) before.calls good.pending good.known in
+        let own = match-since now_events tables all call now since (call_pending call [] progress) g.new g.own g.known in
         record {
           good = record {
             lookups = all;
             pending = good.pending ++ g.new;
             happened = g.happened;
             received_is = received-append good.lookups g.more ∙ ap₂ (λ xs ys. xs ++ ys) good.received_is g.nothing;
-            stood = subst (Contains tables) (sym hosts_is) good.stood;
-            known = subst (λ cs. Match tables all cs (good.pending ++ g.new)) (sym calls_is) (match-append tables all before.calls (call_pending call [] progress) good.pending g.new others g.known);
+            stands = stands-on events event before.hosts after.hosts refl good.stands hosts_is;
+            known = subst (λ cs. MatchSince now_events all cs (good.pending ++ g.new)) (sym calls_is) (match_since-append now_events all before.calls (call_pending call [] progress) good.pending g.new others own);
             asked = asked-more events (event ∷ []) good.lookups g.more call now now_begun good.asked g.asked;
-            begun_in = subst (AllByRecursion (IsBegun (events ++ event ∷ []))) (sym calls_is)
-                (all-append (IsBegun (events ++ event ∷ [])) before.calls (call_pending call [] progress) (begun-later events (event ∷ []) before.calls good.begun_in) (own-begun (events ++ event ∷ []) call now now_begun (call_pending call [] progress) g.own));
+            begun_in = subst (AllByRecursion (IsBegun now_events)) (sym calls_is)
+                (all-append (IsBegun now_events) before.calls (call_pending call [] progress) (begun-later events (event ∷ []) before.calls good.begun_in) (own-begun now_events call now now_begun (call_pending call [] progress) g.own));
           };
-          ends = g.ended;
+          ends = ends-since now_events tables all call now [] progress since g.ended;
         }
 
-    module _ (c : PendingCallValue) (outcome : OutcomeValue) (front back : List PendingCallValue) (around : IsAround tables good.lookups front c back good.pending) (now_event : CallEventValue) (others_begun : AllByRecursion (IsBegun events) front × IsBegun events c × AllByRecursion (IsBegun events) back) where
+    module _ (c : PendingCallValue) (outcome : OutcomeValue) (front back : List PendingCallValue) (around : IsAround events good.lookups front c back good.pending) (now_event : CallEventValue) (left : tables_by now_event ≡ []) (others_begun : AllByRecursion (IsBegun events) front × IsBegun events c × AllByRecursion (IsBegun events) back) where
       abbrev now_events : List CallEventValue
       now_events = events ++ now_event ∷ []
 
@@ -459,8 +523,20 @@ module _ (s : Settings) (empty : CacheValue) (none : empty.entries ≡ []) where
       abbrev p : PendingValue
       p = around.own
 
+      abbrev tables : List (List Host)
+      tables = around.known.tables
+
       abbrev k : IsKnownCall tables good.lookups c p
-      k = around.known
+      k = around.known.known
+
+      -- the tables that stood since its start are still these
+      abbrev since : StoodSince opening now_events c.call c.waiting.lookup.now tables
+      since =
+          subst (StoodSince opening now_events c.call c.waiting.lookup.now) (ap (λ l. tables ++ l) (append-nil (tables_by now_event) ∙ left) ∙ append-nil tables)
+          (stood-later events (now_event ∷ []) c.call c.waiting.lookup.now tables around.known.since)
+
+      abbrev stood : Contains tables before.hosts
+      stood = stands-since events c.call c.waiting.lookup.now tables before.hosts around.known.since good.stands
 
       abbrev first : WorldValue
       first = record { cache = before.cache; pending = good.pending }
@@ -484,7 +560,7 @@ module _ (s : Settings) (empty : CacheValue) (none : empty.entries ≡ []) where
 
       -- its look-up waits on
       waits-good : (lookup : WaitingValue) (mid : CacheValue) → Resumes (start_at step before.cache) c.waiting.lookup outcome (Waits lookup) mid → (progress : CallProgressValue) → GoesOnAfter step c.waiting.attempt (Waits lookup) mid progress after.cache → after.hosts ≡ before.hosts
-          → after.calls ≡ front ++ call_pending c.call (c.asks ++ x ∷ []) progress ++ back → GoodStep now_events tables (received ++ dated_exchanges c.waiting.lookup.now (x ∷ [])) (call_done c.call c.waiting.lookup.now (c.asks ++ x ∷ []) progress) after
+          → after.calls ≡ front ++ call_pending c.call (c.asks ++ x ∷ []) progress ++ back → GoodStep now_events (received ++ dated_exchanges c.waiting.lookup.now (x ∷ [])) (call_done c.call c.waiting.lookup.now (c.asks ++ x ∷ []) progress) after
       waits-good lookup mid resumes progress (is, cache_is) hosts_is calls_is =
           let w : WaitingCallValue = record { attempt = c.waiting.attempt; lookup = lookup } in
           let own : PendingValue = record { question = p.question; asks = asks_with p outcome; caches = caches_with p; cache = before.cache; waiting = lookup } in
@@ -495,7 +571,7 @@ module _ (s : Settings) (empty : CacheValue) (none : empty.entries ≡ []) where
           let second : WorldValue = record { cache = mid; pending = pending } in
           let happens : Happens preserve first event second = (around.first, around.rest, around.are, resumes_own (Waits lookup) mid resumes, sym (append_assoc around.first (own ∷ []) around.rest)) in
           let now_is : lookup.now ≡ c.waiting.lookup.now = now-stays (start_at step before.cache) c.waiting.lookup outcome lookup mid resumes in
-          let later : (cs : List PendingCallValue) (ps : List PendingValue) → Match tables good.lookups cs ps → Match tables all cs ps = match-later tables tables good.lookups all (front-self tables) (front-more good.lookups (event ∷ [])) in
+          let later : (cs : List PendingCallValue) (ps : List PendingValue) → MatchSince events good.lookups cs ps → MatchSince now_events all cs ps = match_since-later events (now_event ∷ []) good.lookups all (front-more good.lookups (event ∷ [])) in
           let known : IsKnownCall tables all next own = record {
             same = refl;
             hosts = k.hosts;
@@ -517,19 +593,20 @@ module _ (s : Settings) (empty : CacheValue) (none : empty.entries ≡ []) where
               pending = pending;
               happened = subst (λ m. Happen preserve (world_of empty) all (record { cache = m; pending = pending })) (sym cache_is) (happen-more preserve (world_of empty) good.lookups first event second good.happened happens);
               received_is = received-append good.lookups (event ∷ []) ∙ ap₂ (λ xs ys. xs ++ ys) good.received_is (append-nil (received_by event) ∙ received_now);
-              stood = subst (Contains tables) (sym hosts_is) good.stood;
-              known = subst (λ cs. Match tables all cs pending) (sym calls)
-                  (match-append tables all front (next ∷ back) around.first (own ∷ around.rest) (later front around.first around.fronts) (known, later back around.rest around.backs));
+              stands = stands-on events now_event before.hosts after.hosts left good.stands hosts_is;
+              known = subst (λ cs. MatchSince now_events all cs pending) (sym calls)
+                  (match_since-append now_events all front (next ∷ back) around.first (own ∷ around.rest) (later front around.first around.fronts)
+                  (record { tables = tables; since = subst (λ n. StoodSince opening now_events c.call n tables) (sym now_is) since; known = known }, later back around.rest around.backs));
               asked = asked-none events (now_event ∷ []) good.lookups (event ∷ []) refl good.asked;
               begun_in = subst (AllByRecursion (IsBegun now_events)) (sym calls)
                   (all-append (IsBegun now_events) front (next ∷ back) (begun-later events (now_event ∷ []) front others_begun.0) (subst (IsStartedIn now_events c.call) (sym now_is) own_begun, begun-later events (now_event ∷ []) back others_begun.2));
             };
-            ends = subst (λ g. AllByRecursion (IsPromisedCallEnd s empty tables all) (call_done c.call c.waiting.lookup.now (c.asks ++ x ∷ []) g)) (sym is) tt;
+            ends = subst (λ g. AllByRecursion (IsPromisedCallEndSince s empty opening now_events all) (call_done c.call c.waiting.lookup.now (c.asks ++ x ∷ []) g)) (sym is) tt;
           }
 
       -- its look-up is done
       done-good : (result : LookupResult) (mid : CacheValue) → Resumes (start_at step before.cache) c.waiting.lookup outcome (IsDone result) mid → (progress : CallProgressValue) → GoesOnAfter step c.waiting.attempt (IsDone result) mid progress after.cache → after.hosts ≡ before.hosts
-          → after.calls ≡ (front ++ back) ++ call_pending c.call (c.asks ++ x ∷ []) progress → GoodStep now_events tables (received ++ dated_exchanges c.waiting.lookup.now (x ∷ [])) (call_done c.call c.waiting.lookup.now (c.asks ++ x ∷ []) progress) after
+          → after.calls ≡ (front ++ back) ++ call_pending c.call (c.asks ++ x ∷ []) progress → GoodStep now_events (received ++ dated_exchanges c.waiting.lookup.now (x ∷ [])) (call_done c.call c.waiting.lookup.now (c.asks ++ x ∷ []) progress) after
       done-good result mid resumes progress more hosts_is calls_is =
           let now = c.waiting.lookup.now in
           let a = c.waiting.attempt in
@@ -542,54 +619,55 @@ module _ (s : Settings) (empty : CacheValue) (none : empty.entries ≡ []) where
           let leads = leads-ended tables k.hosts k.stood c.call now good.lookups fed k.done a k.asked_type d k.next k.not_static k.question_is (ap (λ (v : WaitingValue). v.now) k.same) (front-more good.lookups (event ∷ []))
           (among-now tables k.hosts k.stood c.call now good.lookups event first second d good.happened happens refl) k.leads in
           let part = by_client a k.asked_type (asks_with p outcome) result in
-          let gone = goes tables before.hosts good.stood c.call now (with_result a result) mid progress after.cache fed (k.done ++ part ∷ []) pending (happen-more preserve (world_of empty) good.lookups first event second good.happened happens) leads k.within more in
-          let g = subst (λ xs. Gone tables before.hosts good.stood c.call now fed xs progress after.cache pending) (asks-append k.done part ∙ sym asks_now) gone in
+          let gone = goes tables before.hosts stood c.call now (with_result a result) mid progress after.cache fed (k.done ++ part ∷ []) pending (happen-more preserve (world_of empty) good.lookups first event second good.happened happens) leads k.within more in
+          let g = subst (λ xs. Gone tables before.hosts stood c.call now fed xs progress after.cache pending) (asks-append k.done part ∙ sym asks_now) gone in
           let all = fed ++ g.more in
           let own_question : IsQuestionOf s c.call p.question = subst (IsQuestionOf s c.call) (sym k.question_is) (within-own c.call a k.asked_type k.within k.next) in
           let asked = asked-fed good.lookups event g.more now_events
           (asked-more events (now_event ∷ []) good.lookups (event ∷ g.more) c.call now own_begun good.asked ((ap (λ (v : WaitingValue). v.now) k.same, own_question), g.asked)) in
           let front_is : IsFront good.lookups all = front-trans good.lookups fed all (front-more good.lookups (event ∷ [])) (front-more fed g.more) in
-          let later : (cs : List PendingCallValue) (ps : List PendingValue) → Match tables good.lookups cs ps → Match tables all cs ps = match-later tables tables good.lookups all (front-self tables) front_is in
-          let others = match-append tables all front back around.first around.rest (later front around.first around.fronts) (later back around.rest around.backs) in
+          let later : (cs : List PendingCallValue) (ps : List PendingValue) → MatchSince events good.lookups cs ps → MatchSince now_events all cs ps = match_since-later events (now_event ∷ []) good.lookups all front_is in
+          let others = match_since-append now_events all front back around.first around.rest (later front around.first around.fronts) (later back around.rest around.backs) in
+          let own = match-since now_events tables all c.call now since (call_pending c.call (c.asks ++ x ∷ []) progress) g.new g.own g.known in
           record {
             good = record {
               lookups = all;
               pending = pending ++ g.new;
               happened = g.happened;
               received_is = received-fed good.lookups event g.more received (dated_exchanges c.waiting.lookup.now (x ∷ [])) good.received_is received_now g.nothing;
-              stood = subst (Contains tables) (sym hosts_is) good.stood;
-              known = subst (λ cs. Match tables all cs (pending ++ g.new)) (sym calls_is) (match-append tables all (front ++ back) (call_pending c.call (c.asks ++ x ∷ []) progress) pending g.new others g.known);
+              stands = stands-on events now_event before.hosts after.hosts left good.stands hosts_is;
+              known = subst (λ cs. MatchSince now_events all cs (pending ++ g.new)) (sym calls_is) (match_since-append now_events all (front ++ back) (call_pending c.call (c.asks ++ x ∷ []) progress) pending g.new others own);
               asked = asked;
               begun_in = subst (AllByRecursion (IsBegun now_events)) (sym calls_is)
                   (all-append (IsBegun now_events) (front ++ back) (call_pending c.call (c.asks ++ x ∷ []) progress)
                   (all-append (IsBegun now_events) front back (begun-later events (now_event ∷ []) front others_begun.0) (begun-later events (now_event ∷ []) back others_begun.2))
                   (own-begun now_events c.call now own_begun (call_pending c.call (c.asks ++ x ∷ []) progress) g.own));
             };
-            ends = g.ended;
+            ends = ends-since now_events tables all c.call now (c.asks ++ x ∷ []) progress since g.ended;
           }
 
     -- ---- an event
 
     -- nothing is received and no call ends, beside calls in flight whose look-ups are these
-    kept-good : (event : CallEventValue) (tables_after : List (List Host)) → IsFront tables tables_after → Contains tables_after after.hosts → (more : List EventValue) → received_in more ≡ [] → ended_in more ≡ [] → AllByRecursion (IsBegun events) after.calls → (pending : List PendingValue) → Happen preserve (world_of empty) (good.lookups ++ more) (record { cache = after.cache; pending = pending })
-        → Match tables good.lookups after.calls pending → GoodStep (events ++ event ∷ []) tables_after (received ++ []) [] after
-    kept-good event tables_after f stood more nothing none_ended begun pending happened known = record {
+    kept-good : (event : CallEventValue) → last_table opening (tables_in (events ++ event ∷ [])) ≡ after.hosts → (more : List EventValue) → received_in more ≡ [] → ended_in more ≡ [] → AllByRecursion (IsBegun events) after.calls → (pending : List PendingValue) → Happen preserve (world_of empty) (good.lookups ++ more) (record { cache = after.cache; pending = pending })
+        → MatchSince events good.lookups after.calls pending → GoodStep (events ++ event ∷ []) (received ++ []) [] after
+    kept-good event stands more nothing none_ended begun pending happened known = record {
       good = record {
         lookups = good.lookups ++ more;
         pending = pending;
         happened = happened;
         received_is = received-append good.lookups more ∙ ap₂ (λ xs ys. xs ++ ys) good.received_is nothing;
-        stood = stood;
-        known = match-later tables tables_after good.lookups (good.lookups ++ more) f (front-more good.lookups more) after.calls pending known;
+        stands = stands;
+        known = match_since-later events (event ∷ []) good.lookups (good.lookups ++ more) (front-more good.lookups more) after.calls pending known;
         asked = asked-none events (event ∷ []) good.lookups more none_ended good.asked;
         begun_in = begun-later events (event ∷ []) after.calls begun;
       };
       ends = tt;
     }
 
-    dropped-good : (c : PendingCallValue) → CallHappens s before (CallDropped c) after → GoodStep (events ++ CallDropped c ∷ []) (tables ++ []) (received ++ []) [] after
+    dropped-good : (c : PendingCallValue) → CallHappens s before (CallDropped c) after → GoodStep (events ++ CallDropped c ∷ []) (received ++ []) [] after
     dropped-good c (front, back, is, e) =
-        let around = match-around tables good.lookups front c back good.pending (subst (λ cs. Match tables good.lookups cs good.pending) is good.known) in
+        let around = match-around events good.lookups front c back good.pending (subst (λ cs. MatchSince events good.lookups cs good.pending) is good.known) in
         let p = around.own in
         let pending = around.first ++ around.rest in
         let first : WorldValue = record { cache = before.cache; pending = good.pending } in
@@ -599,26 +677,27 @@ module _ (s : Settings) (empty : CacheValue) (none : empty.entries ≡ []) where
         let begun = subst (AllByRecursion (IsBegun events)) is good.begun_in in
         let rest = all-back (IsBegun events) front (c ∷ back) begun in
         let left : AllByRecursion (IsBegun events) (front ++ back) = all-append (IsBegun events) front back (all-front (IsBegun events) front (c ∷ back) begun) rest.1 in
-        kept-good (CallDropped c) (tables ++ []) (front-more tables []) (contains-front tables (tables ++ []) after.hosts (subst (λ (w : CallWorldValue). Contains tables w.hosts) (sym e) good.stood) (front-more tables [])) (Dropped p ∷ []) refl refl
+        kept-good (CallDropped c) (stands-on events (CallDropped c) before.hosts after.hosts refl good.stands (ap (λ (w : CallWorldValue). w.hosts) e)) (Dropped p ∷ []) refl refl
         (subst (λ (w : CallWorldValue). AllByRecursion (IsBegun events) w.calls) (sym e) left) pending
         (subst (λ (w : CallWorldValue). Happen preserve (world_of empty) (good.lookups ++ Dropped p ∷ []) (record { cache = w.cache; pending = pending })) (sym e) happened)
-        (subst (λ (w : CallWorldValue). Match tables good.lookups w.calls pending) (sym e) (match-append tables good.lookups front back around.first around.rest around.fronts around.backs))
+        (subst (λ (w : CallWorldValue). MatchSince events good.lookups w.calls pending) (sym e) (match_since-append events good.lookups front back around.first around.rest around.fronts around.backs))
 
     -- the cache is cleared by events of the client
-    cleared-good : (event : CallEventValue) (cache : CacheValue) → after ≡ record before { cache = cache } → (more : List EventValue) → received_in more ≡ [] → ended_in more ≡ [] → Happen preserve (world_of empty) (good.lookups ++ more) (record { cache = cache; pending = good.pending }) → GoodStep (events ++ event ∷ []) (tables ++ []) (received ++ []) [] after
-    cleared-good event cache e more nothing none_ended happened =
-        kept-good event (tables ++ []) (front-more tables []) (contains-front tables (tables ++ []) after.hosts (subst (λ (w : CallWorldValue). Contains tables w.hosts) (sym e) good.stood) (front-more tables [])) more nothing none_ended
+    cleared-good : (event : CallEventValue) (cache : CacheValue) → tables_by event ≡ [] → after ≡ record before { cache = cache } → (more : List EventValue) → received_in more ≡ [] → ended_in more ≡ [] → Happen preserve (world_of empty) (good.lookups ++ more) (record { cache = cache; pending = good.pending }) → GoodStep (events ++ event ∷ []) (received ++ []) [] after
+    cleared-good event cache left e more nothing none_ended happened =
+        kept-good event (stands-on events event before.hosts after.hosts left good.stands (ap (λ (w : CallWorldValue). w.hosts) e)) more nothing none_ended
         (subst (λ (w : CallWorldValue). AllByRecursion (IsBegun events) w.calls) (sym e) good.begun_in) good.pending
         (subst (λ (w : CallWorldValue). Happen preserve (world_of empty) (good.lookups ++ more) (record { cache = w.cache; pending = good.pending })) (sym e) happened)
-        (subst (λ (w : CallWorldValue). Match tables good.lookups w.calls good.pending) (sym e) good.known)
+        (subst (λ (w : CallWorldValue). MatchSince events good.lookups w.calls good.pending) (sym e) good.known)
 
-    hosts-good : (hosts : List Host) → after ≡ record before { hosts = hosts } → GoodStep (events ++ HostsReplaced hosts ∷ []) (tables ++ hosts ∷ []) (received ++ []) [] after
+    hosts-good : (hosts : List Host) → after ≡ record before { hosts = hosts } → GoodStep (events ++ HostsReplaced hosts ∷ []) (received ++ []) [] after
     hosts-good hosts e =
-        let new : Contains (tables ++ hosts ∷ []) hosts = contains-from_recursion (tables ++ hosts ∷ []) hosts (has-right tables (hosts ∷ []) hosts (inl refl)) in
-        kept-good (HostsReplaced hosts) (tables ++ hosts ∷ []) (front-more tables (hosts ∷ [])) (subst (λ (w : CallWorldValue). Contains (tables ++ hosts ∷ []) w.hosts) (sym e) new) [] refl refl (subst (λ (w : CallWorldValue). AllByRecursion (IsBegun events) w.calls) (sym e) good.begun_in) good.pending
+        let stands : last_table opening (tables_in (events ++ HostsReplaced hosts ∷ [])) ≡ after.hosts =
+        ap (last_table opening) (tables-append events (HostsReplaced hosts ∷ [])) ∙ last-append opening (tables_in events) (hosts ∷ []) ∙ sym (ap (λ (w : CallWorldValue). w.hosts) e) in
+        kept-good (HostsReplaced hosts) stands [] refl refl (subst (λ (w : CallWorldValue). AllByRecursion (IsBegun events) w.calls) (sym e) good.begun_in) good.pending
         (subst (λ (w : CallWorldValue). Happen preserve (world_of empty) (good.lookups ++ []) (record { cache = w.cache; pending = good.pending })) (sym e)
         (subst (λ ls. Happen preserve (world_of empty) ls (record { cache = before.cache; pending = good.pending })) (sym (append-nil good.lookups)) good.happened))
-        (subst (λ (w : CallWorldValue). Match tables good.lookups w.calls good.pending) (sym e) good.known)
+        (subst (λ (w : CallWorldValue). MatchSince events good.lookups w.calls good.pending) (sym e) good.known)
 
   -- a clear of a name's attempts is one of the question of each
   abbrev clears : RecordType → List NameValue → List EventValue
@@ -637,12 +716,12 @@ module _ (s : Settings) (empty : CacheValue) (none : empty.entries ≡ []) where
   clears-each t [] cache pending = refl
   clears-each t (n ∷ ns) cache pending = (record { cache = without_query cache (question_of n t); pending = pending }, refl, clears-each t ns (without_query cache (question_of n t)) pending)
 
-  fed-good : (events : List CallEventValue) (tables : List (List Host)) (received : List Dated) (before : CallWorldValue) (good : Good events tables received before) (c : PendingCallValue) (outcome : OutcomeValue) (progress : CallProgressValue) (after : CallWorldValue) → CallHappens s before (CallFed c outcome progress) after
-      → GoodStep (events ++ CallFed c outcome progress ∷ []) tables (received ++ dated_exchanges c.waiting.lookup.now (exchange_with c outcome ∷ [])) (call_done c.call c.waiting.lookup.now (c.asks ++ exchange_with c outcome ∷ []) progress) after
-  fed-good events tables received before good c outcome progress after (front, back, calls, (lookup, mid, resumes, more), hosts_is, calls_is) = by lookup resumes more calls_is
+  fed-good : (events : List CallEventValue) (received : List Dated) (before : CallWorldValue) (good : Good events received before) (c : PendingCallValue) (outcome : OutcomeValue) (progress : CallProgressValue) (after : CallWorldValue) → CallHappens s before (CallFed c outcome progress) after
+      → GoodStep (events ++ CallFed c outcome progress ∷ []) (received ++ dated_exchanges c.waiting.lookup.now (exchange_with c outcome ∷ [])) (call_done c.call c.waiting.lookup.now (c.asks ++ exchange_with c outcome ∷ []) progress) after
+  fed-good events received before good c outcome progress after (front, back, calls, (lookup, mid, resumes, more), hosts_is, calls_is) = by lookup resumes more calls_is
     where
-      around : IsAround tables good.lookups front c back good.pending
-      around = match-around tables good.lookups front c back good.pending (subst (λ cs. Match tables good.lookups cs good.pending) calls good.known)
+      around : IsAround events good.lookups front c back good.pending
+      around = match-around events good.lookups front c back good.pending (subst (λ cs. MatchSince events good.lookups cs good.pending) calls good.known)
 
       begun : AllByRecursion (IsBegun events) front × IsBegun events c × AllByRecursion (IsBegun events) back
       begun =
@@ -652,55 +731,54 @@ module _ (s : Settings) (empty : CacheValue) (none : empty.entries ≡ []) where
 
       by : (lookup : ProgressValue) → Resumes (start_at (call_context_over s c.waiting.lookup.now before.hosts) before.cache) c.waiting.lookup outcome lookup mid → GoesOnAfter (call_context_over s c.waiting.lookup.now before.hosts) c.waiting.attempt lookup mid progress after.cache
           → after.calls ≡ placed lookup front (call_pending c.call (c.asks ++ exchange_with c outcome ∷ []) progress) back
-          → GoodStep (events ++ CallFed c outcome progress ∷ []) tables (received ++ dated_exchanges c.waiting.lookup.now (exchange_with c outcome ∷ [])) (call_done c.call c.waiting.lookup.now (c.asks ++ exchange_with c outcome ∷ []) progress) after
-      by (Waits w) resumes more calls_is = waits-good events tables received before good after c outcome front back around (CallFed c outcome progress) begun w mid resumes progress more hosts_is calls_is
-      by (IsDone result) resumes more calls_is = done-good events tables received before good after c outcome front back around (CallFed c outcome progress) begun result mid resumes progress more hosts_is calls_is
+          → GoodStep (events ++ CallFed c outcome progress ∷ []) (received ++ dated_exchanges c.waiting.lookup.now (exchange_with c outcome ∷ [])) (call_done c.call c.waiting.lookup.now (c.asks ++ exchange_with c outcome ∷ []) progress) after
+      by (Waits w) resumes more calls_is = waits-good events received before good after c outcome front back around (CallFed c outcome progress) refl begun w mid resumes progress more hosts_is calls_is
+      by (IsDone result) resumes more calls_is = done-good events received before good after c outcome front back around (CallFed c outcome progress) refl begun result mid resumes progress more hosts_is calls_is
 
-  event-good : (events : List CallEventValue) (tables : List (List Host)) (received : List Dated) (before : CallWorldValue) → Good events tables received before → (event : CallEventValue) (after : CallWorldValue) → CallHappens s before event after
-      → GoodStep (events ++ event ∷ []) (tables ++ tables_by event) (received ++ calls_received_by event) (calls_ended_by event) after
-  event-good events tables received before good (CallStarted call now progress) after happens =
-      same_tables (events ++ CallStarted call now progress ∷ []) tables (received ++ []) (call_done call now [] progress) after (started-good events tables received before good after call now progress happens)
-  event-good events tables received before good (CallFed c outcome progress) after happens =
-      same_tables (events ++ CallFed c outcome progress ∷ []) tables (received ++ calls_received_by (CallFed c outcome progress)) (calls_ended_by (CallFed c outcome progress)) after (fed-good events tables received before good c outcome progress after happens)
-  event-good events tables received before good (CallDropped c) after happens = dropped-good events tables received before good after c happens
-  event-good events tables received before good AllCleared after e =
+  event-good : (events : List CallEventValue) (received : List Dated) (before : CallWorldValue) → Good events received before → (event : CallEventValue) (after : CallWorldValue) → CallHappens s before event after
+      → GoodStep (events ++ event ∷ []) (received ++ calls_received_by event) (calls_ended_by event) after
+  event-good events received before good (CallStarted call now progress) after happens =
+      started-good events received before good after call now progress happens
+  event-good events received before good (CallFed c outcome progress) after happens =
+      fed-good events received before good c outcome progress after happens
+  event-good events received before good (CallDropped c) after happens = dropped-good events received before good after c happens
+  event-good events received before good AllCleared after e =
       let first : WorldValue = record { cache = before.cache; pending = good.pending } in
       let second : WorldValue = record { cache = record before.cache { entries = [] }; pending = good.pending } in
-      cleared-good events tables received before good after AllCleared (record before.cache { entries = [] }) e (ClearedOfAll ∷ []) refl refl (happen-more preserve (world_of empty) good.lookups first ClearedOfAll second good.happened refl)
-  event-good events tables received before good (NameCleared t (Ok n)) after e =
+      cleared-good events received before good after AllCleared (record before.cache { entries = [] }) refl e (ClearedOfAll ∷ []) refl refl (happen-more preserve (world_of empty) good.lookups first ClearedOfAll second good.happened refl)
+  event-good events received before good (NameCleared t (Ok n)) after e =
       let ns = attempts s.search n in
       let first : WorldValue = record { cache = before.cache; pending = good.pending } in
       let second : WorldValue = record { cache = drop_each t ns before.cache; pending = good.pending } in
-      cleared-good events tables received before good after (NameCleared t (Ok n)) (drop_each t ns before.cache) e (clears t ns) (clears-nothing t ns) (clears-end-none t ns) (happen-append preserve (world_of empty) first second good.lookups (clears t ns) good.happened (clears-each t ns before.cache good.pending))
-  event-good events tables received before good (NameCleared t (Err fault)) after e =
-      cleared-good events tables received before good after (NameCleared t (Err fault)) before.cache e [] refl refl
+      cleared-good events received before good after (NameCleared t (Ok n)) (drop_each t ns before.cache) refl e (clears t ns) (clears-nothing t ns) (clears-end-none t ns) (happen-append preserve (world_of empty) first second good.lookups (clears t ns) good.happened (clears-each t ns before.cache good.pending))
+  event-good events received before good (NameCleared t (Err fault)) after e =
+      cleared-good events received before good after (NameCleared t (Err fault)) before.cache refl e [] refl refl
       (subst (λ ls. Happen preserve (world_of empty) ls (record { cache = before.cache; pending = good.pending })) (sym (append-nil good.lookups)) good.happened)
-  event-good events tables received before good (HostsReplaced hosts) after e = hosts-good events tables received before good after hosts e
+  event-good events received before good (HostsReplaced hosts) after e = hosts-good events received before good after hosts e
 
-  events-good : (earlier : List CallEventValue) (tables : List (List Host)) (received : List Dated) (before : CallWorldValue) → Good earlier tables received before → (events : List CallEventValue) (after : CallWorldValue) → CallsHappen s before events after → Good (earlier ++ events) (tables ++ tables_in events) (received ++ calls_received_in events) after
-  events-good earlier tables received before good [] after e =
-      subst (λ es. Good es (tables ++ []) (received ++ []) after) (sym (append-nil earlier))
-      (subst (λ T. Good earlier T (received ++ []) after) (sym (append-nil tables)) (subst (λ r. Good earlier tables r after) (sym (append-nil received)) (subst (Good earlier tables received) (sym e) good)))
-  events-good earlier tables received before good (event ∷ events) after (mid, is, rest) =
-      let more = events-good (earlier ++ event ∷ []) (tables ++ tables_by event) (received ++ calls_received_by event) mid (event-good earlier tables received before good event mid is).good events after rest in
-      subst (λ es. Good es (tables ++ tables_in (event ∷ events)) (received ++ calls_received_in (event ∷ events)) after) (append_assoc earlier (event ∷ []) events)
-      (subst (λ T. Good ((earlier ++ event ∷ []) ++ events) T (received ++ calls_received_in (event ∷ events)) after) (append_assoc tables (tables_by event) (tables_in events))
-      (subst (λ r. Good ((earlier ++ event ∷ []) ++ events) ((tables ++ tables_by event) ++ tables_in events) r after) (append_assoc received (calls_received_by event) (calls_received_in events)) more))
+  events-good : (earlier : List CallEventValue) (received : List Dated) (before : CallWorldValue) → Good earlier received before → (events : List CallEventValue) (after : CallWorldValue) → CallsHappen s before events after → Good (earlier ++ events) (received ++ calls_received_in events) after
+  events-good earlier received before good [] after e =
+      subst (λ es. Good es (received ++ []) after) (sym (append-nil earlier))
+      (subst (λ r. Good earlier r after) (sym (append-nil received)) (subst (Good earlier received) (sym e) good))
+  events-good earlier received before good (event ∷ events) after (mid, is, rest) =
+      let more = events-good (earlier ++ event ∷ []) (received ++ calls_received_by event) mid (event-good earlier received before good event mid is).good events after rest in
+      subst (λ es. Good es (received ++ calls_received_in (event ∷ events)) after) (append_assoc earlier (event ∷ []) events)
+      (subst (λ r. Good ((earlier ++ event ∷ []) ++ events) r after) (append_assoc received (calls_received_by event) (calls_received_in events)) more)
 
 pub calls_interleaved : (s : Settings) (empty : CacheValue) (first : List Host) → IsPromisedCallInterleaving s empty first
 calls_interleaved s empty first none events event before after happen happens =
-    let start : Good s empty none [] (first ∷ []) [] (call_world_of empty first) = record {
+    let start : Good s empty none first [] [] (call_world_of empty first) = record {
       lookups = [];
       pending = [];
       happened = refl;
       received_is = refl;
-      stood = contains-from_recursion (first ∷ []) first (inl refl);
+      stands = refl;
       known = tt;
       asked = tt;
       begun_in = tt;
     } in
-    let good = events-good s empty none [] (first ∷ []) [] (call_world_of empty first) start events before happen in
-    let step = event-good s empty none events (first ∷ tables_in events) (calls_received_in events) before good event after happens in
+    let good = events-good s empty none first [] [] (call_world_of empty first) start events before happen in
+    let step = event-good s empty none first events (calls_received_in events) before good event after happens in
     record {
       lookups = step.good.lookups;
       world = record { cache = after.cache; pending = step.good.pending };

@@ -13,11 +13,11 @@ use Rattle.hickory_resolver_model.specs.Calls.{Source, Static, Client, SubLookup
 use Rattle.hickory_resolver_model.specs.Run.{Settings, Call, IsCall}
 use Rattle.hickory_resolver_theorems.specs.Cacheless.{ResolvesTo, IsConsistentWith}
 use Rattle.hickory_resolver_theorems.specs.CallFacts.{IsCallBy, IsOwnAnswer}
-use Rattle.hickory_resolver_theorems.specs.CallReplies.{CachelessSubLookupOver, IsTransparentReply, IsOneCachelessCall, MeanWithinEight, IsPromisedCallReply, ArePromisedCallReplies}
+use Rattle.hickory_resolver_theorems.specs.CallReplies.{CachelessSubLookupOver, IsTransparentReply, IsOneCachelessCall, MeanWithinEight, IsPromisedCallReply, IsPromisedCallReplySince, ArePromisedCallReplies}
 use Rattle.hickory_resolver_theorems.specs.Cores.{reply_core}
 use Rattle.hickory_resolver_theorems.specs.Covered.{Dated}
 use Rattle.hickory_resolver_theorems.specs.Interleaved.{DoneValue, world_of, EventValue, received_by, received_in, ended_by, ended_in, MeansWithinEight, IsMeant, IsSeenBy}
-use Rattle.hickory_resolver_theorems.specs.InterleavedCalls.{DoneCallValue, CallEventValue, call_context_over, IsAskedIn, IsPromisedAmong, IsInterleavedLookup, IsInterleavedFrom, InterleavedSubLookup, IsPromisedCallEnd, calls_ended_by, calls_received_by, calls_received_in, tables_by, tables_in}
+use Rattle.hickory_resolver_theorems.specs.InterleavedCalls.{DoneCallValue, CallEventValue, call_context_over, IsAskedIn, IsPromisedAmong, IsInterleavedLookup, IsInterleavedFrom, InterleavedSubLookup, IsPromisedCallEnd, IsPromisedCallEndSince, calls_ended_by, calls_received_by, calls_received_in}
 use Rattle.hickory_resolver_theorems.specs.Statements.{LeastTtlIsZero, IsFreshReply, IsFreshSubLookup, IsCachelessSubLookup, CachelessSubLookup}
 use Rattle.hickory_resolver_theorems.proofs.Lists.{all-weaker, all-front, has-all, contains-to_recursion}
 use Rattle.hickory_resolver_theorems.proofs.Answered.{has-fresh}
@@ -170,11 +170,11 @@ asked-meant s table events means d (call, started, of) = means call d.now d.ques
 pub replies_promised : (s : Settings) (empty : CacheValue) (first : List Host) → ArePromisedCallReplies s empty first
 replies_promised s empty first none events event before after happen happens =
     let is = calls_interleaved s empty first none events event before after happen happens in
-    let tables = first ∷ tables_in events ++ tables_by event in
     let received = calls_received_in events ++ calls_received_by event in
     record {
       is = is;
-      replies = all-weaker (IsPromisedCallEnd s empty tables is.lookups) (IsPromisedCallReply s empty tables is.lookups received) (reply-promised s empty tables is.lookups received is.received_is) (calls_ended_by event) is.ended;
+      replies = all-weaker (IsPromisedCallEndSince s empty first (events ++ event ∷ []) is.lookups) (IsPromisedCallReplySince s empty first (events ++ event ∷ []) is.lookups received)
+          (λ d ended. (ended.0, ended.1, reply-promised s empty ended.0 is.lookups received is.received_is d ended.2)) (calls_ended_by event) is.ended;
       meant = λ table means. all-weaker (IsAskedIn s (events ++ event ∷ [])) (MeansWithinEight table) (asked-meant s table (events ++ event ∷ []) means) (ended_in is.lookups) is.asked;
     }
 

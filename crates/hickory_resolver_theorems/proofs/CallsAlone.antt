@@ -1,5 +1,5 @@
 -- A call over a cache that nobody else changes, step by step: it comes to the call of the definition.
-use Rattle.std.proofs.Common.{◌≡◌, ◌∙◌, Bool, true, List, [], ◌∷◌, ◌++◌, refl, sym, ap, subst, append_assoc}
+use Rattle.std.proofs.Common.{◌≡◌, ◌∙◌, Bool, true, List, [], ◌∷◌, ◌++◌, refl, sym, ap, subst, inl, inr, append_assoc}
 use Rattle.std.proofs.lemmas.List.{append-nil}
 use Rattle.hickory_proto_core.specs.Name.{NameValue}
 use Rattle.hickory_proto_core.specs.Handles.{OutcomeValue}
@@ -9,25 +9,37 @@ use Rattle.hickory_proto_core.specs.codes.record_type.RecordType.{RecordType}
 use Rattle.hickory_resolver_model.specs.Attempts.{attempts}
 use Rattle.hickory_resolver_model.specs.Cache.{CacheValue}
 use Rattle.hickory_resolver_model.specs.Lookup.{LookupResult, question_of}
-use Rattle.hickory_resolver_model.specs.Calls.{CallContext, start_at, SubLookup, IsAnsweredFor, CallPlan, Says, AreAttempts, asks_of_sub_lookups}
-use Rattle.hickory_resolver_model.specs.Resuming.{WaitingValue, ProgressValue, Waits, IsDone}
+use Rattle.hickory_resolver_model.specs.Calls.{CallContext, start_at, Static, Client, SubLookup, IsAnsweredFor, IsAnsweredAlone, CallPlan, Says, AreAttempts, asks_of_sub_lookups}
+use Rattle.hickory_resolver_model.specs.Hops.{LookupContext, GoesUpstream}
+use Rattle.hickory_resolver_model.specs.Resuming.{WaitingValue, ProgressValue, Waits, IsDone, Starts}
+use Rattle.hickory_resolver_model.specs.Verdict.{first_hop}
 use Rattle.hickory_resolver_model.specs.Run.{Settings, Call, AtOnce, Attempt, IsCall, RanOutBeforeAsking}
+use Rattle.hickory_resolver_theorems.specs.CallFacts.{IsCallBy}
 use Rattle.hickory_resolver_theorems.specs.ResumingCalls.{AttemptValue, WaitingCallValue, CallProgressValue, with_result, at_next, FindsStatic, StartsSub, GoesOn, by_hosts, waits, at_once, stopped, next_name, no_name, StartsNames, StartsCall, RunsOutAtStart, GoesOnAfter, ResumesCall}
 use Rattle.hickory_resolver_theorems.proofs.SentAlone.{LookupSoFar, IsRestOfCall, CallRelation, LeadsToWhole, IsCallSentAlone, IsCallDoneAlone, CallSoFar}
 use Rattle.hickory_resolver_theorems.proofs.RestOfCall.{asks-append, by_client, static, rest_stopped, attempts_of, rest_next, rest_none, more_done}
-use Rattle.hickory_resolver_theorems.proofs.LookupsAlone.{lookup_started, lookup_resumed}
+use Rattle.hickory_resolver_theorems.proofs.Weaker.{call-weaker}
+use Rattle.hickory_resolver_theorems.proofs.LookupsAlone.{unasked_end, lookup_started, lookup_resumed}
+
+-- a look-up that is done as it is started did not go upstream
+done_unasked : (s : LookupContext) (question : Query) (result : LookupResult) (after : CacheValue) → Starts s question (IsDone result) after → GoesUpstream s question → ⊥
+done_unasked s question result after (last, unasked, ends, is) = unasked_end s (first_hop question) last 0 unasked ends
+
+some_asked : (xs : List Exchange) (x : Exchange) → xs ++ x ∷ [] ≡ [] → ⊥
+some_asked [] x e = cc
+some_asked (y ∷ ys) x e = cc
 
 module _ (s : CallContext) where
   module _ (IsWhole : CallRelation) where
-    at_end : (done : List SubLookup) (a : AttemptValue) (result : LookupResult) (before : CacheValue) → LeadsToWhole (IsAnsweredFor s) IsWhole done a before → IsRestOfCall (IsAnsweredFor s) a before [] result before → IsCallDoneAlone IsWhole (asks_of_sub_lookups done) result before
+    at_end : (done : List SubLookup) (a : AttemptValue) (result : LookupResult) (before : CacheValue) → LeadsToWhole (IsAnsweredAlone s) IsWhole done a before → IsRestOfCall (IsAnsweredAlone s) a before [] result before → IsCallDoneAlone IsWhole (asks_of_sub_lookups done) result before
     at_end done a result before whole rest =
         record { parts = done; asks_are = refl; whole = subst (λ ps. IsWhole ps result before) (append-nil done) (whole [] result before rest) }
 
-    found_done : (done : List SubLookup) (a : AttemptValue) (t : RecordType) (result : LookupResult) (before : CacheValue) → FindsStatic s a t result → LeadsToWhole (IsAnsweredFor s) IsWhole done a before → LeadsToWhole (IsAnsweredFor s) IsWhole (done ++ static a t result ∷ []) (with_result a result) before
+    found_done : (done : List SubLookup) (a : AttemptValue) (t : RecordType) (result : LookupResult) (before : CacheValue) → FindsStatic s a t result → LeadsToWhole (IsAnsweredAlone s) IsWhole done a before → LeadsToWhole (IsAnsweredAlone s) IsWhole (done ++ static a t result ∷ []) (with_result a result) before
     found_done done a t result before f whole =
-        more_done (IsAnsweredFor s) IsWhole done a t before before (static a t result) f.next (refl, record { asks_hosts = f.with_hosts; found = f.found; has = f.has; result_is = f.result_is; nothing_asked = refl; unchanged = refl }) whole
+        more_done (IsAnsweredAlone s) IsWhole done a t before before (static a t result) f.next ((refl, record { asks_hosts = f.with_hosts; found = f.found; has = f.has; result_is = f.result_is; nothing_asked = refl; unchanged = refl }), (λ client. let clash : Static ≡ Client = client in cc)) whole
 
-    started_wait : (done : List SubLookup) (a : AttemptValue) (t : RecordType) (w : WaitingValue) (before after : CacheValue) → StartsSub s a t before (Waits w) after → LeadsToWhole (IsAnsweredFor s) IsWhole done a before → IsCallSentAlone s IsWhole (asks_of_sub_lookups done) (record { attempt = a; lookup = w }) after
+    started_wait : (done : List SubLookup) (a : AttemptValue) (t : RecordType) (w : WaitingValue) (before after : CacheValue) → StartsSub s a t before (Waits w) after → LeadsToWhole (IsAnsweredAlone s) IsWhole done a before → IsCallSentAlone s IsWhole (asks_of_sub_lookups done) (record { attempt = a; lookup = w }) after
     started_wait done a t w before after started whole =
         let lookup = lookup_started (start_at s before) (question_of a.name t) (Waits w) after started.starts in
         let P : CacheValue → Type 0 = λ c. IsCallSentAlone s IsWhole (asks_of_sub_lookups done) (record { attempt = a; lookup = w }) c in
@@ -43,15 +55,15 @@ module _ (s : CallContext) where
           rest = whole;
         })
 
-    started_done : (done : List SubLookup) (a : AttemptValue) (t : RecordType) (result : LookupResult) (before mid : CacheValue) → StartsSub s a t before (IsDone result) mid → LeadsToWhole (IsAnsweredFor s) IsWhole done a before → LeadsToWhole (IsAnsweredFor s) IsWhole (done ++ by_client a t [] result ∷ []) (with_result a result) mid
+    started_done : (done : List SubLookup) (a : AttemptValue) (t : RecordType) (result : LookupResult) (before mid : CacheValue) → StartsSub s a t before (IsDone result) mid → LeadsToWhole (IsAnsweredAlone s) IsWhole done a before → LeadsToWhole (IsAnsweredAlone s) IsWhole (done ++ by_client a t [] result ∷ []) (with_result a result) mid
     started_done done a t result before mid started whole =
-        more_done (IsAnsweredFor s) IsWhole done a t before mid (by_client a t [] result) started.next (refl, record { not_static = started.not_static; reply = lookup_started (start_at s before) (question_of a.name t) (IsDone result) mid started.starts }) whole
+        more_done (IsAnsweredAlone s) IsWhole done a t before mid (by_client a t [] result) started.next ((refl, record { not_static = started.not_static; reply = lookup_started (start_at s before) (question_of a.name t) (IsDone result) mid started.starts }), (λ client none out. done_unasked (start_at s before) (question_of a.name t) result mid started.starts)) whole
 
     asks_stay : (done : List SubLookup) (p : SubLookup) (progress : CallProgressValue) (after : CacheValue) → p.asks ≡ [] → CallSoFar s IsWhole (asks_of_sub_lookups (done ++ p ∷ [])) progress after → CallSoFar s IsWhole (asks_of_sub_lookups done) progress after
     asks_stay done p progress after none far =
         subst (λ xs. CallSoFar s IsWhole xs progress after) (asks-append done p ∙ ap (λ xs. asks_of_sub_lookups done ++ xs) none ∙ append-nil (asks_of_sub_lookups done)) far
 
-    pub goes_on : (a : AttemptValue) (before : CacheValue) (progress : CallProgressValue) (after : CacheValue) (done : List SubLookup) → LeadsToWhole (IsAnsweredFor s) IsWhole done a before → GoesOn s a before progress after → CallSoFar s IsWhole (asks_of_sub_lookups done) progress after
+    pub goes_on : (a : AttemptValue) (before : CacheValue) (progress : CallProgressValue) (after : CacheValue) (done : List SubLookup) → LeadsToWhole (IsAnsweredAlone s) IsWhole done a before → GoesOn s a before progress after → CallSoFar s IsWhole (asks_of_sub_lookups done) progress after
     goes_on a before progress after done whole (by_hosts {t = t} {result = result} found more) =
         asks_stay done (static a t result) progress after refl
         (goes_on (with_result a result) before progress after (done ++ static a t result ∷ []) (found_done done a t result before found whole) more)
@@ -59,25 +71,37 @@ module _ (s : CallContext) where
     goes_on a before progress after done whole (at_once {t = t} {result = result} {mid = mid} started more) =
         asks_stay done (by_client a t [] result) progress after refl
         (goes_on (with_result a result) mid progress after (done ++ by_client a t [] result ∷ []) (started_done done a t result before mid started whole) more)
-    goes_on a before progress after done whole (stopped {result = result} is stop) = at_end done a result before whole (rest_stopped (IsAnsweredFor s) a result before is stop)
+    goes_on a before progress after done whole (stopped {result = result} is stop) = at_end done a result before whole (rest_stopped (IsAnsweredAlone s) a result before is stop)
     goes_on a before progress after done whole (next_name {result = result} {name = name} {names = names} is on left more) =
-        goes_on (at_next a name names) before progress after done (λ parts r end rest. whole parts r end (rest_next (IsAnsweredFor s) a result name names before is on left parts r end rest)) more
-    goes_on a before progress after done whole (no_name {last = last} {result = result} is on left reply) = at_end done a result before whole (rest_none (IsAnsweredFor s) a last result before is on left reply)
+        goes_on (at_next a name names) before progress after done (λ parts r end rest. whole parts r end (rest_next (IsAnsweredAlone s) a result name names before is on left parts r end rest)) more
+    goes_on a before progress after done whole (no_name {last = last} {result = result} is on left reply) = at_end done a result before whole (rest_none (IsAnsweredAlone s) a last result before is on left reply)
+
+  -- ---- what is answered alone is answered
+
+  pub answered-alone : (with_hosts : Bool) (before : CacheValue) (q : Query) (p : SubLookup) (after : CacheValue) → IsAnsweredAlone s with_hosts before q p after → IsAnsweredFor s with_hosts before q p after
+  answered-alone with_hosts before q p after is = is.0
+
+  pub call-alone : (settings : Settings) (before : CacheValue) (call : Call) (parts : List SubLookup) (result : LookupResult) (after : CacheValue) → IsCall (IsAnsweredAlone s) settings before call parts result after → IsCall (IsAnsweredFor s) settings before call parts result after
+  call-alone = call-weaker (IsAnsweredAlone s) (IsAnsweredFor s) answered-alone
+
+  pub call_by-alone : (settings : Settings) (before : CacheValue) (call : Call) (parts : List SubLookup) (result : LookupResult) (after : CacheValue) → IsCallBy (IsAnsweredAlone s) settings before call parts result after → IsCallBy (IsAnsweredFor s) settings before call parts result after
+  call_by-alone settings before call parts result after (inl is) = inl (call-alone settings before call parts result after is)
+  call_by-alone settings before call parts result after (inr out) = inr out
 
   -- ---- a call is started
 
   pub started : (plan : CallPlan) (with_hosts : Bool) (names : List NameValue) (first : CacheValue) (progress : CallProgressValue) (after : CacheValue) → StartsNames s plan with_hosts names first progress after
-      → CallSoFar s (λ parts result end. AreAttempts (IsAnsweredFor s) plan with_hosts first names (Says plan.no_names) parts result end) [] progress after
+      → CallSoFar s (λ parts result end. AreAttempts (IsAnsweredAlone s) plan with_hosts first names (Says plan.no_names) parts result end) [] progress after
   started plan with_hosts [] first progress after (result, reply, done, e) =
-      let IsWhole : CallRelation = λ parts result end. AreAttempts (IsAnsweredFor s) plan with_hosts first [] (Says plan.no_names) parts result end in
+      let IsWhole : CallRelation = λ parts result end. AreAttempts (IsAnsweredAlone s) plan with_hosts first [] (Says plan.no_names) parts result end in
       subst (λ p. CallSoFar s IsWhole [] p after) (sym done) (record { parts = []; asks_are = refl; whole = (refl, reply, e) })
   started plan with_hosts (name ∷ names) first progress after more =
-      goes_on (λ parts result end. AreAttempts (IsAnsweredFor s) plan with_hosts first (name ∷ names) (Says plan.no_names) parts result end)
-      (record { plan = plan; with_hosts = with_hosts; name = name; results = []; left = names }) first progress after [] (attempts_of (IsAnsweredFor s) plan with_hosts name names first (Says plan.no_names)) more
+      goes_on (λ parts result end. AreAttempts (IsAnsweredAlone s) plan with_hosts first (name ∷ names) (Says plan.no_names) parts result end)
+      (record { plan = plan; with_hosts = with_hosts; name = name; results = []; left = names }) first progress after [] (attempts_of (IsAnsweredAlone s) plan with_hosts name names first (Says plan.no_names)) more
 
-  pub started_call : (settings : Settings) (call : Call) (first : CacheValue) (progress : CallProgressValue) (after : CacheValue) → StartsCall s settings call first progress after → CallSoFar s (IsCall (IsAnsweredFor s) settings first call) [] progress after
+  pub started_call : (settings : Settings) (call : Call) (first : CacheValue) (progress : CallProgressValue) (after : CacheValue) → StartsCall s settings call first progress after → CallSoFar s (IsCall (IsAnsweredAlone s) settings first call) [] progress after
   started_call settings (AtOnce answer) first progress after (done, e) =
-      subst (λ p. CallSoFar s (IsCall (IsAnsweredFor s) settings first (AtOnce answer)) [] p after) (sym done) (record { parts = []; asks_are = refl; whole = (refl, refl, e) })
+      subst (λ p. CallSoFar s (IsCall (IsAnsweredAlone s) settings first (AtOnce answer)) [] p after) (sym done) (record { parts = []; asks_are = refl; whole = (refl, refl, e) })
   started_call settings (Attempt name plan) first progress after starts = started plan true (attempts settings.search name) first progress after starts
 
   -- memory ran out before anything was attempted
@@ -117,7 +141,7 @@ module _ (s : CallContext) where
         let p = by_client w.attempt far.asked_type sent result in
         subst (λ xs. CallSoFar s IsWhole xs progress after) (asks-append far.done p ∙ asks_now)
         (goes_on IsWhole (with_result w.attempt result) mid progress after (far.done ++ p ∷ [])
-        (more_done (IsAnsweredFor s) IsWhole far.done w.attempt far.asked_type cache mid p far.next (refl, record { not_static = far.not_static; reply = reply }) far.rest) more)
+        (more_done (IsAnsweredAlone s) IsWhole far.done w.attempt far.asked_type cache mid p far.next ((refl, record { not_static = far.not_static; reply = reply }), (λ client none out. absurd (some_asked far.sent came none))) far.rest) more)
 
     pub resumed : (progress : CallProgressValue) (after : CacheValue) → ResumesCall s w outcome cache progress after → CallSoFar s IsWhole (asks ++ came ∷ []) progress after
     resumed progress after (lookup, mid, resumes, more) =

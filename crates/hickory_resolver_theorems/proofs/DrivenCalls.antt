@@ -15,18 +15,11 @@ use Rattle.hickory_resolver_model.specs.Calls.{CallContext, start_at, Source, St
 use Rattle.hickory_resolver_model.specs.Resuming.{WaitingValue, ProgressValue, Waits, IsDone, Starts, Resumes}
 use Rattle.hickory_resolver_model.specs.Run.{Settings, Call, AtOnce, Attempt, IsCall}
 use Rattle.hickory_resolver_theorems.specs.Resumed.{IsDriven, IsStartedAndDriven}
-use Rattle.hickory_resolver_theorems.specs.ResumingCalls.{AttemptValue, CallProgressValue, CallWaits, CallIsDone, with_result, GoesOn, by_hosts, waits, at_once, stopped, next_name, no_name, StartsNames, StartsCall, ResumesCall}
+use Rattle.hickory_resolver_theorems.specs.ResumingCalls.{AttemptValue, CallProgressValue, CallWaits, CallIsDone, with_result, GoesOn, by_hosts, waits, at_once, stopped, next_name, no_name, StartsNames, StartsCall, ResumesCall, IsCallDriven, IsCallStartedAndDriven}
 use Rattle.hickory_resolver_theorems.proofs.Lists.{has-all}
 use Rattle.hickory_resolver_theorems.proofs.CallInterleavings.{now-stays}
 use Rattle.hickory_resolver_theorems.proofs.Driven.{whole_driven}
 use Rattle.hickory_resolver_theorems.proofs.UnlessOut.{call-unless}
-
--- a call is driven from where it stands, from a moment on
-abbrev pub IsCallDriven : CallContext → CallProgressValue → CacheValue → List Exchange → LookupResult → CacheValue → Type 0
-IsCallDriven t progress cache [] result after = (progress ≡ CallIsDone result) × (after ≡ cache)
-IsCallDriven t (CallWaits w) cache (x ∷ xs) result after =
-    (w.lookup.now ≡ t.now) × (x.query ≡ w.lookup.hop.query) × (next : CallProgressValue) × (mid : CacheValue) × ResumesCall t w x.outcome cache next mid × IsCallDriven t next mid xs result after
-IsCallDriven t (CallIsDone early) cache (x ∷ xs) result after = ⊥
 
 -- a question is answered by the table of hosts, or by a look-up of the client that ends with all its stores
 abbrev pub IsWholeFrom : Source → CallContext → Bool → CacheValue → SubLookup → CacheValue → Type 0
@@ -175,21 +168,15 @@ module _ (t : CallContext) where
 
   -- ---- a call
 
-  pub record IsCallStartedAndDriven (s : Settings) (call : Call) (before : CacheValue) (asks : List Exchange) (result : LookupResult) (after : CacheValue) : Type 0 where
-    pub progress : CallProgressValue
-    pub cache : CacheValue
-    pub starts : StartsCall t s call before progress cache
-    pub driven : IsCallDriven t progress cache asks result after
-
-  pub call-driven : (s : Settings) (call : Call) (before : CacheValue) (parts : List SubLookup) (result : LookupResult) (after : CacheValue) → IsCall (WholeSubLookup t) s before call parts result after → IsCallStartedAndDriven s call before (asks_of_sub_lookups parts) result after
+  pub call-driven : (s : Settings) (call : Call) (before : CacheValue) (parts : List SubLookup) (result : LookupResult) (after : CacheValue) → IsCall (WholeSubLookup t) s before call parts result after → IsCallStartedAndDriven t s call before (asks_of_sub_lookups parts) result after
   call-driven s (AtOnce answer) before parts result after (none, e, same) =
-      subst (λ ps. IsCallStartedAndDriven s (AtOnce answer) before (asks_of_sub_lookups ps) result after) (sym none)
+      subst (λ ps. IsCallStartedAndDriven t s (AtOnce answer) before (asks_of_sub_lookups ps) result after) (sym none)
       (record { progress = CallIsDone answer; cache = before; starts = (refl, refl); driven = (ap CallIsDone (sym e), same) })
   call-driven s (Attempt n plan) before parts result after tries = by (attempts s.search n) refl tries
     where
-      by : (names : List NameValue) → attempts s.search n ≡ names → AreAttempts (WholeSubLookup t) plan true before names (Says plan.no_names) parts result after → IsCallStartedAndDriven s (Attempt n plan) before (asks_of_sub_lookups parts) result after
+      by : (names : List NameValue) → attempts s.search n ≡ names → AreAttempts (WholeSubLookup t) plan true before names (Says plan.no_names) parts result after → IsCallStartedAndDriven t s (Attempt n plan) before (asks_of_sub_lookups parts) result after
       by [] e (none, reply, same) =
-          subst (λ ps. IsCallStartedAndDriven s (Attempt n plan) before (asks_of_sub_lookups ps) result after) (sym none)
+          subst (λ ps. IsCallStartedAndDriven t s (Attempt n plan) before (asks_of_sub_lookups ps) result after) (sym none)
           (record { progress = CallIsDone result; cache = before; starts = subst (λ ns. StartsNames t plan true ns before (CallIsDone result) before) (sym e) (result, reply, refl, refl); driven = (refl, same) })
       by (name ∷ names) e tried =
           let d = attempts-driven plan true name names before (Says plan.no_names) parts result after tried in

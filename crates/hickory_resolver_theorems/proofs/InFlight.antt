@@ -153,7 +153,13 @@ module _ (s : LookupContext) (question : Query) (xs : List Exchange) (caches : L
       inl (record {
         hops = hops last cache ends own;
         kept = kept;
-        begun = record { front = begun.front; back = begun.back; parts = begun.parts ∙ ap (λ stores. last_stores s hop last ++ stores) (stores-same s xs hop last); after_is = begun.after_is };
+        begun = record {
+          front = begun.front;
+          back = begun.back;
+          parts = begun.parts ∙ ap (λ stores. last_stores s hop last ++ stores) (stores-same s xs hop last);
+          not_all = λ none. ap (λ stores. last_stores s hop last ++ stores) (sym (stores-same s xs hop last)) ∙ begun.not_all none;
+          after_is = begun.after_is;
+        };
       }),
     );
     caches_are = refl;

@@ -1,4 +1,5 @@
 pub mod AliasLifetimes
+pub mod AliasCases
 pub mod Answered
 pub mod PromisedCalls
 pub mod SentAlone
@@ -11,6 +12,7 @@ pub mod Driven
 pub mod Few
 pub mod Folding
 pub mod Fresh
+pub mod Fronts
 pub mod Kept
 pub mod KeptCalls
 pub mod Headlines
@@ -36,3 +38,4 @@ pub mod ConfigStays
 pub mod CallReplies
 pub mod DrivenCalls
 pub mod RunCalls
+pub mod CallsAlike

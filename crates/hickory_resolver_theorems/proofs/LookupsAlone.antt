@@ -1,13 +1,13 @@
 -- A look-up over a cache that nobody else changes, step by step: it comes to the look-up of the definition.
-use Rattle.std.proofs.Common.{◌≡◌, ◌∙◌, List, [], ◌∷◌, ◌++◌, refl, sym, subst}
+use Rattle.std.proofs.Common.{◌≡◌, ◌∙◌, ℕ, true, false, List, [], ◌∷◌, ◌++◌, Some, None, refl, sym, subst}
 use Rattle.std.proofs.lemmas.List.{map-append}
 use Rattle.hickory_proto_core.specs.Handles.{OutcomeValue}
 use Rattle.hickory_proto_core.specs.declared.query.Query.{Query}
 use Rattle.hickory_proto_core.specs.declared.recorded.Exchange.{Exchange}
 use Rattle.hickory_resolver_model.specs.Cache.{CacheValue}
-use Rattle.hickory_resolver_model.specs.Verdict.{first_hop}
-use Rattle.hickory_resolver_model.specs.Hops.{LookupContext}
-use Rattle.hickory_resolver_model.specs.Resuming.{WaitingValue, ProgressValue, Waits, IsDone, Starts, Resumes}
+use Rattle.hickory_resolver_model.specs.Verdict.{Hop, first_hop}
+use Rattle.hickory_resolver_model.specs.Hops.{LookupContext, GoesUpstream, ChainEnd, Special, Hit, Asked, IsChainEnd}
+use Rattle.hickory_resolver_model.specs.Resuming.{is_asked, WaitingValue, ProgressValue, Waits, IsDone, Starts, Resumes}
 use Rattle.hickory_resolver_theorems.proofs.SentAlone.{IsSentAlone, LookupSoFar}
 use Rattle.hickory_resolver_theorems.specs.Interleaved.{PendingValue}
 use Rattle.hickory_resolver_theorems.proofs.InFlight.{IsInFlight, IsOnItsWay, started, resumed}
@@ -24,6 +24,12 @@ alone s question asks caches (Waits w) after one (is, now_is, same) = record {
   unchanged = same;
 }
 alone s question asks caches (IsDone result) after one is = reply-back s question asks result after is.reply (is.caches_are ∙ one)
+
+-- where a look-up ends and was not asked, its question does not go upstream
+pub unasked_end : (s : LookupContext) (hop : Hop) (last : ChainEnd) (count : ℕ) → is_asked last ≡ false → IsChainEnd s count hop last → GoesUpstream s hop.query → ⊥
+unasked_end s hop (Special reply) count unasked special up = let clash : None ≡ Some reply = sym up.0 ∙ special in cc
+unasked_end s hop (Hit entry) count unasked hit up = let clash : None ≡ Some entry = sym up.1 ∙ hit.1 in cc
+unasked_end s hop (Asked outcome) count unasked ends up = let clash : true ≡ false = unasked in cc
 
 pub lookup_started : (s : LookupContext) (question : Query) (progress : ProgressValue) (after : CacheValue) → Starts s question progress after → LookupSoFar s question [] progress after
 lookup_started s question progress after starts = alone s question [] [] progress after refl (started s question progress after starts)

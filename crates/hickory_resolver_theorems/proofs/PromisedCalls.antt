@@ -34,6 +34,7 @@ use Rattle.hickory_resolver_theorems.proofs.Fresh.{for-type, AreFreshHits, hops-
 use Rattle.hickory_resolver_theorems.proofs.Few.{few}
 use Rattle.hickory_resolver_theorems.proofs.Provenances.{entry-own, both-true}
 use Rattle.hickory_resolver_theorems.proofs.Chains.{Chain, chain-all, chain-call, chain-none}
+use Rattle.hickory_resolver_theorems.proofs.CallsAlone.{call_by-alone}
 use Rattle.hickory_resolver_theorems.proofs.Weaker.{call-weaker, call-along}
 use Rattle.hickory_resolver_theorems.proofs.Answered.{IsTold, told-call, told-unserved, has-fresh}
 use Rattle.hickory_resolver_theorems.proofs.Runs.{reply-config, good-chain, drop_each-fresh}
@@ -305,13 +306,14 @@ promised_call step now call before result after cache is =
     let s = settings before in
     let first = before.client.cache in
     let last = after.client.cache in
+    let by : IsCallBy (IsAnsweredFor (call_context_at s now)) s first call is.parts result last = call_by-alone (call_context_at s now) s first call is.parts result last is.is in
     record {
       is = is;
-      few = few_call s now first call is.parts result last is.is;
-      provenance = provenance s now first call is.parts result last cache is.is;
-      fresh = fresh_call s now first call is.parts result last is.is;
-      transparent = transparent_call s now first call is.parts result last is.is;
-      no_alias_outlives = limited_call s now first call is.parts result last is.is;
+      few = few_call s now first call is.parts result last by;
+      provenance = provenance s now first call is.parts result last cache by;
+      fresh = fresh_call s now first call is.parts result last by;
+      transparent = transparent_call s now first call is.parts result last by;
+      no_alias_outlives = limited_call s now first call is.parts result last by;
     }
 
 pub promised_name : {H : Type 0} (step : HandleStep H) (Gives : Result NameValue NameError → Type 0) (t : RecordType) (now : ℕ) (before : ResolverValue H) (result : LookupResult) (after : ResolverValue H) → IsCache before.client.cache.config before.client.cache.capacity before.client.cache.entries

@@ -11,8 +11,8 @@ use Rattle.hickory_resolver_model.specs.Run.{Settings, call_context_at, moment_o
 use Rattle.hickory_resolver_theorems.specs.Covered.{Dated, dated_exchanges}
 use Rattle.hickory_resolver_theorems.specs.InterleavedCalls.{PendingCallValue, DoneCallValue, CallWorldValue, call_world_of, CallEventValue, CallStarted, CallFed, AllCleared, NameCleared, call_pending, call_done, placed, CallHappens, CallsHappen, calls_ended_by, calls_received_by, calls_received_in}
 use Rattle.hickory_resolver_theorems.specs.OneCallAtATime.{HappensAlone, HappenAlone, IsCallOf, AreOfCall, IsClearOf, AreOfReply, HaveMemory, cache_before, AreOneCallAtATime, IsOneCallAtATime}
-use Rattle.hickory_resolver_theorems.specs.ResumingCalls.{WaitingCallValue, CallProgressValue, CallWaits, CallIsDone, GoesOnAfter, ResumesCall}
-use Rattle.hickory_resolver_theorems.proofs.DrivenCalls.{IsCallDriven, WholeSubLookup, IsCallStartedAndDriven, call-whole, call-driven}
+use Rattle.hickory_resolver_theorems.specs.ResumingCalls.{WaitingCallValue, CallProgressValue, CallWaits, CallIsDone, GoesOnAfter, ResumesCall, IsCallDriven, IsCallStartedAndDriven}
+use Rattle.hickory_resolver_theorems.proofs.DrivenCalls.{WholeSubLookup, call-whole, call-driven}
 
 -- ---- lists of events
 

@@ -10,7 +10,7 @@ use Rattle.hickory_resolver_model.specs.Lookup.{LookupResult, question_of}
 use Rattle.hickory_resolver_model.specs.Verdict.{first_hop}
 use Rattle.hickory_resolver_model.specs.Hops.{LookupContext, GoesUpstream, FollowsAliases, IsReply, alias_limit}
 use Rattle.hickory_resolver_model.specs.Hosts.{IsStatic}
-use Rattle.hickory_resolver_model.specs.Calls.{CallContext, start_at, SubLookup, SubLookupRelation, IsAnsweredFor, next_type, IsAttemptResult, AreSubLookups, results_of, stops, AreAttempts, asks_of_sub_lookups}
+use Rattle.hickory_resolver_model.specs.Calls.{CallContext, start_at, SubLookup, SubLookupRelation, IsAnsweredAlone, next_type, IsAttemptResult, AreSubLookups, results_of, stops, AreAttempts, asks_of_sub_lookups}
 use Rattle.hickory_resolver_model.specs.Resuming.{PassedValue, WaitingValue, ProgressValue, Waits, IsDone}
 use Rattle.hickory_resolver_theorems.specs.ResumingCalls.{AttemptValue, WaitingCallValue, CallProgressValue, CallWaits, CallIsDone}
 
@@ -72,7 +72,7 @@ pub record IsCallSentAlone
   pub not_static : (w.attempt.with_hosts ≡ false) ⊎ IsStatic (question_of w.attempt.name asked_type) s.now s.hosts None
   pub lookup : LookupSoFar (start_at s cache) (question_of w.attempt.name asked_type) sent (Waits w.lookup) cache
   pub asks_are : asks ≡ asks_of_sub_lookups done ++ sent
-  pub rest : LeadsToWhole (IsAnsweredFor s) IsWhole done w.attempt cache
+  pub rest : LeadsToWhole (IsAnsweredAlone s) IsWhole done w.attempt cache
 
 -- these parts made the exchanges, and the call came to this by them
 pub record IsCallDoneAlone

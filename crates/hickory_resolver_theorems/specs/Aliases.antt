@@ -14,7 +14,7 @@ use Rattle.hickory_resolver_model.specs.Cache.{CacheValue}
 use Rattle.hickory_resolver_model.specs.Lookup.{LookupValue, LookupResult}
 use Rattle.hickory_resolver_model.specs.AliasWalk.{walk_of}
 use Rattle.hickory_resolver_model.specs.Verdict.{Hop}
-use Rattle.hickory_resolver_model.specs.Hops.{LookupContext, ChainEnd, Special, Hit, Asked, Store, IsReply, made_entry, after_stores, asks_of}
+use Rattle.hickory_resolver_model.specs.Hops.{LookupContext, ChainEnd, Special, Hit, Asked, Store, IsReply, made_entry, asks_of, stores_of}
 use Rattle.hickory_resolver_model.specs.Calls.{CallContext, start_at, Source, Static, Client, SubLookup, SubLookupRelation, IsAnsweredByHosts, IsAnsweredByClient}
 use Rattle.hickory_resolver_model.specs.Run.{Settings, call_context_at, RequestValue, StepValue, AreStagesBy, Run}
 use Rattle.hickory_resolver_theorems.specs.Statements.{LeastTtlIsZero}
@@ -50,10 +50,12 @@ StoreOutlivesNoAlias s asks last store =
 
 -- The stores of hops, from the last hop to the first: the last of them is made under the question of the first
 -- hop, and outlives no alias from that hop on; those before it are the stores of the hops after it. The last hop
--- may have a store of its own.
+-- stores once at most, under its own question.
 abbrev pub StoresOutliveNoAlias : LookupContext → List Exchange → Hop → ChainEnd → List Store → Type 0
-StoresOutliveNoAlias s [] hop last stores =
-    AllByRecursion (StoreOutlivesNoAlias s (asks_of hop last) last) stores
+StoresOutliveNoAlias s [] hop last [] = Unit {0}
+StoresOutliveNoAlias s [] hop last (own ∷ []) =
+    (own.query ≡ hop.query) × StoreOutlivesNoAlias s (asks_of hop last) last own
+StoresOutliveNoAlias s [] hop last (own ∷ other ∷ stores) = ⊥
 StoresOutliveNoAlias s (x ∷ xs) hop last stores =
     (later : List Store) × (own : Store) × (stores ≡ later ++ own ∷ []) × (own.query ≡ x.query)
     × StoreOutlivesNoAlias s (x ∷ xs ++ asks_of hop last) last own
@@ -64,29 +66,22 @@ abbrev pub ResultOutlivesNoAlias : LookupContext → List Exchange → ChainEnd 
 ResultOutlivesNoAlias s asks last result =
     (l : LookupValue) → result ≡ Ok l → is_empty asks ≡ false → OutlivesNoAlias s asks last l.valid_until
 
--- The cache after hops is the cache after stores of theirs that outlive no alias, all of them or a beginning.
-pub record AfterStoresInTime
-    (s : LookupContext) (passed : List Exchange) (hop : Hop) (last : ChainEnd) (made left : List Store)
-    (after : CacheValue)
-    : Type 0 where
-  pub after_is : after ≡ after_stores made s.cache
-  pub in_time : StoresOutliveNoAlias s passed hop last (made ++ left)
-
--- Of a look-up: where the least TTL of CNAMEs is zero, the cache after it is the cache after stores that outlive no
--- alias, one under the question of each hop before the last; and so does its result. An entry that is hit may end
--- long before its records do, since a CNAME bounded it: a client that takes the TTL of the records for its deadline
--- breaks this. Nothing is said of a result where the first question is a hit. Where memory ran out among the
--- stores, a beginning of them was made.
+-- Of a look-up: where the least TTL of CNAMEs is zero, each of its stores outlives no alias, one under the question of
+-- each hop before the last; and so does its result. These are the stores by which the cache came to be what it is after
+-- the look-up. An entry that is hit may end long before its records do, since a CNAME bounded it: a client that takes
+-- the TTL of the records for its deadline breaks this. Nothing is said of a result where the first question is a hit.
+-- Where memory ran out among the stores, those that were made are a beginning of stores of which this holds.
 abbrev pub NoAliasOutlives : (s : LookupContext) (question : Query) (asks : List Exchange) (result : LookupResult)
     (after : CacheValue) → IsReply s question asks result after → Type 0
 NoAliasOutlives s question asks result after (inl whole) =
+    let hops = whole.hops in
     LeastTtlIsZero s.cache.config (type_code type.CNAME)
-    → ((made : List Store) × AfterStoresInTime s whole.hops.passed whole.hops.last_hop whole.hops.last made [] after)
-    × ResultOutlivesNoAlias s asks whole.hops.last result
+    → StoresOutliveNoAlias s hops.passed hops.last_hop hops.last (stores_of s hops.passed hops.last_hop hops.last)
+    × ResultOutlivesNoAlias s asks hops.last result
 NoAliasOutlives s question asks result after (inr (out, inl cut)) =
+    let hops = cut.hops in
     LeastTtlIsZero s.cache.config (type_code type.CNAME)
-    → (made : List Store) × (left : List Store)
-    × AfterStoresInTime s cut.hops.passed cut.hops.last_hop cut.hops.last made left after
+    → StoresOutliveNoAlias s hops.passed hops.last_hop hops.last (cut.begun.front ++ cut.begun.back)
 NoAliasOutlives s question asks result after (inr (out, inr cut)) = Unit {0}
 
 -- ---- the look-ups of a call, and of a run

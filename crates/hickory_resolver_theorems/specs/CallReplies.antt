@@ -15,7 +15,7 @@ use Rattle.hickory_resolver_theorems.specs.CallFacts.{AreFreshReplies}
 use Rattle.hickory_resolver_theorems.specs.Cores.{ReplyCore, reply_core}
 use Rattle.hickory_resolver_theorems.specs.Covered.{Dated}
 use Rattle.hickory_resolver_theorems.specs.Interleaved.{DoneValue, EventValue, ended_in, MeansWithinEight, IsSeenBy}
-use Rattle.hickory_resolver_theorems.specs.InterleavedCalls.{DoneCallValue, CallWorldValue, call_world_of, call_context_over, CallEventValue, CallHappens, CallsHappen, calls_ended_by, calls_received_by, calls_received_in, tables_by, tables_in, IsQuestionOf, IsStartedIn, IsPromisedCallEnd, IsPromisedCallEvent}
+use Rattle.hickory_resolver_theorems.specs.InterleavedCalls.{DoneCallValue, CallWorldValue, call_world_of, call_context_over, CallEventValue, CallHappens, CallsHappen, calls_ended_by, calls_received_by, calls_received_in, StoodSince, IsQuestionOf, IsStartedIn, IsPromisedCallEnd, IsPromisedCallEvent}
 use Rattle.hickory_resolver_theorems.specs.Statements.{CachelessSubLookup}
 
 -- how the resolver without a cache answers a question of a call: by one of these tables of hosts, as any, or by the
@@ -64,6 +64,13 @@ pub record IsPromisedCallReply
   pub fresh : AreFreshReplies empty.config (λ code. received) d.now d.call is.parts d.result
   pub transparent : IsTransparentReply s empty tables received (ended_in lookups) d is.parts
 
+-- The tables are those that stood from the start of the call on.
+abbrev pub IsPromisedCallReplySince : Settings → CacheValue → List Host → List CallEventValue → List EventValue
+    → List Dated → DoneCallValue → Type 0
+IsPromisedCallReplySince s empty first events lookups received d =
+    (tables : List (List Host)) × StoodSince first events d.call d.now tables
+    × IsPromisedCallReply s empty tables lookups received d
+
 -- The event after some events, as in `IsPromisedCallEvent`. The reply of the call that it ended keeps its promises. Where
 -- each question of the calls that were started means something within eight questions, so does each that the client
 -- answered, as `transparent` wants it.
@@ -73,7 +80,7 @@ pub record IsPromisedCallReplyEvent
     : Type 0 where
   pub is : IsPromisedCallEvent s empty first events event after
   pub replies : AllByRecursion
-      (IsPromisedCallReply s empty (first ∷ tables_in events ++ tables_by event) is.lookups
+      (IsPromisedCallReplySince s empty first (events ++ event ∷ []) is.lookups
       (calls_received_in events ++ calls_received_by event)) (calls_ended_by event)
   pub meant : (table : TableValue) → MeanWithinEight table s (events ++ event ∷ [])
       → AllByRecursion (MeansWithinEight table) (ended_in is.lookups)

@@ -140,6 +140,22 @@ abbrev pub tables_in : List CallEventValue → List (List Host)
 tables_in [] = []
 tables_in (event ∷ events) = tables_by event ++ tables_in events
 
+-- the table of hosts that stands after these were put in place, one after another, where this one stood before
+abbrev pub last_table : List Host → List (List Host) → List Host
+last_table hosts [] = hosts
+last_table hosts (others ∷ tables) = last_table others tables
+
+-- The tables of hosts that stood from the start of a call on, which was started at this moment among these events, over
+-- this table at first: the one that stood when it was started, and those that were put in place since.
+pub record StoodSince
+    (first : List Host) (events : List CallEventValue) (call : Call) (now : ℕ) (tables : List (List Host))
+    : Type 0 where
+  pub earlier : List CallEventValue
+  pub progress : CallProgressValue
+  pub later : List CallEventValue
+  pub are : events ≡ earlier ++ CallStarted call now progress ∷ later
+  pub tables_are : tables ≡ last_table first (tables_in earlier) ∷ tables_in later
+
 -- ---- what is promised
 
 -- a question of a call: of a name that it attempts, for a type of its plan
@@ -203,7 +219,7 @@ abbrev pub InterleavedSubLookup : Settings → CacheValue → List (List Host) �
 InterleavedSubLookup s empty tables lookups now with_hosts before q p after =
     (p.question ≡ q) × IsInterleavedFrom p.source s empty tables lookups now with_hosts before p after
 
--- A call that is done is made of sub-look-ups, as one that blocks: each is answered by a table of hosts that stood, or
+-- A call that is done is made of sub-look-ups, as one that blocks: each is answered by one of these tables of hosts, or
 -- by a look-up that keeps its promises; the exchanges of the call are theirs; and its result is what the call makes of
 -- their results. Or memory ran out before anything was attempted.
 pub record IsPromisedCallEnd
@@ -212,6 +228,13 @@ pub record IsPromisedCallEnd
   pub parts : List SubLookup
   pub asks_are : d.asks ≡ asks_of_sub_lookups parts
   pub is : IsCallBy (InterleavedSubLookup s empty tables lookups d.now) s empty d.call parts d.result empty
+
+-- The tables are those that stood from the start of the call on.
+abbrev pub IsPromisedCallEndSince : Settings → CacheValue → List Host → List CallEventValue → List EventValue
+    → DoneCallValue → Type 0
+IsPromisedCallEndSince s empty first events lookups d =
+    (tables : List (List Host)) × StoodSince first events d.call d.now tables
+    × IsPromisedCallEnd s empty tables lookups d
 
 -- The event after some events over a cache without entries, with no call in flight at first. To the client, what
 -- happened up to then are these events, of look-ups: over the same cache, by the same exchanges, and for questions of
@@ -226,8 +249,7 @@ pub record IsPromisedCallEvent
   pub cache_is : world.cache ≡ after.cache
   pub received_is : received_in lookups ≡ calls_received_in events ++ calls_received_by event
   pub asked : AllByRecursion (IsAskedIn s (events ++ event ∷ [])) (ended_in lookups)
-  pub ended : AllByRecursion
-      (IsPromisedCallEnd s empty (first ∷ tables_in events ++ tables_by event) lookups) (calls_ended_by event)
+  pub ended : AllByRecursion (IsPromisedCallEndSince s empty first (events ++ event ∷ []) lookups) (calls_ended_by event)
 
 -- Of every event, whatever came before it: so of each event of a list.
 abbrev pub IsPromisedCallInterleaving : Settings → CacheValue → List Host → Type 0

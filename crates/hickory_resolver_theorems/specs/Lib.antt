@@ -18,6 +18,7 @@ pub mod WalkLaws
 pub mod Worked
 pub mod WorkedServices
 pub mod WorkedLoop
+pub mod WorkedAliases
 pub mod WorkedRequests
 pub mod WorkedRun
 pub mod WorkedInterleaved

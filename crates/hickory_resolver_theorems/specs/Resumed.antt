@@ -13,7 +13,7 @@ use Rattle.hickory_resolver_model.specs.Lookup.{LookupResult}
 use Rattle.hickory_resolver_model.specs.Verdict.{Hop}
 use Rattle.hickory_resolver_model.specs.Hops.{LookupContext, GoesUpstream, Store, IsWhole, IsReply, stores_of}
 use Rattle.hickory_resolver_model.specs.Resuming.{ProgressValue, Waits, IsDone, Starts, Resumes, is_asked, HopListOver, IsReplyOver}
-use Rattle.hickory_resolver_theorems.specs.Aliases.{AfterStoresInTime, ResultOutlivesNoAlias}
+use Rattle.hickory_resolver_theorems.specs.Aliases.{StoresOutliveNoAlias, ResultOutlivesNoAlias}
 use Rattle.hickory_resolver_theorems.specs.Provenance.{IsFromSources}
 use Rattle.hickory_resolver_theorems.specs.Statements.{LeastTtlIsZero, IsFresh, IsTransparent}
 
@@ -83,18 +83,19 @@ pub record IsDrivenAlike
 
 -- ---- the promises
 
--- As `NoAliasOutlives`: where the least TTL of CNAMEs is zero, the cache after it is the cache that stood, after stores
--- that outlive no alias; and so does its result.
+-- As `NoAliasOutlives`: where the least TTL of CNAMEs is zero, each store in the cache that stood at its end outlives no
+-- alias; and so does its result.
 abbrev pub NoAliasOutlivesOver : (s : LookupContext) (question : Query) (asks : List Exchange) (result : LookupResult)
     (after : CacheValue) → IsReplyOver s question asks result after → Type 0
 NoAliasOutlivesOver s question asks result after (inl whole) =
+    let hops = whole.hops in
     LeastTtlIsZero s.cache.config (type_code type.CNAME)
-    → ((made : List Store) × AfterStoresInTime s whole.hops.passed whole.hops.last_hop whole.hops.last made [] after)
-    × ResultOutlivesNoAlias s asks whole.hops.last result
+    → StoresOutliveNoAlias s hops.passed hops.last_hop hops.last (stores_of s hops.passed hops.last_hop hops.last)
+    × ResultOutlivesNoAlias s asks hops.last result
 NoAliasOutlivesOver s question asks result after (inr (out, inl cut)) =
+    let hops = cut.hops in
     LeastTtlIsZero s.cache.config (type_code type.CNAME)
-    → (made : List Store) × (left : List Store)
-    × AfterStoresInTime s cut.hops.passed cut.hops.last_hop cut.hops.last made left after
+    → StoresOutliveNoAlias s hops.passed hops.last_hop hops.last (cut.begun.front ++ cut.begun.back)
 NoAliasOutlivesOver s question asks result after (inr (out, inr cut)) = Unit {0}
 
 -- the stores that it made

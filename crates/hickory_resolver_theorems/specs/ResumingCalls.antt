@@ -5,14 +5,15 @@ use Rattle.std.specs.Prelude.{◌≡◌, ◌⊎◌, Bool, true, false, List, [],
 use Rattle.hickory_proto_core.specs.Name.{NameValue}
 use Rattle.hickory_proto_core.specs.Handles.{OutcomeValue}
 use Rattle.hickory_proto_core.specs.codes.record_type.RecordType.{RecordType}
+use Rattle.hickory_proto_core.specs.declared.recorded.Exchange.{Exchange}
 use Rattle.hickory_proto_core.specs.declared.net_error.NetError.TheVariants.{OutOfMemory}
 use Rattle.hickory_resolver_model.specs.Attempts.{attempts}
 use Rattle.hickory_resolver_model.specs.Cache.{CacheValue}
-use Rattle.hickory_resolver_model.specs.Calls.{CallContext, start_at, CallPlan, Says, next_type, IsAttemptResult, IsLastReply, stops}
+use Rattle.hickory_resolver_model.specs.Calls.{CallContext, start_at, SubLookup, IsAnsweredFor, CallPlan, Says, next_type, IsAttemptResult, IsLastReply, stops, asks_of_sub_lookups, is_out_of_memory}
 use Rattle.hickory_resolver_model.specs.Hosts.{IsStatic}
 use Rattle.hickory_resolver_model.specs.Lookup.{LookupValue, LookupResult, question_of}
 use Rattle.hickory_resolver_model.specs.Resuming.{WaitingValue, ProgressValue, Waits, IsDone, Starts, Resumes}
-use Rattle.hickory_resolver_model.specs.Run.{Settings, Call, AtOnce, Attempt}
+use Rattle.hickory_resolver_model.specs.Run.{Settings, Call, AtOnce, Attempt, IsCall}
 
 -- how far a call came: what it does with each name, whether the table of hosts is looked at for this name, the name, the
 -- results of the name's sub-look-ups so far, and the names that are left
@@ -110,3 +111,38 @@ abbrev pub ResumesCall : CallContext → WaitingCallValue → OutcomeValue → C
 ResumesCall s w outcome before progress after =
     (lookup : ProgressValue) × (mid : CacheValue) × Resumes (start_at s before) w.lookup outcome lookup mid
     × GoesOnAfter s w.attempt lookup mid progress after
+
+-- ---- a call that blocks
+
+-- A call is driven from where it stands, from a moment on: what comes back to each of its questions is fed to it at
+-- once, so that nothing but itself changes the cache.
+abbrev pub IsCallDriven : CallContext → CallProgressValue → CacheValue → List Exchange → LookupResult → CacheValue
+    → Type 0
+IsCallDriven s progress cache [] result after = (progress ≡ CallIsDone result) × (after ≡ cache)
+IsCallDriven s (CallWaits w) cache (x ∷ xs) result after =
+    (w.lookup.now ≡ s.now) × (x.query ≡ w.lookup.hop.query) × (next : CallProgressValue) × (mid : CacheValue)
+    × ResumesCall s w x.outcome cache next mid × IsCallDriven s next mid xs result after
+IsCallDriven s (CallIsDone early) cache (x ∷ xs) result after = ⊥
+
+-- it is started, and driven to its end
+pub record IsCallStartedAndDriven
+    (s : CallContext) (settings : Settings) (call : Call) (before : CacheValue) (asks : List Exchange)
+    (result : LookupResult) (after : CacheValue)
+    : Type 0 where
+  pub progress : CallProgressValue
+  pub cache : CacheValue
+  pub starts : StartsCall s settings call before progress cache
+  pub driven : IsCallDriven s progress cache asks result after
+
+-- A call that is driven is one that blocks. One that blocks can be driven, where memory does not run out; where it does, a
+-- call that blocks may end in more ways, as after an error came back.
+pub record IsCallDrivenAlike
+    (s : CallContext) (settings : Settings) (call : Call) (before : CacheValue) (asks : List Exchange)
+    (result : LookupResult) (after : CacheValue)
+    : Type 0 where
+  pub forth : IsCallStartedAndDriven s settings call before asks result after
+      → (parts : List SubLookup) × (asks ≡ asks_of_sub_lookups parts)
+      × IsCall (IsAnsweredFor s) settings before call parts result after
+  pub back : (parts : List SubLookup) → asks ≡ asks_of_sub_lookups parts
+      → IsCall (IsAnsweredFor s) settings before call parts result after → is_out_of_memory result ≡ false
+      → IsCallStartedAndDriven s settings call before asks result after

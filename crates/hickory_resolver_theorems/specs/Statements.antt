@@ -233,11 +233,13 @@ AreAsWithoutCache s stages =
     → AllByRecursion (λ x. AllByRecursion (ResolvesWithinEight table) x.parts) (earlier ++ stage ∷ [])
     → IsAsWithoutCache table s stage
 
--- Over every run from an empty cache on, each sub-look-up, of one name and one type, sends at most eight questions;
--- where the asked type's least TTL is zero, no upstream answer record of that type outlives its received TTL cut at
--- the maximum; and where equal questions get equal outcomes, no chain needs a ninth question and intermediate records
--- are not preserved, every reply is the cacheless resolver's, TTLs, deadlines, headers and case aside. It is said of
--- the stages of the run that is given.
+-- From a new resolver, over every run, each attempt at one name and type sends at most 8 questions; where the asked
+-- type's least TTL is zero, no upstream answer record of that type outlives its received TTL cut at the maximum; and
+-- where equal questions get equal outcomes, no chain needs a ninth question and `preserve_intermediates` is off, every
+-- reply is the cacheless resolver's, TTLs, deadlines and headers aside.
+--
+-- A new resolver is one whose cache is empty. An attempt at one name and type is a sub-look-up. Names are compared
+-- without case, in replies too. It is said of the stages of the run that is given.
 abbrev pub Headline : (s : Settings) (empty : CacheValue) (requests : List RequestValue) (steps : List StepValue)
     (exchanges : List Exchange) (after : CacheValue) → Run s empty requests steps exchanges after → Type 0
 Headline s empty requests steps exchanges after run =

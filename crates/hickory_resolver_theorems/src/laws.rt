@@ -15,7 +15,7 @@ ghost use Rattle.hickory_resolver_model.specs.Hops.{LookupContext, IsReply};
 ghost use Rattle.hickory_resolver_model.specs.Resuming.{IsReplyOver};
 ghost use Rattle.hickory_resolver_model.specs.Lookup.{LookupResult};
 ghost use Rattle.hickory_resolver_model.specs.Hosts.{Host};
-ghost use Rattle.hickory_resolver_model.specs.Calls.{SubLookup, IsAnsweredFor, asks_of_sub_lookups};
+ghost use Rattle.hickory_resolver_model.specs.Calls.{CallContext, SubLookup, IsAnsweredFor, asks_of_sub_lookups};
 ghost use Rattle.hickory_resolver_model.specs.Resolver.{ResolverValue, AnswersCall};
 ghost use Rattle.hickory_resolver_model.specs.Run.{Settings, Call, after_clear, call_context_at, RequestValue, StepReply, StepValue, IsServed, Run};
 ghost use Rattle.hickory_resolver_theorems.specs.Keeping.{IsServedOver};
@@ -28,6 +28,7 @@ ghost use Rattle.hickory_resolver_theorems.specs.CallReplies.{ArePromisedCallRep
 ghost use Rattle.hickory_resolver_theorems.specs.OneAtATime.{IsOneAtATime};
 ghost use Rattle.hickory_resolver_theorems.specs.OneCallAtATime.{IsOneCallAtATime};
 ghost use Rattle.hickory_resolver_theorems.specs.Resumed.{IsOverOneCache, IsDrivenAlike, IsPromisedOver};
+ghost use Rattle.hickory_resolver_theorems.specs.ResumingCalls.{IsCallDrivenAlike};
 ghost use Rattle.hickory_resolver_theorems.specs.CallFacts.{IsPromisedCall, KeepsWhatIsKnown};
 ghost use Rattle.hickory_resolver_theorems.specs.WalkLaws.{IsOneWalk};
 
@@ -104,6 +105,14 @@ pub fn one_cache_is_a_case()
 pub fn a_driven_look_up_blocks()
     ensures { (s : LookupContext) (question : Query) (asks : List Exchange) (result : LookupResult)
         (after : CacheValue) → IsDrivenAlike s question asks result after }
+{}
+
+/// A call that is started, and fed at once with what comes back to each of its questions, comes to what one that blocks
+/// does; and each that blocks can be driven so, where memory does not run out.
+pub fn a_driven_call_blocks()
+    ensures { (s : CallContext) (settings : Settings) (call : Call) (before : CacheValue) (asks : List Exchange)
+        (result : LookupResult) (after : CacheValue)
+        → IsCallDrivenAlike s settings call before asks result after }
 {}
 
 /// A look-up whose hops each read the cache that stood when the hop was taken, whatever changed it in between, keeps

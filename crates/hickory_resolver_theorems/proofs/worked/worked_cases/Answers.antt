@@ -4,6 +4,7 @@ use Rattle.hickory_resolver_theorems.specs.WorkedLoop.{loop_cases}
 use Rattle.hickory_resolver_theorems.specs.WorkedRun.{run_cases}
 use Rattle.hickory_resolver_theorems.specs.WorkedInterleaved.{interleaved_cases}
 use Rattle.hickory_resolver_theorems.specs.WorkedRequests.{request_cases}
+use Rattle.hickory_resolver_theorems.proofs.AliasCases.{alias_lifetime_cases}
 use Rattle.hickory_resolver_theorems.proofs.worked.worked_cases.Goals as goal
 
 pub returns : goal.returns
@@ -15,6 +16,7 @@ returns c = record {
   aliases = alias_cases;
   services = service_cases;
   loops = loop_cases;
+  alias_lifetimes = alias_lifetime_cases;
   runs = run_cases;
   interleaved = interleaved_cases;
   requests = request_cases;
