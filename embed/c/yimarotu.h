@@ -9,9 +9,10 @@
  * nothing else that the call is given. A moment is in seconds, from whatever start the program takes; it should never go
  * back, or answers are used for longer than they were received for.
  *
- * A call never ends the program; where memory runs out it says so. The library takes memory by the malloc and realloc of
- * the program, and gives it back by its free. What a session holds is given back when it is closed; all other memory when
- * the call returns.
+ * Each call is proved to be safe and to return, as long as the program keeps to this page; where memory runs out it says
+ * so. The library takes memory by the malloc and realloc of the program, and gives it back by its free. What a session
+ * holds is given back when it is closed; all other memory when the call returns. What is said of memory and of threads is
+ * tested: no clause speaks of it.
  *
  * Names of the cache and of the hosts are hashed without a secret: a stranger who may ask for any name can make a session
  * slow by names of one hash.
@@ -30,7 +31,7 @@
 extern "C" {
 #endif
 
-/* How a call ended: a status. A number that is not here is never given. */
+/* How a call ended: a status. The clause of each call gives one of these. */
 enum {
     YIMAROTU_OK = 0,
     YIMAROTU_SCRIPT = 1,     /* a line of the script, or of the settings, has a fault */
@@ -72,14 +73,14 @@ enum {
 
 /* What a look-up came to. */
 enum {
-    YIMAROTU_FOUND = 0,         /* records */
+    YIMAROTU_FOUND = 0,         /* records, which may all be in other sections than the answers */
     YIMAROTU_NO_RECORDS = 1,    /* a negative answer; its code is NOERROR (0) or NXDOMAIN (3) */
     YIMAROTU_RESPONSE_CODE = 2, /* a response with another code */
     YIMAROTU_TIMED_OUT = 3,     /* the upstream did not answer in time */
     YIMAROTU_UPSTREAM = 4,      /* the upstream cannot be reached, or failed otherwise */
     YIMAROTU_BAD_NAME = 5,      /* the text is no name */
-    YIMAROTU_NO_OUTCOME = 6,    /* never given */
-    YIMAROTU_BOUNDS = 7,        /* never given */
+    YIMAROTU_NO_OUTCOME = 6,    /* a script's error, which is not for sessions; no clause says that none gives it */
+    YIMAROTU_BOUNDS = 7,        /* reversed bounds, which yimarotu_open tells; no clause says that no look-up does */
     YIMAROTU_RAN_OUT = 8        /* no memory was left within the look-up */
 };
 
@@ -152,13 +153,14 @@ yimarotu_came yimarotu_start_ip(yimarotu_session *session, uint64_t number, cons
 typedef struct yimarotu_asked {
     uint8_t status;
     uint8_t fault;
-    bool mixed;    /* whether the case of the name is to be varied; no setting wants it so far */
+    bool mixed;    /* whether the case of the name is to be varied, which no line of the settings can say */
     size_t length; /* of the message: where it was written, and where the room is too small for it; else 0 */
 } yimarotu_asked;
 
 /* Writes the question that the look-up waits for at the front of the room, as a DNS message to send: its id is 0, and the
  * program puts its own in the first two bytes. What is behind it stays, and where the status is not YIMAROTU_OK all of
- * the room does. A message takes at most 512 bytes. */
+ * the room does. No clause bounds its length: a header, the longest name and OPT (RFC 1035, sections 4.1 and 2.3.4; RFC
+ * 6891, section 6.1.2) are 282 bytes. */
 yimarotu_asked yimarotu_question(yimarotu_session *session, uint64_t number, uint8_t *room, size_t room_length);
 
 /* Goes on with the look-up by a DNS message that came back to its question. The program sees to it that this is the

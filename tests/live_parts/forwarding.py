@@ -1,7 +1,9 @@
 """Cases of `forward`: many clients at once, over a server that counts."""
 import asyncio
 import contextlib
+import os
 import random
+import signal
 import socket
 import struct
 import time
@@ -19,6 +21,8 @@ CLIENTS, ADDRESSES, ALIASES, ABSENT = 20, 120, 60, 20
 # How many clients ask for each name.
 ASKERS = 2
 SECONDS = 5
+# Types whose codes are those of a letter, large and small; the first is HTTPS (RFC 9460, section 14.1).
+TYPES = (65, 97)
 SOA = dns.rdatatype.SOA
 
 
@@ -31,6 +35,8 @@ def zone_records():
         target = f"a{number - 1}" if number % 4 == 3 else f"n{number}"
         yield f"a{number}.example.test. 300 IN CNAME {target}.example.test."
     yield "gone.example.test. 300 IN CNAME absent.example.test."
+    yield "moved.example.test. 300 IN DNAME example.test."
+    yield from (f"types.example.test. 300 IN TYPE{number} \\# 3 000100" for number in TYPES)
 
 
 def wanted():
@@ -49,6 +55,9 @@ def run(cases, programs, folder):
             many_clients(cases, server, port)
             replies(cases, server, port)
             aliases(cases, server, port)
+            substituted(cases, port)
+            types(cases, port, process)
+            zones(cases, port)
             malformed(cases, port)
             cases.equal("forward is still there", process.poll(), None)
         cases.equal("forward is ended by a signal", process.returncode, 0)
@@ -225,6 +234,41 @@ def aliases(cases, server, port):
         found = (reply.rcode(), answer, [rrset.rdtype for rrset in reply.authority])
         end = [("gone.example.test.", "absent.example.test.")]
         cases.equal(f"an alias of no name, {turn} time", found, (dns.rcode.NXDOMAIN, end, [SOA]))
+
+
+def substituted(cases, port):
+    """The one alias of a name below a DNAME record is that which the record makes of it."""
+    # Each record by itself: dnspython keeps one alias of a name.
+    query = dns.message.make_query("www.moved.example.test", "CNAME")
+    reply = dns.query.udp(query, servers.ADDRESS, timeout=SECONDS, port=port, one_rr_per_rrset=True)
+    aliases = [rrset for rrset in reply.answer if rrset.rdtype == dns.rdatatype.CNAME]
+    found = [(rrset.name.to_text(), rrset[0].to_text()) for rrset in aliases]
+    cases.equal("the alias of a DNAME record", found, [("www.moved.example.test.", "www.example.test.")])
+    found = joined(dns.name.from_text("www.moved.example.test."), ask(port, "www.moved.example.test", "A"))
+    cases.equal("the address behind a DNAME record", found, ["192.0.2.1"])
+
+
+def types(cases, port, process):
+    """Clients that ask for types of one letter at once, which wait together, each get their own."""
+    with contextlib.ExitStack() as stack:
+        socks = [stack.enter_context(socket.socket(socket.AF_INET, socket.SOCK_DGRAM)) for _ in TYPES]
+        os.kill(process.pid, signal.SIGSTOP)
+        for sock, number in zip(socks, TYPES):
+            sock.settimeout(SECONDS)
+            sock.connect((servers.ADDRESS, port))
+            sock.send(dns.message.make_query("types.example.test", number).to_wire())
+        os.kill(process.pid, signal.SIGCONT)
+        replies = [dns.message.from_wire(sock.recv(512)) for sock in socks]
+    found = [[int(rrset.rdtype) for rrset in reply.answer] for reply in replies]
+    cases.equal("types of one letter, asked for at once", found, [[number] for number in TYPES])
+
+
+def zones(cases, port):
+    """A negative answer has the SOA record of its zone, whatever a reply of another zone says of that."""
+    for name in ("nowhere.example.test", "stray.other.test", "nowhere.example.test"):
+        reply = ask(port, name, "A")
+    found = [rrset[0].serial for rrset in reply.authority if rrset.rdtype == SOA]
+    cases.equal("the SOA record of a zone, behind a reply of another zone", found, [1])
 
 
 def malformed(cases, port):

@@ -1,5 +1,6 @@
 """Cases of `resolve`: over unbound, over dnsmasq, and over a server that lies."""
 import re
+import time
 from concurrent.futures import ThreadPoolExecutor
 
 import dns.message
@@ -28,6 +29,7 @@ def run(cases, programs, folder):
     records = [*zone.RECORDS, "lied.example.test. 60 IN A 192.0.2.9"]
     with cases.guard("a server that lies"), stub.running(records) as server:
         misbehaviour(cases, programs, server)
+        moments(cases, programs, server)
         session(cases, programs, "a server that lies, a session", server, folder, hosts, "lied.example.test", "A",
                 "silent.example.test", "A", "refused.example.test", "A")
 
@@ -126,6 +128,14 @@ def misbehaviour(cases, programs, server):
     resolve(programs, server, "big.example.test", "TXT")
     cases.equal("a truncated reply is asked for by TCP", [it[4] for it in server.asked], [False, True])
     cases.equal("no more than one question a name", len(server.questions_for("big.example.test.")), 2)
+
+
+def moments(cases, programs, server):
+    """Moments are of a clock that does not go back: of the one that this machine has for all processes."""
+    before = int(time.monotonic())
+    _, block, _ = resolve(programs, server, "--blocks", "www.example.test", "A")
+    moment = int(block.split()[1])
+    cases.tell("the moment of a request", before <= moment <= time.monotonic(), f"{moment}, not {before} or soon after")
 
 
 def explained(cases, programs, server):

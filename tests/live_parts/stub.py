@@ -22,6 +22,8 @@ OTHER_ADDRESS = "127.0.0.2"
 SILENT = dns.name.from_text("silent.example.test.")
 LIED = dns.name.from_text("lied.example.test.")
 REFUSED = dns.name.from_text("refused.example.test.")
+# A name of another zone, of which the reply says that it has the SOA record of this one, with this number.
+STRAY, STRAY_SERIAL = dns.name.from_text("stray.other.test."), 666
 
 
 class Stub:
@@ -46,12 +48,24 @@ class Stub:
         if question.name == REFUSED:
             response.set_rcode(dns.rcode.REFUSED)
             return response
-        alias = self._records.get((question.name, dns.rdatatype.CNAME), [])
+        alias = self._records.get((question.name, dns.rdatatype.CNAME)) or self.substituted(question.name)
         response.answer = list(self._records.get((question.name, question.rdtype), alias))
-        if not response.answer:
+        if question.name == STRAY:
+            soa = f"ns.other.test. admin.other.test. {STRAY_SERIAL} 7200 900 1209600 240"
+            response.authority = [dns.rrset.from_text("example.test.", 300, "IN", "SOA", soa)]
+            response.set_rcode(dns.rcode.NXDOMAIN)
+        elif not response.answer:
             response.authority = list(self._records[dns.name.from_text("example.test."), dns.rdatatype.SOA])
             response.set_rcode(dns.rcode.NOERROR if question.name in self._names else dns.rcode.NXDOMAIN)
         return response
+
+    def substituted(self, name):
+        """The DNAME record above a name, and the alias that it makes of it (RFC 6672, section 3.1)."""
+        for above in (name.split(depth)[1] for depth in range(2, len(name.labels))):
+            for rrset in self._records.get((above, dns.rdatatype.DNAME), []):
+                target = name.relativize(above) + rrset[0].target
+                return [rrset, dns.rrset.from_text(name, rrset.ttl, "IN", "CNAME", target.to_text())]
+        return []
 
     def lies(self, query):
         """Replies with another id, another name, another type, no mark of a reply, an opcode that stands for nothing,

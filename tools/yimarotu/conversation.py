@@ -54,7 +54,6 @@ class Conversation(asyncio.SubprocessProtocol):
         self._waiting = {}
         self._tasks = set()
         self._marks = itertools.count()
-        self._moment = 0
         self._rest = b""
         self._block = None
         self._block_mark = None
@@ -79,8 +78,8 @@ class Conversation(asyncio.SubprocessProtocol):
         mark = f"r{next(self._marks)}"
         waiting = Waiting(asyncio.get_running_loop().create_future(), explain)
         self._waiting[mark] = waiting
-        self._moment = max(self._moment, int(time.time()))
-        self._tell(f"{mark} {'explain ' if explain else ''}at {self._moment} {words}")
+        # The moment is of a clock that does not go back.
+        self._tell(f"{mark} {'explain ' if explain else ''}at {int(time.monotonic())} {words}")
         return await waiting.future
 
     async def close(self):

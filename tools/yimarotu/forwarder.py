@@ -40,14 +40,15 @@ class Zones:
     def __init__(self):
         self._records = {}
 
-    def learn(self, lines):
-        """Takes the SOA records out of the lines of an outcome."""
+    def learn(self, name, lines):
+        """Takes the SOA records out of the lines of an outcome, of the zones that the name lies in that was asked."""
         for line in lines:
             section, *fields = line.split()
             if section == "authority" and fields[3] == "SOA":
                 record = records.Record(fields)
-                self._records.pop(record.owner, None)
-                self._records[record.owner] = record
+                if name.is_subdomain(record.owner):
+                    self._records.pop(record.owner, None)
+                    self._records[record.owner] = record
         while len(self._records) > MOST_ZONES:
             del self._records[next(iter(self._records))]
 

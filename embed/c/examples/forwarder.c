@@ -16,7 +16,10 @@
 
 #include "queries.h"
 
-enum { OUTPUT = 1 << 20, LOOKUPS = 2048, BUCKETS = 1024, CONNECTIONS = 200, TURNS = 64, TRIES = 2, WAITING = 1 << 20 };
+enum { LOOKUPS = 2048, BUCKETS = 1024, CONNECTIONS = 200, TURNS = 64, TRIES = 2, WAITING = 1 << 20 };
+/* How many clients wait at once, and how many queries of one connection; and how many octets are kept for a connection
+ * that does not take them. */
+enum { WAITERS = 8192, WAITERS_EACH = 100, OUTPUT = 1 << 18 };
 enum { TIMEOUT = 1500, IDLE = 10000, TICK = 100 }; /* milliseconds */
 enum kind { DATAGRAMS, STREAMS, UPSTREAM, CONNECTION };
 
@@ -30,8 +33,8 @@ struct waiter { /* a client that waits for a reply */
 };
 
 struct lookup {
-    uint64_t number; /* 0 where the place is free */
-    uint32_t generation;
+    uint64_t number;     /* of the session; 0 where the place is free */
+    uint32_t generation; /* of its socket */
     struct lookup *next; /* in its bucket */
     struct waiter *waiters;
     int fd, by_stream, tries;
@@ -42,18 +45,19 @@ struct lookup {
 
 struct connection {
     int fd; /* -1 where the place is free */
-    uint32_t generation;
+    uint32_t generation, events;
     int64_t until;
     uint8_t query[2 + QUERY], *output;
     size_t got, length, sent;
+    int waiting, is_held; /* its queries that wait at look-ups; and whether one that has come is not taken yet */
 };
 
 static yimarotu_session session = YIMAROTU_SESSION;
 static struct lookup lookups[LOOKUPS], *buckets[BUCKETS];
 static struct connection connections[CONNECTIONS];
 static struct addrinfo *server;
-static int epoll, datagrams, streams;
-static uint8_t room[MESSAGE];
+static int epoll, datagrams, streams, lookup_count, waiter_count;
+static uint8_t room[MESSAGE], message[MESSAGE];
 static volatile sig_atomic_t is_ended;
 
 static int64_t milliseconds(void) {
@@ -67,30 +71,65 @@ static int watch(int change, int fd, uint32_t events, enum kind kind, size_t pla
     return epoll_ctl(epoll, change, fd, &event) == 0;
 }
 
+/* ---- replies */
+
+/* Whether another query of a connection may be taken. */
+static int may_ask(const struct connection *connection) {
+    return connection->waiting < WAITERS_EACH && connection->length - connection->sent <= OUTPUT / 4;
+}
+
+/* Watches for what a connection can go on with. Queries that are held go on when they may, which is told at once, since
+ * the connection can be written to. */
+static void watch_connection(struct connection *connection) {
+    int is_open = may_ask(connection), is_full = connection->length > 0;
+    uint32_t events = (is_open && !connection->is_held ? EPOLLIN : 0)
+        | (is_full || (is_open && connection->is_held) ? EPOLLOUT : 0);
+    if (events == connection->events) return;
+    connection->events = events;
+    watch(EPOLL_CTL_MOD, connection->fd, events, CONNECTION, connection - connections, connection->generation);
+}
+
 static void flush(struct connection *connection) {
     const uint8_t *rest = connection->output + connection->sent;
     ssize_t sent = send(connection->fd, rest, connection->length - connection->sent, MSG_NOSIGNAL);
     if (sent > 0) connection->sent += sent, connection->until = milliseconds() + IDLE;
-    int is_empty = connection->sent == connection->length;
-    if (is_empty) connection->sent = connection->length = 0;
-    uint32_t events = is_empty ? EPOLLIN : EPOLLIN | EPOLLOUT;
-    watch(EPOLL_CTL_MOD, connection->fd, events, CONNECTION, connection - connections, connection->generation);
+    if (connection->sent == connection->length) connection->sent = connection->length = 0;
+    watch_connection(connection);
+}
+
+static void close_connection(struct connection *connection) {
+    close(connection->fd);
+    free(connection->output);
+    connection->fd = -1, connection->output = NULL, connection->got = connection->length = connection->sent = 0;
+}
+
+/* Sends what is in the room by TCP. Where nothing is, or too much is kept already, the connection is closed. */
+static void send_by_stream(struct connection *connection, size_t length) {
+    size_t kept = connection->length - connection->sent, all = kept + 2 + length;
+    if (connection->sent > 0) memmove(connection->output, connection->output + connection->sent, kept);
+    uint8_t *output = length > 0 && all <= OUTPUT ? realloc(connection->output, all) : NULL;
+    if (output == NULL) return close_connection(connection);
+    put_number_at(output + kept, length);
+    memcpy(output + kept + 2, room, length);
+    connection->output = output, connection->length = all, connection->sent = 0;
+    flush(connection);
+}
+
+/* Whether a client has a connection, which is still open. */
+static int is_connected(const struct waiter *waiter) {
+    return waiter->connection != NULL && waiter->connection->fd >= 0
+        && waiter->connection->generation == waiter->generation;
 }
 
 /* Sends what is in the room to a client. */
 static void send_reply(const struct waiter *waiter, size_t length) {
-    struct connection *connection = waiter->connection;
-    if (length == 0) return;
-    if (connection == NULL) {
+    if (is_connected(waiter)) send_by_stream(waiter->connection, length);
+    if (waiter->connection == NULL && length > 0)
         sendto(datagrams, room, length, 0, (const struct sockaddr *)&waiter->peer, waiter->peer_length);
-    } else if (connection->fd >= 0 && connection->generation == waiter->generation) {
-        uint8_t *output = realloc(connection->output, connection->length + 2 + length);
-        if (output == NULL) return;
-        put_number_at(output + connection->length, length);
-        memcpy(output + connection->length + 2, room, length);
-        connection->output = output, connection->length += 2 + length;
-        flush(connection);
-    }
+}
+
+static void refuse(const struct waiter *waiter, unsigned code) {
+    send_reply(waiter, write_reply(&waiter->query, code, NULL, 0, room));
 }
 
 /* ---- look-ups */
@@ -107,23 +146,38 @@ static void close_upstream(struct lookup *lookup) {
     lookup->fd = -1, lookup->reply = NULL, lookup->got = 0;
 }
 
+/* What a look-up of the session came to, whose message is put in its place. */
+static yimarotu_answered answer_of(uint64_t number) {
+    return yimarotu_answer(&session, number, MESSAGE, message, sizeof message);
+}
+
+/* Lets a client wait for a look-up, if there are not too many. */
+static int add_waiter(struct lookup *lookup, const struct waiter *client) {
+    struct waiter *waiter = waiter_count < WAITERS ? malloc(sizeof *waiter) : NULL;
+    if (waiter == NULL) return 0;
+    *waiter = *client;
+    waiter->next = lookup->waiters, lookup->waiters = waiter;
+    if (waiter->connection != NULL) waiter->connection->waiting++;
+    return ++waiter_count;
+}
+
 /* Answers all that wait, and forgets the look-up. */
 static void finish(struct lookup *lookup) {
-    static uint8_t message[MESSAGE];
-    yimarotu_answered answered = yimarotu_answer(&session, lookup->number, MESSAGE, message, sizeof message);
+    yimarotu_answered answered = answer_of(lookup->number);
     struct waiter *waiter = lookup->waiters;
     struct lookup **link = bucket_of(&waiter->query);
     while (*link != lookup) link = &(*link)->next;
     *link = lookup->next;
     while (waiter != NULL) {
         struct waiter *next = waiter->next;
+        if (is_connected(waiter)) waiter->connection->waiting--;
         send_reply(waiter, write_answer(&waiter->query, answered, message, room));
-        free(waiter);
+        free(waiter), waiter_count--;
         waiter = next;
     }
     close_upstream(lookup);
     yimarotu_cancel(&session, lookup->number);
-    lookup->number = 0, lookup->waiters = NULL;
+    lookup->number = 0, lookup->waiters = NULL, lookup_count--;
 }
 
 /* A socket of its own for each question, so that each has another port. */
@@ -210,97 +264,114 @@ static void on_stream(struct lookup *lookup, uint32_t events) {
 
 /* ---- queries */
 
-static struct lookup *free_lookup(void) {
-    static size_t next;
-    for (size_t seen = 0; seen < LOOKUPS; seen++) {
-        struct lookup *lookup = &lookups[next++ % LOOKUPS];
-        if (lookup->number == 0) return lookup;
-    }
-    return NULL;
+/* The look-up under way by which a query is answered, too. */
+static struct lookup *shared_lookup(const struct query *query) {
+    struct lookup *lookup = *bucket_of(query);
+    while (lookup != NULL && !asks_the_same(&lookup->waiters->query, query)) lookup = lookup->next;
+    return lookup;
 }
 
-static void start(struct waiter *waiter) {
+/* A place for a look-up, with the client that waits for it. */
+static struct lookup *new_lookup(uint64_t number, const struct waiter *client) {
+    static size_t next;
+    if (lookup_count == LOOKUPS) return NULL;
+    while (lookups[next % LOOKUPS].number != 0) next++;
+    struct lookup *lookup = &lookups[next++ % LOOKUPS], **bucket = bucket_of(&client->query);
+    if (!add_waiter(lookup, client)) return NULL;
+    lookup->number = number, lookup->fd = -1, lookup_count++;
+    lookup->next = *bucket, *bucket = lookup;
+    return lookup;
+}
+
+/* Only what waits takes a place, so that a name in the cache is answered where there is none. */
+static void start(const struct waiter *client) {
+    static uint64_t number;
     char text[4 * 256];
-    const struct query *query = &waiter->query;
-    struct lookup **bucket = bucket_of(query), *lookup;
-    for (lookup = *bucket; lookup != NULL; lookup = lookup->next) {
-        struct waiter *first = lookup->waiters;
-        if (!asks_the_same(&first->query, query)) continue;
-        waiter->next = first->next, first->next = waiter;
+    const struct query *query = &client->query;
+    struct lookup *lookup = shared_lookup(query);
+    if (lookup != NULL) {
+        if (!add_waiter(lookup, client)) refuse(client, SERVFAIL);
         return;
     }
-    if ((lookup = free_lookup()) == NULL) {
-        send_reply(waiter, write_reply(query, SERVFAIL, NULL, 0, room));
-        return free(waiter);
-    }
-    lookup->number = (uint64_t)++lookup->generation << 32 | ((lookup - lookups) + 1), lookup->fd = -1;
-    lookup->next = *bucket, *bucket = lookup, lookup->waiters = waiter;
-    size_t text_length = name_text(query->bytes + HEADER, text);
+    size_t length = name_text(query->bytes + HEADER, text);
     unsigned type = number_at(query->bytes + query->length - 4);
-    go_on(lookup, yimarotu_start(&session, lookup->number, (uint8_t *)text, text_length, type, milliseconds() / 1000));
+    yimarotu_came came =
+        yimarotu_start(&session, ++number, (uint8_t *)text, length, type, milliseconds() / 1000);
+    int waits = came.status == YIMAROTU_OK && came.waits;
+    if (waits && (lookup = new_lookup(number, client)) != NULL) return go_on(lookup, came);
+    if (waits) refuse(client, SERVFAIL);
+    else send_reply(client, write_answer(query, answer_of(number), message, room));
+    yimarotu_cancel(&session, number);
 }
 
-/* Takes the query of a client, whose address or connection is in the model. */
-static void on_query(const struct waiter *model, const uint8_t *query, size_t length) {
-    struct waiter *waiter = malloc(sizeof *waiter);
-    if (waiter == NULL) return;
-    *waiter = *model;
-    int code = read_query(&waiter->query, query, length, waiter->connection != NULL, room);
-    if (code == FINE) return start(waiter);
-    if (code != DROPPED) send_reply(waiter, write_reply(&waiter->query, code, NULL, 0, room));
-    free(waiter);
+/* Takes the query of a client, whose address or connection is there. */
+static void on_query(struct waiter *client, const uint8_t *query, size_t length) {
+    int code = read_query(&client->query, query, length, client->connection != NULL, room);
+    if (code == FINE) start(client);
+    else if (code != DROPPED) refuse(client, code);
 }
 
 static void on_datagrams(void) {
     static uint8_t query[QUERY];
     for (int turn = 0; turn < TURNS; turn++) {
-        struct waiter model = {.peer_length = sizeof model.peer};
-        ssize_t got = recvfrom(datagrams, query, sizeof query, 0, (struct sockaddr *)&model.peer, &model.peer_length);
+        struct waiter client = {.peer_length = sizeof client.peer};
+        ssize_t got = recvfrom(datagrams, query, sizeof query, 0, (struct sockaddr *)&client.peer, &client.peer_length);
         if (got < 0) return;
-        on_query(&model, query, got);
+        on_query(&client, query, got);
     }
 }
 
 /* ---- connections of clients */
 
-static void close_connection(struct connection *connection) {
-    close(connection->fd);
-    free(connection->output);
-    connection->fd = -1, connection->output = NULL, connection->got = connection->length = connection->sent = 0;
-}
-
+/* Where there is no file for another connection, those that come wait for the next tick. */
 static void on_streams(void) {
     int fd = accept4(streams, NULL, NULL, SOCK_NONBLOCK | SOCK_CLOEXEC), place = 0;
-    if (fd < 0) return;
+    if (fd < 0) {
+        watch(EPOLL_CTL_MOD, streams, 0, STREAMS, 0, 0);
+        return;
+    }
     while (place < CONNECTIONS && connections[place].fd >= 0) place++;
     struct connection *connection = &connections[place];
-    if (place == CONNECTIONS || !watch(EPOLL_CTL_ADD, fd, EPOLLIN, CONNECTION, place, connection->generation + 1))
+    if (place == CONNECTIONS || !watch(EPOLL_CTL_ADD, fd, EPOLLIN, CONNECTION, place, connection->generation + 1)) {
         close(fd);
-    else
-        connection->fd = fd, connection->generation++, connection->until = milliseconds() + IDLE;
+        return;
+    }
+    connection->fd = fd, connection->generation++, connection->events = EPOLLIN;
+    connection->waiting = connection->is_held = 0, connection->until = milliseconds() + IDLE;
 }
 
-static void on_connection(struct connection *connection, uint32_t events) {
-    if (events & EPOLLOUT) flush(connection);
-    if (!(events & (EPOLLIN | EPOLLERR | EPOLLHUP))) return;
-    size_t left = sizeof connection->query - connection->got;
-    ssize_t got = recv(connection->fd, connection->query + connection->got, left, 0);
-    if (got < 0 && errno == EAGAIN) return;
-    if (got <= 0 || connection->length > OUTPUT) return close_connection(connection);
-    connection->got += got, connection->until = milliseconds() + IDLE;
-    struct waiter model = {.connection = connection, .generation = connection->generation};
+/* Takes the queries that have come whole, as long as there may be more. */
+static void take_queries(struct connection *connection) {
+    struct waiter client = {.connection = connection, .generation = connection->generation};
     size_t at = 0, length;
     while (connection->got - at >= 2 && connection->got - at >= 2 + (length = number_at(connection->query + at))) {
-        on_query(&model, connection->query + at + 2, length);
+        if ((connection->is_held = !may_ask(connection))) break;
+        on_query(&client, connection->query + at + 2, length);
+        if (connection->fd < 0) return;
         at += 2 + length;
     }
     memmove(connection->query, connection->query + at, connection->got -= at);
-    if (connection->got == sizeof connection->query) close_connection(connection);
+    if (connection->got == sizeof connection->query && !connection->is_held) return close_connection(connection);
+    watch_connection(connection);
+}
+
+static void on_connection(struct connection *connection, uint32_t events) {
+    if (events & (EPOLLERR | EPOLLHUP)) return close_connection(connection);
+    if (connection->length > 0) flush(connection);
+    if (events & EPOLLIN) {
+        size_t left = sizeof connection->query - connection->got;
+        ssize_t got = recv(connection->fd, connection->query + connection->got, left, 0);
+        if (got < 0 && errno == EAGAIN) return;
+        if (got <= 0) return close_connection(connection);
+        connection->got += got, connection->until = milliseconds() + IDLE;
+    }
+    take_queries(connection);
 }
 
 /* ---- the loop */
 
 static void expire(int64_t now) {
+    watch(EPOLL_CTL_MOD, streams, EPOLLIN, STREAMS, 0, 0);
     for (struct lookup *lookup = lookups; lookup < lookups + LOOKUPS; lookup++)
         if (lookup->number != 0 && lookup->until <= now) {
             if (lookup->by_stream || lookup->tries++ >= TRIES) fail(lookup, YIMAROTU_FAIL_TIMEOUT);

@@ -111,10 +111,17 @@ static void print_addresses(const uint8_t *message) {
     }
 }
 
+/* The moment, by a clock that does not go back. */
+static uint64_t seconds(void) {
+    struct timespec now;
+    clock_gettime(CLOCK_MONOTONIC, &now);
+    return (uint64_t)now.tv_sec;
+}
+
 /* Looks the host up, prints its addresses, and gives 0; or 1 where it has none, 3 where that could not be learnt. */
 static int look_up(yimarotu_session *session, const char *host, const struct addrinfo *server) {
     static uint8_t message[MESSAGE];
-    yimarotu_came came = yimarotu_start_ip(session, NUMBER, (const uint8_t *)host, strlen(host), (uint64_t)time(NULL));
+    yimarotu_came came = yimarotu_start_ip(session, NUMBER, (const uint8_t *)host, strlen(host), seconds());
     while (came.status == YIMAROTU_OK && came.waits) came = go_on(session, server);
     if (came.status != YIMAROTU_OK) return fprintf(stderr, "%s: status %d\n", host, came.status), 3;
     yimarotu_answered answered = yimarotu_answer(session, NUMBER, sizeof message, message, sizeof message);
@@ -131,7 +138,7 @@ int main(int count, char **arguments) {
     if (count < 3 || count > 4) return fputs("usage: lookup HOST SERVER [PORT]\n", stderr), 2;
     if (getaddrinfo(arguments[2], count == 4 ? arguments[3] : "53", &wanted, &server) != 0)
         return fputs("the server is no address, or the port no number\n", stderr), 2;
-    yimarotu_opened opened = yimarotu_open(&session, settings, sizeof settings - 1, settings, 0, (uint64_t)time(NULL));
+    yimarotu_opened opened = yimarotu_open(&session, settings, sizeof settings - 1, settings, 0, seconds());
     int status = opened.status == YIMAROTU_OK ? look_up(&session, arguments[1], server) : 3;
     yimarotu_close(&session);
     freeaddrinfo(server);

@@ -21,10 +21,26 @@ static inline int is_same(const uint8_t *one, const uint8_t *other, size_t lengt
     return 1;
 }
 
+/* Whether questions of the same length are equal: names but for the case of letters, type and class octet for octet. */
+static inline int is_same_question(const uint8_t *one, const uint8_t *other, size_t length) {
+    return is_same(one, other, length - 4) && memcmp(one + length - 4, other + length - 4, 4) == 0;
+}
+
 /* Where a name ends that the library wrote. */
 static inline size_t behind_name(const uint8_t *message, size_t at) {
     while (message[at] != 0 && message[at] < 192) at += message[at] + 1u;
     return at + (message[at] == 0 ? 1 : 2);
+}
+
+/* Whether a name of a message that the library wrote is this one, written whole, but for the case of letters. */
+static inline int is_name(const uint8_t *message, size_t at, const uint8_t *name) {
+    for (;;) {
+        while (message[at] >= 192) at = number_at(message + at) & 0x3fff;
+        size_t length = message[at] + 1u;
+        if (!is_same(message + at, name, length)) return 0;
+        if (length == 1) return 1;
+        at += length, name += length;
+    }
 }
 
 /* Where the questions end of a message that the library wrote. */

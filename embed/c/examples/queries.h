@@ -25,18 +25,25 @@ static int read_opt(struct query *query, const uint8_t *message, size_t length, 
     return opt[5] == 0;
 }
 
-/* Takes a query: the response code to refuse it with, or FINE, or DROPPED. The room is for a message. */
+/* Whether the counts of a header are those of a query: one question, no answer, at most one authority, which a transfer
+ * has (RFC 1995, section 3), and at most OPT and a signature behind (RFC 6891, section 6.1.1; RFC 8945, section 5.1). */
+static int has_counts_of_query(const uint8_t *header) {
+    return number_at(header + 4) == 1 && number_at(header + 6) == 0 && number_at(header + 8) <= 1
+        && number_at(header + 10) <= 2;
+}
+
+/* Takes a query: the response code to refuse it with, or FINE, or DROPPED. The room is for a message. The header is
+ * looked at first, since a message of many questions takes long to read. */
 static int read_query(struct query *query, const uint8_t *bytes, size_t length, int by_stream, uint8_t *room) {
     query->limit = by_stream ? MESSAGE : 512, query->has_opt = 0;
     if (length < HEADER || bytes[2] & 0x80) return DROPPED;
     memcpy(query->bytes, bytes, query->length = HEADER);
+    if (bytes[2] & 0x78) return NOTIMP;
+    if (!has_counts_of_query(bytes)) return FORMERR;
     yimarotu_written written = yimarotu_rewrite(bytes, length, MESSAGE, room, MESSAGE);
     if (written.status != YIMAROTU_OK) return written.status == YIMAROTU_MESSAGE ? FORMERR : SERVFAIL;
     int is_current = read_opt(query, room, written.length, by_stream);
-    if (number_at(room + 4) == 1) query->length = behind_name(room, HEADER) + 4;
-    memcpy(query->bytes, room, query->length);
-    if (room[2] & 0x78) return NOTIMP;
-    if (query->length == HEADER) return FORMERR;
+    memcpy(query->bytes, room, query->length = behind_questions(room));
     if (!is_current) return BADVERS;
     unsigned type = number_at(room + query->length - 4);
     if (number_at(room + query->length - 2) != 1) return REFUSED;
@@ -45,7 +52,8 @@ static int read_query(struct query *query, const uint8_t *bytes, size_t length, 
 
 /* Whether two queries ask for the same. */
 static int asks_the_same(const struct query *one, const struct query *other) {
-    return one->length == other->length && is_same(one->bytes + HEADER, other->bytes + HEADER, one->length - HEADER);
+    return one->length == other->length
+        && is_same_question(one->bytes + HEADER, other->bytes + HEADER, one->length - HEADER);
 }
 
 /* Writes the reply of a response code alone, or of the records of a message, which live for so long at most. Gives its

@@ -49,17 +49,29 @@ static size_t put_record(const uint8_t *message, size_t at, uint32_t most) {
     return end;
 }
 
-/* An alias from what was asked to what was found, where they are two: to the owner of the first answer, or to the name that
- * has none. It lives for this reply alone. */
+/* Where the name stands of which the answers are: that of the message's question, or where no answer is of that, the
+ * owner of the first answer of the type that was asked. Gives 0 where an answer is of the asked name itself. */
+static size_t found_name(const uint8_t *question, size_t length, const uint8_t *message) {
+    size_t found = 0, at = behind_questions(message);
+    for (unsigned left = number_at(message + 6); left > 0; left--) {
+        size_t owner = at;
+        const uint8_t *type = record_at(message, at, &at);
+        if (is_name(message, owner, question + HEADER)) return 0;
+        if (is_name(message, owner, message + HEADER)) found = HEADER;
+        else if (found == 0 && memcmp(type, question + length - 4, 2) == 0) found = owner;
+    }
+    return found == 0 ? HEADER : found;
+}
+
+/* An alias from what was asked to what was found, or to the name that has nothing, where they are two. It lives for
+ * this reply alone. */
 static void put_alias(const uint8_t *question, size_t length, const uint8_t *message) {
-    size_t before = plain_length, start = plain_length + 12;
+    size_t start = plain_length + 12, found = found_name(question, length, message);
+    if (found == 0 || is_name(message, found, question + HEADER)) return;
     put("\xc0\x0c\0\5\0\1\0\0\0\0\0\0", 12);
-    put_name(message, number_at(message + 6) > 0 ? behind_questions(message) : HEADER);
+    put_name(message, found);
     put_number_at(plain + start - 2, plain_length - start);
-    if (plain_length - start == length - HEADER - 4 && is_same(plain + start, question + HEADER, plain_length - start))
-        plain_length = before;
-    else
-        add(6, 1);
+    add(6, 1);
 }
 
 static void put_records(const uint8_t *message, uint32_t most) {
@@ -77,8 +89,10 @@ static void put_opt(unsigned code) {
     add(10, 1);
 }
 
-static void put_flags(const uint8_t *question, unsigned code) {
-    put_number_at(plain + 2, 0x8080 | (number_at(question + 2) & 0x7910) | (code & 15));
+/* The flags of a reply. One to which a message was found that is cut says so. */
+static void put_flags(const uint8_t *question, unsigned code, const uint8_t *message) {
+    unsigned cut = message != NULL && is_truncated(message) ? 0x200 : 0;
+    put_number_at(plain + 2, 0x8080 | cut | (number_at(question + 2) & 0x7910) | (code & 15));
 }
 
 /* A reply to a question, header and all, with a response code; and with the records of a message where there is one, which
@@ -86,7 +100,7 @@ static void put_flags(const uint8_t *question, unsigned code) {
 static void make_reply(const uint8_t *question, size_t length, unsigned code, const uint8_t *message, uint32_t most) {
     plain_length = 0;
     put(question, length);
-    put_flags(question, code);
+    put_flags(question, code, message);
     put_number_at(plain + 4, length > HEADER);
     memset(plain + 6, 0, 6);
     if (message != NULL) put_alias(question, length, message), put_records(message, most);
@@ -96,12 +110,12 @@ static void make_reply(const uint8_t *question, size_t length, unsigned code, co
  * is where its first answer is of the very name that was asked. */
 static int copy_reply(const uint8_t *question, size_t length, unsigned code, const uint8_t *message, size_t message_length) {
     if (number_at(message + 4) != 1 || number_at(message + 6) == 0 || behind_questions(message) != length) return 0;
-    if (!is_same(question + HEADER, message + HEADER, length - HEADER)) return 0;
+    if (!is_same_question(question + HEADER, message + HEADER, length - HEADER)) return 0;
     if (number_at(message + length) != (0xc000 | HEADER)) return 0;
     plain_length = 0;
     put(message, message_length);
     memcpy(plain, question, 2);
-    put_flags(question, code);
+    put_flags(question, code, message);
     memcpy(plain + HEADER, question + HEADER, length - HEADER);
     return 1;
 }

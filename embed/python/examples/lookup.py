@@ -55,7 +55,7 @@ def ask(question, server):
 
 def look_up(session, host, server):
     """What a look-up came to, with its questions asked of the server."""
-    waits = session.start_ip(NUMBER, host, int(time.time()))
+    waits = session.start_ip(NUMBER, host, int(time.monotonic()))
     while waits:
         try:
             waits = session.feed(NUMBER, ask(session.question(NUMBER).message, server))
@@ -90,7 +90,7 @@ def main():
     if len(sys.argv) != 4:
         sys.exit("usage: lookup.py HOST SERVER PORT")
     host, server, port = sys.argv[1:]
-    with yimarotu.Session("option preserve_intermediates false\n", moment=int(time.time())) as session:
+    with yimarotu.Session("option preserve_intermediates false\n", moment=int(time.monotonic())) as session:
         answer = look_up(session, host, (server, int(port)))
     if answer.error != yimarotu.FOUND:
         sys.exit(1)

@@ -1,0 +1,299 @@
+"""Cases of the forwarder for C: clients that ask for more than it has, answers that are cut, and files that run out."""
+import contextlib
+import functools
+import os
+import resource
+import socket
+import struct
+import time
+from pathlib import Path
+
+import dns.flags
+import dns.message
+import dns.rcode
+import dns.rrset
+
+from . import servers
+
+SECONDS = 10
+# For how long a server hears nothing until all questions have come.
+QUIET = 0.3
+KEPT = "kept.example.test."
+# What one connection asks at once, of which it may have so many under way.
+PIPELINED, MOST_UNDER_WAY = 3000, 500
+# How many clients ask for one name at once, of which so many may be kept waiting.
+CROWD, MOST_WAITING = 20_000, 15_000
+# How many queries are sent before it is seen to that they have been taken.
+STEP = 400
+# More names than are looked up at once.
+NAMES = 2_500
+# How often an answer of so many octets is asked for, and by how many octets the program may grow.
+LARGE, UNREAD, READ, MOST_GROWTH = 60_000, 2_000, 300, 16 << 20
+# Queries of a datagram full of questions, and the seconds of a processor that they may take.
+DATAGRAM, FULL, MOST_SECONDS = 4096, 100, 0.5
+# More connections than files, and the seconds of a processor that a second with them may take.
+FILES, CONNECTIONS, MOST_AT_REST = 30, 60, 0.1
+
+
+class Upstream:
+    """A name server by UDP that answers when it is told to."""
+
+    def __init__(self, sock):
+        self._sock = sock
+        self.text = f"{servers.ADDRESS}:{sock.getsockname()[1]}"
+
+    def hear(self, seconds=SECONDS):
+        """The next question with whom it came from, or None."""
+        self._sock.settimeout(seconds)
+        try:
+            wire, peer = self._sock.recvfrom(512)
+        except TimeoutError:
+            return None
+        return dns.message.from_wire(wire), peer
+
+    def hear_of(self, name, seconds):
+        """The next question for a name with whom it came from, or None."""
+        until = time.monotonic() + seconds
+        while (left := until - time.monotonic()) > 0 and (asked := self.hear(left)):
+            if asked[0].question[0].name.to_text() == name:
+                return asked
+
+    def hear_all(self):
+        """How many questions come until none does."""
+        count = 0
+        while self.hear(QUIET):
+            count += 1
+        return count
+
+    def answer(self, asked, *records):
+        """Answers a question with records."""
+        query, peer = asked
+        response = dns.message.make_response(query)
+        response.answer = [dns.rrset.from_text(query.question[0].name, *record) for record in records]
+        self._sock.sendto(response.to_wire(), peer)
+
+    def answer_bytes(self, asked, count, records):
+        """Answers a question with so many records, as octets."""
+        query, peer = asked
+        wire = bytearray(dns.message.make_response(query, our_payload=0).to_wire()[: 12 + question_length(query)])
+        wire[6:12] = struct.pack(">3H", count, 0, 0)
+        self._sock.sendto(bytes(wire) + records, peer)
+
+
+def question_length(query):
+    return len(query.question[0].name.to_wire()) + 4
+
+
+class Client:
+    """Asks a forwarder by UDP."""
+
+    def __init__(self, sock, port):
+        self._sock = sock
+        sock.setsockopt(socket.SOL_SOCKET, socket.SO_RCVBUF, 1 << 20)
+        sock.settimeout(SECONDS)
+        sock.connect((servers.ADDRESS, port))
+
+    def send(self, *names):
+        for name in names:
+            self.send_bytes(query(name))
+
+    def send_bytes(self, wire):
+        self._sock.send(wire)
+
+    def hear(self):
+        return dns.message.from_wire(self._sock.recv(65535))
+
+    def ask(self, name):
+        """The response code of the reply to a query."""
+        self.send(name)
+        return self.hear().rcode()
+
+    def count(self):
+        """How many replies have come."""
+        count = 0
+        self._sock.setblocking(False)
+        with contextlib.suppress(BlockingIOError):
+            while self._sock.recv(512):
+                count += 1
+        self._sock.settimeout(SECONDS)
+        return count
+
+
+@functools.lru_cache(4)
+def query(name, rdtype="A"):
+    return dns.message.make_query(name, rdtype).to_wire()
+
+
+def pipelined(*queries):
+    return b"".join(struct.pack(">H", len(wire)) + wire for wire in queries)
+
+
+def stream(port):
+    return socket.create_connection((servers.ADDRESS, port), SECONDS)
+
+
+def read_replies(sock, count):
+    """So many replies of a connection, or those that come before it ends."""
+    replies = []
+    with sock.makefile("rb") as file, contextlib.suppress(ConnectionError):
+        while len(replies) < count and len(size := file.read(2)) == 2:
+            replies.append(file.read(int.from_bytes(size, "big")))
+    return replies
+
+
+def processor_seconds(process):
+    fields = Path(f"/proc/{process.pid}/stat").read_text().rsplit(")", 1)[1].split()
+    return (int(fields[11]) + int(fields[12])) / os.sysconf("SC_CLK_TCK")
+
+
+def most_memory(process):
+    """The most octets that it held."""
+    status = Path(f"/proc/{process.pid}/status").read_text()
+    return next(int(line.split()[1]) for line in status.splitlines() if line.startswith("VmHWM:")) << 10
+
+
+def datagrams():
+    return socket.socket(socket.AF_INET, socket.SOCK_DGRAM)
+
+
+@contextlib.contextmanager
+def running(forwarder, **how):
+    """An upstream, a client, the port of a forwarder between them, and its process; a name is kept already."""
+    port = servers.free_port()
+    with contextlib.ExitStack() as stack:
+        socks = [stack.enter_context(datagrams()) for _ in range(2)]
+        socks[0].bind((servers.ADDRESS, 0))
+        upstream, client = Upstream(socks[0]), Client(socks[1], port)
+        process = stack.enter_context(forwarder.forwarding(None, upstream.text, port, **how))
+        client.send(KEPT)
+        upstream.answer(upstream.hear(), (3600, "IN", "A", "192.0.2.1"))
+        client.hear()
+        yield upstream, client, port, process
+
+
+def run(cases, forwarder, is_measured):
+    """All cases. The memory of a program under a sanitizer is not measured."""
+    parts = (one_connection, one_name, no_place, many_questions, no_files, cut_answer, all_that_is_read)
+    for part in parts + ((nothing_is_read,) if is_measured else ()):
+        with cases.guard(part.__doc__):
+            part(cases, forwarder)
+
+
+def one_connection(cases, forwarder):
+    """One connection cannot take all places."""
+    with running(forwarder) as (upstream, client, port, _), stream(port) as sock:
+        sock.sendall(pipelined(*(query(f"n{number}.example.test.") for number in range(PIPELINED))))
+        count = upstream.hear_all()
+        cases.tell(f"of {PIPELINED} queries of one connection a part is under way", 0 < count <= MOST_UNDER_WAY, count)
+        client.send("other.example.test.")
+        asked = upstream.hear_of("other.example.test.", 1)
+        if asked:
+            upstream.answer(asked, (60, "IN", "A", "192.0.2.2"))
+        cases.equal("another client is answered meanwhile", client.hear().rcode(), dns.rcode.NOERROR)
+
+
+def one_name(cases, forwarder):
+    """Of a crowd that asks for one name, some are refused."""
+    with running(forwarder) as (_, client, port, _), datagrams() as sock:
+        crowd, refused = Client(sock, port), 0
+        for _ in range(CROWD // STEP):
+            crowd.send(*["slow.example.test."] * STEP)
+            client.ask(KEPT)
+            refused += crowd.count()
+        is_bounded = CROWD - refused <= MOST_WAITING
+        cases.tell(f"of {CROWD} clients that ask for one name not all wait", is_bounded, f"{refused} were refused")
+
+
+def no_place(cases, forwarder):
+    """A name in the cache needs no place."""
+    with running(forwarder) as (_, client, port, _), datagrams() as sock:
+        crowd, codes = Client(sock, port), set()
+        for at in range(0, NAMES, STEP):
+            crowd.send(*(f"s{number}.example.test." for number in range(at, at + STEP)))
+            codes.add(client.ask(KEPT))
+        cases.equal(f"a name in the cache, while {NAMES} others wait", codes, {dns.rcode.NOERROR})
+
+
+def many_questions(cases, forwarder):
+    """A message of many questions is refused by its header."""
+    count = (DATAGRAM - 12) // 5
+    wire = struct.pack(">6H", 7, 0x100, count, 0, 0, 0) + b"\0\0\1\0\1" * count
+    with running(forwarder) as (_, client, _, process):
+        before, codes = processor_seconds(process), set()
+        for _ in range(FULL):
+            client.send_bytes(wire)
+            codes.add(client.hear().rcode())
+        taken = processor_seconds(process) - before
+        cases.equal(f"{count} questions at once", codes, {dns.rcode.FORMERR})
+        cases.tell(f"{FULL} messages of {count} questions", taken < MOST_SECONDS, f"took {taken} s of a processor")
+
+
+def no_files(cases, forwarder):
+    """It rests where there are more connections than files, and goes on when there are fewer."""
+    limit = functools.partial(resource.setrlimit, resource.RLIMIT_NOFILE, (FILES, FILES))
+    with running(forwarder, preexec_fn=limit) as (_, client, port, process):
+        with contextlib.ExitStack() as stack:
+            for _ in range(CONNECTIONS):
+                stack.enter_context(stream(port))
+            client.ask(KEPT)
+            before = processor_seconds(process)
+            time.sleep(1)
+            taken = processor_seconds(process) - before
+            cases.tell(f"{CONNECTIONS} connections, and {FILES} files", taken < MOST_AT_REST, f"{taken} s in a second")
+            cases.equal("a name in the cache, without files", client.ask(KEPT), dns.rcode.NOERROR)
+        with stream(port) as sock:
+            sock.sendall(pipelined(query(KEPT)))
+            cases.equal("a connection, with files again", len(read_replies(sock, 1)), 1)
+
+
+def cut_answer(cases, forwarder):
+    """An answer that had no room says so."""
+    name, count = "_many._tcp.example.test.", 3000
+    # The target of each is the name that was asked, by a pointer: written whole they are more than a message holds.
+    head, target = b"\xc0\x0c\0\x21\0\1\0\0\x0e\x10\0\x08", b"\xc0\x0c"
+    records = b"".join(head + struct.pack(">3H", 0, 0, port) + target for port in range(count))
+    with running(forwarder) as (upstream, _, port, _):
+        for turn in ("first", "second"):
+            with stream(port) as sock:
+                sock.sendall(pipelined(query(name, "SRV")))
+                if turn == "first":
+                    upstream.answer_bytes(upstream.hear(), count, records)
+                (reply,) = read_replies(sock, 1)
+            found = (bool(reply[2] & 2), 0 < int.from_bytes(reply[6:8], "big") < count)
+            cases.equal(f"an answer that is cut, {turn} time", found, (True, True))
+
+
+def ask_for_large(upstream, sock, times):
+    """Asks for a large name so many times at once, and answers once all have come that are under way."""
+    sock.sendall(pipelined(*[query("large.example.test.", "TXT")] * times))
+    asked = upstream.hear()
+    if times > 1:
+        time.sleep(QUIET)
+    text = b"\xfa" + bytes(250)
+    record = b"\xc0\x0c\0\x10\0\1\0\0\x0e\x10" + struct.pack(">H", len(text)) + text
+    upstream.answer_bytes(asked, LARGE // len(record), record * (LARGE // len(record)))
+
+
+def nothing_is_read(cases, forwarder):
+    """Answers for a client that reads none take a bounded room."""
+    with running(forwarder) as (upstream, client, port, process), stream(port) as sock:
+        before = most_memory(process)
+        ask_for_large(upstream, sock, UNREAD)
+        client.ask(KEPT)
+        time.sleep(QUIET)
+        grown = most_memory(process) - before
+        cases.tell(f"{UNREAD} answers of {LARGE} octets that nobody reads", grown <= MOST_GROWTH, f"{grown} octets")
+
+
+def all_that_is_read(cases, forwarder):
+    """A client that reads late gets all answers, however many it asked for at once."""
+    with running(forwarder) as (upstream, _, port, _):
+        with stream(port) as sock:
+            ask_for_large(upstream, sock, 1)
+            (first,) = read_replies(sock, 1)
+        with stream(port) as sock:
+            sock.sendall(pipelined(*[query("large.example.test.", "TXT")] * READ))
+            time.sleep(QUIET)
+            replies = read_replies(sock, READ)
+        found = len(replies), {len(reply) for reply in replies}
+        cases.equal(f"{READ} answers of {LARGE} octets that are read late", found, (READ, {len(first)}))
