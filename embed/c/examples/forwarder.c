@@ -57,7 +57,7 @@ static struct lookup lookups[LOOKUPS], *buckets[BUCKETS];
 static struct connection connections[CONNECTIONS];
 static struct addrinfo *server;
 static int epoll, datagrams, streams, lookup_count, waiter_count;
-static uint8_t room[MESSAGE], message[MESSAGE];
+static uint8_t room[MESSAGE], message[MESSAGE]; /* a reply; and what a look-up came to, of which it is made */
 static volatile sig_atomic_t is_ended;
 
 static int64_t milliseconds(void) {
@@ -146,7 +146,7 @@ static void close_upstream(struct lookup *lookup) {
     lookup->fd = -1, lookup->reply = NULL, lookup->got = 0;
 }
 
-/* What a look-up of the session came to, whose message is put in its place. */
+/* What a look-up of the session came to. */
 static yimarotu_answered answer_of(uint64_t number) {
     return yimarotu_answer(&session, number, MESSAGE, message, sizeof message);
 }
@@ -295,8 +295,7 @@ static void start(const struct waiter *client) {
     }
     size_t length = name_text(query->bytes + HEADER, text);
     unsigned type = number_at(query->bytes + query->length - 4);
-    yimarotu_came came =
-        yimarotu_start(&session, ++number, (uint8_t *)text, length, type, milliseconds() / 1000);
+    yimarotu_came came = yimarotu_start(&session, ++number, (uint8_t *)text, length, type, milliseconds() / 1000);
     int waits = came.status == YIMAROTU_OK && came.waits;
     if (waits && (lookup = new_lookup(number, client)) != NULL) return go_on(lookup, came);
     if (waits) refuse(client, SERVFAIL);
@@ -304,7 +303,7 @@ static void start(const struct waiter *client) {
     yimarotu_cancel(&session, number);
 }
 
-/* Takes the query of a client, whose address or connection is there. */
+/* Takes a query of this client, in which its address or its connection stands. */
 static void on_query(struct waiter *client, const uint8_t *query, size_t length) {
     int code = read_query(&client->query, query, length, client->connection != NULL, room);
     if (code == FINE) start(client);
