@@ -1,7 +1,7 @@
 //! Looks the addresses of a host up: lookup HOST SERVER PORT. The questions go by UDP.
 use std::io::Read;
 use std::net::UdpSocket;
-use std::time::{Duration, SystemTime, UNIX_EPOCH};
+use std::time::{Duration, Instant};
 use yimarotu::{rewrite, Failure, Found, Session};
 
 const NUMBER: u64 = 1;
@@ -21,7 +21,9 @@ fn main() {
 
 /// The message of the addresses that were found.
 fn look_up(host: &str, server: &str) -> Option<Vec<u8>> {
-    let now = SystemTime::now().duration_since(UNIX_EPOCH).unwrap().as_secs();
+    // Moments are of a clock that does not go back, which begins here.
+    let start = Instant::now();
+    let now = start.elapsed().as_secs();
     let mut session = Session::open("option preserve_intermediates false\n", b"", now).ok()?;
     let mut waits = session.start_ip(NUMBER, host, now).ok()?;
     while waits {
