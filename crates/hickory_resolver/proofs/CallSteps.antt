@@ -13,11 +13,10 @@ use Rattle.hickory_resolver_model.specs.Calls.{CallContext, start_at, Plan, One,
 use Rattle.hickory_resolver_model.specs.Calls.{CallPlan, Says, next_type, IsAttemptResult, IsLastReply}
 use Rattle.hickory_resolver_model.specs.Calls.{joins_results, takes_memory, stops}
 use Rattle.hickory_resolver_model.specs.Client.{ClientValue, KeepsHandle}
-use Rattle.hickory_resolver_model.specs.Hops.{LookupContext}
+use Rattle.hickory_resolver_model.specs.Hops.{LookupContext, PassedValue, passed_by}
 use Rattle.hickory_resolver_model.specs.Hosts.{Host}
 use Rattle.hickory_resolver_model.specs.Lookup.{LookupValue, LookupResult, question_of}
-use Rattle.hickory_resolver_model.specs.Resuming.{WaitingValue, ProgressValue, Waits, IsDone, PassedValue}
-use Rattle.hickory_resolver_model.specs.Resuming.{passed_by, ComesTo, Starts, Resumes}
+use Rattle.hickory_resolver_model.specs.Resuming.{WaitingValue, ProgressValue, Waits, IsDone, ComesTo, Starts, Resumes}
 use Rattle.hickory_resolver_model.specs.Resolver.{call_context_of}
 use Rattle.hickory_resolver_model.specs.Verdict.{Hop}
 use Rattle.hickory_resolver_theorems.specs.ResumingCalls.{AttemptValue, CallProgressValue, CallWaits, CallIsDone}
@@ -108,11 +107,11 @@ first_push [] p query = refl
 first_push (q ∷ qs) p query = refl
 
 module _ (s : LookupContext) (w : WaitingValue) (now_is : s.now ≡ w.now) (outcome : OutcomeValue) where
-  comes_begun : (passed : List PassedValue) (next : Hop) → passed ≡ w.passed ++ passed_by s w.hop outcome ∷ []
+  comes_begun : (passed : List PassedValue) (next : Hop) → passed ≡ w.passed ++ passed_by s w.hop.query outcome ∷ []
       → (p : ProgressValue) (mid : CacheValue) → ComesTo s passed next p mid → IsBegunWith (first_question w).name w.now p
   comes_begun passed next passed_are (Waits v) mid (upstream, v_is, same) = (
     ap (λ (x : WaitingValue). (first_question x).name) v_is ∙ ap (λ ps. (first_of ps next.query).name) passed_are
-        ∙ ap (λ (q : Query). q.name) (first_push w.passed (passed_by s w.hop outcome) next.query),
+        ∙ ap (λ (q : Query). q.name) (first_push w.passed (passed_by s w.hop.query outcome) next.query),
     ap (λ (x : WaitingValue). x.now) v_is ∙ now_is,
   )
   comes_begun passed next passed_are (IsDone r) mid comes = tt
@@ -121,7 +120,7 @@ module _ (s : LookupContext) (w : WaitingValue) (now_is : s.now ≡ w.now) (outc
   pub resumed_begun : (p : ProgressValue) (mid : CacheValue) → Resumes s w outcome p mid
       → IsBegunWith (first_question w).name w.now p
   resumed_begun p mid (inl f) = elim f.goes_on [
-    | inl comes ↦ comes_begun (w.passed ++ passed_by s w.hop outcome ∷ []) f.next refl p mid comes
+    | inl comes ↦ comes_begun (w.passed ++ passed_by s w.hop.query outcome ∷ []) f.next refl p mid comes
     | inr out ↦ subst (λ x. IsBegunWith (first_question w).name w.now x) (sym out.0) tt
   ]
   resumed_begun p mid (inr e) = subst (λ x. IsBegunWith (first_question w).name w.now x) (sym e.progress_is) tt

@@ -13,7 +13,8 @@ use Rattle.hickory_resolver_model.specs.Cache.{CacheValue}
 use Rattle.hickory_resolver_model.specs.Calls.{CallContext, start_at, Plan, One, Both, Fallback, CallPlan, last_resort}
 use Rattle.hickory_resolver_model.specs.Hosts.{IsStatic}
 use Rattle.hickory_resolver_model.specs.Lookup.{LookupValue, LookupResult, question_of}
-use Rattle.hickory_resolver_model.specs.Resuming.{WaitingValue, ProgressValue, Waits, IsDone, PassedValue, Starts}
+use Rattle.hickory_resolver_model.specs.Hops.{PassedValue}
+use Rattle.hickory_resolver_model.specs.Resuming.{WaitingValue, ProgressValue, Waits, IsDone, Starts}
 use Rattle.hickory_resolver_model.specs.Run.{plan_of}
 use Rattle.hickory_resolver_theorems.specs.ResumingCalls.{AttemptValue, CallProgressValue, CallIsDone, GoesOn, GoesOnAfter}
 use Rattle.hickory_resolver.specs.declared.attempting.Sought.{Sought}

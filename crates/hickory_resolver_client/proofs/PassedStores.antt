@@ -1,5 +1,5 @@
 -- Stores under the questions that were passed, from the last to the first.
-use Rattle.std.proofs.Common.{◌≡◌, ◌∙◌, ℕ, Bool, true, false, not, ◌||◌, List, [], ◌∷◌, ◌++◌, min, Ok, Err, if◌then◌else◌, refl, sym, ap, ap₂, subst, inl, append_assoc}
+use Rattle.std.proofs.Common.{◌≡◌, ◌∙◌, ℕ, Bool, true, false, not, ◌||◌, List, [], ◌∷◌, ◌++◌, min, Result, Ok, Err, OnErr, if◌then◌else◌, refl, sym, ap, ap₂, subst, inl, append_assoc}
 use Rattle.std.proofs.lemmas.List.{append-nil}
 use Rattle.hickory_proto_core.specs.Handles.{OutcomeValue}
 use Rattle.hickory_proto_core.specs.NetErrors.{is_no_records_found}
@@ -10,8 +10,7 @@ use Rattle.hickory_proto_core.specs.declared.net_error.NetError.TheVariants.{Mes
 use Rattle.hickory_proto_core.specs.declared.net_error.DnsError.TheVariants.{ResponseCode, NoRecordsFound}
 use Rattle.hickory_resolver_model.specs.Cache.{CacheValue, store_until}
 use Rattle.hickory_resolver_model.specs.Lookup.{LookupResult}
-use Rattle.hickory_resolver_model.specs.Hops.{IsBeginning, Store, store_of, as_outcome, result_until, is_kept, earlier_store, after_store, after_stores}
-use Rattle.hickory_resolver_model.specs.Resuming.{PassedValue, limit_back, stores_back}
+use Rattle.hickory_resolver_model.specs.Hops.{IsBeginning, Store, store_of, as_outcome, result_until, is_kept, earlier_store, after_store, after_stores, PassedValue, limit_of, earlier_stores}
 use Rattle.hickory_resolver_client.specs.Steps.{RunsOutAmong, IsFinished}
 
 pub after_stores-append : (xs ys : List Store) (cache : CacheValue) → after_stores (xs ++ ys) cache ≡ after_stores ys (after_stores xs cache)
@@ -19,14 +18,14 @@ after_stores-append [] ys cache = refl
 after_stores-append (x ∷ xs) ys cache = after_stores-append xs ys (after_store x cache)
 
 -- the last question is stored first, with the lesser of its own limit and that of the hop after it
-limit_back-push : (passed : List PassedValue) (p : PassedValue) (limit : ℕ) → limit_back (passed ++ p ∷ []) limit ≡ limit_back passed (min p.limit limit)
-limit_back-push [] p limit = refl
-limit_back-push (q ∷ qs) p limit = ap (min q.limit) (limit_back-push qs p limit)
+limit_of-push : (passed : List PassedValue) (p : PassedValue) (limit : ℕ) → limit_of (passed ++ p ∷ []) limit ≡ limit_of passed (min p.limit limit)
+limit_of-push [] p limit = refl
+limit_of-push (q ∷ qs) p limit = ap (min q.limit) (limit_of-push qs p limit)
 
-stores_back-push : (reply : LookupResult) (now limit : ℕ) (passed : List PassedValue) (p : PassedValue) → stores_back reply now limit (passed ++ p ∷ []) ≡ earlier_store reply now p.query (min p.limit limit) ∷ stores_back reply now (min p.limit limit) passed
-stores_back-push reply now limit [] p = refl
-stores_back-push reply now limit (q ∷ qs) p =
-    ap₂ (λ ss n. ss ++ earlier_store reply now q.query n ∷ []) (stores_back-push reply now limit qs p) (limit_back-push (q ∷ qs) p limit)
+earlier_stores-push : (reply : LookupResult) (now limit : ℕ) (passed : List PassedValue) (p : PassedValue) → earlier_stores reply now limit (passed ++ p ∷ []) ≡ earlier_store reply now p.query (min p.limit limit) ∷ earlier_stores reply now (min p.limit limit) passed
+earlier_stores-push reply now limit [] p = refl
+earlier_stores-push reply now limit (q ∷ qs) p =
+    ap₂ (λ ss n. ss ++ earlier_store reply now q.query n ∷ []) (earlier_stores-push reply now limit qs p) (limit_of-push (q ∷ qs) p limit)
 
 -- of all the stores these are left, and the cache has the others
 pub record StoredSoFar (rest all : List Store) (before after : CacheValue) : Type 0 where
@@ -36,8 +35,8 @@ pub record StoredSoFar (rest all : List Store) (before after : CacheValue) : Typ
 
 -- what is left to store, of all, and the limit that comes of it
 pub record StoresOn (reply : LookupResult) (now limit first : ℕ) (passed all : List PassedValue) (before after : CacheValue) : Type 0 where
-  pub stored : StoredSoFar (stores_back reply now limit passed) (stores_back reply now first all) before after
-  pub same_limit : limit_back passed limit ≡ limit_back all first
+  pub stored : StoredSoFar (earlier_stores reply now limit passed) (earlier_stores reply now first all) before after
+  pub same_limit : limit_of passed limit ≡ limit_of all first
 
 stored_more : (now : ℕ) (reply : LookupResult) (limit first : ℕ) (passed earlier all : List PassedValue) (p : PassedValue) (outcome : OutcomeValue) (before mid after : CacheValue) → earlier ≡ passed ++ p ∷ [] → outcome ≡ as_outcome p.query reply → StoresOn reply now limit first earlier all before mid → after ≡ store_until mid p.query outcome now (min p.limit limit) → StoresOn reply now (min p.limit limit) first passed all before after
 stored_more now reply limit first passed earlier all p outcome before mid after popped made on e =
@@ -47,12 +46,12 @@ stored_more now reply limit first passed earlier all p outcome before mid after 
     record {
       stored = record {
         front = k.front ++ s ∷ [];
-        parts = append_assoc k.front (s ∷ []) (stores_back reply now lower passed)
-            ∙ ap (λ ss. k.front ++ ss) (sym (ap (stores_back reply now limit) popped ∙ stores_back-push reply now limit passed p))
+        parts = append_assoc k.front (s ∷ []) (earlier_stores reply now lower passed)
+            ∙ ap (λ ss. k.front ++ ss) (sym (ap (earlier_stores reply now limit) popped ∙ earlier_stores-push reply now limit passed p))
             ∙ k.parts;
         after_is = e ∙ ap (λ o. store_until mid p.query o now lower) made ∙ ap (after_store s) k.after_is ∙ sym (after_stores-append k.front (s ∷ []) before);
       };
-      same_limit = sym (ap (λ ps. limit_back ps limit) popped ∙ limit_back-push passed p limit) ∙ on.same_limit;
+      same_limit = sym (ap (λ ps. limit_of ps limit) popped ∙ limit_of-push passed p limit) ∙ on.same_limit;
     }
 
 pub stored_lower : (now : ℕ) (reply : LookupResult) (limit lower first : ℕ) (passed earlier all : List PassedValue) (p : PassedValue) (outcome : OutcomeValue) (before mid after : CacheValue) → lower ≡ min p.limit limit → earlier ≡ passed ++ p ∷ [] → outcome ≡ as_outcome p.query reply → StoresOn reply now limit first earlier all before mid → after ≡ store_until mid p.query outcome now lower
@@ -73,17 +72,21 @@ stored_beginning rest all before mid after some k e = (
 
 -- memory ran out for the store under the last of the questions that were left
 pub cut_before_last : (now : ℕ) (reply : LookupResult) (limit first : ℕ) (passed earlier all : List PassedValue) (p : PassedValue) (before mid after : CacheValue) → earlier ≡ passed ++ p ∷ [] → StoresOn reply now limit first earlier all before mid → after ≡ mid
-    → RunsOutAmong (stores_back reply now first all) before after
+    → RunsOutAmong (earlier_stores reply now first all) before after
 cut_before_last now reply limit first passed earlier all p before mid after popped on e =
-    stored_beginning (stores_back reply now limit earlier) (stores_back reply now first all) before mid after
-    (λ none. let is = sym (ap (stores_back reply now limit) popped ∙ stores_back-push reply now limit passed p) ∙ none in cc)
+    stored_beginning (earlier_stores reply now limit earlier) (earlier_stores reply now first all) before mid after
+    (λ none. let is = sym (ap (earlier_stores reply now limit) popped ∙ earlier_stores-push reply now limit passed p) ∙ none in cc)
     on.stored e
 
-pub stored_all : (now : ℕ) (reply : LookupResult) (limit first : ℕ) (left all : List PassedValue) (before after : CacheValue) → left ≡ [] → StoresOn reply now limit first left all before after → (limit ≡ limit_back all first) × (after ≡ after_stores (stores_back reply now first all) before)
+pub on_any_err : {T E P : Type 0} (r : Result T E) → P → OnErr r P
+on_any_err (Ok v) p = tt
+on_any_err (Err e) p = p
+
+pub stored_all : (now : ℕ) (reply : LookupResult) (limit first : ℕ) (left all : List PassedValue) (before after : CacheValue) → left ≡ [] → StoresOn reply now limit first left all before after → (limit ≡ limit_of all first) × (after ≡ after_stores (earlier_stores reply now first all) before)
 stored_all now reply limit first left all before after none on =
     let k = on.stored in (
-      ap (λ ps. limit_back ps limit) (sym none) ∙ on.same_limit,
-      k.after_is ∙ ap (λ ss. after_stores ss before) (sym (append-nil k.front) ∙ ap (λ ps. k.front ++ stores_back reply now limit ps) (sym none) ∙ k.parts),
+      ap (λ ps. limit_of ps limit) (sym none) ∙ on.same_limit,
+      k.after_is ∙ ap (λ ss. after_stores ss before) (sym (append-nil k.front) ∙ ap (λ ps. k.front ++ earlier_stores reply now limit ps) (sym none) ∙ k.parts),
     )
 
 -- ---- a failure is not kept
@@ -98,12 +101,12 @@ unchanged NoOutcome q now limit cache none = refl
 unchanged (Bounds e) q now limit cache none = refl
 unchanged OutOfMemory q now limit cache none = refl
 
-pub none_kept : (error : NetError) (now limit : ℕ) (passed : List PassedValue) (cache : CacheValue) → is_no_records_found error ≡ false → after_stores (stores_back (Err error) now limit passed) cache ≡ cache
+pub none_kept : (error : NetError) (now limit : ℕ) (passed : List PassedValue) (cache : CacheValue) → is_no_records_found error ≡ false → after_stores (earlier_stores (Err error) now limit passed) cache ≡ cache
 none_kept error now limit [] cache none = refl
 none_kept error now limit (p ∷ ps) cache none =
-    let s = earlier_store (Err error) now p.query (limit_back (p ∷ ps) limit) in
-    after_stores-append (stores_back (Err error) now limit ps) (s ∷ []) cache
-    ∙ ap (after_store s) (none_kept error now limit ps cache none) ∙ unchanged error p.query now (limit_back (p ∷ ps) limit) cache none
+    let s = earlier_store (Err error) now p.query (limit_of (p ∷ ps) limit) in
+    after_stores-append (earlier_stores (Err error) now limit ps) (s ∷ []) cache
+    ∙ ap (after_store s) (none_kept error now limit ps cache none) ∙ unchanged error p.query now (limit_of (p ∷ ps) limit) cache none
 
 pub error_until : (b : Bool) (limit : ℕ) (error : NetError) → (if b then result_until limit (Err error) else Err error) ≡ Err error
 error_until true limit error = refl
@@ -112,4 +115,4 @@ error_until false limit error = refl
 pub finished_failure : (passed : List PassedValue) (result : LookupResult) (limit : ℕ) (asked : Bool) (now : ℕ) (cache : CacheValue) → is_kept result ≡ false → IsFinished passed result limit asked now cache result cache
 finished_failure passed (Ok l) limit asked now cache none = let clash : true ≡ false = none in cc
 finished_failure passed (Err error) limit asked now cache none =
-    inl (sym (error_until (asked || not (is_empty passed)) (limit_back passed limit) error), sym (none_kept error now limit passed cache none))
+    inl (sym (error_until (asked || not (is_empty passed)) (limit_of passed limit) error), sym (none_kept error now limit passed cache none))

@@ -11,8 +11,8 @@ use Rattle.hickory_resolver_model.specs.Cache.{CacheValue, Entry, last_moment, c
 use Rattle.hickory_resolver_model.specs.Lookup.{LookupResult}
 use Rattle.hickory_resolver_model.specs.SpecialUse.{special_use_result}
 use Rattle.hickory_resolver_model.specs.Verdict.{Hop, Verdict, Accepted, Alias, NoMatch}
-use Rattle.hickory_resolver_model.specs.Hops.{LookupContext, ChainEnd, Special, Hit, Asked, verdict_on, result_when_asked, result_of, alias_limit, end_limit, result_until, is_kept, last_stores, after_stores, hit_result}
-use Rattle.hickory_resolver_model.specs.Resuming.{PassedValue, WaitingValue, ProgressValue, IsDone, limit_back, stores_back, is_asked, stores_at, TakesMemory, EndsAs, ComesTo, Resumes}
+use Rattle.hickory_resolver_model.specs.Hops.{LookupContext, ChainEnd, Special, Hit, Asked, verdict_on, result_when_asked, result_of, alias_limit, end_limit, result_until, is_kept, last_stores, after_stores, hit_result, PassedValue, limit_of, earlier_stores, is_asked, stores_of}
+use Rattle.hickory_resolver_model.specs.Resuming.{WaitingValue, ProgressValue, IsDone, TakesMemory, EndsAs, ComesTo, Resumes}
 use Rattle.hickory_resolver_client.specs.Special.{IsUnlessOut, IsSpecialReply}
 use Rattle.hickory_resolver_client.specs.Steps.{NeverFailsNegative, IsWorkedOn, IsSettled, IsFinished}
 use Rattle.hickory_resolver_client.specs.declared.caching_core.HopStep.TheVariants.{Next, Done}
@@ -43,32 +43,32 @@ kept_takes s hop (Asked outcome) kept = λ error e. kept_failure (kind_of outcom
 module _ (s : LookupContext) (passed : List PassedValue) (hop : Hop) (last : ChainEnd) (limit : ℕ) (asked : Bool) (answer : LookupResult) (after : CacheValue) where
   pub ended : (result : LookupResult) (mid : CacheValue) → result ≡ result_of s hop last → limit ≡ end_limit s hop last → asked ≡ is_asked last → mid ≡ after_stores (last_stores s hop last) s.cache → IsFinished passed result limit asked s.now mid answer after → EndsAs s passed hop last answer after
   ended result mid result_is limit_is asked_is mid_is (inl (is, e)) =
-      let by : Bool → ℕ → LookupResult → LookupResult = λ a l r. if a || not (is_empty passed) then result_until (limit_back passed l) r else r in
+      let by : Bool → ℕ → LookupResult → LookupResult = λ a l r. if a || not (is_empty passed) then result_until (limit_of passed l) r else r in
       inl (
         is ∙ ap (λ a. by a limit result) asked_is ∙ ap₂ (by (is_asked last)) limit_is result_is,
-        e ∙ ap (after_stores (stores_back result s.now limit passed)) mid_is
-            ∙ sym (after_stores-append (last_stores s hop last) (stores_back result s.now limit passed) s.cache)
-            ∙ ap₂ (λ r l. after_stores (last_stores s hop last ++ stores_back r s.now l passed) s.cache) result_is limit_is,
+        e ∙ ap (after_stores (earlier_stores result s.now limit passed)) mid_is
+            ∙ sym (after_stores-append (last_stores s hop last) (earlier_stores result s.now limit passed) s.cache)
+            ∙ ap₂ (λ r l. after_stores (last_stores s hop last ++ earlier_stores r s.now l passed) s.cache) result_is limit_is,
       )
-  ended result mid result_is limit_is asked_is mid_is (inr (oom, kept, some, b)) =
+  ended result mid result_is limit_is asked_is mid_is (inr (oom, kept, out)) =
       inr (
         oom,
         kept_takes s hop last (ap is_kept (sym result_is) ∙ kept),
         record {
-          front = last_stores s hop last ++ b.front;
-          back = b.back;
-          parts = append_assoc (last_stores s hop last) b.front b.back
-              ∙ ap (λ ss. last_stores s hop last ++ ss) b.parts
-              ∙ ap₂ (λ r l. last_stores s hop last ++ stores_back r s.now l passed) result_is limit_is;
-          not_all = λ none. absurd (some (b.not_all none));
-          after_is = b.after_is ∙ ap (after_stores b.front) mid_is
-              ∙ sym (after_stores-append (last_stores s hop last) b.front s.cache);
+          front = last_stores s hop last ++ out.1.front;
+          back = out.1.back;
+          parts = append_assoc (last_stores s hop last) out.1.front out.1.back
+              ∙ ap (λ ss. last_stores s hop last ++ ss) out.1.parts
+              ∙ ap₂ (λ r l. last_stores s hop last ++ earlier_stores r s.now l passed) result_is limit_is;
+          not_all = λ none. absurd (out.0 (out.1.not_all none));
+          after_is = out.1.after_is ∙ ap (after_stores out.1.front) mid_is
+              ∙ sym (after_stores-append (last_stores s hop last) out.1.front s.cache);
         },
       )
 
   out_ended : IsFinished passed (Err OutOfMemory) limit asked s.now s.cache answer after → (answer ≡ Err OutOfMemory) × (after ≡ s.cache)
   out_ended (inl (is, e)) =
-      (is ∙ error_until (asked || not (is_empty passed)) (limit_back passed limit) OutOfMemory, e ∙ none_kept OutOfMemory s.now limit passed s.cache refl)
+      (is ∙ error_until (asked || not (is_empty passed)) (limit_of passed limit) OutOfMemory, e ∙ none_kept OutOfMemory s.now limit passed s.cache refl)
   out_ended (inr (oom, kept, b)) = let clash : false ≡ true = kept in cc
 
   -- memory ran out for the result, and nothing was stored
@@ -76,7 +76,7 @@ module _ (s : LookupContext) (passed : List PassedValue) (hop : Hop) (last : Cha
   ended_out result e takes finished =
       let P : LookupResult → Type 0 = λ r. IsFinished passed r limit asked s.now s.cache answer after in
       let out = out_ended (subst P e finished) in
-      inr (out.0, takes, record { front = []; back = stores_at s passed hop last; parts = refl; not_all = λ none. none; after_is = out.1 })
+      inr (out.0, takes, record { front = []; back = stores_of s passed hop last; parts = refl; not_all = λ none. none; after_is = out.1 })
 
 -- ---- the next hop
 
@@ -137,7 +137,7 @@ module _ (s : LookupContext) (w : WaitingValue) (outcome : OutcomeValue) where
         result = Err OutOfMemory;
         progress_is = refl;
         no_alias = no_alias;
-        ends = inr (refl, worked, record { front = []; back = stores_at s w.passed w.hop (Asked outcome); parts = refl; not_all = λ none. none; after_is = refl });
+        ends = inr (refl, worked, record { front = []; back = stores_of s w.passed w.hop (Asked outcome); parts = refl; not_all = λ none. none; after_is = refl });
       })
 
       on : (v : Option Verdict) → verdict_on s w.hop (kind_of outcome) ≡ v → Resumes s w outcome (IsDone (Err OutOfMemory)) s.cache

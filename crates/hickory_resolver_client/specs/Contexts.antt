@@ -2,8 +2,8 @@
 use Rattle.std.specs.Prelude.{ℕ, Bool, List, [], ◌∷◌, Option, None, Some}
 use Rattle.hickory_proto_core.specs.declared.query.Query.{Query}
 use Rattle.hickory_resolver_model.specs.Cache.{CacheValue}
-use Rattle.hickory_resolver_model.specs.Hops.{LookupContext}
-use Rattle.hickory_resolver_model.specs.Resuming.{PassedValue, ProgressValue, Waits, IsDone}
+use Rattle.hickory_resolver_model.specs.Hops.{LookupContext, PassedValue}
+use Rattle.hickory_resolver_model.specs.Resuming.{ProgressValue, Waits, IsDone}
 use Rattle.hickory_resolver_client.specs.declared.waiting.Progress.{Progress}
 use Rattle.hickory_resolver_client.specs.declared.waiting.Progress.TheVariants.{Waiting, Done}
 

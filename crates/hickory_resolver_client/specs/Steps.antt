@@ -8,8 +8,7 @@ use Rattle.hickory_proto_core.specs.declared.net_error.DnsError.TheVariants.{NoR
 use Rattle.hickory_resolver_model.specs.Cache.{CacheValue}
 use Rattle.hickory_resolver_model.specs.Lookup.{LookupResult}
 use Rattle.hickory_resolver_model.specs.Verdict.{Hop, Alias}
-use Rattle.hickory_resolver_model.specs.Hops.{IsBeginning, LookupContext, verdict_on, result_when_asked, stores_when_asked, alias_limit, result_until, is_kept, Store, after_stores}
-use Rattle.hickory_resolver_model.specs.Resuming.{PassedValue, limit_back, stores_back}
+use Rattle.hickory_resolver_model.specs.Hops.{IsBeginning, LookupContext, verdict_on, result_when_asked, stores_when_asked, alias_limit, result_until, is_kept, Store, after_stores, PassedValue, limit_of, earlier_stores}
 use Rattle.hickory_resolver_client.specs.declared.caching_core.HopStep as code
 use Rattle.hickory_resolver_client.specs.declared.caching_core.HopStep.TheVariants.{Next, Done}
 
@@ -52,7 +51,7 @@ RunsOutAmong stores before after = (stores ≡ [] → ⊥) × IsBeginning stores
 abbrev pub IsFinished : List PassedValue → LookupResult → ℕ → Bool → ℕ → CacheValue → LookupResult → CacheValue
     → Type 0
 IsFinished passed result limit last_asked now before answer after =
-    ((answer ≡ (if last_asked || not (is_empty passed) then result_until (limit_back passed limit) result else result))
-    × (after ≡ after_stores (stores_back result now limit passed) before))
+    ((answer ≡ (if last_asked || not (is_empty passed) then result_until (limit_of passed limit) result else result))
+    × (after ≡ after_stores (earlier_stores result now limit passed) before))
     ⊎ ((answer ≡ Err OutOfMemory) × (is_kept result ≡ true)
-    × RunsOutAmong (stores_back result now limit passed) before after)
+    × RunsOutAmong (earlier_stores result now limit passed) before after)

@@ -6,8 +6,7 @@ ghost use Rattle.hickory_proto_core.specs.declared.net_error.NetError.TheVariant
 ghost use Rattle.hickory_proto_core.specs.declared.net_error.DnsError.TheVariants.{NoRecordsFound};
 ghost use Rattle.hickory_resolver_model.specs.Cache.{last_moment};
 ghost use Rattle.hickory_resolver_model.specs.Lookup.{found_lookup};
-ghost use Rattle.hickory_resolver_model.specs.Hops.{no_match, hit_result, store_of, as_outcome, alias_deadline, result_until, is_kept, after_stores};
-ghost use Rattle.hickory_resolver_model.specs.Resuming.{limit_back, stores_back};
+ghost use Rattle.hickory_resolver_model.specs.Hops.{no_match, hit_result, store_of, as_outcome, alias_deadline, result_until, is_kept, after_stores, limit_of, earlier_stores};
 ghost use Rattle.hickory_resolver_client.specs.Special.{IsUnlessOut};
 ghost use Rattle.hickory_resolver_client.specs.Steps.{RunsOutAmong};
 
@@ -78,10 +77,10 @@ pub fn store_under_passed<S: BuildHasher>(
     mut limit: u64,
     now: u64,
 ) -> Result<u64, NetError>
-    ensures ok { IfOk result (λ first. (first ≡ limit_back passed.items limit)
-        × (cache.new ≡ after_stores (stores_back reply.now now limit passed.items) cache.old)) }
+    ensures ok { IfOk result (λ first. (first ≡ limit_of passed.items limit)
+        × (cache.new ≡ after_stores (earlier_stores reply.now now limit passed.items) cache.old)) }
     ensures err { OnErr result
-        (RunsOutAmong (stores_back reply.now now limit passed.items) cache.old cache.new) }
+        (RunsOutAmong (earlier_stores reply.now now limit passed.items) cache.old cache.new) }
     ensures memory { IsOkUnless result NetError.OutOfMemory }
 {
     while let Some(last) = passed.pop() {

@@ -16,7 +16,7 @@ pub(crate) struct Passed {
 }
 
 impl Model for Passed {
-    ghost use Rattle.hickory_resolver_model.specs.Resuming.{PassedValue};
+    ghost use Rattle.hickory_resolver_model.specs.Hops.{PassedValue};
 
     ghost Value = { PassedValue };
 

@@ -1,12 +1,12 @@
 -- What a look-up asks, answers and stores, as a list of hops: each is a question on the way of an alias to
 -- the next, and the last one has the result.
-use Rattle.std.specs.Prelude.{◌≡◌, ◌⊎◌, ◌≤◌, ℕ, Bool, true, false, List, [], ◌∷◌, ◌++◌, length, map, min, Option, Some, None, Ok, Err}
+use Rattle.std.specs.Prelude.{◌≡◌, ◌⊎◌, ◌≤◌, ℕ, Bool, true, false, not, ◌||◌, List, [], ◌∷◌, ◌++◌, length, map, min, Option, Some, None, Ok, Err, if◌then◌else◌}
 use Rattle.std.specs.Option.{option_map}
 use Rattle.hickory_proto_core.specs.Codes.{type_code}
 use Rattle.hickory_proto_core.specs.Messages.{MessageValue}
 use Rattle.hickory_proto_core.specs.Handles.{OutcomeValue, holds_memory}
 use Rattle.hickory_proto_core.specs.NetErrors.{is_no_records_found}
-use Rattle.hickory_proto_core.specs.ResponseKind.{ResponseKind, Answer, Negative, Failed, kind_of, first_soa, negative_ttl_of}
+use Rattle.hickory_proto_core.specs.ResponseKind.{ResponseKind, Answer, Negative, Failed, kind_of, first_soa, negative_ttl_of, is_empty}
 use Rattle.hickory_proto_core.specs.codes.record_type.RecordType.TheVariants as type
 use Rattle.hickory_proto_core.specs.declared.query.Query.{Query}
 use Rattle.hickory_proto_core.specs.declared.recorded.Exchange.{Exchange}
@@ -46,11 +46,13 @@ pub record IsAliasHop (s : LookupContext) (hop : Hop) (x : Exchange) (next : Hop
   pub asked : x.query ≡ hop.query
   pub alias : verdict_on s hop (kind_of x.outcome) ≡ Some (Alias next)
 
--- these exchanges lead by aliases from a hop to another. The first target of a service's SRV records counts as an
--- alias where no CNAME counted
-abbrev pub FollowsAliases : LookupContext → Hop → List Exchange → Hop → Type 0
-FollowsAliases s hop [] last = last ≡ hop
-FollowsAliases s hop (x ∷ xs) last = (next : Hop) × IsAliasHop s hop x next × FollowsAliases s next xs last
+-- These exchanges lead by aliases from a hop to another; for each there is the cache that its hop read. The first target
+-- of a service's SRV records counts as an alias where no CNAME counted
+abbrev pub FollowsAliases : LookupContext → List CacheValue → Hop → List Exchange → Hop → Type 0
+FollowsAliases s [] hop [] last = last ≡ hop
+FollowsAliases s (cache ∷ caches) hop (x ∷ xs) last =
+    (next : Hop) × IsAliasHop (record s { cache = cache }) hop x next × FollowsAliases s caches next xs last
+FollowsAliases s _ hop _ last = ⊥
 
 -- how a list of hops ends: at a special name, at a current entry, or with what came back
 pub data ChainEnd : Type 0 where
@@ -142,24 +144,41 @@ end_limit s hop (Special reply) = last_moment
 end_limit s hop (Hit entry) = entry.valid_until
 end_limit s hop (Asked outcome) = alias_limit s hop.query (kind_of outcome)
 
--- The limit of the first of some hops: the lesser of that of its own CNAMEs and the limit of the hop after it;
--- where it is the last, until when its own CNAMEs live, or the entry that was hit.
-abbrev pub limit_of : LookupContext → List Exchange → Hop → ChainEnd → ℕ
-limit_of s [] hop last = end_limit s hop last
-limit_of s (x ∷ xs) hop last = min (alias_limit s x.query (kind_of x.outcome)) (limit_of s xs hop last)
+-- a question that was asked, and until when the CNAMEs live that counted in what came back to it (seconds)
+pub record PassedValue : Type 0 where
+  pub query : Query
+  pub limit : ℕ
+
+-- the question of a hop, passed by what came back to it, and that of an exchange
+abbrev pub passed_by : LookupContext → Query → OutcomeValue → PassedValue
+passed_by s q outcome = record { query = q; limit = alias_limit s q (kind_of outcome) }
+
+abbrev pub passed_of : LookupContext → List Exchange → List PassedValue
+passed_of s xs = map (λ x. passed_by s x.query x.outcome) xs
+
+-- the limit of the first of some passed questions, where that of the hop after them is given: the lesser of its own and
+-- that of the hop after it
+abbrev pub limit_of : List PassedValue → ℕ → ℕ
+limit_of [] limit = limit
+limit_of (p ∷ ps) limit = min p.limit (limit_of ps limit)
 
 -- an answer that may be used up to a limit at the most; an error stays
 abbrev pub result_until : ℕ → LookupResult → LookupResult
 result_until limit (Ok l) = Ok (record l { valid_until = min l.valid_until limit })
 result_until limit (Err error) = Err error
 
--- What a look-up comes to, by the hops before the last: the result of the last. Where its first question was
+-- the last hop was asked
+abbrev pub is_asked : ChainEnd → Bool
+is_asked (Asked outcome) = true
+is_asked other = false
+
+-- What a look-up comes to, by the questions that it passed: the result of its last hop. Where its first question was
 -- asked, an answer may be used up to the limit of the first hop; a special name and a hit keep their own time.
-abbrev pub reply_of : LookupContext → List Exchange → Hop → ChainEnd → LookupResult
-reply_of s [] hop (Special reply) = result_of s hop (Special reply)
-reply_of s [] hop (Hit entry) = result_of s hop (Hit entry)
-reply_of s [] hop (Asked outcome) = result_until (limit_of s [] hop (Asked outcome)) (result_of s hop (Asked outcome))
-reply_of s (x ∷ xs) hop last = result_until (limit_of s (x ∷ xs) hop last) (result_of s hop last)
+abbrev pub reply_of : LookupContext → List PassedValue → Hop → ChainEnd → LookupResult
+reply_of s passed hop last =
+    if is_asked last || not (is_empty passed)
+    then result_until (limit_of passed (end_limit s hop last)) (result_of s hop last)
+    else result_of s hop last
 
 -- ---- what is stored
 
@@ -211,16 +230,16 @@ as_outcome q (Err error) = Err error
 abbrev pub earlier_store : LookupResult → ℕ → Query → ℕ → Store
 earlier_store result now q limit = store_of q (as_outcome q result) now limit
 
--- the result under the question of each hop before the last, with its limit, from the last to the first
-abbrev pub earlier_stores : LookupContext → List Exchange → Hop → ChainEnd → List Store
-earlier_stores s [] hop last = []
-earlier_stores s (x ∷ xs) hop last =
-    earlier_stores s xs hop last
-    ++ earlier_store (result_of s hop last) s.now x.query (limit_of s (x ∷ xs) hop last) ∷ []
+-- a result under each passed question, with its limit, from the last to the first
+abbrev pub earlier_stores : LookupResult → ℕ → ℕ → List PassedValue → List Store
+earlier_stores result now limit [] = []
+earlier_stores result now limit (p ∷ ps) =
+    earlier_stores result now limit ps ++ earlier_store result now p.query (limit_of (p ∷ ps) limit) ∷ []
 
--- the last hop's own store, then those of the hops before it
-abbrev pub stores_of : LookupContext → List Exchange → Hop → ChainEnd → List Store
-stores_of s passed hop last = last_stores s hop last ++ earlier_stores s passed hop last
+-- the last hop's own store, then those under the questions before it
+abbrev pub stores_of : LookupContext → List PassedValue → Hop → ChainEnd → List Store
+stores_of s passed hop last =
+    last_stores s hop last ++ earlier_stores (result_of s hop last) s.now (end_limit s hop last) passed
 
 -- the cache after a store. A store of an error other than a negative answer changes nothing
 abbrev pub after_store : Store → CacheValue → CacheValue
@@ -231,23 +250,35 @@ abbrev pub after_stores : List Store → CacheValue → CacheValue
 after_stores [] cache = cache
 after_stores (s ∷ ss) cache = after_stores ss (after_store s cache)
 
--- the hops of a question, at most eight, with the exchanges that they make
-pub record HopList (s : LookupContext) (question : Query) (asks : List Exchange) : Type 0 where
+-- ---- the whole of a look-up
+--
+-- Each of its hops reads the cache that stands when the hop is taken. The cache of the context is the one that stands at
+-- the end, in which the result is kept. A look-up that blocks reads one cache, as nothing but itself changes it.
+
+-- The hops of a question, at most eight, with the exchanges that they make and, for each of these, the cache that its hop
+-- read. A last hop that was not asked read the cache that stands at the end.
+pub record HopList (s : LookupContext) (caches : List CacheValue) (question : Query) (asks : List Exchange)
+    : Type 0 where
+  pub before : List CacheValue
   pub passed : List Exchange
   pub last_hop : Hop
   pub last : ChainEnd
-  pub leads : FollowsAliases s (first_hop question) passed last_hop
+  pub last_cache : CacheValue
+  pub leads : FollowsAliases s before (first_hop question) passed last_hop
   pub short : length passed ≤ 7
-  pub ends : IsChainEnd s (length passed) last_hop last
+  pub ends : IsChainEnd (record s { cache = last_cache }) (length passed) last_hop last
+  pub at_once : is_asked last ≡ false → last_cache ≡ s.cache
   pub asks_are : asks ≡ passed ++ asks_of last_hop last
+  pub caches_are : caches ≡ before ++ (if is_asked last then last_cache ∷ [] else [])
 
 -- the whole of it: what the look-up comes to, and every store
 pub record IsWhole
-    (s : LookupContext) (question : Query) (asks : List Exchange) (result : LookupResult) (after : CacheValue)
+    (s : LookupContext) (caches : List CacheValue) (question : Query) (asks : List Exchange) (result : LookupResult)
+    (after : CacheValue)
     : Type 0 where
-  pub hops : HopList s question asks
-  pub result_is : result ≡ reply_of s hops.passed hops.last_hop hops.last
-  pub after_is : after ≡ after_stores (stores_of s hops.passed hops.last_hop hops.last) s.cache
+  pub hops : HopList s caches question asks
+  pub result_is : result ≡ reply_of s (passed_of s hops.passed) hops.last_hop hops.last
+  pub after_is : after ≡ after_stores (stores_of s (passed_of s hops.passed) hops.last_hop hops.last) s.cache
 
 -- a result that is kept, and so takes memory after it came: an answer, or a negative answer. Any other error is the
 -- reply as it is
@@ -265,32 +296,43 @@ pub record IsBeginning (stores : List Store) (before after : CacheValue) : Type 
 
 -- memory ran out among the stores of a result that is kept: a beginning of them was made
 pub record IsCutInStores
-    (s : LookupContext) (question : Query) (asks : List Exchange) (after : CacheValue)
+    (s : LookupContext) (caches : List CacheValue) (question : Query) (asks : List Exchange) (after : CacheValue)
     : Type 0 where
-  pub hops : HopList s question asks
+  pub hops : HopList s caches question asks
   pub kept : is_kept (result_of s hops.last_hop hops.last) ≡ true
-  pub begun : IsBeginning (stores_of s hops.passed hops.last_hop hops.last) s.cache after
+  pub begun : IsBeginning (stores_of s (passed_of s hops.passed) hops.last_hop hops.last) s.cache after
 
 -- memory ran out among the hops: first hops were asked, and nothing was stored. What came back to the last of them
 -- holds memory, so that there may have been none to copy it or to make something of it
 pub record IsCutInAsks
-    (s : LookupContext) (question : Query) (asks : List Exchange) (after : CacheValue)
+    (s : LookupContext) (caches : List CacheValue) (question : Query) (asks : List Exchange) (after : CacheValue)
     : Type 0 where
+  pub before : List CacheValue
   pub passed : List Exchange
   pub last_hop : Hop
-  pub leads : FollowsAliases s (first_hop question) passed last_hop
+  pub leads : FollowsAliases s before (first_hop question) passed last_hop
   pub short : length passed ≤ 7
-  pub asks_are : (asks ≡ passed)
-      ⊎ ((x : Exchange) × GoesUpstream s last_hop.query × (x.query ≡ last_hop.query)
-      × (holds_memory x.outcome ≡ true) × (asks ≡ passed ++ x ∷ []))
+  pub asks_are : ((asks ≡ passed) × (caches ≡ before))
+      ⊎ ((x : Exchange) × (cache : CacheValue) × GoesUpstream (record s { cache = cache }) last_hop.query
+      × (x.query ≡ last_hop.query) × (holds_memory x.outcome ≡ true) × (asks ≡ passed ++ x ∷ [])
+      × (caches ≡ before ++ cache ∷ []))
   pub after_is : after ≡ s.cache
 
 -- what is left of a look-up where memory ran out: a beginning of its events
-abbrev pub IsCutShort : LookupContext → Query → List Exchange → CacheValue → Type 0
-IsCutShort s question asks after = IsCutInStores s question asks after ⊎ IsCutInAsks s question asks after
+abbrev pub IsCutShort : LookupContext → List CacheValue → Query → List Exchange → CacheValue → Type 0
+IsCutShort s caches question asks after =
+    IsCutInStores s caches question asks after ⊎ IsCutInAsks s caches question asks after
 
--- the reply to a question, the exchanges that were made for it, and the cache after it
+-- the reply to a question, the exchanges that were made for it, each over its cache, and the cache after it
+abbrev pub IsReplyOver : LookupContext → List CacheValue → Query → List Exchange → LookupResult → CacheValue → Type 0
+IsReplyOver s caches question asks result after =
+    IsWhole s caches question asks result after
+    ⊎ ((result ≡ Err OutOfMemory) × IsCutShort s caches question asks after)
+
+-- the cache of the context, for each of some exchanges
+abbrev pub one_cache : LookupContext → List Exchange → List CacheValue
+one_cache s xs = map (λ x. s.cache) xs
+
+-- the same of a look-up that blocks
 abbrev pub IsReply : LookupContext → Query → List Exchange → LookupResult → CacheValue → Type 0
-IsReply s question asks result after =
-    IsWhole s question asks result after
-    ⊎ ((result ≡ Err OutOfMemory) × IsCutShort s question asks after)
+IsReply s question asks result after = IsReplyOver s (one_cache s asks) question asks result after

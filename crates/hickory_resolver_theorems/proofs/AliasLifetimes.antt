@@ -15,14 +15,11 @@ use Rattle.hickory_resolver_model.specs.Cache.{CacheValue, Entry, last_moment, e
 use Rattle.hickory_resolver_model.specs.Lookup.{LookupValue, LookupResult}
 use Rattle.hickory_resolver_model.specs.AliasWalk.{walk_of}
 use Rattle.hickory_resolver_model.specs.Verdict.{Hop, Verdict, Accepted, Alias, NoMatch, verdict}
-use Rattle.hickory_resolver_model.specs.Hops.{LookupContext, ChainEnd, Special, Hit, Asked, Store, IsReply, made_entry, asks_of, earliest, alias_deadline, alias_limit, end_limit, limit_of, result_of, result_until, reply_of, last_stores, earlier_store, earlier_stores, stores_of, stores_when_asked, stores_of_verdict}
-use Rattle.hickory_resolver_model.specs.Resuming.{IsReplyOver}
+use Rattle.hickory_resolver_model.specs.Hops.{LookupContext, ChainEnd, Special, Hit, Asked, Store, IsReplyOver, made_entry, one_cache, passed_of, asks_of, earliest, alias_deadline, alias_limit, end_limit, limit_of, result_of, result_until, reply_of, last_stores, earlier_store, earlier_stores, stores_of, stores_when_asked, stores_of_verdict}
 use Rattle.hickory_resolver_model.specs.Calls.{CallContext, start_at, Source, Static, Client, SubLookup, IsAnsweredFrom, IsAnsweredFor}
 use Rattle.hickory_resolver_model.specs.Run.{Settings, call_context_at, RequestValue, StepValue, answers_at, Run}
 use Rattle.hickory_resolver_theorems.specs.Statements.{LeastTtlIsZero}
 use Rattle.hickory_resolver_theorems.specs.Aliases.{counted_in, IsWithinAlias, OutlivesNoAlias, StoreOutlivesNoAlias, StoresOutliveNoAlias, NoAliasOutlives, IsLimitedBy, LimitedSubLookup, RunOutlivesNoAlias}
-use Rattle.hickory_resolver_theorems.specs.Resumed.{NoAliasOutlivesOver}
-use Rattle.hickory_resolver_theorems.proofs.OneCache.{reply-over}
 use Rattle.hickory_resolver_theorems.proofs.Weaker.{stages-weaker}
 
 module _ (s : LookupContext) (zero : LeastTtlIsZero s.cache.config (type_code type.CNAME)) where
@@ -54,7 +51,7 @@ module _ (s : LookupContext) (zero : LeastTtlIsZero s.cache.config (type_code ty
   below-end deadline hop (Asked outcome) le = ((below-own deadline hop.query (kind_of outcome) le, tt), tt)
 
   -- what is not after the limit of a hop outlives no alias from there on
-  below-limit : (deadline : ℕ) (passed : List Exchange) (hop : Hop) (last : ChainEnd) → deadline ≤ limit_of s passed hop last → OutlivesNoAlias s (passed ++ asks_of hop last) last deadline
+  below-limit : (deadline : ℕ) (passed : List Exchange) (hop : Hop) (last : ChainEnd) → deadline ≤ limit_of (passed_of s passed) (end_limit s hop last) → OutlivesNoAlias s (passed ++ asks_of hop last) last deadline
   below-limit deadline [] hop last le = below-end deadline hop last le
   below-limit deadline (x ∷ xs) hop last le =
       let more = below-limit deadline xs hop last (omega (arith, le)) in
@@ -88,13 +85,13 @@ module _ (s : LookupContext) (zero : LeastTtlIsZero s.cache.config (type_code ty
   own-limited hop (Hit entry) = tt
   own-limited hop (Asked outcome) = kind-limited hop (Asked outcome) (kind_of outcome) (λ deadline le. below-end deadline hop (Asked outcome) le)
 
-  pub stores-limited : (passed : List Exchange) (hop : Hop) (last : ChainEnd) → StoresOutliveNoAlias s passed hop last (stores_of s passed hop last)
+  pub stores-limited : (passed : List Exchange) (hop : Hop) (last : ChainEnd) → StoresOutliveNoAlias s passed hop last (stores_of s (passed_of s passed) hop last)
   stores-limited [] hop last = subst (StoresOutliveNoAlias s [] hop last) (sym (append-nil (last_stores s hop last))) (own-limited hop last)
   stores-limited (x ∷ xs) hop last =
-      let own : Store = earlier_store (result_of s hop last) s.now x.query (limit_of s (x ∷ xs) hop last) in (
-        stores_of s xs hop last,
+      let own : Store = earlier_store (result_of s hop last) s.now x.query (limit_of (passed_of s (x ∷ xs)) (end_limit s hop last)) in (
+        stores_of s (passed_of s xs) hop last,
         own,
-        sym (append_assoc (last_stores s hop last) (earlier_stores s xs hop last) (own ∷ [])),
+        sym (append_assoc (last_stores s hop last) (earlier_stores (result_of s hop last) s.now (end_limit s hop last) (passed_of s xs)) (own ∷ [])),
         refl,
         store-limited (x ∷ xs ++ asks_of hop last) last own (λ deadline le. below-limit deadline (x ∷ xs) hop last le),
         stores-limited xs hop last,
@@ -108,32 +105,31 @@ module _ (s : LookupContext) (zero : LeastTtlIsZero s.cache.config (type_code ty
       subst (λ (x : LookupValue). OutlivesNoAlias s asks last x.valid_until) same (below (min k.valid_until limit) (omega arith))
   until-limited asks last limit (Err error) below l e = cc
 
-  pub reply-limited : (passed : List Exchange) (hop : Hop) (last : ChainEnd) (l : LookupValue) → reply_of s passed hop last ≡ Ok l → is_empty (passed ++ asks_of hop last) ≡ false → OutlivesNoAlias s (passed ++ asks_of hop last) last l.valid_until
+  asked : (passed : List Exchange) (hop : Hop) (last : ChainEnd) (l : LookupValue) → result_until (limit_of (passed_of s passed) (end_limit s hop last)) (result_of s hop last) ≡ Ok l → OutlivesNoAlias s (passed ++ asks_of hop last) last l.valid_until
+  asked passed hop last l e =
+      until-limited (passed ++ asks_of hop last) last (limit_of (passed_of s passed) (end_limit s hop last)) (result_of s hop last) (λ deadline le. below-limit deadline passed hop last le) l e
+
+  pub reply-limited : (passed : List Exchange) (hop : Hop) (last : ChainEnd) (l : LookupValue) → reply_of s (passed_of s passed) hop last ≡ Ok l → is_empty (passed ++ asks_of hop last) ≡ false → OutlivesNoAlias s (passed ++ asks_of hop last) last l.valid_until
   reply-limited [] hop (Special reply) l e some = cc
   reply-limited [] hop (Hit entry) l e some = cc
-  reply-limited [] hop (Asked outcome) l e some =
-      until-limited (asks_of hop (Asked outcome)) (Asked outcome) (limit_of s [] hop (Asked outcome)) (result_of s hop (Asked outcome)) (λ deadline le. below-limit deadline [] hop (Asked outcome) le) l e
-  reply-limited (x ∷ xs) hop last l e some =
-      until-limited (x ∷ xs ++ asks_of hop last) last (limit_of s (x ∷ xs) hop last) (result_of s hop last) (λ deadline le. below-limit deadline (x ∷ xs) hop last le) l e
+  reply-limited [] hop (Asked outcome) l e some = asked [] hop (Asked outcome) l e
+  reply-limited (x ∷ xs) hop (Special reply) l e some = asked (x ∷ xs) hop (Special reply) l e
+  reply-limited (x ∷ xs) hop (Hit entry) l e some = asked (x ∷ xs) hop (Hit entry) l e
+  reply-limited (x ∷ xs) hop (Asked outcome) l e some = asked (x ∷ xs) hop (Asked outcome) l e
 
 -- ---- a look-up
 
-pub no_alias_outlives-over : (s : LookupContext) (question : Query) (asks : List Exchange) (result : LookupResult) (after : CacheValue) → (reply : IsReplyOver s question asks result after) → NoAliasOutlivesOver s question asks result after reply
-no_alias_outlives-over s question asks result after (inl whole) = λ zero.
+pub no_alias_outlives : (s : LookupContext) (caches : List CacheValue) (question : Query) (asks : List Exchange) (result : LookupResult) (after : CacheValue) → (reply : IsReplyOver s caches question asks result after) → NoAliasOutlives s caches question asks result after reply
+no_alias_outlives s caches question asks result after (inl whole) = λ zero.
     let h = whole.hops in (
       stores-limited s zero h.passed h.last_hop h.last,
       λ l e some. subst (λ xs. OutlivesNoAlias s xs h.last l.valid_until) (sym h.asks_are)
           (reply-limited s zero h.passed h.last_hop h.last l (sym whole.result_is ∙ e) (ap is_empty (sym h.asks_are) ∙ some)),
     )
-no_alias_outlives-over s question asks result after (inr (out, inl cut)) = λ zero.
+no_alias_outlives s caches question asks result after (inr (out, inl cut)) = λ zero.
     let h = cut.hops in
     subst (StoresOutliveNoAlias s h.passed h.last_hop h.last) (sym cut.begun.parts) (stores-limited s zero h.passed h.last_hop h.last)
-no_alias_outlives-over s question asks result after (inr (out, inr cut)) = tt
-
-pub no_alias_outlives : (s : LookupContext) (question : Query) (asks : List Exchange) (result : LookupResult) (after : CacheValue) → (reply : IsReply s question asks result after) → NoAliasOutlives s question asks result after reply
-no_alias_outlives s question asks result after (inl whole) = no_alias_outlives-over s question asks result after (reply-over s question asks result after (inl whole))
-no_alias_outlives s question asks result after (inr (out, inl cut)) = no_alias_outlives-over s question asks result after (reply-over s question asks result after (inr (out, inl cut)))
-no_alias_outlives s question asks result after (inr (out, inr cut)) = tt
+no_alias_outlives s caches question asks result after (inr (out, inr cut)) = tt
 
 -- ---- a call, and a run
 
@@ -142,7 +138,7 @@ part_limited t with_hosts before q p after (for, is) = (for, by p.source is)
   where
     by : (source : Source) → IsAnsweredFrom source t with_hosts before p after → IsLimitedBy source t with_hosts before p after
     by Static is = is
-    by Client is = (is, no_alias_outlives (start_at t before) p.question p.asks p.result after is.reply)
+    by Client is = (is, no_alias_outlives (start_at t before) (one_cache (start_at t before) p.asks) p.question p.asks p.result after is.reply)
 
 pub run_limited : (s : Settings) (first : CacheValue) (requests : List RequestValue) (steps : List StepValue) (exchanges : List Exchange) (after : CacheValue) → (run : Run s first requests steps exchanges after) → RunOutlivesNoAlias s first requests steps exchanges after run
 run_limited s first requests steps exchanges after run =

@@ -10,24 +10,15 @@ use Rattle.hickory_resolver_model.specs.Attempts.{attempts}
 use Rattle.hickory_resolver_model.specs.Cache.{CacheValue}
 use Rattle.hickory_resolver_model.specs.Lookup.{LookupResult, question_of}
 use Rattle.hickory_resolver_model.specs.Calls.{CallContext, start_at, Static, Client, SubLookup, IsAnsweredFor, IsAnsweredAlone, CallPlan, Says, AreAttempts, asks_of_sub_lookups}
-use Rattle.hickory_resolver_model.specs.Hops.{LookupContext, GoesUpstream}
-use Rattle.hickory_resolver_model.specs.Resuming.{WaitingValue, ProgressValue, Waits, IsDone, Starts}
-use Rattle.hickory_resolver_model.specs.Verdict.{first_hop}
+use Rattle.hickory_resolver_model.specs.Resuming.{WaitingValue, ProgressValue, Waits, IsDone}
+
 use Rattle.hickory_resolver_model.specs.Run.{Settings, Call, AtOnce, Attempt, IsCall, RanOutBeforeAsking}
 use Rattle.hickory_resolver_theorems.specs.CallFacts.{IsCallBy}
 use Rattle.hickory_resolver_theorems.specs.ResumingCalls.{AttemptValue, WaitingCallValue, CallProgressValue, with_result, at_next, FindsStatic, StartsSub, GoesOn, by_hosts, waits, at_once, stopped, next_name, no_name, StartsNames, StartsCall, RunsOutAtStart, GoesOnAfter, ResumesCall}
 use Rattle.hickory_resolver_theorems.proofs.SentAlone.{LookupSoFar, IsRestOfCall, CallRelation, LeadsToWhole, IsCallSentAlone, IsCallDoneAlone, CallSoFar}
 use Rattle.hickory_resolver_theorems.proofs.RestOfCall.{asks-append, by_client, static, rest_stopped, attempts_of, rest_next, rest_none, more_done}
 use Rattle.hickory_resolver_theorems.proofs.Weaker.{call-weaker}
-use Rattle.hickory_resolver_theorems.proofs.LookupsAlone.{unasked_end, lookup_started, lookup_resumed}
-
--- a look-up that is done as it is started did not go upstream
-done_unasked : (s : LookupContext) (question : Query) (result : LookupResult) (after : CacheValue) → Starts s question (IsDone result) after → GoesUpstream s question → ⊥
-done_unasked s question result after (last, unasked, ends, is) = unasked_end s (first_hop question) last 0 unasked ends
-
-some_asked : (xs : List Exchange) (x : Exchange) → xs ++ x ∷ [] ≡ [] → ⊥
-some_asked [] x e = cc
-some_asked (y ∷ ys) x e = cc
+use Rattle.hickory_resolver_theorems.proofs.LookupsAlone.{done_unasked, some_asked, lookup_started, lookup_resumed}
 
 module _ (s : CallContext) where
   module _ (IsWhole : CallRelation) where

@@ -1,6 +1,5 @@
 -- A call that does no I/O ends: each outcome that it goes on with leaves fewer questions that it may send.
 use Rattle.std.proofs.Common.{◌≡◌, ◌<◌, ◌≤◌, ◌+◌, ◌-◌, ◌∙◌, ◌*◌, ℕ, suc, List, [], ◌∷◌, ◌++◌, length, Some, None, sym, ap, subst, inl, inr, arith, length-append}
-use Rattle.std.proofs.lemmas.List.{length-map}
 use Rattle.hickory_proto_core.specs.Handles.{OutcomeValue}
 use Rattle.hickory_proto_core.specs.Name.{NameValue}
 use Rattle.hickory_proto_core.specs.declared.recorded.Exchange.{Exchange}
@@ -8,11 +7,12 @@ use Rattle.hickory_proto_core.specs.codes.record_type.RecordType.{RecordType}
 use Rattle.hickory_resolver_model.specs.Cache.{CacheValue}
 use Rattle.hickory_resolver_model.specs.Lookup.{LookupResult}
 use Rattle.hickory_resolver_model.specs.Verdict.{Hop}
-use Rattle.hickory_resolver_model.specs.Hops.{LookupContext}
+use Rattle.hickory_resolver_model.specs.Hops.{LookupContext, PassedValue, passed_by}
 use Rattle.hickory_resolver_model.specs.Calls.{CallContext, start_at, Plan, One, Both, Fallback, next_type}
-use Rattle.hickory_resolver_model.specs.Resuming.{PassedValue, WaitingValue, ProgressValue, Waits, IsDone, passed_by, ComesTo, Resumes}
+use Rattle.hickory_resolver_model.specs.Resuming.{WaitingValue, ProgressValue, Waits, IsDone, ComesTo, Resumes}
 use Rattle.hickory_resolver_theorems.specs.ResumingCalls.{AttemptValue, WaitingCallValue, CallProgressValue, CallWaits, CallIsDone, with_result, at_next, GoesOn, by_hosts, waits, at_once, stopped, next_name, no_name, GoesOnAfter, ResumesCall}
-use Rattle.hickory_resolver_theorems.proofs.SentAlone.{passed_of, CallRelation, IsCallSentAlone}
+use Rattle.hickory_resolver_theorems.proofs.InFlight.{passed_of-length}
+use Rattle.hickory_resolver_theorems.proofs.SentAlone.{CallRelation, IsCallSentAlone}
 
 -- ---- a look-up of the client
 
@@ -29,7 +29,7 @@ fewer_at s passed p next (IsDone result) after early comes = omega (arith, early
 
 pub fewer_lookup : (s : LookupContext) (w : WaitingValue) (outcome : OutcomeValue) (progress : ProgressValue) (after : CacheValue) → length w.passed ≤ 7 → Resumes s w outcome progress after → lookup_left progress < lookup_left (Waits w)
 fewer_lookup s w outcome progress after few (inl f) = elim f.goes_on [
-  | inl comes ↦ fewer_at s w.passed (passed_by s w.hop outcome) f.next progress after f.early comes
+  | inl comes ↦ fewer_at s w.passed (passed_by s w.hop.query outcome) f.next progress after f.early comes
   | inr out ↦ subst (λ p. lookup_left p < 8 - length w.passed) (sym out.0) (omega (arith, few))
 ]
 fewer_lookup s w outcome progress after few (inr e) = subst (λ p. lookup_left p < 8 - length w.passed) (sym e.progress_is) (omega (arith, few))
@@ -79,6 +79,6 @@ module _ (s : CallContext) (w : WaitingCallValue) (few : length w.lookup.passed 
 -- each outcome leaves fewer
 pub fewer_call : (s : CallContext) (IsWhole : CallRelation) (asks : List Exchange) (w : WaitingCallValue) (cache : CacheValue) → IsCallSentAlone s IsWhole asks w cache → (outcome : OutcomeValue) (progress : CallProgressValue) (after : CacheValue) → ResumesCall s w outcome cache progress after → call_left progress < call_left (CallWaits w)
 fewer_call s IsWhole asks w cache far outcome progress after (lookup, mid, resumes, more) =
-    let count : length w.lookup.passed ≡ length far.sent = ap length far.lookup.passed_are ∙ length-map far.sent (passed_of (start_at s cache)) in
+    let count : length w.lookup.passed ≡ length far.sent = ap length far.lookup.passed_are ∙ passed_of-length (start_at s cache) far.sent in
     let few : length w.lookup.passed ≤ 7 = omega (arith, count, far.lookup.few) in
     fewer_by s w few (one_result w.attempt.plan.types w.attempt.results far.asked_type far.next) lookup mid progress after (fewer_lookup (start_at s cache) w.lookup outcome lookup mid few resumes) more

@@ -9,7 +9,7 @@ use Rattle.hickory_proto_core.specs.codes.record_type.RecordType.{RecordType}
 use Rattle.hickory_resolver_model.specs.Attempts.{attempts}
 use Rattle.hickory_resolver_model.specs.Cache.{CacheValue}
 use Rattle.hickory_resolver_model.specs.Lookup.{LookupResult, question_of}
-use Rattle.hickory_resolver_model.specs.Hops.{IsWhole}
+use Rattle.hickory_resolver_model.specs.Hops.{IsWhole, one_cache}
 use Rattle.hickory_resolver_model.specs.Hosts.{IsStatic}
 use Rattle.hickory_resolver_model.specs.Calls.{CallContext, start_at, Source, Static, Client, SubLookup, SubLookupRelation, IsAnsweredByHosts, IsAnsweredFrom, IsAnsweredFor, is_out_of_memory, next_type, IsAttemptResult, AreSubLookups, results_of, IsAttempt, stops, CallPlan, Says, AreAttempts, asks_of_sub_lookups}
 use Rattle.hickory_resolver_model.specs.Resuming.{WaitingValue, ProgressValue, Waits, IsDone, Starts, Resumes}
@@ -24,7 +24,7 @@ use Rattle.hickory_resolver_theorems.proofs.UnlessOut.{call-unless}
 -- a question is answered by the table of hosts, or by a look-up of the client that ends with all its stores
 abbrev pub IsWholeFrom : Source → CallContext → Bool → CacheValue → SubLookup → CacheValue → Type 0
 IsWholeFrom Static t with_hosts before p after = IsAnsweredByHosts t with_hosts before p after
-IsWholeFrom Client t with_hosts before p after = ((with_hosts ≡ false) ⊎ IsStatic p.question t.now t.hosts None) × IsWhole (start_at t before) p.question p.asks p.result after
+IsWholeFrom Client t with_hosts before p after = ((with_hosts ≡ false) ⊎ IsStatic p.question t.now t.hosts None) × IsWhole (start_at t before) (one_cache (start_at t before) p.asks) p.question p.asks p.result after
 
 abbrev pub WholeSubLookup : CallContext → SubLookupRelation
 WholeSubLookup t with_hosts before q p after = (p.question ≡ q) × IsWholeFrom p.source t with_hosts before p after
@@ -80,7 +80,7 @@ module _ (t : CallContext) where
 
   -- a look-up of the client is started and driven
   client-driven : (a : AttemptValue) (u : RecordType) (before : CacheValue) (xs ys : List Exchange) (r : LookupResult) (mid : CacheValue) (result : LookupResult) (after : CacheValue) → next_type a.plan.types a.results ≡ Some u → (a.with_hosts ≡ false) ⊎ IsStatic (question_of a.name u) t.now t.hosts None
-      → IsWhole (start_at t before) (question_of a.name u) xs r mid → GoesOnDriven (with_result a r) mid ys result after → GoesOnDriven a before (xs ++ ys) result after
+      → IsWhole (start_at t before) (one_cache (start_at t before) xs) (question_of a.name u) xs r mid → GoesOnDriven (with_result a r) mid ys result after → GoesOnDriven a before (xs ++ ys) result after
   client-driven a u before xs ys r mid result after next not_static whole more = by d.progress xs d.starts d.driven
     where
       d : IsStartedAndDriven (start_at t before) (question_of a.name u) xs r mid
@@ -115,7 +115,7 @@ module _ (t : CallContext) where
       by Static part = hosts-driven a u before p ys mid result after next for part more
       by Client (not_static, whole) =
           client-driven a u before p.asks ys p.result mid result after next (subst (λ q. (a.with_hosts ≡ false) ⊎ IsStatic q t.now t.hosts None) for not_static)
-          (subst (λ q. IsWhole (start_at t before) q p.asks p.result mid) for whole) more
+          (subst (λ q. IsWhole (start_at t before) (one_cache (start_at t before) p.asks) q p.asks p.result mid) for whole) more
 
   -- the parts of an attempt, and what is left behind them
   subs-driven : (a : AttemptValue) (before : CacheValue) (ps : List SubLookup) (mid : CacheValue) (ys : List Exchange) (result : LookupResult) (after : CacheValue) → AreSubLookups (WholeSubLookup t) a.with_hosts a.name a.plan.types before a.results ps mid

@@ -1,5 +1,5 @@
 -- No record of the asked type that a look-up gives or stores outlives what was received.
-use Rattle.std.proofs.Common.{◌≡◌, ◌⊎◌, ◌≤◌, ℕ, ◌+◌, ◌-◌, Bool, true, false, ◌&&◌, ◌==◌, List, [], ◌∷◌, ◌++◌, map, min, ◌||◌, Option, Some, None, Ok, Err, refl, sym, ap, ◌∙◌, subst, arith, inl, inr, if◌then◌else◌}
+use Rattle.std.proofs.Common.{◌≡◌, ◌⊎◌, ◌≤◌, ℕ, ◌+◌, ◌-◌, Bool, true, false, ◌&&◌, ◌==◌, List, [], ◌∷◌, ◌++◌, map, min, ◌||◌, not, Option, Some, None, Ok, Err, refl, sym, ap, ◌∙◌, subst, arith, inl, inr, if◌then◌else◌}
 use Rattle.std.proofs.lemmas.Bool.{and_parts, leb-true, eqb-true}
 use Rattle.std.specs.List.{AllByRecursion}
 use Rattle.std.specs.Option.{option_map_or}
@@ -20,14 +20,12 @@ use Rattle.hickory_resolver_model.specs.Lookup.{LookupResult, hit_lookup, hit_se
 use Rattle.hickory_resolver_model.specs.SpecialUse.{special_use_result, is_loopback_name, is_nonexistent_name, loopback_data, one_record, no_records}
 use Rattle.hickory_resolver_model.specs.AliasWalk.{Walk, walk_of}
 use Rattle.hickory_resolver_model.specs.Verdict.{Hop, Accepted, Alias, NoMatch, is_accepted, found_message, next_hop, all_records, with_ttl_at_most}
-use Rattle.hickory_resolver_model.specs.Hops.{LookupContext, ChainEnd, Special, Hit, Asked, IsChainEnd, Store, IsReply, asks_of, hit_result, result_of_verdict, result_when_asked, result_of, alias_limit, limit_of, result_until, reply_of, stores_of_verdict, stores_when_asked, last_stores, earlier_store, stores_of, after_stores}
-use Rattle.hickory_resolver_model.specs.Resuming.{is_asked, HopListOver, IsReplyOver}
+use Rattle.hickory_resolver_model.specs.Hops.{LookupContext, ChainEnd, Special, Hit, Asked, IsChainEnd, HopList, Store, IsReplyOver, PassedValue, passed_of, asks_of, hit_result, result_of_verdict, result_when_asked, result_of, alias_limit, end_limit, limit_of, is_asked, result_until, reply_of, stores_of_verdict, stores_when_asked, last_stores, earlier_store, stores_of, after_stores}
 use Rattle.hickory_resolver_theorems.specs.Covered.{Dated, dated_exchanges, IsCovered, IsLoopback}
 use Rattle.hickory_resolver_theorems.specs.Statements.{LeastTtlIsZero, IsFreshRecord, AreFreshRecords, IsFreshReply, IsFreshOutcome, IsFreshEntry, AreFreshEntries, IsFresh}
 use Rattle.hickory_resolver_theorems.proofs.Lists.{all-weaker, all-append, all-front, all-back, all-map, all-has, has-all, has-right, has-map, find-has, ContainsByRecursion, contains-from_recursion}
 use Rattle.hickory_resolver_theorems.proofs.Covers.{Arrives, arrived-fresh, fresh-arrives, fresh-sooner, covered-has, covered-lower, clamped_message-le, clamped_message-greatest, greatest-short, least-has, saturating-le}
 use Rattle.hickory_resolver_theorems.proofs.VerdictFacts.{KeepsType, leads-keep, found-answers}
-use Rattle.hickory_resolver_theorems.proofs.OneCache.{reply-over}
 use Rattle.hickory_resolver_theorems.proofs.Stores.{StoresArrived, stores-fresh, entries-more, earlier-all}
 
 -- ---- special names
@@ -195,11 +193,12 @@ until-fresh : (config : ConfigValue) (sources : List Dated) (code now limit : �
 until-fresh config sources code now limit (Ok l) fresh = fresh-sooner config sources code now l.valid_until (min l.valid_until limit) l.message.answers (omega arith) fresh
 until-fresh config sources code now limit (Err e) fresh = tt
 
-reply-fresh : (s : LookupContext) (sources : List Dated) (code : ℕ) (passed : List Exchange) (hop : Hop) (last : ChainEnd) → IsFreshReply s.cache.config sources code s.now (result_of s hop last) → IsFreshReply s.cache.config sources code s.now (reply_of s passed hop last)
-reply-fresh s sources code [] hop (Special reply) fresh = fresh
-reply-fresh s sources code [] hop (Hit entry) fresh = fresh
-reply-fresh s sources code [] hop (Asked outcome) fresh = until-fresh s.cache.config sources code s.now (limit_of s [] hop (Asked outcome)) (result_of s hop (Asked outcome)) fresh
-reply-fresh s sources code (x ∷ xs) hop last fresh = until-fresh s.cache.config sources code s.now (limit_of s (x ∷ xs) hop last) (result_of s hop last) fresh
+reply-fresh : (s : LookupContext) (sources : List Dated) (code : ℕ) (passed : List PassedValue) (hop : Hop) (last : ChainEnd) → IsFreshReply s.cache.config sources code s.now (result_of s hop last) → IsFreshReply s.cache.config sources code s.now (reply_of s passed hop last)
+reply-fresh s sources code passed hop last fresh = by (is_asked last || not (is_empty passed))
+  where
+    by : (b : Bool) → IsFreshReply s.cache.config sources code s.now (if b then result_until (limit_of passed (end_limit s hop last)) (result_of s hop last) else result_of s hop last)
+    by true = until-fresh s.cache.config sources code s.now (limit_of passed (end_limit s hop last)) (result_of s hop last) fresh
+    by false = fresh
 
 -- ---- what it stores
 
@@ -236,16 +235,16 @@ again-arrives config sources now code q (Err e) limit same fresh = tt
 -- ---- a look-up
 
 -- what is known of a list of hops, with its own exchanges among the sources
-pub record AreFreshHops (s : LookupContext) (question : Query) (asks : List Exchange) (sources : List Dated) (h : HopListOver s question asks) : Type 0 where
-  pub reply : LeastTtlIsZero s.cache.config (type_code question.query_type) → IsFreshReply s.cache.config sources (type_code question.query_type) s.now (reply_of s h.passed h.last_hop h.last)
-  pub stores : AllByRecursion (StoresArrived s.cache.config sources) (stores_of s h.passed h.last_hop h.last)
+pub record AreFreshHops (s : LookupContext) (caches : List CacheValue) (question : Query) (asks : List Exchange) (sources : List Dated) (h : HopList s caches question asks) : Type 0 where
+  pub reply : LeastTtlIsZero s.cache.config (type_code question.query_type) → IsFreshReply s.cache.config sources (type_code question.query_type) s.now (reply_of s (passed_of s h.passed) h.last_hop h.last)
+  pub stores : AllByRecursion (StoresArrived s.cache.config sources) (stores_of s (passed_of s h.passed) h.last_hop h.last)
 
-pub hops-fresh : (s : LookupContext) (question : Query) (asks : List Exchange) (sources : List Dated) (h : HopListOver s question asks) → AreFreshHits s sources (type_code question.query_type) → AllByRecursion (λ x. ContainsByRecursion sources (record { moment = s.now; exchange = x })) asks
-    → AreFreshHops s question asks sources h
-hops-fresh s question asks sources h fresh there = record {
-  reply = λ zero. reply-fresh s sources code h.passed h.last_hop h.last (reply zero);
+pub hops-fresh : (s : LookupContext) (caches : List CacheValue) (question : Query) (asks : List Exchange) (sources : List Dated) (h : HopList s caches question asks) → AreFreshHits s sources (type_code question.query_type) → AllByRecursion (λ x. ContainsByRecursion sources (record { moment = s.now; exchange = x })) asks
+    → AreFreshHops s caches question asks sources h
+hops-fresh s caches question asks sources h fresh there = record {
+  reply = λ zero. reply-fresh s sources code (passed_of s h.passed) h.last_hop h.last (reply zero);
   stores = all-append (StoresArrived s.cache.config sources) (last_stores s h.last_hop h.last) _ (last-arrives s sources h.last_hop h.last own last_there)
-      (earlier-all (StoresArrived s.cache.config sources) s h.passed h.last_hop h.last
+      (earlier-all (StoresArrived s.cache.config sources) s result (end_limit s h.last_hop h.last) h.passed
       (all-weaker (λ x. type_code x.query.query_type ≡ code) (λ x. (limit : ℕ) → StoresArrived s.cache.config sources (earlier_store result s.now x.query limit)) (λ x same limit. again-arrives s.cache.config sources s.now code x.query result limit same reply) h.passed leads.1));
 }
   where
@@ -256,7 +255,7 @@ hops-fresh s question asks sources h fresh there = record {
     result = result_of s h.last_hop h.last
 
     leads : KeepsType code h.last_hop × AllByRecursion (λ x. type_code x.query.query_type ≡ code) h.passed
-    leads = leads-keep code s h.caches (record { query = question; preserved = [] }) h.passed h.last_hop (record { type_is = refl; others = tt }) h.leads
+    leads = leads-keep code s h.before (record { query = question; preserved = [] }) h.passed h.last_hop (record { type_is = refl; others = tt }) h.leads
 
     own : KeepsType (type_code h.last_hop.query.query_type) h.last_hop
     own = subst (λ c. KeepsType c h.last_hop) (sym leads.0.type_is) leads.0
@@ -278,9 +277,9 @@ own-sources sources now asks =
     (λ x h. has-right sources (dated_exchanges now asks) (record { moment = now; exchange = x }) (has-map (λ y. record { moment = now; exchange = y }) asks x h))
 
 -- where the sources cover the entries before it, and have its exchanges, they cover its reply and the entries after it
-pub fresh-within : (s : LookupContext) (question : Query) (asks : List Exchange) (result : LookupResult) (after : CacheValue) (sources : List Dated) → IsReplyOver s question asks result after → AreFreshEntries s.cache sources → AllByRecursion (λ x. ContainsByRecursion sources (record { moment = s.now; exchange = x })) asks
+pub fresh-within : (s : LookupContext) (caches : List CacheValue) (question : Query) (asks : List Exchange) (result : LookupResult) (after : CacheValue) (sources : List Dated) → IsReplyOver s caches question asks result after → AreFreshEntries s.cache sources → AllByRecursion (λ x. ContainsByRecursion sources (record { moment = s.now; exchange = x })) asks
     → (LeastTtlIsZero s.cache.config (type_code question.query_type) → IsFreshReply s.cache.config sources (type_code question.query_type) s.now result) × AreFreshEntries after sources
-fresh-within s question asks result after sources reply known own = by reply
+fresh-within s caches question asks result after sources reply known own = by reply
   where
     stored : (stores : List Store) → AllByRecursion (StoresArrived s.cache.config sources) stores → after ≡ after_stores stores s.cache → AreFreshEntries after sources
     stored stores arrive e = subst (λ c. AreFreshEntries c sources) (sym e) (stores-fresh s.cache sources stores known arrive)
@@ -288,10 +287,10 @@ fresh-within s question asks result after sources reply known own = by reply
     out : result ≡ Err OutOfMemory → IsFreshReply s.cache.config sources (type_code question.query_type) s.now result
     out e = subst (IsFreshReply s.cache.config sources (type_code question.query_type) s.now) (sym e) tt
 
-    hops : (h : HopListOver s question asks) → AreFreshHops s question asks sources h
-    hops h = hops-fresh s question asks sources h (hits-fresh s sources (type_code question.query_type) known) own
+    hops : (h : HopList s caches question asks) → AreFreshHops s caches question asks sources h
+    hops h = hops-fresh s caches question asks sources h (hits-fresh s sources (type_code question.query_type) known) own
 
-    by : IsReplyOver s question asks result after → (LeastTtlIsZero s.cache.config (type_code question.query_type) → IsFreshReply s.cache.config sources (type_code question.query_type) s.now result) × AreFreshEntries after sources
+    by : IsReplyOver s caches question asks result after → (LeastTtlIsZero s.cache.config (type_code question.query_type) → IsFreshReply s.cache.config sources (type_code question.query_type) s.now result) × AreFreshEntries after sources
     by (inl whole) = (
       (λ zero. subst (IsFreshReply s.cache.config sources (type_code question.query_type) s.now) (sym whole.result_is) ((hops whole.hops).reply zero)),
       stored _ (hops whole.hops).stores whole.after_is,
@@ -302,9 +301,6 @@ fresh-within s question asks result after sources reply known own = by reply
     )
     by (inr (e, inr cut)) = ((λ zero. out e), subst (λ c. AreFreshEntries c sources) (sym cut.after_is) known)
 
-pub fresh-over : (s : LookupContext) (question : Query) (asks : List Exchange) (result : LookupResult) (after : CacheValue) → IsReplyOver s question asks result after → IsFresh s question asks result after
-fresh-over s question asks result after reply sources entries =
-    fresh-within s question asks result after (sources ++ dated_exchanges s.now asks) reply (entries-more s.cache sources (dated_exchanges s.now asks) entries) (own-sources sources s.now asks)
-
-pub fresh : (s : LookupContext) (question : Query) (asks : List Exchange) (result : LookupResult) (after : CacheValue) → IsReply s question asks result after → IsFresh s question asks result after
-fresh s question asks result after reply = fresh-over s question asks result after (reply-over s question asks result after reply)
+pub fresh : (s : LookupContext) (caches : List CacheValue) (question : Query) (asks : List Exchange) (result : LookupResult) (after : CacheValue) → IsReplyOver s caches question asks result after → IsFresh s question asks result after
+fresh s caches question asks result after reply sources entries =
+    fresh-within s caches question asks result after (sources ++ dated_exchanges s.now asks) reply (entries-more s.cache sources (dated_exchanges s.now asks) entries) (own-sources sources s.now asks)

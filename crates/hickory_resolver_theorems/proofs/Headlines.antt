@@ -11,6 +11,7 @@ use Rattle.hickory_proto_core.specs.declared.net_error.NetError.TheVariants.{Out
 use Rattle.hickory_resolver_model.specs.Cache.{CacheValue, is_for, without_query}
 use Rattle.hickory_resolver_model.specs.Lookup.{LookupResult, question_of}
 use Rattle.hickory_resolver_model.specs.Hosts.{IsStatic}
+use Rattle.hickory_resolver_model.specs.Hops.{one_cache}
 use Rattle.hickory_resolver_model.specs.Calls.{CallContext, Source, Static, Client, SubLookup, IsAnsweredFrom, IsAnsweredFor, start_at, is_out_of_memory, asks_of_sub_lookups}
 use Rattle.hickory_resolver_model.specs.Attempts.{attempts}
 use Rattle.hickory_resolver_model.specs.Run.{Settings, call_context_at, RequestValue, Lookup, LookupIp, ClearLookup, Clear, StepReply, LookedUp, LookedUpIp, Cleared, ends_run, drop_each, after_clear, Call, name_call, address_call, IsCall, IsServed, StepValue, Stage, IsStage, AreStages, exchanges_of, Run}
@@ -43,7 +44,7 @@ part-alike table t with_hosts c before q p after seen meant has tells (for, is) 
     )
     by Client e part =
         let meaning = has e in
-        let there = transparent (start_at t before) p.question p.asks p.result after part.reply table seen.off seen.apart tells meant meaning.0 meaning.1 meaning.2 meaning.3 in
+        let there = transparent (start_at t before) (one_cache (start_at t before) p.asks) p.question p.asks p.result after part.reply table seen.off seen.apart tells meant meaning.0 meaning.1 meaning.2 meaning.3 in
         (on there.0, there.1)
       where
         on : ((p.result ≡ Err OutOfMemory) ⊎ (reply_core p.result ≡ (has e).0)) → (is_out_of_memory p.result ≡ true) ⊎ CachelessSubLookup table t with_hosts c q p c

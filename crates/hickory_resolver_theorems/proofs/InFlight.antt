@@ -13,43 +13,20 @@ use Rattle.hickory_resolver_model.specs.Cache.{CacheValue}
 use Rattle.hickory_resolver_model.specs.Lookup.{LookupResult}
 use Rattle.hickory_resolver_model.specs.Verdict.{Hop, Verdict, Accepted, Alias, NoMatch, first_hop, verdict}
 use Rattle.hickory_resolver_model.specs.AliasWalk.{walk_of}
-use Rattle.hickory_resolver_model.specs.Hops.{IsBeginning, LookupContext, GoesUpstream, IsAliasHop, ChainEnd, Special, Hit, Asked, IsChainEnd, Store, verdict_on, result_of, result_when_asked, result_of_verdict, asks_of, alias_limit, alias_deadline, earliest, end_limit, limit_of, reply_of, result_until, last_stores, earlier_store, earlier_stores, after_store, after_stores, is_kept}
-use Rattle.hickory_resolver_model.specs.Resuming.{PassedValue, ProgressValue, Waits, IsDone, passed_by, limit_back, stores_back, is_asked, stores_at, reply_at, TakesMemory, EndsAs, ComesTo, FollowsAlias, IsEndedBy, Resumes, FollowsAliasesOver, HopListOver, IsReplyOver}
-use Rattle.hickory_resolver_theorems.specs.Resumed.{caches_read}
+use Rattle.hickory_resolver_model.specs.Hops.{IsBeginning, LookupContext, GoesUpstream, IsAliasHop, FollowsAliases, ChainEnd, Special, Hit, Asked, IsChainEnd, HopList, IsReplyOver, Store, PassedValue, passed_by, passed_of, verdict_on, result_of, result_when_asked, result_of_verdict, asks_of, alias_limit, alias_deadline, earliest, end_limit, limit_of, is_asked, last_stores, earlier_store, earlier_stores, stores_of, after_store, after_stores, is_kept}
+use Rattle.hickory_resolver_model.specs.Resuming.{ProgressValue, Waits, IsDone, TakesMemory, EndsAs, ComesTo, FollowsAlias, IsEndedBy, Resumes}
 use Rattle.hickory_resolver_theorems.specs.Interleaved.{PendingValue, asks_with, caches_with}
 use Rattle.hickory_resolver_theorems.proofs.Lists.{all-append, all-front}
 use Rattle.hickory_resolver_theorems.proofs.OneCache.{verdict-elsewhere}
 
 -- ---- what is kept of the questions that were asked
 
-abbrev pub passed_of : LookupContext → List Exchange → List PassedValue
-passed_of s xs = map (λ x. record { query = x.query; limit = alias_limit s x.query (kind_of x.outcome) }) xs
-
 pub passed_of-length : (s : LookupContext) (xs : List Exchange) → length (passed_of s xs) ≡ length xs
-passed_of-length s xs = length-map xs (λ x. record { query = x.query; limit = alias_limit s x.query (kind_of x.outcome) })
+passed_of-length s xs = length-map xs (λ x. passed_by s x.query x.outcome)
 
 -- one question more
-pub passed_of-more : (s : LookupContext) (xs : List Exchange) (x : Exchange) (q : Query) → x.query ≡ q → passed_of s (xs ++ x ∷ []) ≡ passed_of s xs ++ record { query = q; limit = alias_limit s q (kind_of x.outcome) } ∷ []
-passed_of-more s xs x q asked =
-    map-append (λ y. record { query = y.query; limit = alias_limit s y.query (kind_of y.outcome) }) xs (x ∷ [])
-    ∙ ap (λ own. passed_of s xs ++ record { query = own; limit = alias_limit s own (kind_of x.outcome) } ∷ []) asked
-
-limit-same : (s : LookupContext) (xs : List Exchange) (hop : Hop) (last : ChainEnd) → limit_back (passed_of s xs) (end_limit s hop last) ≡ limit_of s xs hop last
-limit-same s [] hop last = refl
-limit-same s (x ∷ xs) hop last = ap (λ limit. min (alias_limit s x.query (kind_of x.outcome)) limit) (limit-same s xs hop last)
-
-pub stores-same : (s : LookupContext) (xs : List Exchange) (hop : Hop) (last : ChainEnd) → stores_back (result_of s hop last) s.now (end_limit s hop last) (passed_of s xs) ≡ earlier_stores s xs hop last
-stores-same s [] hop last = refl
-stores-same s (x ∷ xs) hop last =
-    ap₂ (λ stores limit. stores ++ earlier_store (result_of s hop last) s.now x.query limit ∷ []) (stores-same s xs hop last) (limit-same s (x ∷ xs) hop last)
-
-pub reply-same : (s : LookupContext) (xs : List Exchange) (hop : Hop) (last : ChainEnd) → reply_at s (passed_of s xs) hop last ≡ reply_of s xs hop last
-reply-same s [] hop (Special reply) = refl
-reply-same s [] hop (Hit entry) = refl
-reply-same s [] hop (Asked outcome) = refl
-reply-same s (x ∷ xs) hop (Special reply) = ap (λ limit. result_until limit (result_of s hop (Special reply))) (limit-same s (x ∷ xs) hop (Special reply))
-reply-same s (x ∷ xs) hop (Hit entry) = ap (λ limit. result_until limit (result_of s hop (Hit entry))) (limit-same s (x ∷ xs) hop (Hit entry))
-reply-same s (x ∷ xs) hop (Asked outcome) = ap (λ limit. result_until limit (result_of s hop (Asked outcome))) (limit-same s (x ∷ xs) hop (Asked outcome))
+pub passed_of-more : (s : LookupContext) (xs : List Exchange) (x : Exchange) (q : Query) → x.query ≡ q → passed_of s (xs ++ x ∷ []) ≡ passed_of s xs ++ passed_by s q x.outcome ∷ []
+passed_of-more s xs x q asked = map-append (λ y. passed_by s y.query y.outcome) xs (x ∷ []) ∙ ap (λ own. passed_of s xs ++ passed_by s own x.outcome ∷ []) asked
 
 -- ---- a result that is not kept
 
@@ -68,11 +45,11 @@ kept-nothing now q (Err OutOfMemory) limit no_result cache = refl
 abbrev StoresNothing : Store → Type 0
 StoresNothing store = (cache : CacheValue) → after_store store cache ≡ cache
 
-back-nothing : (result : LookupResult) (now limit : ℕ) (ps : List PassedValue) → is_kept result ≡ false → AllByRecursion StoresNothing (stores_back result now limit ps)
+back-nothing : (result : LookupResult) (now limit : ℕ) (ps : List PassedValue) → is_kept result ≡ false → AllByRecursion StoresNothing (earlier_stores result now limit ps)
 back-nothing result now limit [] no_result = tt
 back-nothing result now limit (p ∷ ps) no_result =
-    all-append StoresNothing (stores_back result now limit ps) (earlier_store result now p.query (limit_back (p ∷ ps) limit) ∷ []) (back-nothing result now limit ps no_result)
-    (kept-nothing now p.query result (limit_back (p ∷ ps) limit) no_result, tt)
+    all-append StoresNothing (earlier_stores result now limit ps) (earlier_store result now p.query (limit_of (p ∷ ps) limit) ∷ []) (back-nothing result now limit ps no_result)
+    (kept-nothing now p.query result (limit_of (p ∷ ps) limit) no_result, tt)
 
 after-nothing : (stores : List Store) (cache : CacheValue) → AllByRecursion StoresNothing stores → after_stores stores cache ≡ cache
 after-nothing [] cache all = refl
@@ -96,27 +73,23 @@ kept-asked s hop outcome takes = by (kind_of outcome) takes
 
 -- A look-up came to a hop by these exchanges, and knows what is to be kept of each.
 pub record HasPassed (s : LookupContext) (question : Query) (xs : List Exchange) (caches : List CacheValue) (passed : List PassedValue) (hop : Hop) : Type 0 where
-  pub leads : FollowsAliasesOver s caches (first_hop question) xs hop
+  pub leads : FollowsAliases s caches (first_hop question) xs hop
   pub short : length xs ≤ 7
   pub passed_are : passed ≡ passed_of s xs
 
--- it came to what the hops of its question say, each over its cache
-pub record HasReply (s : LookupContext) (question : Query) (asks : List Exchange) (caches : List CacheValue) (result : LookupResult) (after : CacheValue) : Type 0 where
-  pub reply : IsReplyOver s question asks result after
-  pub caches_are : caches_read s question asks result after reply ≡ caches
-
 -- memory ran out among exchanges that all led on
 cut-answered : (s : LookupContext) (question : Query) (xs : List Exchange) (caches : List CacheValue) (hop : Hop) (result : LookupResult) (after : CacheValue)
-    → FollowsAliasesOver s caches (first_hop question) xs hop → length xs ≤ 7 → result ≡ Err OutOfMemory → after ≡ s.cache → HasReply s question xs caches result after
-cut-answered s question xs caches hop result after leads short out same = record {
-  reply = inr (out, inr (record { caches = caches; passed = xs; last_hop = hop; leads = leads; short = short; asks_are = inl refl; after_is = same }));
-  caches_are = append-nil caches;
-}
+    → FollowsAliases s caches (first_hop question) xs hop → length xs ≤ 7 → result ≡ Err OutOfMemory → after ≡ s.cache → IsReplyOver s caches question xs result after
+cut-answered s question xs caches hop result after leads short out same =
+    inr (out, inr (record { before = caches; passed = xs; last_hop = hop; leads = leads; short = short; asks_are = inl (refl, refl); after_is = same }))
 
-module _ (s : LookupContext) (question : Query) (xs : List Exchange) (caches : List CacheValue) (hop : Hop) (leads : FollowsAliasesOver s caches (first_hop question) xs hop) (short : length xs ≤ 7) (result : LookupResult) (after : CacheValue) where
-  abbrev hops : (last : ChainEnd) (cache : CacheValue) → IsChainEnd (record s { cache = cache }) (length xs) hop last → (is_asked last ≡ false → cache ≡ s.cache) → HopListOver s question (xs ++ asks_of hop last)
+module _ (s : LookupContext) (question : Query) (xs : List Exchange) (caches : List CacheValue) (hop : Hop) (leads : FollowsAliases s caches (first_hop question) xs hop) (short : length xs ≤ 7) (result : LookupResult) (after : CacheValue) where
+  abbrev read : ChainEnd → CacheValue → List CacheValue
+  read last cache = caches ++ (if is_asked last then cache ∷ [] else [])
+
+  abbrev hops : (last : ChainEnd) (cache : CacheValue) → IsChainEnd (record s { cache = cache }) (length xs) hop last → (is_asked last ≡ false → cache ≡ s.cache) → HopList s (read last cache) question (xs ++ asks_of hop last)
   hops last cache ends own = record {
-    caches = caches;
+    before = caches;
     passed = xs;
     last_hop = hop;
     last = last;
@@ -126,80 +99,43 @@ module _ (s : LookupContext) (question : Query) (xs : List Exchange) (caches : L
     ends = ends;
     at_once = own;
     asks_are = refl;
-  }
-
-  abbrev read : ChainEnd → CacheValue → List CacheValue
-  read last cache = caches ++ (if is_asked last then cache ∷ [] else [])
-
-  -- all stores were made
-  whole-answered : (last : ChainEnd) (cache : CacheValue) → IsChainEnd (record s { cache = cache }) (length xs) hop last → (is_asked last ≡ false → cache ≡ s.cache) → result ≡ reply_at s (passed_of s xs) hop last → after ≡ after_stores (stores_at s (passed_of s xs) hop last) s.cache
-      → HasReply s question (xs ++ asks_of hop last) (read last cache) result after
-  whole-answered last cache ends own result_is after_is = record {
-    reply = inl (record {
-      hops = hops last cache ends own;
-      result_is = result_is ∙ reply-same s xs hop last;
-      after_is = after_is ∙ ap (λ stores. after_stores (last_stores s hop last ++ stores) s.cache) (stores-same s xs hop last);
-    });
     caches_are = refl;
   }
 
-  -- or a beginning of those of a result that is kept
+  -- all stores were made; or a beginning of those of a result that is kept
   kept-answered : (last : ChainEnd) (cache : CacheValue) → IsChainEnd (record s { cache = cache }) (length xs) hop last → (is_asked last ≡ false → cache ≡ s.cache) → is_kept (result_of s hop last) ≡ true → EndsAs s (passed_of s xs) hop last result after
-      → HasReply s question (xs ++ asks_of hop last) (read last cache) result after
-  kept-answered last cache ends own kept (inl (result_is, after_is)) = whole-answered last cache ends own result_is after_is
-  kept-answered last cache ends own kept (inr (out, takes, begun)) = record {
-    reply = inr (
-      out,
-      inl (record {
-        hops = hops last cache ends own;
-        kept = kept;
-        begun = record {
-          front = begun.front;
-          back = begun.back;
-          parts = begun.parts ∙ ap (λ stores. last_stores s hop last ++ stores) (stores-same s xs hop last);
-          not_all = λ none. ap (λ stores. last_stores s hop last ++ stores) (sym (stores-same s xs hop last)) ∙ begun.not_all none;
-          after_is = begun.after_is;
-        };
-      }),
-    );
-    caches_are = refl;
-  }
+      → IsReplyOver s (read last cache) question (xs ++ asks_of hop last) result after
+  kept-answered last cache ends own kept (inl (result_is, after_is)) = inl (record { hops = hops last cache ends own; result_is = result_is; after_is = after_is })
+  kept-answered last cache ends own kept (inr (out, takes, begun)) = inr (out, inl (record { hops = hops last cache ends own; kept = kept; begun = begun }))
 
   -- where nothing is kept of the result, nothing was stored
-  unkept-same : (last : ChainEnd) → last_stores s hop last ≡ [] → is_kept (result_of s hop last) ≡ false → IsBeginning (stores_at s (passed_of s xs) hop last) s.cache after → after ≡ s.cache
+  unkept-same : (last : ChainEnd) → last_stores s hop last ≡ [] → is_kept (result_of s hop last) ≡ false → IsBeginning (stores_of s (passed_of s xs) hop last) s.cache after → after ≡ s.cache
   unkept-same last none unkept begun =
       begun.after_is ∙ after-nothing begun.front s.cache
       (all-front StoresNothing begun.front begun.back
-      (subst (AllByRecursion StoresNothing) (ap (λ stores. stores ++ stores_back (result_of s hop last) s.now (end_limit s hop last) (passed_of s xs)) (sym none) ∙ sym begun.parts)
+      (subst (AllByRecursion StoresNothing) (ap (λ stores. stores ++ earlier_stores (result_of s hop last) s.now (end_limit s hop last) (passed_of s xs)) (sym none) ∙ sym begun.parts)
       (back-nothing (result_of s hop last) s.now (end_limit s hop last) (passed_of s xs) unkept)))
-
-  not-asked : HasReply s question (xs ++ []) (caches ++ []) result after → HasReply s question xs caches result after
-  not-asked is = subst (λ ys. HasReply s question ys caches result after) (append-nil xs) (subst (λ cs. HasReply s question (xs ++ []) cs result after) (append-nil caches) is)
 
   -- it ends where it asks nothing
   at_once-answered : (last : ChainEnd) → last_stores s hop last ≡ [] → IsChainEnd s (length xs) hop last → EndsAs s (passed_of s xs) hop last result after → (b : Bool) → is_kept (result_of s hop last) ≡ b
-      → HasReply s question (xs ++ asks_of hop last) (read last s.cache) result after ⊎ HasReply s question xs caches result after
-  at_once-answered last none ends (inl (result_is, after_is)) b e = inl (whole-answered last s.cache ends (λ own. refl) result_is after_is)
+      → IsReplyOver s (read last s.cache) question (xs ++ asks_of hop last) result after ⊎ IsReplyOver s caches question xs result after
+  at_once-answered last none ends (inl (result_is, after_is)) b e = inl (inl (record { hops = hops last s.cache ends (λ own. refl); result_is = result_is; after_is = after_is }))
   at_once-answered last none ends (inr out) true e = inl (kept-answered last s.cache ends (λ own. refl) e (inr out))
   at_once-answered last none ends (inr (out, takes, begun)) false e = inr (cut-answered s question xs caches hop result after leads short out (unkept-same last none e begun))
 
-  unasked-answered : (last : ChainEnd) → is_asked last ≡ false → IsChainEnd s (length xs) hop last → EndsAs s (passed_of s xs) hop last result after → HasReply s question xs caches result after
-  unasked-answered (Special reply) unasked ends how = by (at_once-answered (Special reply) refl ends how (is_kept (result_of s hop (Special reply))) refl)
-    where
-      by : HasReply s question (xs ++ []) (caches ++ []) result after ⊎ HasReply s question xs caches result after → HasReply s question xs caches result after
-      by (inl is) = not-asked is
-      by (inr is) = is
-  unasked-answered (Hit entry) unasked ends how = by (at_once-answered (Hit entry) refl ends how (is_kept (result_of s hop (Hit entry))) refl)
-    where
-      by : HasReply s question (xs ++ []) (caches ++ []) result after ⊎ HasReply s question xs caches result after → HasReply s question xs caches result after
-      by (inl is) = not-asked is
-      by (inr is) = is
+  not-asked : IsReplyOver s (caches ++ []) question (xs ++ []) result after ⊎ IsReplyOver s caches question xs result after → IsReplyOver s caches question xs result after
+  not-asked (inl is) = subst (λ ys. IsReplyOver s caches question ys result after) (append-nil xs) (subst (λ cs. IsReplyOver s cs question (xs ++ []) result after) (append-nil caches) is)
+  not-asked (inr is) = is
+
+  unasked-answered : (last : ChainEnd) → is_asked last ≡ false → IsChainEnd s (length xs) hop last → EndsAs s (passed_of s xs) hop last result after → IsReplyOver s caches question xs result after
+  unasked-answered (Special reply) unasked ends how = not-asked (at_once-answered (Special reply) refl ends how (is_kept (result_of s hop (Special reply))) refl)
+  unasked-answered (Hit entry) unasked ends how = not-asked (at_once-answered (Hit entry) refl ends how (is_kept (result_of s hop (Hit entry))) refl)
   unasked-answered (Asked outcome) unasked ends how = cc
 
   -- it ends with what came back
   asked-answered : (outcome : OutcomeValue) (cache : CacheValue) → IsChainEnd (record s { cache = cache }) (length xs) hop (Asked outcome) → EndsAs s (passed_of s xs) hop (Asked outcome) result after
-      → HasReply s question (xs ++ record { query = hop.query; outcome = outcome } ∷ []) (caches ++ cache ∷ []) result after
-  asked-answered outcome cache ends (inl (result_is, after_is)) = whole-answered (Asked outcome) cache ends (λ e. cc) result_is after_is
+      → IsReplyOver s (caches ++ cache ∷ []) question (xs ++ record { query = hop.query; outcome = outcome } ∷ []) result after
+  asked-answered outcome cache ends (inl (result_is, after_is)) = inl (record { hops = hops (Asked outcome) cache ends (λ e. cc); result_is = result_is; after_is = after_is })
   asked-answered outcome cache ends (inr (out, takes, begun)) = kept-answered (Asked outcome) cache ends (λ e. cc) (kept-asked s hop outcome takes) (inr (out, takes, begun))
 
 -- ---- a look-up in flight
@@ -213,7 +149,7 @@ pub record IsInFlight (s : LookupContext) (p : PendingValue) : Type 0 where
 abbrev pub IsOnItsWay : LookupContext → Query → List Exchange → List CacheValue → ProgressValue → CacheValue → Type 0
 IsOnItsWay s question asks caches (Waits w) after =
     IsInFlight s (record { question = question; asks = asks; caches = caches; cache = s.cache; waiting = w }) × (w.now ≡ s.now) × (after ≡ s.cache)
-IsOnItsWay s question asks caches (IsDone result) after = HasReply s question asks caches result after
+IsOnItsWay s question asks caches (IsDone result) after = IsReplyOver s caches question asks result after
 
 come : (s : LookupContext) (question : Query) (xs : List Exchange) (caches : List CacheValue) (passed : List PassedValue) (hop : Hop) (progress : ProgressValue) (after : CacheValue) → HasPassed s question xs caches passed hop → ComesTo s passed hop progress after → IsOnItsWay s question xs caches progress after
 come s question xs caches passed hop (Waits w) after has (up, w_is, same) = (
@@ -230,8 +166,8 @@ pub started : (s : LookupContext) (question : Query) (progress : ProgressValue) 
 started s question progress after is = come s question [] [] [] (first_hop question) progress after (record { leads = refl; short = omega arith; passed_are = refl }) is
 
 -- one alias more
-follows-more : (s : LookupContext) (caches : List CacheValue) (hop : Hop) (xs : List Exchange) (mid : Hop) (cache : CacheValue) (x : Exchange) (next : Hop) → FollowsAliasesOver s caches hop xs mid → IsAliasHop (record s { cache = cache }) mid x next
-    → FollowsAliasesOver s (caches ++ cache ∷ []) hop (xs ++ x ∷ []) next
+follows-more : (s : LookupContext) (caches : List CacheValue) (hop : Hop) (xs : List Exchange) (mid : Hop) (cache : CacheValue) (x : Exchange) (next : Hop) → FollowsAliases s caches hop xs mid → IsAliasHop (record s { cache = cache }) mid x next
+    → FollowsAliases s (caches ++ cache ∷ []) hop (xs ++ x ∷ []) next
 follows-more s [] hop [] mid cache x next e is = (next, subst (λ h. IsAliasHop (record s { cache = cache }) h x next) e is, refl)
 follows-more s (c ∷ cs) hop (y ∷ ys) mid cache x next (there, p, rest) is = (there, p, follows-more s cs there ys mid cache x next rest is)
 follows-more s [] hop (y ∷ ys) mid cache x next never is = absurd never
@@ -250,17 +186,17 @@ resumed s p outcome progress after is = by
     count = ap length is.passed.passed_are ∙ passed_of-length s p.asks
 
     has : (next : Hop) → verdict_on s hop (kind_of outcome) ≡ Some (Alias next) → length p.waiting.passed < 7
-        → HasPassed s p.question (p.asks ++ x ∷ []) (p.caches ++ p.cache ∷ []) (p.waiting.passed ++ passed_by s hop outcome ∷ []) next
+        → HasPassed s p.question (p.asks ++ x ∷ []) (p.caches ++ p.cache ∷ []) (p.waiting.passed ++ passed_by s hop.query outcome ∷ []) next
     has next alias early = record {
       leads = follows-more s p.caches (first_hop p.question) p.asks hop p.cache x next is.passed.leads (record { upstream = is.upstream; asked = refl; alias = verdict-elsewhere s p.cache hop (kind_of outcome) ∙ alias });
       short = omega (arith, early, count, length-append p.asks (x ∷ []));
-      passed_are = ap (λ ps. ps ++ passed_by s hop outcome ∷ []) is.passed.passed_are ∙ sym (passed_of-more s p.asks x hop.query refl);
+      passed_are = ap (λ ps. ps ++ passed_by s hop.query outcome ∷ []) is.passed.passed_are ∙ sym (passed_of-more s p.asks x hop.query refl);
     }
 
-    on : (next : Hop) → HasPassed s p.question (p.asks ++ x ∷ []) (p.caches ++ p.cache ∷ []) (p.waiting.passed ++ passed_by s hop outcome ∷ []) next
-        → ComesTo s (p.waiting.passed ++ passed_by s hop outcome ∷ []) next progress after ⊎ ((progress ≡ IsDone (Err OutOfMemory)) × (after ≡ s.cache))
+    on : (next : Hop) → HasPassed s p.question (p.asks ++ x ∷ []) (p.caches ++ p.cache ∷ []) (p.waiting.passed ++ passed_by s hop.query outcome ∷ []) next
+        → ComesTo s (p.waiting.passed ++ passed_by s hop.query outcome ∷ []) next progress after ⊎ ((progress ≡ IsDone (Err OutOfMemory)) × (after ≡ s.cache))
         → IsOnItsWay s p.question (p.asks ++ x ∷ []) (p.caches ++ p.cache ∷ []) progress after
-    on next there (inl comes) = come s p.question (p.asks ++ x ∷ []) (p.caches ++ p.cache ∷ []) (p.waiting.passed ++ passed_by s hop outcome ∷ []) next progress after there comes
+    on next there (inl comes) = come s p.question (p.asks ++ x ∷ []) (p.caches ++ p.cache ∷ []) (p.waiting.passed ++ passed_by s hop.query outcome ∷ []) next progress after there comes
     on next there (inr (done, same)) =
         subst (λ g. IsOnItsWay s p.question (p.asks ++ x ∷ []) (p.caches ++ p.cache ∷ []) g after) (sym done)
         (cut-answered s p.question (p.asks ++ x ∷ []) (p.caches ++ p.cache ∷ []) next (Err OutOfMemory) after there.leads there.short refl same)
@@ -285,9 +221,9 @@ limit-elsewhere s cache q (Failed error) same = refl
 
 passed-elsewhere : (s : LookupContext) (cache : CacheValue) (xs : List Exchange) → cache.config ≡ s.cache.config → passed_of s xs ≡ passed_of (record s { cache = cache }) xs
 passed-elsewhere s cache [] same = refl
-passed-elsewhere s cache (x ∷ xs) same = ap₂ (λ limit ps. record { query = x.query; limit = limit } ∷ ps) (limit-elsewhere s cache x.query (kind_of x.outcome) same) (passed-elsewhere s cache xs same)
+passed-elsewhere s cache (x ∷ xs) same = ap₂ (λ limit (ps : List PassedValue). record { query = x.query; limit = limit } ∷ ps) (limit-elsewhere s cache x.query (kind_of x.outcome) same) (passed-elsewhere s cache xs same)
 
-follows-elsewhere : (s : LookupContext) (cache : CacheValue) (caches : List CacheValue) (hop : Hop) (xs : List Exchange) (last : Hop) → FollowsAliasesOver s caches hop xs last → FollowsAliasesOver (record s { cache = cache }) caches hop xs last
+follows-elsewhere : (s : LookupContext) (cache : CacheValue) (caches : List CacheValue) (hop : Hop) (xs : List Exchange) (last : Hop) → FollowsAliases s caches hop xs last → FollowsAliases (record s { cache = cache }) caches hop xs last
 follows-elsewhere s cache [] hop [] last e = e
 follows-elsewhere s cache (c ∷ cs) hop (x ∷ xs) last (next, p, rest) = (next, p, follows-elsewhere s cache cs next xs last rest)
 follows-elsewhere s cache [] hop (x ∷ xs) last never = absurd never

@@ -8,7 +8,7 @@ use Rattle.hickory_proto_core.specs.declared.query.Query.{Query}
 use Rattle.hickory_proto_core.specs.declared.recorded.Exchange.{Exchange}
 use Rattle.hickory_proto_core.specs.declared.net_error.NetError.TheVariants.{OutOfMemory}
 use Rattle.hickory_resolver_model.specs.Cache.{CacheValue, without_query}
-use Rattle.hickory_resolver_model.specs.Hops.{LookupContext}
+use Rattle.hickory_resolver_model.specs.Hops.{LookupContext, IsReplyOver}
 use Rattle.hickory_resolver_model.specs.Resuming.{ProgressValue, Waits, IsDone}
 use Rattle.hickory_resolver_theorems.specs.Cacheless.{ResolvesTo, IsConsistentWith}
 use Rattle.hickory_resolver_theorems.specs.Cores.{reply_core}
@@ -18,14 +18,13 @@ use Rattle.hickory_resolver_theorems.specs.Statements.{LeastTtlIsZero, IsFreshRe
 use Rattle.hickory_resolver_theorems.specs.Interleaved.{PendingValue, DoneValue, WorldValue, world_of, context_in, EventValue, Started, Fed, Dropped, ClearedOfAll, ClearedOf, Blocked, asks_with, caches_with, pending_after, done_after, IsBetween, Happens, Happen, ended_by, received_by, ended_in, received_in, MeansWithinEight, IsMeant, IsSeenBy, IsPromisedEnd, IsPromisedInterleaving}
 use Rattle.hickory_resolver_theorems.proofs.Lists.{all-weaker, all-append, all-front, all-back, all-has, has-all, has-left, has-right, has-map, ContainsByRecursion}
 use Rattle.hickory_resolver_theorems.proofs.Stores.{entries-more}
-use Rattle.hickory_resolver_theorems.proofs.Few.{few-over}
+use Rattle.hickory_resolver_theorems.proofs.Few.{few}
 use Rattle.hickory_resolver_theorems.proofs.Fresh.{fresh-within}
-use Rattle.hickory_resolver_theorems.proofs.Transparent.{transparent-over}
-use Rattle.hickory_resolver_theorems.proofs.AliasLifetimes.{no_alias_outlives-over}
-use Rattle.hickory_resolver_theorems.proofs.OneCache.{reply-over, reply-over-one}
+use Rattle.hickory_resolver_theorems.proofs.Transparent.{transparent as transparent-by}
+use Rattle.hickory_resolver_theorems.proofs.AliasLifetimes.{no_alias_outlives}
 use Rattle.hickory_resolver_theorems.proofs.PromisedCalls.{cleared-keeps, without_query-keeps}
-use Rattle.hickory_resolver_theorems.proofs.Runs.{reply-config-over}
-use Rattle.hickory_resolver_theorems.proofs.InFlight.{HasReply, IsInFlight, IsOnItsWay, started, resumed, in-flight-elsewhere}
+use Rattle.hickory_resolver_theorems.proofs.Runs.{reply-config}
+use Rattle.hickory_resolver_theorems.proofs.InFlight.{IsInFlight, IsOnItsWay, started, resumed, in-flight-elsewhere}
 
 -- each of these exchanges, of a look-up that was started at a moment, was received
 abbrev AreReceived : List Dated → ℕ → List Exchange → Type 0
@@ -76,18 +75,17 @@ record IsGoodEnd (preserve : Bool) (received : List Dated) (ended : List DoneVal
   entries : AreFreshEntries after.cache received
   meant : (table : TableValue) → IsSeenBy table preserve received ended → AreWhatTheyResolveTo table after.cache
 
-end-good : (preserve : Bool) (received more : List Dated) (ended : List DoneValue) (before after : WorldValue) (d : DoneValue) → IsGood preserve received ended before → AreReceived (received ++ more) d.now d.asks → HasReply (context_in preserve before d.now) d.question d.asks d.caches d.result after.cache
+end-good : (preserve : Bool) (received more : List Dated) (ended : List DoneValue) (before after : WorldValue) (d : DoneValue) → IsGood preserve received ended before → AreReceived (received ++ more) d.now d.asks → IsReplyOver (context_in preserve before d.now) d.caches d.question d.asks d.result after.cache
     → IsGoodEnd preserve (received ++ more) (ended ++ d ∷ []) before after d
 end-good preserve received more ended before after d good own is = record {
   promised = record {
-    reply = is.reply;
-    caches_are = is.caches_are;
-    few = few-over s d.question d.asks d.result after.cache is.reply;
+    reply = is;
+    few = few s d.caches d.question d.asks d.result after.cache is;
     fresh = fresh.0;
-    no_alias_outlives = no_alias_outlives-over s d.question d.asks d.result after.cache is.reply;
+    no_alias_outlives = no_alias_outlives s d.caches d.question d.asks d.result after.cache is;
     transparent = λ table seen. means table seen (transparent table seen).0;
   };
-  config = reply-config-over s d.question d.asks d.result after.cache is.reply;
+  config = reply-config s d.caches d.question d.asks d.result after.cache is;
   entries = fresh.1;
   meant = λ table seen. (transparent table seen).1;
 }
@@ -96,7 +94,7 @@ end-good preserve received more ended before after d good own is = record {
     s = context_in preserve before d.now
 
     fresh : (LeastTtlIsZero before.cache.config (type_code d.question.query_type) → IsFreshReply before.cache.config (received ++ more) (type_code d.question.query_type) d.now d.result) × AreFreshEntries after.cache (received ++ more)
-    fresh = fresh-within s d.question d.asks d.result after.cache (received ++ more) is.reply (entries-more before.cache received more good.entries) own
+    fresh = fresh-within s d.caches d.question d.asks d.result after.cache (received ++ more) is (entries-more before.cache received more good.entries) own
 
     own-meaning : (table : TableValue) → IsSeenBy table preserve (received ++ more) (ended ++ d ∷ []) → MeansWithinEight table d
     own-meaning table (off, apart, tells, few) = (all-back (MeansWithinEight table) ended (d ∷ []) few).0
@@ -104,7 +102,7 @@ end-good preserve received more ended before after d good own is = record {
     transparent : (table : TableValue) (seen : IsSeenBy table preserve (received ++ more) (ended ++ d ∷ [])) → ((d.result ≡ Err OutOfMemory) ⊎ (reply_core d.result ≡ (own-meaning table seen).0)) × AreWhatTheyResolveTo table after.cache
     transparent table seen =
         let own_means = own-meaning table seen in
-        transparent-over s d.question d.asks d.result after.cache is.reply table seen.0 seen.1 (told table (received ++ more) d.now d.asks seen.2 own)
+        transparent-by s d.caches d.question d.asks d.result after.cache is table seen.0 seen.1 (told table (received ++ more) d.now d.asks seen.2 own)
         (good.meant table (seen-before table preserve received more ended (d ∷ []) seen)) own_means.0 own_means.1 own_means.2 own_means.3
 
     means : (table : TableValue) (seen : IsSeenBy table preserve (received ++ more) (ended ++ d ∷ [])) → (d.result ≡ Err OutOfMemory) ⊎ (reply_core d.result ≡ (own-meaning table seen).0) → IsMeant table d
@@ -134,7 +132,7 @@ module _ (preserve : Bool) (received : List Dated) (ended : List DoneValue) (bef
   )
 
   -- a look-up ends, beside those that stay in flight
-  done-good : (more : List Dated) (after : WorldValue) (d : DoneValue) → AreReceived (received ++ more) d.now d.asks → HasReply (context_in preserve before d.now) d.question d.asks d.caches d.result after.cache → AllByRecursion (IsKnown preserve before received) after.pending
+  done-good : (more : List Dated) (after : WorldValue) (d : DoneValue) → AreReceived (received ++ more) d.now d.asks → IsReplyOver (context_in preserve before d.now) d.caches d.question d.asks d.result after.cache → AllByRecursion (IsKnown preserve before received) after.pending
       → IsGood preserve (received ++ more) (ended ++ d ∷ []) after × AllByRecursion (IsPromisedEnd preserve (received ++ more) (ended ++ d ∷ []) before after) (d ∷ [])
   done-good more after d own is pending =
       let end = end-good preserve received more ended before after d good own is in (
@@ -206,7 +204,7 @@ module _ (preserve : Bool) (received : List Dated) (ended : List DoneValue) (bef
   event-good (Blocked d) after (reply, caches_are, pending_is) =
       let s = context_in preserve before d.now in
       done-good (dated_exchanges d.now d.asks) after d (received-own received d.now d.asks)
-      (record { reply = reply-over s d.question d.asks d.result after.cache reply; caches_are = reply-over-one s d.question d.asks d.result after.cache reply ∙ sym caches_are })
+      (subst (λ caches. IsReplyOver s caches d.question d.asks d.result after.cache) (sym caches_are) reply)
       (subst (AllByRecursion (IsKnown preserve before received)) (sym pending_is) good.pending)
 
 -- ---- a list of events

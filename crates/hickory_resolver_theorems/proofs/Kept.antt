@@ -1,19 +1,20 @@
 -- A reply over the exchanges that were answered is one over those that a recording handle kept.
-use Rattle.std.proofs.Common.{◌≡◌, ◌⊎◌, ◌≤◌, ℕ, true, List, [], ◌∷◌, ◌++◌, length, Some, None, Err, refl, sym, ap, ◌∙◌, subst, inl, inr}
-use Rattle.std.proofs.lemmas.List.{append-nil}
+use Rattle.std.proofs.Common.{◌≡◌, ◌⊎◌, ◌≤◌, ℕ, Bool, true, false, not, ◌||◌, if◌then◌else◌, List, [], ◌∷◌, ◌++◌, length, Some, None, Err, refl, sym, ap, ◌∙◌, subst, inl, inr}
+use Rattle.std.proofs.lemmas.List.{append-nil, map-append}
 use Rattle.std.specs.List.{AllByRecursion}
 use Rattle.hickory_proto_core.specs.Handles.{OutcomeValue, holds_memory}
 use Rattle.hickory_proto_core.specs.Messages.{MessageValue}
 use Rattle.hickory_proto_core.specs.Recorded.{RecordedAs}
-use Rattle.hickory_proto_core.specs.ResponseKind.{ResponseKind, Answer, Negative, Failed, kind_of}
+use Rattle.hickory_proto_core.specs.ResponseKind.{ResponseKind, Answer, Negative, Failed, kind_of, is_empty}
 use Rattle.hickory_proto_core.specs.declared.query.Query.{Query}
 use Rattle.hickory_proto_core.specs.declared.recorded.Exchange.{Exchange}
 use Rattle.hickory_proto_core.specs.declared.net_error.NetError.TheVariants.{OutOfMemory}
 use Rattle.hickory_resolver_model.specs.Cache.{CacheValue}
 use Rattle.hickory_resolver_model.specs.Lookup.{LookupResult}
 use Rattle.hickory_resolver_model.specs.Verdict.{Hop, first_hop, Verdict, Accepted, Alias, NoMatch, verdict}
-use Rattle.hickory_resolver_model.specs.Hops.{LookupContext, GoesUpstream, FollowsAliases, ChainEnd, Special, Hit, Asked, IsChainEnd, verdict_on, result_when_asked, stores_when_asked, result_of_verdict, stores_of_verdict, result_of, asks_of, as_outcome, alias_limit, limit_of, result_until, reply_of, last_stores, earlier_store, earlier_stores, stores_of, Store, after_store, after_stores, HopList, IsCutInAsks, IsReply}
+use Rattle.hickory_resolver_model.specs.Hops.{LookupContext, GoesUpstream, FollowsAliases, ChainEnd, Special, Hit, Asked, IsChainEnd, verdict_on, result_when_asked, stores_when_asked, result_of_verdict, stores_of_verdict, result_of, asks_of, as_outcome, alias_limit, end_limit, limit_of, is_asked, result_until, reply_of, last_stores, earlier_store, earlier_stores, stores_of, Store, PassedValue, passed_of, one_cache, after_store, after_stores, HopList, IsCutInAsks, IsReply}
 use Rattle.hickory_resolver_theorems.proofs.Lists.{all-append, has-all}
+use Rattle.hickory_resolver_theorems.proofs.OneCache.{one-before, last-read}
 use Rattle.hickory_resolver_theorems.proofs.Stores.{earlier-all}
 
 -- ---- where memory ran out, no store changes the cache
@@ -40,18 +41,19 @@ last_out s hop (Special reply) e = tt
 last_out s hop (Hit entry) e = tt
 last_out s hop (Asked outcome) e = kind_out s hop (kind_of outcome) e
 
-all_out : (s : LookupContext) (passed : List Exchange) (hop : Hop) (last : ChainEnd) → result_of s hop last ≡ Err OutOfMemory → AllOut (stores_of s passed hop last)
+all_out : (s : LookupContext) (passed : List Exchange) (hop : Hop) (last : ChainEnd) → result_of s hop last ≡ Err OutOfMemory → AllOut (stores_of s (passed_of s passed) hop last)
 all_out s passed hop last e =
     let P : Store → Type 0 = λ t. t.outcome ≡ Err OutOfMemory in
-    all-append P (last_stores s hop last) (earlier_stores s passed hop last) (last_out s hop last e)
-    (earlier-all P s passed hop last (has-all (λ x. (limit : ℕ) → P (earlier_store (result_of s hop last) s.now x.query limit)) passed (λ x there limit. ap (as_outcome x.query) e)))
+    all-append P (last_stores s hop last) (earlier_stores (result_of s hop last) s.now (end_limit s hop last) (passed_of s passed)) (last_out s hop last e)
+    (earlier-all P s (result_of s hop last) (end_limit s hop last) passed (has-all (λ x. (limit : ℕ) → P (earlier_store (result_of s hop last) s.now x.query limit)) passed (λ x there limit. ap (as_outcome x.query) e)))
 
 -- what memory ran out for is answered so, whatever the limit
-reply_out : (s : LookupContext) (passed : List Exchange) (hop : Hop) (last : ChainEnd) → result_of s hop last ≡ Err OutOfMemory → reply_of s passed hop last ≡ Err OutOfMemory
-reply_out s [] hop (Special reply) e = e
-reply_out s [] hop (Hit entry) e = e
-reply_out s [] hop (Asked outcome) e = ap (result_until (limit_of s [] hop (Asked outcome))) e
-reply_out s (x ∷ xs) hop last e = ap (result_until (limit_of s (x ∷ xs) hop last)) e
+reply_out : (s : LookupContext) (passed : List PassedValue) (hop : Hop) (last : ChainEnd) → result_of s hop last ≡ Err OutOfMemory → reply_of s passed hop last ≡ Err OutOfMemory
+reply_out s passed hop last e = by (is_asked last || not (is_empty passed))
+  where
+    by : (b : Bool) → (if b then result_until (limit_of passed (end_limit s hop last)) (result_of s hop last) else result_of s hop last) ≡ Err OutOfMemory
+    by true = ap (result_until (limit_of passed (end_limit s hop last))) e
+    by false = e
 
 -- ---- what was kept
 
@@ -70,14 +72,17 @@ record FrontKept (front tail kept : List Exchange) : Type 0 where
 no_alias : (s : LookupContext) (hop next : Hop) (outcome : OutcomeValue) → outcome ≡ Err OutOfMemory → verdict_on s hop (kind_of outcome) ≡ Some (Alias next) → ⊥
 no_alias s hop next outcome out alias = let clash : None ≡ Some (Alias next) = sym (ap (λ (o : OutcomeValue). verdict_on s hop (kind_of o)) out) ∙ alias in cc
 
-front_kept : (s : LookupContext) (hop last : Hop) (front tail kept : List Exchange) → FollowsAliases s hop front last → RecordedAs (front ++ tail) kept → FrontKept front tail kept
-front_kept s hop last [] tail kept leads r = record { rest = kept; parts = refl; recorded = r }
-front_kept s hop last (x ∷ xs) tail kept (next, p, leads) (inl (out, r)) = absurd (no_alias s hop next x.outcome out p.alias)
-front_kept s hop last (x ∷ xs) tail kept (next, p, leads) (inr (y, ys, e, q, inr (out, holds), r)) = absurd (no_alias s hop next x.outcome out p.alias)
-front_kept s hop last (x ∷ xs) tail kept (next, p, leads) (inr (y, ys, e, q, inl same, r)) =
-    let f = front_kept s next last xs tail ys leads r in
+front_kept : (s : LookupContext) (caches : List CacheValue) (hop last : Hop) (front tail kept : List Exchange) → FollowsAliases s caches hop front last → RecordedAs (front ++ tail) kept → FrontKept front tail kept
+front_kept s [] hop last [] tail kept leads r = record { rest = kept; parts = refl; recorded = r }
+front_kept s (cache ∷ caches) hop last (x ∷ xs) tail kept (next, p, leads) (inl (out, r)) = absurd (no_alias (record s { cache = cache }) hop next x.outcome out p.alias)
+front_kept s (cache ∷ caches) hop last (x ∷ xs) tail kept (next, p, leads) (inr (y, ys, e, q, inr (out, holds), r)) = absurd (no_alias (record s { cache = cache }) hop next x.outcome out p.alias)
+front_kept s (cache ∷ caches) hop last (x ∷ xs) tail kept (next, p, leads) (inr (y, ys, e, q, inl same, r)) =
+    let f = front_kept s caches next last xs tail ys leads r in
     let here = same_exchange x y q same in
     record { rest = f.rest; parts = e ∙ ap (λ z. z ∷ ys) here ∙ ap (λ zs. x ∷ zs) f.parts; recorded = f.recorded }
+
+front_kept s [] hop last (x ∷ xs) tail kept never r = absurd never
+front_kept s (cache ∷ caches) hop last [] tail kept never r = absurd never
 
 -- memory ran out at an exchange: nothing was kept, or what was kept holds memory
 abbrev CutKept : Exchange → List Exchange → Type 0
@@ -95,15 +100,29 @@ end_kept x rest (inr (y, ys, e, q, inl same, r)) =
 end_kept x rest (inr (y, ys, e, q, inr (out, holds), r)) = inr (out, inr (y, q, holds, e ∙ ap (λ zs. y ∷ zs) r))
 
 module _ (s : LookupContext) (question : Query) where
-  cut_by : (passed : List Exchange) (hop : Hop) → FollowsAliases s (first_hop question) passed hop → length passed ≤ 7 → GoesUpstream s hop.query → (x : Exchange) → x.query ≡ hop.query → (rest kept : List Exchange) → kept ≡ passed ++ rest
-      → CutKept x rest → IsCutInAsks s question kept s.cache
-  cut_by passed hop leads short upstream x asked rest kept parts (inl none) =
-      record { passed = passed; last_hop = hop; leads = leads; short = short; asks_are = inl (parts ∙ ap (λ zs. passed ++ zs) none ∙ append-nil passed); after_is = refl }
-  cut_by passed hop leads short upstream x asked rest kept parts (inr (y, q, holds, one)) =
-      record { passed = passed; last_hop = hop; leads = leads; short = short; asks_are = inr (y, upstream, q ∙ asked, holds, parts ∙ ap (λ zs. passed ++ zs) one); after_is = refl }
+  -- of hops that all read one cache these were kept, and memory ran out
+  abbrev IsCut : List Exchange → CacheValue → Type 0
+  IsCut kept after = IsCutInAsks s (one_cache s kept) question kept after
 
-  module _ (asks kept passed : List Exchange) (hop : Hop) (leads : FollowsAliases s (first_hop question) passed hop) (short : length passed ≤ 7) where
-    kept_by_last : (last : ChainEnd) → IsChainEnd s (length passed) hop last → asks ≡ passed ++ asks_of hop last → (rest : List Exchange) → kept ≡ passed ++ rest → RecordedAs (asks_of hop last) rest → (kept ≡ asks) ⊎ ((result_of s hop last ≡ Err OutOfMemory) × IsCutInAsks s question kept s.cache)
+  cut_by : (passed : List Exchange) (hop : Hop) → FollowsAliases s (one_cache s passed) (first_hop question) passed hop → length passed ≤ 7 → GoesUpstream s hop.query → (x : Exchange) → x.query ≡ hop.query → (rest kept : List Exchange) → kept ≡ passed ++ rest
+      → CutKept x rest → IsCut kept s.cache
+  cut_by passed hop leads short upstream x asked rest kept parts (inl none) =
+      let are : kept ≡ passed = parts ∙ ap (λ zs. passed ++ zs) none ∙ append-nil passed in
+      record { before = one_cache s passed; passed = passed; last_hop = hop; leads = leads; short = short; asks_are = inl (are, ap (one_cache s) are); after_is = refl }
+  cut_by passed hop leads short upstream x asked rest kept parts (inr (y, q, holds, one)) =
+      let are : kept ≡ passed ++ y ∷ [] = parts ∙ ap (λ zs. passed ++ zs) one in
+      record {
+        before = one_cache s passed;
+        passed = passed;
+        last_hop = hop;
+        leads = leads;
+        short = short;
+        asks_are = inr (y, s.cache, upstream, q ∙ asked, holds, are, ap (one_cache s) are ∙ map-append (λ z. s.cache) passed (y ∷ []));
+        after_is = refl;
+      }
+
+  module _ (asks kept passed : List Exchange) (hop : Hop) (leads : FollowsAliases s (one_cache s passed) (first_hop question) passed hop) (short : length passed ≤ 7) where
+    kept_by_last : (last : ChainEnd) → IsChainEnd s (length passed) hop last → asks ≡ passed ++ asks_of hop last → (rest : List Exchange) → kept ≡ passed ++ rest → RecordedAs (asks_of hop last) rest → (kept ≡ asks) ⊎ ((result_of s hop last ≡ Err OutOfMemory) × IsCut kept s.cache)
     kept_by_last (Special reply) ends asks_are rest parts recorded = inl (parts ∙ ap (λ zs. passed ++ zs) recorded ∙ sym asks_are)
     kept_by_last (Hit entry) ends asks_are rest parts recorded = inl (parts ∙ ap (λ zs. passed ++ zs) recorded ∙ sym asks_are)
     kept_by_last (Asked outcome) ends asks_are rest parts recorded =
@@ -114,52 +133,69 @@ module _ (s : LookupContext) (question : Query) where
         ]
 
   -- the exchanges of the hops are those that were kept, or the last answered that memory had run out
-  kept_hops : (asks kept : List Exchange) (h : HopList s question asks) → RecordedAs asks kept → (kept ≡ asks) ⊎ ((result_of s h.last_hop h.last ≡ Err OutOfMemory) × IsCutInAsks s question kept s.cache)
+  kept_hops : (asks kept : List Exchange) (h : HopList s (one_cache s asks) question asks) → RecordedAs asks kept → (kept ≡ asks) ⊎ ((result_of s h.last_hop h.last ≡ Err OutOfMemory) × IsCut kept s.cache)
   kept_hops asks kept h r =
       let P : List Exchange → Type 0 = λ xs. RecordedAs xs kept in
-      let f = front_kept s (first_hop question) h.last_hop h.passed (asks_of h.last_hop h.last) kept h.leads (subst P h.asks_are r) in
-      kept_by_last asks kept h.passed h.last_hop h.leads h.short h.last h.ends h.asks_are f.rest f.parts f.recorded
+      let read = one-before s h.before (first_hop question) h.passed h.last_hop (asks_of h.last_hop h.last) (if is_asked h.last then h.last_cache ∷ [] else []) h.leads (sym (ap (one_cache s) h.asks_are) ∙ h.caches_are) in
+      let leads = subst (λ cs. FollowsAliases s cs (first_hop question) h.passed h.last_hop) read.0 h.leads in
+      let ends = subst (λ c. IsChainEnd (record s { cache = c }) (length h.passed) h.last_hop h.last) (last-read s h.last_hop h.last h.last_cache h.at_once read.1) h.ends in
+      let f = front_kept s h.before (first_hop question) h.last_hop h.passed (asks_of h.last_hop h.last) kept h.leads (subst P h.asks_are r) in
+      kept_by_last asks kept h.passed h.last_hop leads h.short h.last ends h.asks_are f.rest f.parts f.recorded
 
   -- a reply over the exchanges that were answered is one over those that were kept
   pub kept_reply : (asks kept : List Exchange) (result : LookupResult) (after : CacheValue) → IsReply s question asks result after → RecordedAs asks kept → IsReply s question kept result after
   kept_reply asks kept result after (inl w) r =
       let P : List Exchange → Type 0 = λ xs. IsReply s question xs result after in
-      let Q : CacheValue → Type 0 = λ a. IsCutInAsks s question kept a in
       elim (kept_hops asks kept w.hops r) [
         | inl e ↦ subst P (sym e) (inl w)
-        | inr d ↦ inr (w.result_is ∙ reply_out s w.hops.passed w.hops.last_hop w.hops.last d.0, inr (subst Q (sym (w.after_is ∙ whole_out w.hops d.0)) d.1))
+        | inr d ↦ inr (w.result_is ∙ reply_out s (passed_of s w.hops.passed) w.hops.last_hop w.hops.last d.0, inr (subst (IsCut kept) (sym (w.after_is ∙ whole_out w.hops d.0)) d.1))
       ]
     where
-      whole_out : (h : HopList s question asks) → result_of s h.last_hop h.last ≡ Err OutOfMemory → after_stores (stores_of s h.passed h.last_hop h.last) s.cache ≡ s.cache
-      whole_out h e = none_stored (stores_of s h.passed h.last_hop h.last) [] s.cache (subst AllOut (sym (append-nil _)) (all_out s h.passed h.last_hop h.last e))
+      whole_out : (h : HopList s (one_cache s asks) question asks) → result_of s h.last_hop h.last ≡ Err OutOfMemory → after_stores (stores_of s (passed_of s h.passed) h.last_hop h.last) s.cache ≡ s.cache
+      whole_out h e = none_stored (stores_of s (passed_of s h.passed) h.last_hop h.last) [] s.cache (subst AllOut (sym (append-nil _)) (all_out s h.passed h.last_hop h.last e))
   kept_reply asks kept result after (inr (o, inl c)) r =
       let P : List Exchange → Type 0 = λ xs. IsReply s question xs result after in
-      let Q : CacheValue → Type 0 = λ a. IsCutInAsks s question kept a in
       elim (kept_hops asks kept c.hops r) [
         | inl e ↦ subst P (sym e) (inr (o, inl c))
-        | inr d ↦ inr (o, inr (subst Q (sym (c.begun.after_is ∙ none_stored c.begun.front c.begun.back s.cache (subst AllOut (sym c.begun.parts) (all_out s c.hops.passed c.hops.last_hop c.hops.last d.0)))) d.1))
+        | inr d ↦ inr (o, inr (subst (IsCut kept) (sym (c.begun.after_is ∙ none_stored c.begun.front c.begun.back s.cache (subst AllOut (sym c.begun.parts) (all_out s c.hops.passed c.hops.last_hop c.hops.last d.0)))) d.1))
       ]
   kept_reply asks kept result after (inr (o, inr c)) r =
-      let Q : CacheValue → Type 0 = λ a. IsCutInAsks s question kept a in
       inr (
         o,
-        inr (subst Q (sym c.after_is) (elim c.asks_are [
-          | inl e ↦ whole e
-          | inr d ↦ more d.0 d.1 d.2 d.3 d.4
+        inr (subst (IsCut kept) (sym c.after_is) (elim c.asks_are [
+          | inl e ↦ whole e.0 e.1
+          | inr d ↦ more d.0 d.1 d.2 d.3 d.4 d.5 d.6
         ])),
       )
     where
-      whole : asks ≡ c.passed → IsCutInAsks s question kept s.cache
-      whole e =
-          let P : List Exchange → Type 0 = λ xs. RecordedAs xs kept in
-          let f = front_kept s (first_hop question) c.last_hop c.passed [] kept c.leads (subst P (e ∙ sym (append-nil c.passed)) r) in
-          record { passed = c.passed; last_hop = c.last_hop; leads = c.leads; short = c.short; asks_are = inl (f.parts ∙ ap (λ zs. c.passed ++ zs) f.recorded ∙ append-nil c.passed); after_is = refl }
+      P : List Exchange → Type 0
+      P xs = RecordedAs xs kept
 
-      more : (x : Exchange) → GoesUpstream s c.last_hop.query → x.query ≡ c.last_hop.query → holds_memory x.outcome ≡ true → asks ≡ c.passed ++ x ∷ [] → IsCutInAsks s question kept s.cache
-      more x upstream asked holds e =
-          let P : List Exchange → Type 0 = λ xs. RecordedAs xs kept in
-          let f = front_kept s (first_hop question) c.last_hop c.passed (x ∷ []) kept c.leads (subst P e r) in
+      Led : List CacheValue → Type 0
+      Led cs = FollowsAliases s cs (first_hop question) c.passed c.last_hop
+
+      whole : asks ≡ c.passed → one_cache s asks ≡ c.before → IsCut kept s.cache
+      whole e same =
+          let f = front_kept s c.before (first_hop question) c.last_hop c.passed [] kept c.leads (subst P (e ∙ sym (append-nil c.passed)) r) in
+          let are : kept ≡ c.passed = f.parts ∙ ap (λ zs. c.passed ++ zs) f.recorded ∙ append-nil c.passed in
+          record {
+            before = one_cache s c.passed;
+            passed = c.passed;
+            last_hop = c.last_hop;
+            leads = subst Led (sym same ∙ ap (one_cache s) e) c.leads;
+            short = c.short;
+            asks_are = inl (are, ap (one_cache s) are);
+            after_is = refl;
+          }
+
+      more : (x : Exchange) (cache : CacheValue) → GoesUpstream (record s { cache = cache }) c.last_hop.query → x.query ≡ c.last_hop.query → holds_memory x.outcome ≡ true → asks ≡ c.passed ++ x ∷ [] → one_cache s asks ≡ c.before ++ cache ∷ [] → IsCut kept s.cache
+      more x cache upstream asked holds e same =
+          let read = one-before s c.before (first_hop question) c.passed c.last_hop (x ∷ []) (cache ∷ []) c.leads (sym (ap (one_cache s) e) ∙ same) in
+          let own : cache ≡ s.cache = let here = read.1 in cc in
+          let leads = subst Led read.0 c.leads in
+          let up = subst (λ a. GoesUpstream (record s { cache = a }) c.last_hop.query) own upstream in
+          let f = front_kept s c.before (first_hop question) c.last_hop c.passed (x ∷ []) kept c.leads (subst P e r) in
           elim (end_kept x f.rest f.recorded) [
-            | inl same ↦ cut_by c.passed c.last_hop c.leads c.short upstream x asked f.rest kept f.parts (inr (x, refl, holds, same))
-            | inr d ↦ cut_by c.passed c.last_hop c.leads c.short upstream x asked f.rest kept f.parts d.1
+            | inl one ↦ cut_by c.passed c.last_hop leads c.short up x asked f.rest kept f.parts (inr (x, refl, holds, one))
+            | inr d ↦ cut_by c.passed c.last_hop leads c.short up x asked f.rest kept f.parts d.1
           ]

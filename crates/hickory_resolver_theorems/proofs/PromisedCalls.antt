@@ -16,7 +16,7 @@ use Rattle.hickory_resolver_model.specs.Bounds.{ConfigValue}
 use Rattle.hickory_resolver_model.specs.Cache.{CacheValue, Entry, IsCache, OutlivesNoAnswer, is_for, is_current, without_query}
 use Rattle.hickory_resolver_model.specs.Lookup.{LookupResult}
 use Rattle.hickory_resolver_model.specs.Verdict.{Hop, Verdict, Accepted, Alias, NoMatch, first_hop, verdict}
-use Rattle.hickory_resolver_model.specs.Hops.{LookupContext, ChainEnd, Special, Hit, Asked, HopList, Store, IsReply, alias_limit, made_entry, stores_of_verdict, stores_when_asked, last_stores, earlier_store, earlier_stores, stores_of, result_of, after_stores}
+use Rattle.hickory_resolver_model.specs.Hops.{LookupContext, ChainEnd, Special, Hit, Asked, HopList, Store, IsReply, one_cache, passed_of, end_limit, alias_limit, made_entry, stores_of_verdict, stores_when_asked, last_stores, earlier_store, earlier_stores, stores_of, result_of, after_stores}
 use Rattle.hickory_resolver_model.specs.Calls.{CallContext, start_at, Source, Static, Client, SubLookup, SubLookupRelation, IsAnsweredFrom, IsAnsweredFor, is_out_of_memory, asks_of_sub_lookups}
 use Rattle.hickory_resolver_model.specs.Attempts.{attempts}
 use Rattle.hickory_resolver_model.specs.Run.{Settings, call_context_at, Call, IsCall, after_clear, name_call, address_call}
@@ -27,7 +27,6 @@ use Rattle.hickory_resolver_theorems.specs.Provenance.{is_source, dated_entry, s
 use Rattle.hickory_resolver_theorems.specs.Statements.{LeastTtlIsZero, IsFreshReply, IsFreshEntry, IsFreshSubLookup, IsWhatItResolvesTo, AreWhatTheyResolveTo, CachelessSubLookup}
 use Rattle.hickory_resolver_theorems.specs.CallFacts.{IsCallBy, IsOwnAnswer, AreFreshReplies, IsFreshForType, IsFreshlyStoredBy, FreshlyStoredSubLookup, call_sources, HasCallProvenance, IsFreshCall, IsTransparentCall, IsPromisedCall, PromisesName, PromisesHost, KeepsWhatIsKnown}
 use Rattle.hickory_resolver_theorems.proofs.Lists.{all-weaker, all-append, all-front, all-both, all-filter, all-has, has-all, has-left, has-map, has-filter, find-has, ContainsByRecursion, contains-from_recursion, contains-to_recursion}
-use Rattle.hickory_resolver_theorems.proofs.OneCache.{hops-over}
 use Rattle.hickory_resolver_theorems.proofs.VerdictFacts.{KeepsType, leads-keep}
 use Rattle.hickory_resolver_theorems.proofs.Stores.{Makes, after_stores-all, earlier-all, makes-fresh, makes-some, StoresArrived}
 use Rattle.hickory_resolver_theorems.proofs.Fresh.{for-type, AreFreshHits, hops-fresh, own-sources}
@@ -61,16 +60,17 @@ own-typed s code hop (Asked outcome) same = by (kind_of outcome)
     by (Negative none) = (same, tt)
     by (Failed error) = tt
 
-hops-typed : (s : LookupContext) (question : Query) (asks : List Exchange) (h : HopList s question asks) → AllByRecursion (IsOfType (type_code question.query_type)) (stores_of s h.passed h.last_hop h.last)
-hops-typed s question asks h =
-    all-append (IsOfType code) (last_stores s h.last_hop h.last) (earlier_stores s h.passed h.last_hop h.last) (own-typed s code h.last_hop h.last leads.0.type_is)
-    (earlier-all (IsOfType code) s h.passed h.last_hop h.last (all-weaker (λ x. type_code x.query.query_type ≡ code) (λ x. (limit : ℕ) → IsOfType code (earlier_store (result_of s h.last_hop h.last) s.now x.query limit)) (λ x same limit. same) h.passed leads.1))
+hops-typed : (s : LookupContext) (caches : List CacheValue) (question : Query) (asks : List Exchange) (h : HopList s caches question asks) → AllByRecursion (IsOfType (type_code question.query_type)) (stores_of s (passed_of s h.passed) h.last_hop h.last)
+hops-typed s caches question asks h =
+    all-append (IsOfType code) (last_stores s h.last_hop h.last) (earlier_stores (result_of s h.last_hop h.last) s.now (end_limit s h.last_hop h.last) (passed_of s h.passed)) (own-typed s code h.last_hop h.last leads.0.type_is)
+    (earlier-all (IsOfType code) s (result_of s h.last_hop h.last) (end_limit s h.last_hop h.last) h.passed
+    (all-weaker (λ x. type_code x.query.query_type ≡ code) (λ x. (limit : ℕ) → IsOfType code (earlier_store (result_of s h.last_hop h.last) s.now x.query limit)) (λ x same limit. same) h.passed leads.1))
   where
     code : ℕ
     code = type_code question.query_type
 
     leads : KeepsType code h.last_hop × AllByRecursion (λ x. type_code x.query.query_type ≡ code) h.passed
-    leads = let over = hops-over s question asks h in leads-keep code s over.caches (first_hop question) h.passed h.last_hop (record { type_is = refl; others = tt }) over.leads
+    leads = leads-keep code s h.before (first_hop question) h.passed h.last_hop (record { type_is = refl; others = tt }) h.leads
 
 -- ---- provenance
 
@@ -95,7 +95,7 @@ module _ (now : ℕ) (first : CacheValue) (cache : IsCache first.config first.ca
 
   -- what a part keeps to
   record IsSourcedPart (config : ConfigValue) (s : LookupContext) (p : SubLookup) (after : CacheValue) (reply : IsReply s p.question p.asks p.result after) : Type 0 where
-    stores : AllByRecursion (λ store. IfSome (made_entry config store) (IsFreshForType config sources)) (stores_made s p.question p.asks p.result after reply)
+    stores : AllByRecursion (λ store. IfSome (made_entry config store) (IsFreshForType config sources)) (stores_made s (one_cache s p.asks) p.question p.asks p.result after reply)
     fresh : LeastTtlIsZero config (type_code p.question.query_type) → IsFreshReply config (sources (type_code p.question.query_type)) (type_code p.question.query_type) s.now p.result
     known : AllByRecursion (IsKnown config) after.entries
 
@@ -142,15 +142,18 @@ module _ (now : ℕ) (first : CacheValue) (cache : IsCache first.config first.ca
       out : p.result ≡ Err OutOfMemory → IsFreshReply config (sources code) code s.now p.result
       out e = subst (IsFreshReply config (sources code) code s.now) (sym e) tt
 
-      arrive : (h : HopList s p.question p.asks) → AllByRecursion (HasArrived config code) (stores_of s h.passed h.last_hop h.last)
+      caches : List CacheValue
+      caches = one_cache s p.asks
+
+      arrive : (h : HopList s caches p.question p.asks) → AllByRecursion (HasArrived config code) (stores_of s (passed_of s h.passed) h.last_hop h.last)
       arrive h =
-          all-both (StoresArrived config (sources code)) (IsOfType code) (stores_of s h.passed h.last_hop h.last)
-          (hops-fresh s p.question p.asks (sources code) (hops-over s p.question p.asks h) hits there).stores (hops-typed s p.question p.asks h)
+          all-both (StoresArrived config (sources code)) (IsOfType code) (stores_of s (passed_of s h.passed) h.last_hop h.last)
+          (hops-fresh s caches p.question p.asks (sources code) h hits there).stores (hops-typed s caches p.question p.asks h)
 
       by : (reply : IsReply s p.question p.asks p.result after) → IsSourcedPart config s p after reply
       by (inl whole) = record {
         stores = made _ (arrive whole.hops);
-        fresh = λ zero. subst (IsFreshReply config (sources code) code s.now) (sym whole.result_is) ((hops-fresh s p.question p.asks (sources code) (hops-over s p.question p.asks whole.hops) hits there).reply zero);
+        fresh = λ zero. subst (IsFreshReply config (sources code) code s.now) (sym whole.result_is) ((hops-fresh s caches p.question p.asks (sources code) whole.hops hits there).reply zero);
         known = stored _ (arrive whole.hops) whole.after_is;
       }
       by (inr (e, inl cut)) =
@@ -190,7 +193,7 @@ module _ (now : ℕ) (first : CacheValue) (cache : IsCache first.config first.ca
                   (subst (λ c. IsFreshReply c (sources code) code t.now p.result) bounds (there.fresh (subst (λ c. LeastTtlIsZero c code) (sym bounds) zero))),
             ),
             (
-              reply-config (start_at t before) p.question p.asks p.result after part.reply ∙ bounds,
+              reply-config (start_at t before) (one_cache (start_at t before) p.asks) p.question p.asks p.result after part.reply ∙ bounds,
               subst (λ c. AllByRecursion (IsKnown c) after.entries) bounds there.known,
             ),
           )
@@ -264,7 +267,7 @@ part-few t with_hosts before q p after (for, is) = by p.source is
   where
     by : (source : Source) → IsAnsweredFrom source t with_hosts before p after → length p.asks ≤ 8
     by Static part = omega (arith, ap length part.nothing_asked)
-    by Client part = few (start_at t before) p.question p.asks p.result after part.reply
+    by Client part = few (start_at t before) (one_cache (start_at t before) p.asks) p.question p.asks p.result after part.reply
 
 pub few_call : (s : Settings) (now : ℕ) (before : CacheValue) (call : Call) (parts : List SubLookup) (reply : LookupResult) (after : CacheValue) → IsCallBy (IsAnsweredFor (call_context_at s now)) s before call parts reply after → AllByRecursion (λ p. length p.asks ≤ 8) parts
 few_call s now before call parts reply after is = chain-all (IsAnsweredFor (call_context_at s now)) (λ p. length p.asks ≤ 8) (part-few (call_context_at s now)) before parts after (chain-by (IsAnsweredFor (call_context_at s now)) s before call parts reply after is)

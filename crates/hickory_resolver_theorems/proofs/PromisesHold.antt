@@ -7,29 +7,29 @@ use Rattle.hickory_proto_core.specs.declared.recorded.Exchange.{Exchange}
 use Rattle.hickory_resolver_model.specs.Cache.{CacheValue, IsCache}
 use Rattle.hickory_resolver_model.specs.Lookup.{LookupResult}
 use Rattle.hickory_resolver_model.specs.Client.{ClientValue, start_of, IsLookup}
-use Rattle.hickory_resolver_model.specs.Hops.{LookupContext}
-use Rattle.hickory_resolver_model.specs.Resuming.{IsReplyOver}
+use Rattle.hickory_resolver_model.specs.Hops.{LookupContext, IsReplyOver, one_cache}
 use Rattle.hickory_resolver_model.specs.Run.{Settings, first_cache, RequestValue, StepValue, IsRun}
 use Rattle.hickory_resolver_theorems.specs.Promises.{IsPromisedLookup, IsPromisedRun}
 use Rattle.hickory_resolver_theorems.specs.Resumed.{IsPromisedOver}
-use Rattle.hickory_resolver_theorems.proofs.Few.{few, few-over}
-use Rattle.hickory_resolver_theorems.proofs.Provenances.{from_sources, from_sources-over}
-use Rattle.hickory_resolver_theorems.proofs.Fresh.{fresh, fresh-over}
-use Rattle.hickory_resolver_theorems.proofs.Transparent.{transparent, transparent-over}
+use Rattle.hickory_resolver_theorems.proofs.Few.{few}
+use Rattle.hickory_resolver_theorems.proofs.Provenances.{from_sources}
+use Rattle.hickory_resolver_theorems.proofs.Fresh.{fresh}
+use Rattle.hickory_resolver_theorems.proofs.Transparent.{transparent}
 use Rattle.hickory_resolver_theorems.proofs.Headlines.{headline}
-use Rattle.hickory_resolver_theorems.proofs.AliasLifetimes.{no_alias_outlives, no_alias_outlives-over, run_limited}
+use Rattle.hickory_resolver_theorems.proofs.AliasLifetimes.{no_alias_outlives, run_limited}
 
 pub promised_lookup : {H : Type 0} (step : HandleStep H) (options : DnsRequestOptions) (now : ℕ) (before : ClientValue H) (question : Query) (result : LookupResult) (after : ClientValue H) → IsCache before.cache.config before.cache.capacity before.cache.entries → IsLookup step options now before question result after
     → IsPromisedLookup step options now before question result after
 promised_lookup step options now before question result after cache is =
     let s = start_of before now in
+    let caches = one_cache s is.asks in
     record {
       is = is;
-      few = few s question is.asks result after.cache is.reply;
-      provenance = from_sources s question is.asks result after.cache cache is.reply;
-      fresh = fresh s question is.asks result after.cache is.reply;
-      transparent = transparent s question is.asks result after.cache is.reply;
-      no_alias_outlives = no_alias_outlives s question is.asks result after.cache is.reply;
+      few = few s caches question is.asks result after.cache is.reply;
+      provenance = from_sources s caches question is.asks result after.cache cache is.reply;
+      fresh = fresh s caches question is.asks result after.cache is.reply;
+      transparent = transparent s caches question is.asks result after.cache is.reply;
+      no_alias_outlives = no_alias_outlives s caches question is.asks result after.cache is.reply;
     }
 
 pub promised_run : {H : Type 0} (step : HandleStep H) (s : Settings) (handle : H) (requests : List RequestValue) (steps : List StepValue) (exchanges : List Exchange) (handle_after : H) (cache_after : CacheValue) → IsRun step s handle requests steps exchanges handle_after cache_after
@@ -40,11 +40,11 @@ promised_run step s handle requests steps exchanges handle_after cache_after is 
   no_alias_outlives = run_limited s (first_cache s) requests steps exchanges cache_after is.run;
 }
 
-pub promised_over : (s : LookupContext) (question : Query) (asks : List Exchange) (result : LookupResult) (after : CacheValue) (reply : IsReplyOver s question asks result after) → IsPromisedOver s question asks result after reply
-promised_over s question asks result after reply = record {
-  few = few-over s question asks result after reply;
-  provenance = λ cache. from_sources-over s question asks result after cache reply;
-  fresh = fresh-over s question asks result after reply;
-  transparent = transparent-over s question asks result after reply;
-  no_alias_outlives = no_alias_outlives-over s question asks result after reply;
+pub promised_over : (s : LookupContext) (caches : List CacheValue) (question : Query) (asks : List Exchange) (result : LookupResult) (after : CacheValue) (reply : IsReplyOver s caches question asks result after) → IsPromisedOver s caches question asks result after reply
+promised_over s caches question asks result after reply = record {
+  few = few s caches question asks result after reply;
+  provenance = λ cache. from_sources s caches question asks result after cache reply;
+  fresh = fresh s caches question asks result after reply;
+  transparent = transparent s caches question asks result after reply;
+  no_alias_outlives = no_alias_outlives s caches question asks result after reply;
 }

@@ -12,15 +12,12 @@ use Rattle.hickory_proto_core.specs.declared.net_error.NetError.TheVariants.{Out
 use Rattle.hickory_resolver_model.specs.Bounds.{ConfigValue, greatest_ttl}
 use Rattle.hickory_resolver_model.specs.Cache.{CacheValue, Entry, IsCache, IsTimelyAnswer, OutlivesNoAnswer, is_for, is_current}
 use Rattle.hickory_resolver_model.specs.Lookup.{LookupResult}
-use Rattle.hickory_resolver_model.specs.Hops.{LookupContext, Store, IsReply, made_entry, after_stores}
-use Rattle.hickory_resolver_model.specs.Resuming.{IsReplyOver}
+use Rattle.hickory_resolver_model.specs.Hops.{LookupContext, Store, IsReplyOver, made_entry, after_stores}
 use Rattle.hickory_resolver_theorems.specs.Covered.{Dated, dated_exchanges, IsCovered}
 use Rattle.hickory_resolver_theorems.specs.Statements.{IsFreshRecord, IsFreshReply, IsFreshOutcome, IsFreshEntry}
-use Rattle.hickory_resolver_theorems.specs.Provenance.{is_positive, is_source, answers_alone, dated_entry, sources_of, IsFromSources, HasProvenance}
-use Rattle.hickory_resolver_theorems.specs.Resumed.{stores_made_over, HasProvenanceOver}
+use Rattle.hickory_resolver_theorems.specs.Provenance.{is_positive, is_source, answers_alone, dated_entry, sources_of, stores_made, IsFromSources, HasProvenance}
 use Rattle.hickory_resolver_theorems.proofs.Lists.{all-weaker, all-has, has-all, all-front, has-left, has-map, has-filter, find-has, ContainsByRecursion, contains-from_recursion}
 use Rattle.hickory_resolver_theorems.proofs.Covers.{covered-has}
-use Rattle.hickory_resolver_theorems.proofs.OneCache.{reply-over}
 use Rattle.hickory_resolver_theorems.proofs.Stores.{StoresArrived, stores-known, store-fresh}
 use Rattle.hickory_resolver_theorems.proofs.Fresh.{for-type, AreFreshHits, hops-fresh, own-sources}
 
@@ -69,8 +66,8 @@ hits-own s question asks timely q e same is =
 abbrev IsKnown : List Entry → ConfigValue → List Dated → Entry → Type 0
 IsKnown before config sources e = Contains before e ⊎ IsFreshEntry config sources e
 
-pub from_sources-over : (s : LookupContext) (question : Query) (asks : List Exchange) (result : LookupResult) (after : CacheValue) → IsCache s.cache.config s.cache.capacity s.cache.entries → (reply : IsReplyOver s question asks result after) → HasProvenanceOver s question asks result after reply
-from_sources-over s question asks result after cache reply zero = by reply
+pub from_sources : (s : LookupContext) (caches : List CacheValue) (question : Query) (asks : List Exchange) (result : LookupResult) (after : CacheValue) → IsCache s.cache.config s.cache.capacity s.cache.entries → (reply : IsReplyOver s caches question asks result after) → HasProvenance s caches question asks result after reply
+from_sources s caches question asks result after cache reply zero = by reply
   where
     code : ℕ
     code = type_code question.query_type
@@ -96,18 +93,13 @@ from_sources-over s question asks result after cache reply zero = by reply
     made : (stores : List Store) → AllByRecursion (StoresArrived s.cache.config sources) stores → AllByRecursion (λ store. IfSome (made_entry s.cache.config store) (IsFreshEntry s.cache.config sources)) stores
     made stores arrive = all-weaker (StoresArrived s.cache.config sources) (λ store. IfSome (made_entry s.cache.config store) (IsFreshEntry s.cache.config sources)) (store-fresh s.cache.config sources) stores arrive
 
-    by : (reply : IsReplyOver s question asks result after) → IsFromSources s question asks result (stores_made_over s question asks result after reply) after
+    by : (reply : IsReplyOver s caches question asks result after) → IsFromSources s question asks result (stores_made s caches question asks result after reply) after
     by (inl whole) =
-        let hops = hops-fresh s question asks sources whole.hops hits own in
+        let hops = hops-fresh s caches question asks sources whole.hops hits own in
         record { reply = subst (IsFreshReply s.cache.config sources code s.now) (sym whole.result_is) (hops.reply zero); stores = made _ hops.stores; entries = stored _ hops.stores whole.after_is }
     by (inr (e, inl cut)) =
-        let hops = hops-fresh s question asks sources cut.hops hits own in
+        let hops = hops-fresh s caches question asks sources cut.hops hits own in
         let front = all-front (StoresArrived s.cache.config sources) cut.begun.front cut.begun.back (subst (AllByRecursion (StoresArrived s.cache.config sources)) (sym cut.begun.parts) hops.stores) in
         record { reply = out e; stores = made cut.begun.front front; entries = stored cut.begun.front front cut.begun.after_is }
     by (inr (e, inr cut)) =
         record { reply = out e; stores = tt; entries = subst (λ c. AllByRecursion (IsKnown s.cache.entries s.cache.config sources) c.entries) (sym cut.after_is) old }
-
-pub from_sources : (s : LookupContext) (question : Query) (asks : List Exchange) (result : LookupResult) (after : CacheValue) → IsCache s.cache.config s.cache.capacity s.cache.entries → (reply : IsReply s question asks result after) → HasProvenance s question asks result after reply
-from_sources s question asks result after cache (inl whole) = from_sources-over s question asks result after cache (reply-over s question asks result after (inl whole))
-from_sources s question asks result after cache (inr (out, inl cut)) = from_sources-over s question asks result after cache (reply-over s question asks result after (inr (out, inl cut)))
-from_sources s question asks result after cache (inr (out, inr cut)) = from_sources-over s question asks result after cache (reply-over s question asks result after (inr (out, inr cut)))

@@ -12,8 +12,7 @@ use Rattle.hickory_proto_core.specs.declared.recorded.Exchange.{Exchange}
 use Rattle.hickory_resolver_model.specs.Bounds.{ConfigValue, greatest_ttl}
 use Rattle.hickory_resolver_model.specs.Cache.{CacheValue, is_for, without_query}
 use Rattle.hickory_resolver_model.specs.Lookup.{LookupResult, question_of}
-use Rattle.hickory_resolver_model.specs.Hops.{LookupContext, IsReply, stores_of}
-use Rattle.hickory_resolver_model.specs.Resuming.{IsReplyOver}
+use Rattle.hickory_resolver_model.specs.Hops.{LookupContext, IsReplyOver, one_cache, passed_of, stores_of}
 use Rattle.hickory_resolver_model.specs.Calls.{CallContext, Source, Static, Client, SubLookup, IsAnsweredFrom, IsAnsweredFor, start_at, asks_of_sub_lookups}
 use Rattle.hickory_resolver_model.specs.Run.{Settings, call_context_at, RequestValue, Lookup, LookupIp, ClearLookup, Clear, moment_of, StepReply, LookedUp, LookedUpIp, Cleared, drop_each, after_clear, IsServed, StepValue, Stage, IsStage, AreStages, Run}
 use Rattle.hickory_resolver_model.specs.Attempts.{attempts}
@@ -21,7 +20,6 @@ use Rattle.hickory_resolver_theorems.specs.Covered.{Dated, dated_exchanges, IsCo
 use Rattle.hickory_resolver_theorems.specs.Statements.{IsFreshRecord, IsFreshReply, IsFreshEntry, AreFreshEntries, IsFreshSubLookup, AsksAtMostEight, AreFreshAnswers, NothingOutlives}
 use Rattle.hickory_resolver_theorems.proofs.Lists.{all-weaker, all-filter}
 use Rattle.hickory_resolver_theorems.proofs.Covers.{covered-left}
-use Rattle.hickory_resolver_theorems.proofs.OneCache.{reply-over}
 use Rattle.hickory_resolver_theorems.proofs.Stores.{stores-config, entries-more}
 use Rattle.hickory_resolver_theorems.proofs.Few.{few}
 use Rattle.hickory_resolver_theorems.proofs.Fresh.{fresh}
@@ -30,13 +28,10 @@ use Rattle.hickory_resolver_theorems.proofs.Chains.{Chain, chain-name, chain-add
 
 -- ---- the bounds stay
 
-pub reply-config-over : (s : LookupContext) (question : Query) (asks : List Exchange) (result : LookupResult) (after : CacheValue) → IsReplyOver s question asks result after → after.config ≡ s.cache.config
-reply-config-over s question asks result after (inl whole) = ap (λ c. c.config) whole.after_is ∙ stores-config (stores_of s whole.hops.passed whole.hops.last_hop whole.hops.last) s.cache
-reply-config-over s question asks result after (inr (e, inl cut)) = ap (λ c. c.config) cut.begun.after_is ∙ stores-config cut.begun.front s.cache
-reply-config-over s question asks result after (inr (e, inr cut)) = ap (λ c. c.config) cut.after_is
-
-pub reply-config : (s : LookupContext) (question : Query) (asks : List Exchange) (result : LookupResult) (after : CacheValue) → IsReply s question asks result after → after.config ≡ s.cache.config
-reply-config s question asks result after reply = reply-config-over s question asks result after (reply-over s question asks result after reply)
+pub reply-config : (s : LookupContext) (caches : List CacheValue) (question : Query) (asks : List Exchange) (result : LookupResult) (after : CacheValue) → IsReplyOver s caches question asks result after → after.config ≡ s.cache.config
+reply-config s caches question asks result after (inl whole) = ap (λ c. c.config) whole.after_is ∙ stores-config (stores_of s (passed_of s whole.hops.passed) whole.hops.last_hop whole.hops.last) s.cache
+reply-config s caches question asks result after (inr (e, inl cut)) = ap (λ c. c.config) cut.begun.after_is ∙ stores-config cut.begun.front s.cache
+reply-config s caches question asks result after (inr (e, inr cut)) = ap (λ c. c.config) cut.after_is
 
 -- ---- a part
 
@@ -66,12 +61,12 @@ good-part t with_hosts q before sources p after entries (for, is) = by p.source 
       config = ap (λ c. c.config) part.unchanged;
     }
     by Client e part =
-        let known = fresh (start_at t before) p.question p.asks p.result after part.reply sources entries in
+        let known = fresh (start_at t before) (one_cache (start_at t before) p.asks) p.question p.asks p.result after part.reply sources entries in
         record {
-          few = few (start_at t before) p.question p.asks p.result after part.reply;
+          few = few (start_at t before) (one_cache (start_at t before) p.asks) p.question p.asks p.result after part.reply;
           fresh = λ client zero. known.0 zero;
           entries = known.1;
-          config = reply-config (start_at t before) p.question p.asks p.result after part.reply;
+          config = reply-config (start_at t before) (one_cache (start_at t before) p.asks) p.question p.asks p.result after part.reply;
         }
 
 -- ---- the parts of a call

@@ -8,24 +8,20 @@ use Rattle.hickory_proto_core.specs.codes.record_type.RecordType.{RecordType}
 use Rattle.hickory_resolver_model.specs.Cache.{CacheValue}
 use Rattle.hickory_resolver_model.specs.Lookup.{LookupResult, question_of}
 use Rattle.hickory_resolver_model.specs.Verdict.{first_hop}
-use Rattle.hickory_resolver_model.specs.Hops.{LookupContext, GoesUpstream, FollowsAliases, IsReply, alias_limit}
+use Rattle.hickory_resolver_model.specs.Hops.{LookupContext, GoesUpstream, FollowsAliases, IsReply, one_cache, passed_of}
 use Rattle.hickory_resolver_model.specs.Hosts.{IsStatic}
 use Rattle.hickory_resolver_model.specs.Calls.{CallContext, start_at, SubLookup, SubLookupRelation, IsAnsweredAlone, next_type, IsAttemptResult, AreSubLookups, results_of, stops, AreAttempts, asks_of_sub_lookups}
-use Rattle.hickory_resolver_model.specs.Resuming.{PassedValue, WaitingValue, ProgressValue, Waits, IsDone}
+use Rattle.hickory_resolver_model.specs.Resuming.{WaitingValue, ProgressValue, Waits, IsDone}
 use Rattle.hickory_resolver_theorems.specs.ResumingCalls.{AttemptValue, WaitingCallValue, CallProgressValue, CallWaits, CallIsDone}
 
 -- ---- a look-up of the client
-
--- the question of an exchange, passed by what came back to it
-abbrev pub passed_of : LookupContext → Exchange → PassedValue
-passed_of s x = record { query = x.query; limit = alias_limit s x.query (kind_of x.outcome) }
 
 -- these exchanges lead to the hop of a look-up that waits, over the cache of the context, which stands as it was
 pub record IsSentAlone
     (s : LookupContext) (question : Query) (asks : List Exchange) (w : WaitingValue) (after : CacheValue)
     : Type 0 where
-  pub follows : FollowsAliases s (first_hop question) asks w.hop
-  pub passed_are : w.passed ≡ map (passed_of s) asks
+  pub follows : FollowsAliases s (one_cache s asks) (first_hop question) asks w.hop
+  pub passed_are : w.passed ≡ passed_of s asks
   pub now_is : w.now ≡ s.now
   pub few : length asks ≤ 7
   pub upstream : GoesUpstream s w.hop.query

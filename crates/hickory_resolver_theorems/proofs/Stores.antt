@@ -10,8 +10,8 @@ use Rattle.hickory_proto_core.specs.declared.net_error.NetError.TheVariants.{Mes
 use Rattle.hickory_proto_core.specs.declared.net_error.DnsError.TheVariants.{ResponseCode, NoRecordsFound}
 use Rattle.hickory_resolver_model.specs.Bounds.{ConfigValue, greatest_ttl}
 use Rattle.hickory_resolver_model.specs.Cache.{CacheValue, Entry, is_for, without, without_earliest, least_deadline, kept_beside, insert_entry, positive_entry, negative_entry, not_after}
-use Rattle.hickory_resolver_model.specs.Hops.{LookupContext, ChainEnd, Store, result_of, limit_of, earlier_store, earlier_stores, made_entry, after_store, after_stores}
-use Rattle.hickory_resolver_model.specs.Verdict.{Hop}
+use Rattle.hickory_resolver_model.specs.Hops.{LookupContext, Store, passed_of, limit_of, earlier_store, earlier_stores, made_entry, after_store, after_stores}
+use Rattle.hickory_resolver_model.specs.Lookup.{LookupResult}
 use Rattle.hickory_proto_core.specs.declared.recorded.Exchange.{Exchange}
 use Rattle.hickory_proto_core.specs.Records.{RecordValue}
 use Rattle.hickory_resolver_theorems.specs.Covered.{Dated, IsCovered, IsLoopback}
@@ -59,10 +59,10 @@ after_stores-all P [] cache all makes = all
 after_stores-all P (s ∷ ss) cache all (first, rest) = after_stores-all P ss (after_store s cache) (after_store-all P s cache all first) rest
 
 -- what holds of a result under each earlier question, whatever its limit, holds of the stores of the earlier hops
-pub earlier-all : (P : Store → Type 0) (s : LookupContext) (passed : List Exchange) (hop : Hop) (last : ChainEnd) → AllByRecursion (λ x. (limit : ℕ) → P (earlier_store (result_of s hop last) s.now x.query limit)) passed → AllByRecursion P (earlier_stores s passed hop last)
-earlier-all P s [] hop last all = tt
-earlier-all P s (x ∷ xs) hop last (first, rest) =
-    all-append P (earlier_stores s xs hop last) (earlier_store (result_of s hop last) s.now x.query (limit_of s (x ∷ xs) hop last) ∷ []) (earlier-all P s xs hop last rest) (first (limit_of s (x ∷ xs) hop last), tt)
+pub earlier-all : (P : Store → Type 0) (s : LookupContext) (result : LookupResult) (limit : ℕ) (passed : List Exchange) → AllByRecursion (λ x. (own : ℕ) → P (earlier_store result s.now x.query own)) passed → AllByRecursion P (earlier_stores result s.now limit (passed_of s passed))
+earlier-all P s result limit [] all = tt
+earlier-all P s result limit (x ∷ xs) (first, rest) =
+    all-append P (earlier_stores result s.now limit (passed_of s xs)) (earlier_store result s.now x.query (limit_of (passed_of s (x ∷ xs)) limit) ∷ []) (earlier-all P s result limit xs rest) (first (limit_of (passed_of s (x ∷ xs)) limit), tt)
 
 -- stores leave the bounds
 pub stores-config : (stores : List Store) (cache : CacheValue) → (after_stores stores cache).config ≡ cache.config

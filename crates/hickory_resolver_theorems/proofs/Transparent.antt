@@ -1,5 +1,5 @@
 -- A cache does not change an answer: a look-up comes to what its question means, and so does every entry that it stores.
-use Rattle.std.proofs.Common.{◌≡◌, ◌⊎◌, ◌≤◌, ℕ, suc, ◌+◌, false, ◌&&◌, List, [], ◌∷◌, ◌++◌, length, map, Option, Some, None, Ok, Err, refl, sym, ap, ◌∙◌, subst, arith, inl, inr}
+use Rattle.std.proofs.Common.{◌≡◌, ◌⊎◌, ◌≤◌, ℕ, suc, ◌+◌, Bool, true, false, not, ◌&&◌, ◌||◌, if◌then◌else◌, List, [], ◌∷◌, ◌++◌, length, map, Option, Some, None, Ok, Err, refl, sym, ap, ◌∙◌, subst, arith, inl, inr}
 use Rattle.std.proofs.lemmas.Bool.{and_parts}
 use Rattle.std.specs.List.{AllByRecursion}
 use Rattle.std.specs.Option.{option_map}
@@ -8,7 +8,7 @@ use Rattle.hickory_proto_core.specs.Messages.{MessageValue}
 use Rattle.hickory_proto_core.specs.Errors.{NoRecordsValue, ForwardValue}
 use Rattle.hickory_proto_core.specs.Table.{TableValue, outcome_in}
 use Rattle.hickory_proto_core.specs.Handles.{OutcomeValue}
-use Rattle.hickory_proto_core.specs.ResponseKind.{ResponseKind, Answer, Negative, Failed, kind_of}
+use Rattle.hickory_proto_core.specs.ResponseKind.{ResponseKind, Answer, Negative, Failed, kind_of, is_empty}
 use Rattle.hickory_proto_core.specs.declared.query.Query.{Query}
 use Rattle.hickory_proto_core.specs.declared.recorded.Exchange.{Exchange}
 use Rattle.hickory_proto_core.specs.declared.net_error.NetError.{NetError}
@@ -19,13 +19,12 @@ use Rattle.hickory_resolver_model.specs.Cache.{CacheValue, current, is_for, is_c
 use Rattle.hickory_resolver_model.specs.Lookup.{LookupResult}
 use Rattle.hickory_resolver_model.specs.SpecialUse.{special_use_result}
 use Rattle.hickory_resolver_model.specs.Verdict.{Hop, Verdict, Accepted, Alias, NoMatch, verdict}
-use Rattle.hickory_resolver_model.specs.Hops.{LookupContext, IsAliasHop, ChainEnd, Special, Hit, Asked, IsChainEnd, Store, IsReply, asks_of, result_when_asked, result_of_verdict, hit_result, result_of, alias_limit, limit_of, result_until, reply_of, stores_of_verdict, stores_when_asked, last_stores, earlier_store, stores_of, after_stores}
-use Rattle.hickory_resolver_model.specs.Resuming.{is_asked, FollowsAliasesOver, HopListOver, IsReplyOver}
+use Rattle.hickory_resolver_model.specs.Hops.{LookupContext, IsAliasHop, ChainEnd, Special, Hit, Asked, IsChainEnd, FollowsAliases, HopList, Store, IsReplyOver, PassedValue, passed_of, asks_of, result_when_asked, result_of_verdict, hit_result, result_of, alias_limit, end_limit, limit_of, is_asked, result_until, reply_of, stores_of_verdict, stores_when_asked, last_stores, earlier_store, stores_of, after_stores}
 use Rattle.hickory_resolver_theorems.specs.Cacheless.{ResolvesTo, IsConsistentWith, AreConsistentWith}
 use Rattle.hickory_resolver_theorems.specs.Cores.{folded_query, record_core, sections, forward_core, negative_core, error_core, ReplyCore, reply_core, entry_core}
 use Rattle.hickory_resolver_theorems.specs.Statements.{IsWhatItResolvesTo, AreWhatTheyResolveTo, IsTransparent}
 use Rattle.hickory_resolver_theorems.proofs.Lists.{all-weaker, all-append, all-front, all-back, all-has, find-has}
-use Rattle.hickory_resolver_theorems.proofs.OneCache.{verdict-elsewhere, reply-over}
+use Rattle.hickory_resolver_theorems.proofs.OneCache.{verdict-elsewhere}
 use Rattle.hickory_resolver_theorems.proofs.Stores.{Makes, after_stores-all, earlier-all}
 use Rattle.hickory_resolver_theorems.proofs.Folding.{map-map, query-same}
 use Rattle.hickory_resolver_theorems.proofs.VerdictFacts.{passed}
@@ -159,7 +158,7 @@ passed-on s hop x next off none p = by (hop-next s hop (kind_of x.outcome) off n
         record { live = live; on = there.on ∙ ap (λ h. GoesOn (folded_query h.query)) same; plain = sym (ap (λ h. h.preserved) same) ∙ there.plain }
     by (inr last) = absurd (last.no_alias next p.alias)
 
-led-meaning : (s : LookupContext) (table : TableValue) (caches : List CacheValue) (hop : Hop) (xs : List Exchange) (last : Hop) (r : ReplyCore) (n : ℕ) → s.preserve_intermediates ≡ false → hop.preserved ≡ [] → AreConsistentWith table xs → FollowsAliasesOver s caches hop xs last → ResolvesTo table hop.query r n → LedMeaning table xs last r n
+led-meaning : (s : LookupContext) (table : TableValue) (caches : List CacheValue) (hop : Hop) (xs : List Exchange) (last : Hop) (r : ReplyCore) (n : ℕ) → s.preserve_intermediates ≡ false → hop.preserved ≡ [] → AreConsistentWith table xs → FollowsAliases s caches hop xs last → ResolvesTo table hop.query r n → LedMeaning table xs last r n
 led-meaning s table [] hop [] last r n off none tells e means = record {
   rest = n;
   means = subst (λ h. ResolvesTo table h.query r n) (sym e) means;
@@ -289,23 +288,24 @@ until-meant limit (Ok l) r (inl e) = let clash : Ok l ≡ Err OutOfMemory = e in
 until-meant limit (Ok l) r (inr e) = inr e
 until-meant limit (Err error) r is = is
 
-reply-meant : (s : LookupContext) (passed : List Exchange) (hop : Hop) (last : ChainEnd) (r : ReplyCore) → IsOutOr (result_of s hop last) r → IsOutOr (reply_of s passed hop last) r
-reply-meant s [] hop (Special reply) r is = is
-reply-meant s [] hop (Hit entry) r is = is
-reply-meant s [] hop (Asked outcome) r is = until-meant (limit_of s [] hop (Asked outcome)) (result_of s hop (Asked outcome)) r is
-reply-meant s (x ∷ xs) hop last r is = until-meant (limit_of s (x ∷ xs) hop last) (result_of s hop last) r is
+reply-meant : (s : LookupContext) (passed : List PassedValue) (hop : Hop) (last : ChainEnd) (r : ReplyCore) → IsOutOr (result_of s hop last) r → IsOutOr (reply_of s passed hop last) r
+reply-meant s passed hop last r is = by (is_asked last || not (is_empty passed))
+  where
+    by : (b : Bool) → IsOutOr (if b then result_until (limit_of passed (end_limit s hop last)) (result_of s hop last) else result_of s hop last) r
+    by true = until-meant (limit_of passed (end_limit s hop last)) (result_of s hop last) r is
+    by false = is
 
 -- ---- a look-up
 
-pub record AreMeantHops (s : LookupContext) (table : TableValue) (question : Query) (asks : List Exchange) (r : ReplyCore) (h : HopListOver s question asks) : Type 0 where
-  pub reply : IsOutOr (reply_of s h.passed h.last_hop h.last) r
-  pub stores : AllByRecursion (StoresMeant table) (stores_of s h.passed h.last_hop h.last)
+pub record AreMeantHops (s : LookupContext) (caches : List CacheValue) (table : TableValue) (question : Query) (asks : List Exchange) (r : ReplyCore) (h : HopList s caches question asks) : Type 0 where
+  pub reply : IsOutOr (reply_of s (passed_of s h.passed) h.last_hop h.last) r
+  pub stores : AllByRecursion (StoresMeant table) (stores_of s (passed_of s h.passed) h.last_hop h.last)
 
-hops-meant : (s : LookupContext) (table : TableValue) (question : Query) (asks : List Exchange) (r : ReplyCore) (n : ℕ) (h : HopListOver s question asks) → s.preserve_intermediates ≡ false → AreConsistentWith table asks → AreWhatTheyResolveTo table s.cache → ResolvesTo table question r n → n ≤ 8 → AreMeantHops s table question asks r h
-hops-meant s table question asks r n h off tells meant means few = record {
-  reply = reply-meant s h.passed h.last_hop h.last r reply;
+hops-meant : (s : LookupContext) (caches : List CacheValue) (table : TableValue) (question : Query) (asks : List Exchange) (r : ReplyCore) (n : ℕ) (h : HopList s caches question asks) → s.preserve_intermediates ≡ false → AreConsistentWith table asks → AreWhatTheyResolveTo table s.cache → ResolvesTo table question r n → n ≤ 8 → AreMeantHops s caches table question asks r h
+hops-meant s caches table question asks r n h off tells meant means few = record {
+  reply = reply-meant s (passed_of s h.passed) h.last_hop h.last r reply;
   stores = all-append (StoresMeant table) (last_stores s h.last_hop h.last) _ (last-stored s table h.last_hop h.last r led.rest led.means reply)
-      (earlier-all (StoresMeant table) s h.passed h.last_hop h.last
+      (earlier-all (StoresMeant table) s (result_of s h.last_hop h.last) (end_limit s h.last_hop h.last) h.passed
       (all-weaker (λ x. (k : ℕ) × ResolvesTo table x.query r k) (λ x. (limit : ℕ) → StoresMeant table (earlier_store (result_of s h.last_hop h.last) s.now x.query limit)) (λ x k limit. again-stored table s.now x.query (result_of s h.last_hop h.last) limit r k reply) h.passed led.each));
 }
   where
@@ -313,26 +313,23 @@ hops-meant s table question asks r n h off tells meant means few = record {
     both = subst (AllByRecursion (IsConsistentWith table)) h.asks_are tells
 
     led : LedMeaning table h.passed h.last_hop r n
-    led = led-meaning s table h.caches (record { query = question; preserved = [] }) h.passed h.last_hop r n off refl (all-front (IsConsistentWith table) h.passed (asks_of h.last_hop h.last) both) h.leads means
+    led = led-meaning s table h.before (record { query = question; preserved = [] }) h.passed h.last_hop r n off refl (all-front (IsConsistentWith table) h.passed (asks_of h.last_hop h.last) both) h.leads means
 
     reply : IsOutOr (result_of s h.last_hop h.last) r
     reply =
         last-meaning s table h.last_cache h.last_hop (length h.passed) h.last r led.rest off led.plain meant (all-back (IsConsistentWith table) h.passed (asks_of h.last_hop h.last) both) h.ends h.at_once led.means (omega (arith, led.length_is, few))
 
-pub transparent-over : (s : LookupContext) (question : Query) (asks : List Exchange) (result : LookupResult) (after : CacheValue) → IsReplyOver s question asks result after → IsTransparent s question asks result after
-transparent-over s question asks result after is table off apart tells meant r n means few = by is
+pub transparent : (s : LookupContext) (caches : List CacheValue) (question : Query) (asks : List Exchange) (result : LookupResult) (after : CacheValue) → IsReplyOver s caches question asks result after → IsTransparent s question asks result after
+transparent s caches question asks result after is table off apart tells meant r n means few = by is
   where
     stored : (stores : List Store) → AllByRecursion (StoresMeant table) stores → after ≡ after_stores stores s.cache → AreWhatTheyResolveTo table after
     stored stores all e = subst (AreWhatTheyResolveTo table) (sym e) (stores-meant table stores s.cache meant all)
 
-    by : IsReplyOver s question asks result after → ((result ≡ Err OutOfMemory) ⊎ (reply_core result ≡ r)) × AreWhatTheyResolveTo table after
+    by : IsReplyOver s caches question asks result after → ((result ≡ Err OutOfMemory) ⊎ (reply_core result ≡ r)) × AreWhatTheyResolveTo table after
     by (inl whole) =
-        let hops = hops-meant s table question asks r n whole.hops off tells meant means few in
+        let hops = hops-meant s caches table question asks r n whole.hops off tells meant means few in
         (subst (λ x. IsOutOr x r) (sym whole.result_is) hops.reply, stored _ hops.stores whole.after_is)
     by (inr (e, inl cut)) =
-        let hops = hops-meant s table question asks r n cut.hops off tells meant means few in
+        let hops = hops-meant s caches table question asks r n cut.hops off tells meant means few in
         (inl e, stored cut.begun.front (all-front (StoresMeant table) cut.begun.front cut.begun.back (subst (AllByRecursion (StoresMeant table)) (sym cut.begun.parts) hops.stores)) cut.begun.after_is)
     by (inr (e, inr cut)) = (inl e, subst (AreWhatTheyResolveTo table) (sym cut.after_is) meant)
-
-pub transparent : (s : LookupContext) (question : Query) (asks : List Exchange) (result : LookupResult) (after : CacheValue) → IsReply s question asks result after → IsTransparent s question asks result after
-transparent s question asks result after reply = transparent-over s question asks result after (reply-over s question asks result after reply)

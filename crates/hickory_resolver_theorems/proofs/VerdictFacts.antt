@@ -11,8 +11,7 @@ use Rattle.hickory_proto_core.specs.declared.recorded.Exchange.{Exchange}
 use Rattle.hickory_resolver_model.specs.Cache.{CacheValue}
 use Rattle.hickory_resolver_model.specs.AliasWalk.{Walk, standing, walk_of, walk_from}
 use Rattle.hickory_resolver_model.specs.Verdict.{Hop, Accepted, Alias, NoMatch, is_match, is_accepted, is_filtered, is_intermediate, has_class, found_message, filtered_answers, next_hop, all_records, with_ttl_at_most, verdict}
-use Rattle.hickory_resolver_model.specs.Hops.{LookupContext, IsAliasHop, verdict_on}
-use Rattle.hickory_resolver_model.specs.Resuming.{FollowsAliasesOver}
+use Rattle.hickory_resolver_model.specs.Hops.{LookupContext, IsAliasHop, FollowsAliases, verdict_on}
 use Rattle.hickory_resolver_theorems.proofs.Lists.{all-weaker, all-append, all-front, all-filter, all-map, all-kept}
 
 -- ---- aliases
@@ -82,7 +81,7 @@ next-keeps code keep hop m next k on =
     by true = all-map Other (with_ttl_at_most walk.ttl) (filter (is_intermediate hop.query) (all_records m)) (all-kept Other (is_intermediate hop.query) (λ r. intermediate-other code hop.query r not_five) (all_records m))
     by false = tt
 
-pub leads-keep : (code : ℕ) (s : LookupContext) (caches : List CacheValue) (hop : Hop) (xs : List Exchange) (last : Hop) → KeepsType code hop → FollowsAliasesOver s caches hop xs last → KeepsType code last × AllByRecursion (λ x. type_code x.query.query_type ≡ code) xs
+pub leads-keep : (code : ℕ) (s : LookupContext) (caches : List CacheValue) (hop : Hop) (xs : List Exchange) (last : Hop) → KeepsType code hop → FollowsAliases s caches hop xs last → KeepsType code last × AllByRecursion (λ x. type_code x.query.query_type ≡ code) xs
 leads-keep code s [] hop [] last k e = (subst (KeepsType code) (sym e) k, tt)
 leads-keep code s (cache ∷ caches) hop (x ∷ xs) last k (next, p, rest) =
     let on = passed (record s { cache = cache }) hop x next p in

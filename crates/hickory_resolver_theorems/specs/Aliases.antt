@@ -14,7 +14,7 @@ use Rattle.hickory_resolver_model.specs.Cache.{CacheValue}
 use Rattle.hickory_resolver_model.specs.Lookup.{LookupValue, LookupResult}
 use Rattle.hickory_resolver_model.specs.AliasWalk.{walk_of}
 use Rattle.hickory_resolver_model.specs.Verdict.{Hop}
-use Rattle.hickory_resolver_model.specs.Hops.{LookupContext, ChainEnd, Special, Hit, Asked, Store, IsReply, made_entry, asks_of, stores_of}
+use Rattle.hickory_resolver_model.specs.Hops.{LookupContext, ChainEnd, Special, Hit, Asked, Store, IsReplyOver, made_entry, asks_of, one_cache, passed_of, stores_of}
 use Rattle.hickory_resolver_model.specs.Calls.{CallContext, start_at, Source, Static, Client, SubLookup, SubLookupRelation, IsAnsweredByHosts, IsAnsweredByClient}
 use Rattle.hickory_resolver_model.specs.Run.{Settings, call_context_at, RequestValue, StepValue, AreStagesBy, Run}
 use Rattle.hickory_resolver_theorems.specs.Statements.{LeastTtlIsZero}
@@ -71,18 +71,19 @@ ResultOutlivesNoAlias s asks last result =
 -- the look-up. An entry that is hit may end long before its records do, since a CNAME bounded it: a client that takes
 -- the TTL of the records for its deadline breaks this. Nothing is said of a result where the first question is a hit.
 -- Where memory ran out among the stores, those that were made are a beginning of stores of which this holds.
-abbrev pub NoAliasOutlives : (s : LookupContext) (question : Query) (asks : List Exchange) (result : LookupResult)
-    (after : CacheValue) → IsReply s question asks result after → Type 0
-NoAliasOutlives s question asks result after (inl whole) =
+abbrev pub NoAliasOutlives : (s : LookupContext) (caches : List CacheValue) (question : Query) (asks : List Exchange)
+    (result : LookupResult) (after : CacheValue) → IsReplyOver s caches question asks result after → Type 0
+NoAliasOutlives s caches question asks result after (inl whole) =
     let hops = whole.hops in
     LeastTtlIsZero s.cache.config (type_code type.CNAME)
-    → StoresOutliveNoAlias s hops.passed hops.last_hop hops.last (stores_of s hops.passed hops.last_hop hops.last)
+    → StoresOutliveNoAlias s hops.passed hops.last_hop hops.last
+    (stores_of s (passed_of s hops.passed) hops.last_hop hops.last)
     × ResultOutlivesNoAlias s asks hops.last result
-NoAliasOutlives s question asks result after (inr (out, inl cut)) =
+NoAliasOutlives s caches question asks result after (inr (out, inl cut)) =
     let hops = cut.hops in
     LeastTtlIsZero s.cache.config (type_code type.CNAME)
     → StoresOutliveNoAlias s hops.passed hops.last_hop hops.last (cut.begun.front ++ cut.begun.back)
-NoAliasOutlives s question asks result after (inr (out, inr cut)) = Unit {0}
+NoAliasOutlives s caches question asks result after (inr (out, inr cut)) = Unit {0}
 
 -- ---- the look-ups of a call, and of a run
 
@@ -91,7 +92,8 @@ abbrev pub IsLimitedBy : Source → CallContext → Bool → CacheValue → SubL
 IsLimitedBy Static s with_hosts before p after = IsAnsweredByHosts s with_hosts before p after
 IsLimitedBy Client s with_hosts before p after =
     (is : IsAnsweredByClient s with_hosts before p after)
-    × NoAliasOutlives (start_at s before) p.question p.asks p.result after is.reply
+    × NoAliasOutlives (start_at s before) (one_cache (start_at s before) p.asks) p.question p.asks p.result after
+    is.reply
 
 abbrev pub LimitedSubLookup : CallContext → SubLookupRelation
 LimitedSubLookup s with_hosts before q p after = (p.question ≡ q) × IsLimitedBy p.source s with_hosts before p after

@@ -11,12 +11,12 @@ use Rattle.hickory_proto_core.specs.declared.recorded.Exchange.{Exchange}
 use Rattle.hickory_proto_core.specs.declared.net_error.NetError.TheVariants.{OutOfMemory}
 use Rattle.hickory_resolver_model.specs.Cache.{CacheValue, without_query}
 use Rattle.hickory_resolver_model.specs.Lookup.{LookupResult}
-use Rattle.hickory_resolver_model.specs.Hops.{LookupContext, IsReply}
-use Rattle.hickory_resolver_model.specs.Resuming.{WaitingValue, ProgressValue, Waits, IsDone, Starts, Resumes, IsReplyOver}
+use Rattle.hickory_resolver_model.specs.Hops.{LookupContext, IsReply, IsReplyOver}
+use Rattle.hickory_resolver_model.specs.Resuming.{WaitingValue, ProgressValue, Waits, IsDone, Starts, Resumes}
+use Rattle.hickory_resolver_theorems.specs.Aliases.{NoAliasOutlives}
 use Rattle.hickory_resolver_theorems.specs.Cacheless.{IsTable, ResolvesTo, IsConsistentWith}
 use Rattle.hickory_resolver_theorems.specs.Cores.{ReplyCore, reply_core}
 use Rattle.hickory_resolver_theorems.specs.Covered.{Dated, dated_exchanges}
-use Rattle.hickory_resolver_theorems.specs.Resumed.{NoAliasOutlivesOver, caches_read}
 use Rattle.hickory_resolver_theorems.specs.Statements.{LeastTtlIsZero, IsFreshReply, AreFreshEntries, AreWhatTheyResolveTo}
 
 -- ---- what there is
@@ -164,13 +164,11 @@ IsSeenBy table preserve received ended =
 pub record IsPromisedEnd
     (preserve : Bool) (received : List Dated) (ended : List DoneValue) (before after : WorldValue) (d : DoneValue)
     : Type 0 where
-  pub reply : IsReplyOver (context_in preserve before d.now) d.question d.asks d.result after.cache
-  pub caches_are : caches_read (context_in preserve before d.now) d.question d.asks d.result after.cache reply
-      ≡ d.caches
+  pub reply : IsReplyOver (context_in preserve before d.now) d.caches d.question d.asks d.result after.cache
   pub few : length d.asks ≤ 8
   pub fresh : LeastTtlIsZero before.cache.config (type_code d.question.query_type)
       → IsFreshReply before.cache.config received (type_code d.question.query_type) d.now d.result
-  pub no_alias_outlives : NoAliasOutlivesOver (context_in preserve before d.now) d.question d.asks d.result
+  pub no_alias_outlives : NoAliasOutlives (context_in preserve before d.now) d.caches d.question d.asks d.result
       after.cache reply
   pub transparent : (table : TableValue) → IsSeenBy table preserve received ended → IsMeant table d
 

@@ -7,6 +7,7 @@ use Rattle.hickory_proto_core.specs.declared.dns_request.DnsRequestOptions.{DnsR
 use Rattle.hickory_proto_core.specs.declared.recorded.Exchange.{Exchange}
 use Rattle.hickory_resolver_model.specs.Cache.{CacheValue}
 use Rattle.hickory_resolver_model.specs.Lookup.{LookupResult}
+use Rattle.hickory_resolver_model.specs.Hops.{one_cache}
 use Rattle.hickory_resolver_model.specs.Client.{ClientValue, start_of, IsLookup}
 use Rattle.hickory_resolver_model.specs.Run.{Settings, first_cache, RequestValue, StepValue, IsRun}
 use Rattle.hickory_resolver_theorems.specs.Statements.{IsFresh, IsTransparent, Headline}
@@ -21,10 +22,12 @@ pub record IsPromisedLookup
     : Type 0 where
   pub is : IsLookup step options now before question result after
   pub few : length is.asks ≤ 8
-  pub provenance : HasProvenance (start_of before now) question is.asks result after.cache is.reply
+  pub provenance : HasProvenance (start_of before now) (one_cache (start_of before now) is.asks) question is.asks
+      result after.cache is.reply
   pub fresh : IsFresh (start_of before now) question is.asks result after.cache
   pub transparent : IsTransparent (start_of before now) question is.asks result after.cache
-  pub no_alias_outlives : NoAliasOutlives (start_of before now) question is.asks result after.cache is.reply
+  pub no_alias_outlives : NoAliasOutlives (start_of before now) (one_cache (start_of before now) is.asks) question
+      is.asks result after.cache is.reply
 
 -- A run over a handle, from a new resolver: the headline, and that no alias outlives its CNAMEs.
 pub record IsPromisedRun

@@ -9,7 +9,7 @@ use Rattle.hickory_proto_core.specs.declared.query.Query.{Query}
 use Rattle.hickory_proto_core.specs.declared.recorded.Exchange.{Exchange}
 use Rattle.hickory_resolver_model.specs.Cache.{CacheValue, Entry, is_current}
 use Rattle.hickory_resolver_model.specs.Lookup.{LookupResult}
-use Rattle.hickory_resolver_model.specs.Hops.{LookupContext, Store, IsReply, made_entry, stores_of}
+use Rattle.hickory_resolver_model.specs.Hops.{LookupContext, Store, IsReplyOver, made_entry, passed_of, stores_of}
 use Rattle.hickory_resolver_theorems.specs.Covered.{Dated, dated_exchanges}
 use Rattle.hickory_resolver_theorems.specs.Statements.{LeastTtlIsZero, IsFreshReply, IsFreshEntry}
 
@@ -37,12 +37,12 @@ sources_of s question asks =
     ++ dated_exchanges s.now asks
 
 -- the stores that a look-up made
-abbrev pub stores_made : (s : LookupContext) (question : Query) (asks : List Exchange) (result : LookupResult)
-    (after : CacheValue) → IsReply s question asks result after → List Store
-stores_made s question asks result after (inl whole) =
-    stores_of s whole.hops.passed whole.hops.last_hop whole.hops.last
-stores_made s question asks result after (inr (out, inl cut)) = cut.begun.front
-stores_made s question asks result after (inr (out, inr cut)) = []
+abbrev pub stores_made : (s : LookupContext) (caches : List CacheValue) (question : Query) (asks : List Exchange)
+    (result : LookupResult) (after : CacheValue) → IsReplyOver s caches question asks result after → List Store
+stores_made s caches question asks result after (inl whole) =
+    stores_of s (passed_of s whole.hops.passed) whole.hops.last_hop whole.hops.last
+stores_made s caches question asks result after (inr (out, inl cut)) = cut.begun.front
+stores_made s caches question asks result after (inr (out, inr cut)) = []
 
 -- Each answer of the asked type in the result, loopback records aside, is covered by the sources, and the
 -- result may be used no longer than it lives; so it is with the entry that each store makes, and so with each
@@ -60,9 +60,10 @@ pub record IsFromSources
       (λ e. Contains s.cache.entries e
       ⊎ IsFreshEntry s.cache.config (sources_of s question asks) e) after.entries
 
--- Of a look-up: where the least TTL of the asked type is zero.
-abbrev pub HasProvenance : (s : LookupContext) (question : Query) (asks : List Exchange) (result : LookupResult)
-    (after : CacheValue) → IsReply s question asks result after → Type 0
-HasProvenance s question asks result after reply =
+-- Of a look-up: where the least TTL of the asked type is zero. A hit is read from no other cache than the one that stands
+-- at its end.
+abbrev pub HasProvenance : (s : LookupContext) (caches : List CacheValue) (question : Query) (asks : List Exchange)
+    (result : LookupResult) (after : CacheValue) → IsReplyOver s caches question asks result after → Type 0
+HasProvenance s caches question asks result after reply =
     LeastTtlIsZero s.cache.config (type_code question.query_type)
-    → IsFromSources s question asks result (stores_made s question asks result after reply) after
+    → IsFromSources s question asks result (stores_made s caches question asks result after reply) after

@@ -4,17 +4,19 @@ use Rattle.std.proofs.Common.{arith}
 use Rattle.hickory_proto_core.specs.Table.{TableValue}
 use Rattle.hickory_proto_core.specs.codes.response_code.ResponseCode.TheVariants.{NoError}
 use Rattle.hickory_resolver_model.specs.SpecialUse.{no_records}
-use Rattle.hickory_resolver_model.specs.Hops.{Asked, IsAliasHop, HopList, IsWhole}
+use Rattle.hickory_resolver_model.specs.Hops.{Asked, IsAliasHop, HopList, IsWhole, one_cache}
 use Rattle.hickory_resolver_theorems.specs.Cacheless.{ResolvesTo, at_last, at_alias}
 use Rattle.hickory_resolver_theorems.specs.Cores.{ReplyCore}
 use Rattle.hickory_resolver_theorems.specs.Worked.{name, asks_a, rr, address, response, alias_alone, to_a, to_b, loop_start, loop_asks, after_loop, at_a, at_b}
 
 -- seven aliases are followed, and the eighth question's alias is one too many
-abbrev pub loop_hops : HopList loop_start (asks_a (name (codes "a"))) loop_asks
+abbrev pub loop_hops : HopList loop_start (one_cache loop_start loop_asks) (asks_a (name (codes "a"))) loop_asks
 loop_hops = record {
+  before = one_cache loop_start (to_b ∷ to_a ∷ to_b ∷ to_a ∷ to_b ∷ to_a ∷ to_b ∷ []);
   passed = to_b ∷ to_a ∷ to_b ∷ to_a ∷ to_b ∷ to_a ∷ to_b ∷ [];
   last_hop = at_b;
   last = Asked to_a.outcome;
+  last_cache = loop_start.cache;
   leads = (
     at_b,
     follows_a,
@@ -26,7 +28,9 @@ loop_hops = record {
   );
   short = omega arith;
   ends = ((refl, refl), λ next h. refl);
+  at_once = λ e. refl;
   asks_are = refl;
+  caches_are = refl;
 }
   where
     follows_a : IsAliasHop loop_start at_a to_b at_b
@@ -37,7 +41,7 @@ loop_hops = record {
 
 -- the reply is a negative answer of the last question, and the cache has it for both questions, up to this
 -- moment
-pub loop_ends : IsWhole loop_start (asks_a (name (codes "a"))) loop_asks
+pub loop_ends : IsWhole loop_start (one_cache loop_start loop_asks) (asks_a (name (codes "a"))) loop_asks
     (Err (no_records (asks_a (name (codes "b"))) NoError)) after_loop
 loop_ends = record { hops = loop_hops; result_is = refl; after_is = refl }
 
@@ -58,7 +62,7 @@ chain_reply =
 pub record LoopCases : Type 0 where
   -- the reply of the loop is a negative answer of its last question, and the cache has it for both questions,
   -- up to this moment
-  pub loop_ends : IsWhole loop_start (asks_a (name (codes "a"))) loop_asks
+  pub loop_ends : IsWhole loop_start (one_cache loop_start loop_asks) (asks_a (name (codes "a"))) loop_asks
       (Err (no_records (asks_a (name (codes "b"))) NoError)) after_loop
   -- the chain means its address, by two questions
   pub chain_means_its_address : ResolvesTo chain (asks_a (name (codes "a"))) chain_reply 2

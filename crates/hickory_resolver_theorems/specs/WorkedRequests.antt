@@ -71,13 +71,17 @@ timed_out = record {
 timed_out_reply : IsReply (start (empty_cache 8) 0) (asks_a a_below_b) timed_out.asks (Err Timeout) (empty_cache 8)
 timed_out_reply = inl (record {
   hops = record {
+    before = [];
     passed = [];
     last_hop = first_hop (asks_a a_below_b);
     last = Asked (Err Timeout);
+    last_cache = empty_cache 8;
     leads = refl;
     short = omega arith;
     ends = ((refl, refl), λ next h. cc);
+    at_once = λ e. refl;
     asks_are = refl;
+    caches_are = refl;
   };
   result_is = refl;
   after_is = refl;
@@ -142,13 +146,17 @@ both_found = record { message = response (asks_a a) (rr a 10 address ∷ rr a 7 
 second_reply : IsReply (start after_run 0) asks_aaaa second_family.asks (Ok ipv6_found) after_both
 second_reply = inl (record {
   hops = record {
+    before = [];
     passed = [];
     last_hop = first_hop asks_aaaa;
     last = Asked ipv6_response;
+    last_cache = after_run;
     leads = refl;
     short = omega arith;
     ends = ((refl, refl), λ next h. cc);
+    at_once = λ e. refl;
     asks_are = refl;
+    caches_are = refl;
   };
   result_is = refl;
   after_is = refl;

@@ -80,13 +80,17 @@ pub asked_reply : IsReply (start (empty_cache 8) 0) (asks_a a) run_asks (Ok (fou
 asked_reply = inl (record {
   hops =
       record {
+        before = [];
         passed = [];
         last_hop = first_hop (asks_a a);
         last = Asked (Ok (response (asks_a a) (rr a 10 address ∷ [])));
+        last_cache = empty_cache 8;
         leads = refl;
         short = omega arith;
         ends = ((refl, refl), λ next h. cc);
+        at_once = λ e. refl;
         asks_are = refl;
+        caches_are = refl;
       };
   result_is = refl;
   after_is = refl;
@@ -96,6 +100,7 @@ hit_reply : IsReply (start after_run 4) (asks_a a) [] (Ok (found 6 10)) after_ru
 hit_reply = inl (record {
   hops =
       record {
+        before = [];
         passed = [];
         last_hop = first_hop (asks_a a);
         last = Hit (record {
@@ -104,10 +109,13 @@ hit_reply = inl (record {
           original_time = 0;
           valid_until = 10;
         });
+        last_cache = after_run;
         leads = refl;
         short = omega arith;
         ends = (refl, refl);
+        at_once = λ e. refl;
         asks_are = refl;
+        caches_are = refl;
       };
   result_is = refl;
   after_is = refl;

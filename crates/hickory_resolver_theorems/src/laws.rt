@@ -11,8 +11,7 @@ ghost use Rattle.hickory_proto_core.specs.names.name_error.NameError.{NameError}
 ghost use Rattle.hickory_resolver_model.specs.Attempts.{Search, attempts};
 ghost use Rattle.hickory_resolver_theorems.specs.AttemptLaws.{AreAttemptsApart};
 ghost use Rattle.hickory_resolver_model.specs.Cache.{CacheValue, IsCache, without_query};
-ghost use Rattle.hickory_resolver_model.specs.Hops.{LookupContext, IsReply};
-ghost use Rattle.hickory_resolver_model.specs.Resuming.{IsReplyOver};
+ghost use Rattle.hickory_resolver_model.specs.Hops.{LookupContext, IsReply, IsReplyOver};
 ghost use Rattle.hickory_resolver_model.specs.Lookup.{LookupResult};
 ghost use Rattle.hickory_resolver_model.specs.Hosts.{Host};
 ghost use Rattle.hickory_resolver_model.specs.Calls.{CallContext, SubLookup, IsAnsweredFor, asks_of_sub_lookups};
@@ -27,7 +26,7 @@ ghost use Rattle.hickory_resolver_theorems.specs.InterleavedCalls.{IsPromisedCal
 ghost use Rattle.hickory_resolver_theorems.specs.CallReplies.{ArePromisedCallReplies, IsOneCachelessCall};
 ghost use Rattle.hickory_resolver_theorems.specs.OneAtATime.{IsOneAtATime};
 ghost use Rattle.hickory_resolver_theorems.specs.OneCallAtATime.{IsOneCallAtATime};
-ghost use Rattle.hickory_resolver_theorems.specs.Resumed.{IsOverOneCache, IsDrivenAlike, IsPromisedOver};
+ghost use Rattle.hickory_resolver_theorems.specs.Resumed.{IsDrivenAlike, IsPromisedOver};
 ghost use Rattle.hickory_resolver_theorems.specs.ResumingCalls.{IsCallDrivenAlike};
 ghost use Rattle.hickory_resolver_theorems.specs.CallFacts.{IsPromisedCall, KeepsWhatIsKnown};
 ghost use Rattle.hickory_resolver_theorems.specs.WalkLaws.{IsOneWalk};
@@ -52,52 +51,48 @@ pub fn some_attempt()
     ensures { (s : Search) (n : NameValue) → attempts s n ≡ [] → ⊥ }
 {}
 
-/// A look-up that is what the hops say makes eight exchanges at most.
+/// A look-up that is what the hops say makes eight exchanges at most, whatever the caches were that its hops read.
 pub fn eight_questions()
-    ensures { (s : LookupContext) (question : Query) (asks : List Exchange) (result : LookupResult)
-        (after : CacheValue) → IsReply s question asks result after → length asks ≤ 8 }
+    ensures { (s : LookupContext) (caches : List CacheValue) (question : Query) (asks : List Exchange)
+        (result : LookupResult) (after : CacheValue) → IsReplyOver s caches question asks result after
+        → length asks ≤ 8 }
 {}
 
 /// A look-up that is what the hops say is fresh: where the least TTL of the asked type is zero, and some dated
 /// exchanges cover the entries before it, no answer of that type that it gives or stores outlives what those or its
 /// own exchanges brought.
 pub fn nothing_outlives()
-    ensures { (s : LookupContext) (question : Query) (asks : List Exchange) (result : LookupResult)
-        (after : CacheValue) → IsReply s question asks result after → IsFresh s question asks result after }
+    ensures { (s : LookupContext) (caches : List CacheValue) (question : Query) (asks : List Exchange)
+        (result : LookupResult) (after : CacheValue) → IsReplyOver s caches question asks result after
+        → IsFresh s question asks result after }
 {}
 
 /// A look-up that is what the hops say, over what a cache may hold, has provenance: where the least TTL of the
 /// asked type is zero, no answer of that type that it gives or stores outlives what its own exchanges brought
 /// or what the answers of the current entries of that type held.
 pub fn every_record_has_a_source()
-    ensures { (s : LookupContext) (question : Query) (asks : List Exchange) (result : LookupResult)
-        (after : CacheValue) → IsCache s.cache.config s.cache.capacity s.cache.entries
-        → (reply : IsReply s question asks result after) → HasProvenance s question asks result after reply }
+    ensures { (s : LookupContext) (caches : List CacheValue) (question : Query) (asks : List Exchange)
+        (result : LookupResult) (after : CacheValue) → IsCache s.cache.config s.cache.capacity s.cache.entries
+        → (reply : IsReplyOver s caches question asks result after)
+        → HasProvenance s caches question asks result after reply }
 {}
 
 /// A look-up that is what the hops say lets no alias outlive its CNAMEs: where the least TTL of CNAMEs is zero, what it
 /// stores under the question of a hop, and what it answers where its first question was asked, is usable no longer than
 /// each CNAME that counted from that hop on, and than the entry that was hit at its end.
 pub fn no_alias_outlives()
-    ensures { (s : LookupContext) (question : Query) (asks : List Exchange) (result : LookupResult)
-        (after : CacheValue) → (reply : IsReply s question asks result after)
-        → NoAliasOutlives s question asks result after reply }
+    ensures { (s : LookupContext) (caches : List CacheValue) (question : Query) (asks : List Exchange)
+        (result : LookupResult) (after : CacheValue) → (reply : IsReplyOver s caches question asks result after)
+        → NoAliasOutlives s caches question asks result after reply }
 {}
 
 /// A look-up that is what the hops say, and preserves no intermediate records, is transparent: under every table
 /// that tells its exchanges and means the entries before it, where its question means something that takes eight
 /// questions at most, it comes to that meaning without a cache, or out of memory, and the entries after it are meant.
 pub fn a_cache_changes_no_answer()
-    ensures { (s : LookupContext) (question : Query) (asks : List Exchange) (result : LookupResult)
-        (after : CacheValue) → IsReply s question asks result after
+    ensures { (s : LookupContext) (caches : List CacheValue) (question : Query) (asks : List Exchange)
+        (result : LookupResult) (after : CacheValue) → IsReplyOver s caches question asks result after
         → IsTransparent s question asks result after }
-{}
-
-/// A look-up that blocks is one whose hops each read the cache that stood when the hop was taken, where that is one
-/// cache.
-pub fn one_cache_is_a_case()
-    ensures { (s : LookupContext) (question : Query) (asks : List Exchange) (result : LookupResult)
-        (after : CacheValue) → IsOverOneCache s question asks result after }
 {}
 
 /// A look-up that is started, and fed at once with what comes back to each of its questions, comes to what one that
@@ -118,9 +113,9 @@ pub fn a_driven_call_blocks()
 /// A look-up whose hops each read the cache that stood when the hop was taken, whatever changed it in between, keeps
 /// the promises of one over one cache.
 pub fn changing_caches_keep_the_promises()
-    ensures { (s : LookupContext) (question : Query) (asks : List Exchange) (result : LookupResult)
-        (after : CacheValue) → (reply : IsReplyOver s question asks result after)
-        → IsPromisedOver s question asks result after reply }
+    ensures { (s : LookupContext) (caches : List CacheValue) (question : Query) (asks : List Exchange)
+        (result : LookupResult) (after : CacheValue) → (reply : IsReplyOver s caches question asks result after)
+        → IsPromisedOver s caches question asks result after reply }
 {}
 
 /// Over every list of events, from a cache without entries: each look-up keeps its promises, whatever others start, go

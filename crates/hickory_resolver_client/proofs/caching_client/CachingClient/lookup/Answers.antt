@@ -3,7 +3,7 @@ use Rattle.hickory_resolver_model.specs.Client.{ClientValue, start_of}
 use Rattle.hickory_resolver_model.specs.Resuming.{WaitingValue, Resumes}
 use Rattle.hickory_resolver_theorems.proofs.PromisesHold.{promised_lookup}
 use Rattle.hickory_resolver_client.specs.Contexts.{progress_of}
-use Rattle.hickory_resolver_client.proofs.Driven.{asked_fewer, asks_on, starts_on}
+use Rattle.hickory_resolver_client.proofs.Driven.{asked_fewer, asks_on, driven_done, starts_on}
 use Rattle.hickory_resolver_client.proofs.caching_client.CachingClient.lookup.Goals as goal
 
 pub loop-progress-init : goal.loop-progress-init
@@ -33,4 +33,5 @@ pub returns-in-Done : goal.returns-in-Done
 returns-in-Done g c =
     let is = rw c.in-Done.is at c.loop-progress.invariant in
     promised_lookup g.H.DnsHandle.step c.args.options c.args.now c.args.self.now c.args.query _ _
-    c.start-progress.ensures.cache is
+    c.start-progress.ensures.cache
+    (driven_done g.H.DnsHandle.step c.args.options c.args.now c.args.self.now c.args.query _ _ is)
