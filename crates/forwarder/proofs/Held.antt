@@ -37,7 +37,8 @@ unasked s q entry asks [] [] last (Hit found) cache has leads ends are read = ar
 unasked s q entry asks [] [] last (Asked outcome) cache has leads (upstream, alias) are read =
     absurd (held s q entry has (subst (λ c. GoesUpstream (record s { cache = c }) q) (same_cache s asks _ cache are read) (subst (λ hop. GoesUpstream (record s { cache = cache }) hop.query) leads upstream)))
 unasked s q entry asks (c ∷ cs) (x ∷ xs) last end cache has (next, alias, rest) ends are read =
-    absurd (held s q entry has (subst (λ d. GoesUpstream (record s { cache = d }) q) (let e = sym read ∙ ap (one_cache s) are in cc) alias.upstream))
+    let same : c ≡ s.cache = (let e = sym read ∙ ap (one_cache s) are in cc) in
+    absurd (held s q entry has (subst (λ d. GoesUpstream (record s { cache = d }) q) same alias.upstream))
 unasked s q entry asks (c ∷ cs) [] last end cache has never ends are read = absurd never
 unasked s q entry asks [] (x ∷ xs) last end cache has never ends are read = absurd never
 
@@ -49,9 +50,11 @@ cut_unasked s q entry asks [] [] last has leads (inl (none, read)) = none
 cut_unasked s q entry asks [] [] last has leads (inr (x, cache, upstream, same, holds, are, read)) =
     absurd (held s q entry has (subst (λ c. GoesUpstream (record s { cache = c }) q) (same_cache s asks x cache are read) (subst (λ hop. GoesUpstream (record s { cache = cache }) hop.query) leads upstream)))
 cut_unasked s q entry asks (c ∷ cs) (x ∷ xs) last has (next, alias, rest) (inl (are, read)) =
-    absurd (held s q entry has (subst (λ d. GoesUpstream (record s { cache = d }) q) (let e = sym read ∙ ap (one_cache s) are in cc) alias.upstream))
-cut_unasked s q entry asks (c ∷ cs) (x ∷ xs) last has (next, alias, rest) (inr (y, cache, upstream, same, holds, are, read)) =
-    absurd (held s q entry has (subst (λ d. GoesUpstream (record s { cache = d }) q) (let e = sym read ∙ ap (one_cache s) are in cc) alias.upstream))
+    let same : c ≡ s.cache = (let e = sym read ∙ ap (one_cache s) are in cc) in
+    absurd (held s q entry has (subst (λ d. GoesUpstream (record s { cache = d }) q) same alias.upstream))
+cut_unasked s q entry asks (c ∷ cs) (x ∷ xs) last has (next, alias, rest) (inr (y, cache, upstream, asked, holds, are, read)) =
+    let same : c ≡ s.cache = (let e = sym read ∙ ap (one_cache s) are in cc) in
+    absurd (held s q entry has (subst (λ d. GoesUpstream (record s { cache = d }) q) same alias.upstream))
 cut_unasked s q entry asks (c ∷ cs) [] last has never cause = absurd never
 cut_unasked s q entry asks [] (x ∷ xs) last has never cause = absurd never
 
