@@ -4,7 +4,6 @@ use Rattle.hickory_proto_core.specs.Handles.{OutcomeValue, HandleStep, Leads, Le
 use Rattle.hickory_proto_core.specs.declared.query.Query.{Query}
 use Rattle.hickory_proto_core.specs.declared.dns_request.DnsRequestOptions.{DnsRequestOptions}
 use Rattle.hickory_proto_core.specs.declared.recorded.Exchange.{Exchange}
-use Rattle.hickory_resolver_model.specs.Cache.{CacheValue}
 use Rattle.hickory_resolver_model.specs.Client.{ClientValue, start_of, IsLookup, KeepsHandle}
 use Rattle.hickory_resolver_model.specs.Hops.{LookupContext, RunsOutForAReply}
 use Rattle.hickory_resolver_model.specs.Lookup.{LookupResult}

@@ -10,7 +10,7 @@ use Rattle.hickory_proto_core.specs.declared.net_error.NetError.TheVariants.{Mes
 use Rattle.hickory_proto_core.specs.declared.net_error.DnsError.TheVariants.{ResponseCode, NoRecordsFound}
 use Rattle.hickory_resolver_model.specs.Cache.{CacheValue, store_until}
 use Rattle.hickory_resolver_model.specs.Lookup.{LookupResult}
-use Rattle.hickory_resolver_model.specs.Hops.{IsBeginning, Store, store_of, as_outcome, result_until, is_kept, earlier_store, after_store, after_stores, PassedValue, limit_of, earlier_stores}
+use Rattle.hickory_resolver_model.specs.Hops.{Store, store_of, as_outcome, result_until, is_kept, earlier_store, after_store, after_stores, PassedValue, limit_of, earlier_stores}
 use Rattle.hickory_resolver_client.specs.Steps.{RunsOutAmong, IsFinished}
 
 pub after_stores-append : (xs ys : List Store) (cache : CacheValue) → after_stores (xs ++ ys) cache ≡ after_stores ys (after_stores xs cache)

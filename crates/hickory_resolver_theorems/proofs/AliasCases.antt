@@ -1,6 +1,5 @@
 -- Stores that let an alias outlive its CNAME break the clause.
 use Rattle.std.proofs.Common.{◌≡◌, ◌≤◌, List, [], ◌∷◌, ◌++◌, codes, sym, subst, arith}
-use Rattle.hickory_proto_core.specs.Handles.{OutcomeValue}
 use Rattle.hickory_proto_core.specs.declared.query.Query.{Query}
 use Rattle.hickory_proto_core.specs.declared.recorded.Exchange.{Exchange}
 use Rattle.hickory_resolver_model.specs.Hops.{ChainEnd, Hit, Asked, Store, asks_of}

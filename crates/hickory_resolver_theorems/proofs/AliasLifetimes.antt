@@ -15,7 +15,7 @@ use Rattle.hickory_resolver_model.specs.Cache.{CacheValue, Entry, last_moment, e
 use Rattle.hickory_resolver_model.specs.Lookup.{LookupValue, LookupResult}
 use Rattle.hickory_resolver_model.specs.AliasWalk.{walk_of}
 use Rattle.hickory_resolver_model.specs.Verdict.{Hop, Verdict, Accepted, Alias, NoMatch, verdict}
-use Rattle.hickory_resolver_model.specs.Hops.{LookupContext, ChainEnd, Special, Hit, Asked, Store, IsReplyOver, made_entry, one_cache, passed_of, asks_of, earliest, alias_deadline, alias_limit, end_limit, limit_of, result_of, result_until, reply_of, last_stores, earlier_store, earlier_stores, stores_of, stores_when_asked, stores_of_verdict}
+use Rattle.hickory_resolver_model.specs.Hops.{LookupContext, ChainEnd, Special, Hit, Asked, Store, IsReplyOver, one_cache, passed_of, asks_of, earliest, alias_deadline, alias_limit, end_limit, limit_of, result_of, result_until, reply_of, last_stores, earlier_store, earlier_stores, stores_of, stores_when_asked, stores_of_verdict}
 use Rattle.hickory_resolver_model.specs.Calls.{CallContext, start_at, Source, Static, Client, SubLookup, IsAnsweredFrom, IsAnsweredFor}
 use Rattle.hickory_resolver_model.specs.Run.{Settings, call_context_at, RequestValue, StepValue, answers_at, Run}
 use Rattle.hickory_resolver_theorems.specs.Statements.{LeastTtlIsZero}

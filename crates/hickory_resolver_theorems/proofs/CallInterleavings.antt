@@ -22,7 +22,7 @@ use Rattle.hickory_resolver_theorems.specs.InterleavedCalls.{PendingCallValue, D
 use Rattle.hickory_resolver_theorems.specs.ResumingCalls.{AttemptValue, WaitingCallValue, CallProgressValue, CallWaits, CallIsDone, with_result, at_next, FindsStatic, StartsSub, GoesOn, by_hosts, waits, at_once, stopped, next_name, no_name, StartsNames, StartsCall, RunsOutAtStart, GoesOnAfter}
 use Rattle.hickory_resolver_theorems.proofs.Fronts.{IsFront, front-self, front-more, front-trans, contains-front}
 use Rattle.hickory_resolver_theorems.proofs.Interleavings.{interleaved}
-use Rattle.hickory_resolver_theorems.proofs.Lists.{ContainsByRecursion, all-weaker, all-append, all-front, all-back, contains-from_recursion, contains-to_recursion, has-left, has-right}
+use Rattle.hickory_resolver_theorems.proofs.Lists.{ContainsByRecursion, all-weaker, all-append, all-front, all-back, contains-from_recursion, contains-to_recursion, has-right}
 use Rattle.hickory_resolver_theorems.proofs.RunEvents.{happen-append, received-append, ended-append}
 use Rattle.hickory_resolver_theorems.proofs.RestOfCall.{asks-append, by_client, static, rest_stopped, attempts_of, rest_next, rest_none, more_done}
 

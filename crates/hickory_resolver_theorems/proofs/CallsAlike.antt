@@ -1,11 +1,11 @@
 -- A call that is started and driven to its end is one that blocks; and one that blocks can be driven, where memory does
 -- not run out.
-use Rattle.std.proofs.Common.{◌≡◌, ◌∙◌, ◌⊎◌, true, false, List, [], ◌∷◌, ◌++◌, sym, ap, subst, inl, inr, append_assoc}
+use Rattle.std.proofs.Common.{◌≡◌, ◌∙◌, ◌⊎◌, true, false, List, [], ◌∷◌, ◌++◌, sym, subst, inl, inr, append_assoc}
 use Rattle.std.proofs.lemmas.List.{append-nil}
 use Rattle.hickory_proto_core.specs.declared.recorded.Exchange.{Exchange}
 use Rattle.hickory_resolver_model.specs.Cache.{CacheValue}
 use Rattle.hickory_resolver_model.specs.Lookup.{LookupResult}
-use Rattle.hickory_resolver_model.specs.Calls.{CallContext, SubLookup, IsAnsweredFor, IsAnsweredAlone, asks_of_sub_lookups, is_out_of_memory}
+use Rattle.hickory_resolver_model.specs.Calls.{CallContext, SubLookup, IsAnsweredAlone, asks_of_sub_lookups, is_out_of_memory}
 use Rattle.hickory_resolver_model.specs.Run.{Settings, Call, IsCall}
 use Rattle.hickory_resolver_theorems.specs.ResumingCalls.{CallProgressValue, CallWaits, CallIsDone, IsCallDriven, IsCallStartedAndDriven, IsCallDrivenAlike}
 use Rattle.hickory_resolver_theorems.proofs.SentAlone.{CallRelation, IsCallDoneAlone, CallSoFar}

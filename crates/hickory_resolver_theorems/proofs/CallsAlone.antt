@@ -11,7 +11,6 @@ use Rattle.hickory_resolver_model.specs.Cache.{CacheValue}
 use Rattle.hickory_resolver_model.specs.Lookup.{LookupResult, question_of}
 use Rattle.hickory_resolver_model.specs.Calls.{CallContext, start_at, Static, Client, SubLookup, IsAnsweredFor, IsAnsweredAlone, CallPlan, Says, AreAttempts, asks_of_sub_lookups}
 use Rattle.hickory_resolver_model.specs.Resuming.{WaitingValue, ProgressValue, Waits, IsDone}
-
 use Rattle.hickory_resolver_model.specs.Run.{Settings, Call, AtOnce, Attempt, IsCall, RanOutBeforeAsking}
 use Rattle.hickory_resolver_theorems.specs.CallFacts.{IsCallBy}
 use Rattle.hickory_resolver_theorems.specs.ResumingCalls.{AttemptValue, WaitingCallValue, CallProgressValue, with_result, at_next, FindsStatic, StartsSub, GoesOn, by_hosts, waits, at_once, stopped, next_name, no_name, StartsNames, StartsCall, RunsOutAtStart, GoesOnAfter, ResumesCall}

@@ -15,7 +15,7 @@ use Rattle.hickory_resolver_model.specs.Calls.{CallContext, start_at, Source, St
 use Rattle.hickory_resolver_model.specs.Resuming.{WaitingValue, ProgressValue, Waits, IsDone, Starts, Resumes}
 use Rattle.hickory_resolver_model.specs.Run.{Settings, Call, AtOnce, Attempt, IsCall}
 use Rattle.hickory_resolver_theorems.specs.Resumed.{IsDriven, IsStartedAndDriven}
-use Rattle.hickory_resolver_theorems.specs.ResumingCalls.{AttemptValue, CallProgressValue, CallWaits, CallIsDone, with_result, GoesOn, by_hosts, waits, at_once, stopped, next_name, no_name, StartsNames, StartsCall, ResumesCall, IsCallDriven, IsCallStartedAndDriven}
+use Rattle.hickory_resolver_theorems.specs.ResumingCalls.{AttemptValue, CallProgressValue, CallWaits, CallIsDone, with_result, GoesOn, by_hosts, waits, at_once, stopped, next_name, no_name, StartsNames, IsCallDriven, IsCallStartedAndDriven}
 use Rattle.hickory_resolver_theorems.proofs.Lists.{has-all}
 use Rattle.hickory_resolver_theorems.proofs.CallInterleavings.{now-stays}
 use Rattle.hickory_resolver_theorems.proofs.Driven.{whole_driven}

@@ -80,7 +80,6 @@ front_kept s (cache ∷ caches) hop last (x ∷ xs) tail kept (next, p, leads) (
     let f = front_kept s caches next last xs tail ys leads r in
     let here = same_exchange x y q same in
     record { rest = f.rest; parts = e ∙ ap (λ z. z ∷ ys) here ∙ ap (λ zs. x ∷ zs) f.parts; recorded = f.recorded }
-
 front_kept s [] hop last (x ∷ xs) tail kept never r = absurd never
 front_kept s (cache ∷ caches) hop last [] tail kept never r = absurd never
 

@@ -1,7 +1,6 @@
 -- Look-ups and calls that do no I/O, over a cache that nobody else changes: how far they came, by the exchanges that
 -- were made. It is what a program keeps that sends each question itself and waits for what comes back.
-use Rattle.std.specs.Prelude.{◌≡◌, ◌⊎◌, ◌≤◌, true, false, List, [], ◌++◌, length, map, Some, None}
-use Rattle.hickory_proto_core.specs.ResponseKind.{kind_of}
+use Rattle.std.specs.Prelude.{◌≡◌, ◌⊎◌, ◌≤◌, true, false, List, [], ◌++◌, length, Some, None}
 use Rattle.hickory_proto_core.specs.declared.query.Query.{Query}
 use Rattle.hickory_proto_core.specs.declared.recorded.Exchange.{Exchange}
 use Rattle.hickory_proto_core.specs.codes.record_type.RecordType.{RecordType}

@@ -1,8 +1,4 @@
-use Rattle.std.proofs.Common.{◌≡◌, ◌∙◌, ap, subst, sym}
-use Rattle.hickory_resolver_model.specs.Client.{ClientValue, start_of}
-use Rattle.hickory_resolver_model.specs.Resuming.{WaitingValue, Resumes}
 use Rattle.hickory_resolver_theorems.proofs.PromisesHold.{promised_lookup}
-use Rattle.hickory_resolver_client.specs.Contexts.{progress_of}
 use Rattle.hickory_resolver_client.proofs.Driven.{asked_fewer, asks_on, driven_done, starts_on}
 use Rattle.hickory_resolver_client.proofs.caching_client.CachingClient.lookup.Goals as goal
 
