@@ -1,4 +1,4 @@
-use Rattle.std.proofs.Common.{inl, inr}
+use Rattle.std.proofs.Common.{inr}
 use Rattle.hickory_resolver.proofs.explaining.find_answerer.Goals as goal
 
 pub returns-then-skips_hosts : goal.returns-then-skips_hosts

@@ -1,4 +1,4 @@
-use Rattle.std.proofs.Common.{◌≡◌, [], List, ap, refl, sym, subst, arith}
+use Rattle.std.proofs.Common.{◌≡◌, [], List, refl, sym, subst, arith}
 use Rattle.std.proofs.lemmas.Grind.{common_steps}
 use Rattle.hickory_resolver.specs.Explaining.{planned_value, planned_values}
 use Rattle.hickory_resolver.specs.declared.explaining.Attempted.{Attempted}
