@@ -14,9 +14,10 @@ use Rattle.replay_script.specs.Configuration.{ConfigurationValue}
 use Rattle.replay_script.specs.declared.fault.ScriptFault.TheVariants as script
 use Rattle.conversation.specs.Answers.{Answer, AnswersRequest, Begins, IsOpened, Serves, config_of, refused}
 use Rattle.conversation.specs.Faults.{RefusalValue, hosts_fault, is_memory, of_line, out_of_memory}
-use Rattle.conversation.specs.Hearing.{IsBegunOver, Says, Stands}
+use Rattle.conversation.specs.Hearing.{IsBegunOut, IsBegunOver, IsServedOut, Says, Stands}
 use Rattle.conversation.specs.Lines.{IsAsked}
-use Rattle.conversation.specs.State.{ConversationValue, Puts, Setting, Serving, Stage, request_at}
+use Rattle.conversation.specs.Said as said
+use Rattle.conversation.specs.State.{ConversationValue, InFlightValue, Puts, Setting, Serving, Stage, request_at}
 use Rattle.conversation.specs.Telling.{IsAnswered, IsGiven, IsOpening, IsRefused, IsServing, PutsSome, RanOut, stage_over}
 use Rattle.conversation.specs.declared.fault.ConversationFault.{ConversationFault}
 use Rattle.conversation.specs.declared.fault.ConversationFault.TheVariants as fault
@@ -55,6 +56,15 @@ pub asks_fault : (c : ConversationValue) (mark : List ℕ) (explains : Bool) (gi
     → IsAsked given (Err refusal) ⊎ (refusal ≡ of_line out_of_memory) → is_memory refusal.fault ≡ false → AnswersRequest c mark explains given (refused c mark refusal)
 asks_fault c mark explains given refusal free (inl is) told = asks c mark explains given (refused c mark refusal) (Err refusal) free is refl
 asks_fault c mark explains given refusal free (inr out) told = absurd (let h : true ≡ false = sym (ap (λ r. is_memory r.fault) out) ∙ told in cc)
+
+no_request : (o : Option InFlightValue) → is_some o ≡ false → o ≡ None
+no_request None e = refl
+no_request (Some r) e = absurd (let h = e in cc)
+
+-- the request that is asked was begun, and memory ran out
+pub request_left : (c : ConversationValue) (mark : List ℕ) (explains : Bool) (given : List (List ℕ)) (request : RequestValue) (stage : Stage) → is_some (request_at mark c.requests) ≡ false → IsAsked given (Ok request)
+    → IsBegunOut c.stage request stage → IsServedOut c mark (said.Request explains given) stage
+request_left c mark explains given request stage free asked left = inl (request, asked, no_request (request_at mark c.requests) free, left)
 
 -- ---- the resolver
 
@@ -108,7 +118,7 @@ same_opened stage now moment s t cache kept at same opened =
     (subst (λ x. IsOpened stage now (Ok (t, x))) two (subst (λ x. IsOpened stage now (Ok (x, cache))) one opened))
 
 pub began : (before mid after : ConversationValue) (mark : List ℕ) (explains : Bool) (request : RequestValue) (now : ℕ) (result : Result Heard AllocError) → now ≡ moment_of request → IsOpening before now (Ok tt) mid
-    → IsServing mid mark explains request result after → IsAnswered before mark (Begins before mark explains request) result after
+    → IsServing mid mark explains request result after → IsAnswered before mark (Begins before mark explains request) (IsBegunOut before.stage request) result after
 began before mid after mark explains request now (Ok heard) at (s, cache, opened, is) (t, kept, serving, answer, serves, says, stands) = (
   answer,
   (Ok (t, kept), same_opened before.stage now (moment_of request) s t cache kept at (sym (ap (λ c. c.stage) is) ∙ serving) opened, serves),
@@ -121,7 +131,7 @@ began before mid after mark explains request now (Ok heard) at (s, cache, opened
 )
 began before mid after mark explains request now (Err e) at (s, cache, opened, is) (lines, some, left) = record {
   lines_are = lines ∙ ap (λ c. c.lines) is;
-  stage_is = inr (inl (request, by left));
+  stage_is = inr (by left);
   requests_are = subst (λ x. PutsSome mark x after.requests) (ap (λ c. c.requests) is) some;
 }
   where
@@ -130,16 +140,16 @@ began before mid after mark explains request now (Err e) at (s, cache, opened, i
     by (inr (t, kept, serving, over)) = (t, kept, same_opened before.stage now (moment_of request) s t cache kept at (sym (ap (λ c. c.stage) is) ∙ serving) opened, over)
 
 -- there is no resolver
-pub not_begun : (before mid : ConversationValue) (mark : List ℕ) (explains : Bool) (request : RequestValue) (now : ℕ) (f : ConversationFault) (refusal : RefusalValue) (result : Result Heard AllocError) → now ≡ moment_of request
-    → IsOpening before now (Err f) mid → refusal ≡ of_line f → IsRefused mid mark refusal result → IsAnswered before mark (Begins before mark explains request) result mid
-not_begun before mid mark explains request now f refusal (Err e) at (why, same) of is = subst (λ x. RanOut mark before x) (sym same) (ran_out_here before mark)
-not_begun before mid mark explains request now f refusal (Ok heard) at (inl opened, same) of is = (
+pub not_begun : (before mid : ConversationValue) (mark : List ℕ) (explains : Bool) (request : RequestValue) (now : ℕ) (f : ConversationFault) (result : Result Heard AllocError) → now ≡ moment_of request
+    → IsOpening before now (Err f) mid → IsRefused mid mark (of_line f) result → IsAnswered before mark (Begins before mark explains request) (IsBegunOut before.stage request) result mid
+not_begun before mid mark explains request now f (Err e) at (why, same) is = subst (λ x. RanOut mark (IsBegunOut before.stage request) before x) (sym same) (ran_out_here before mark (IsBegunOut before.stage request))
+not_begun before mid mark explains request now f (Ok heard) at (inl opened, same) is = (
   refused before mark (of_line f),
   (Err f, subst (λ m. IsOpened before.stage m (Err f)) at opened, refl),
-  subst (λ x. Says (refused x mark (of_line f)) heard) same (subst (λ r. Says (refused mid mark r) heard) of is.1),
+  subst (λ x. Says (refused x mark (of_line f)) heard) same is.1,
   subst (λ x. Stands mark (refused before mark (of_line f)) before x) (sym same) (stays before mark (refused before mark (of_line f)) refl refl),
 )
-not_begun before mid mark explains request now f refusal (Ok heard) at (inr out, same) of is = absurd (let h : true ≡ false = sym (ap (λ r. is_memory r.fault) (of ∙ ap of_line out)) ∙ is.0 in cc)
+not_begun before mid mark explains request now f (Ok heard) at (inr out, same) is = absurd (let h : true ≡ false = sym (ap is_memory out) ∙ is.0 in cc)
 
 -- what is told over a resolver is told of the conversation
 pub served : (before after : ConversationValue) (mark : List ℕ) (explains : Bool) (request : RequestValue) (s : Settings) (cache : CacheValue) (result : Result Heard AllocError) (stage : Stage) → before.stage ≡ Serving s cache → after.lines ≡ before.lines → after.stage ≡ stage

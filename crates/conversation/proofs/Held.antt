@@ -1,8 +1,9 @@
 -- Requests in flight: the map of the code, and what a line does to one of them.
-use Rattle.std.proofs.Common.{◌≡◌, ◌∙◌, ℕ, Bool, true, false, cond, List, [], ◌∷◌, map, Option, None, Some, string_bytes, String, refl, sym, ap}
+use Rattle.std.proofs.Common.{◌≡◌, ◌∙◌, ℕ, Bool, true, false, cond, List, [], ◌∷◌, map, Option, None, Some, OnOk, Result, Ok, Err, string_bytes, String, refl, sym, ap, subst}
 use Rattle.std.proofs.lemmas.Map.Text.{hash_map_updates_text}
 use Rattle.std.proofs.lemmas.Slice.Eq.{bytes_eq-Decides}
 use Rattle.std.specs.Global.{Global}
+use Rattle.std.specs.declared.alloc.AllocError.{AllocError}
 use Rattle.std.specs.HashMap as hash
 use Rattle.std.specs.HashMap.{HashMap}
 use Rattle.std.specs.Map.{lookup}
@@ -10,7 +11,7 @@ use Rattle.std.specs.Option.{is_some, option_map}
 use Rattle.std.specs.Str.{bytes_eq}
 use Rattle.std.specs.String.{string_eq}
 use Rattle.conversation.specs.State.{InFlightValue, Puts, Requests, in_flight_of, request_at, requests_of}
-use Rattle.conversation.specs.Telling.{PutsSome}
+use Rattle.conversation.specs.Telling.{IsChanged, PutsSome}
 use Rattle.conversation.specs.declared.in_flight.InFlight.{InFlight}
 
 -- ---- the map of the code
@@ -49,8 +50,16 @@ reply_found mark es found is =
     ∙ map_through in_flight_of has (lookup (λ k. bytes_eq mark (string_bytes k)) es) ∙ ap (option_map has) (sym (request_found mark es))
 
 -- what was taken out
-pub found_taken : (mark : List ℕ) (es : List (String Global × InFlight)) (taken : Option (String Global × InFlight)) → option_map (λ p. p.1) taken ≡ lookup (λ k. bytes_eq mark (string_bytes k)) es → option_map (λ p. in_flight_of p.1) taken ≡ request_at mark (requests_of es)
-found_taken mark es taken value = map_through (λ p. p.1) in_flight_of taken ∙ ap (option_map in_flight_of) value ∙ sym (request_found mark es)
+pub found_taken : (mark : List ℕ) (es : List (String Global × InFlight)) (taken : Option InFlight) → taken ≡ lookup (λ k. bytes_eq mark (string_bytes k)) es → option_map in_flight_of taken ≡ request_at mark (requests_of es)
+found_taken mark es taken value = ap (option_map in_flight_of) value ∙ sym (request_found mark es)
+
+-- what is found is changed in place
+pub changed_here : {S : Type 0} (mark : List ℕ) (m n : HashMap (String Global) InFlight S) (x w : InFlight) (change : InFlightValue → InFlightValue) (result : Result (Unit {0}) AllocError)
+    → Some x ≡ lookup (λ k. bytes_eq mark (string_bytes k)) m.entries → hash.UpdatesBy string_eq (λ k. bytes_eq mark (string_bytes k)) m n (Some w)
+    → OnOk result (in_flight_of w ≡ change (in_flight_of x)) → IsChanged mark change result (requests_of m.entries) (requests_of n.entries)
+changed_here mark m n x w change (Ok done) found updates is =
+    (in_flight_of x, request_found mark m.entries ∙ ap (option_map in_flight_of) (sym found), subst (λ r. Puts mark (Some r) (requests_of m.entries) (requests_of n.entries)) is (puts_updated mark m n (Some w) updates))
+changed_here mark m n x w change (Err e) found updates is = (Some (in_flight_of w), puts_updated mark m n (Some w) updates)
 
 is_some_map : {X Y : Type 0} (f : X → Y) (o : Option X) → is_some (option_map f o) ≡ is_some o
 is_some_map f None = refl
@@ -90,3 +99,7 @@ some_again mark first before mid after one (held, two) = (held, puts_again mark 
 
 pub some_stays : (mark : List ℕ) (requests : Requests) → PutsSome mark requests requests
 some_stays mark requests = (request_at mark requests, puts_same mark requests)
+
+-- none is found, and the map is as it was
+pub stays_at_none : {S : Type 0} (mark : List ℕ) (m n : HashMap (String Global) InFlight S) → n ≡ m → PutsSome mark (requests_of m.entries) (requests_of n.entries)
+stays_at_none {S} mark m n is = subst (λ (x : HashMap (String Global) InFlight S). PutsSome mark (requests_of m.entries) (requests_of x.entries)) (sym is) (some_stays mark (requests_of m.entries))

@@ -1,4 +1,4 @@
--- Lines before the first request: settings and hosts; and the end.
+-- Lines before the first request: settings and hosts.
 use Rattle.std.proofs.Common.{◌≡◌, ◌∙◌, ◌⊎◌, ℕ, Bool, true, false, cond, List, [], ◌∷◌, ◌++◌, codes, length, ◌==◌, Option, None, Some, Result, Ok, Err, IfOk, OnErr, OnOk, Bor, string_bytes, refl, sym, ap, subst, append_assoc, inl, inr, ne_eqb, arith}
 use Rattle.std.specs.Option.{is_some}
 use Rattle.std.specs.declared.alloc.AllocError.{AllocError}
@@ -13,15 +13,17 @@ use Rattle.replay_script.specs.declared.fault.ScriptFault.TheVariants as script
 use Rattle.replay_script.specs.declared.line.Line.{Line}
 use Rattle.replay_script.specs.declared.line.Line.TheVariants as line
 use Rattle.replay_script.specs.declared.setting.Setting as setting
-use Rattle.conversation.specs.Answers.{Answer, AnswersSetting, adds_hosts, ends, nothing, refused, sets, with_hosts}
+use Rattle.conversation.specs.Answers.{Answer, AnswersSetting, adds_hosts, nothing, refused, sets, with_hosts}
 use Rattle.conversation.specs.Faults.{RefusalValue, is_memory, of_line, out_of_memory, unknown}
+use Rattle.conversation.specs.Hearing.{IsServedOut}
 use Rattle.conversation.specs.Lines.{IsScriptLine}
-use Rattle.conversation.specs.State.{ConversationValue, Puts, Setting, Serving, request_at, stage_of}
-use Rattle.conversation.specs.Telling.{IsAnswered, IsRefused, IsSettingTold, RanOut}
+use Rattle.conversation.specs.Said as said
+use Rattle.conversation.specs.State.{ConversationValue, Puts, Setting, Serving, Stage, request_at, stage_of}
+use Rattle.conversation.specs.Telling.{IsActedUpon, IsAnswered, IsRefused, IsSettingTold, RanOut, nothing_left}
 use Rattle.conversation.specs.Texts.{fields_text}
 use Rattle.conversation.specs.declared.heard.Heard.{Heard}
 use Rattle.conversation.specs.declared.fault.ConversationFault.TheVariants as fault
-use Rattle.conversation.proofs.Answered.{answered_by, answered_refused, ran_out_here, stays}
+use Rattle.conversation.proofs.Answered.{answered_as, answered_by, answered_refused, none_left, ran_out_here}
 use Rattle.conversation.proofs.Held.{puts_same}
 
 -- ---- choices
@@ -39,9 +41,10 @@ when_false true x y e = absurd (let h = e in cc)
 when_false false x y e = refl
 
 -- a fault is told, of which it is known what it is for
-pub refused_for : (c : ConversationValue) (mark : List ℕ) (refusal wanted : RefusalValue) (Kind : Answer → Type 0) (result : Result Heard AllocError) → IsRefused c mark refusal result → refusal ≡ wanted → (is_memory wanted.fault ≡ false → Kind (refused c mark wanted)) → IsAnswered c mark Kind result c
-refused_for c mark refusal wanted Kind result is same kind =
-    answered_refused c mark wanted Kind result (subst (λ r. IsRefused c mark r result) same is) kind
+pub refused_for : (c : ConversationValue) (mark : List ℕ) (refusal wanted : RefusalValue) (Kind : Answer → Type 0) (Left : Stage → Type 0) (result : Result Heard AllocError) → IsRefused c mark refusal result → refusal ≡ wanted → (is_memory wanted.fault ≡ false → Kind (refused c mark wanted))
+    → IsAnswered c mark Kind Left result c
+refused_for c mark refusal wanted Kind Left result is same kind =
+    answered_refused c mark wanted Kind Left result (subst (λ r. IsRefused c mark r result) same is) kind
 
 -- a line was read
 pub line_read : (has_reply : Bool) (given : List (List ℕ)) (said : Line) → IsScriptLine has_reply given (Ok said) ⊎ (Ok said ≡ Err (of_line out_of_memory)) → IsScriptLine has_reply given (Ok said)
@@ -68,18 +71,6 @@ pub serving_stage : (configuration : ConfigurationValue) (hosts : List ℕ) (r :
 serving_stage configuration hosts None e = absurd (let h = e in cc)
 serving_stage configuration hosts (Some r) e = (settings r, r.client.cache, refl)
 
--- ---- the end
-
-pub ended : (c : ConversationValue) (mark : List ℕ) (given : List (List ℕ)) (heard : Heard) → is_empty given ≡ true → string_bytes heard.explained ≡ [] → string_bytes heard.text ≡ [] → string_bytes heard.journal ≡ [] → heard.is_last ≡ true
-    → IsAnswered c mark (λ answer. answer ≡ ends c mark given) (Ok heard) c
-ended c mark given heard none explained text journal last =
-    answered_by c c mark (λ answer. answer ≡ ends c mark given) heard (record (nothing c mark) { is_last = true })
-    (when_true (is_empty given) (record (nothing c mark) { is_last = true }) (refused c mark (of_line (fault.Script script.FieldCount))) none)
-    explained text journal last (stays c mark (record (nothing c mark) { is_last = true }) refl refl)
-
-pub not_ended : (c : ConversationValue) (mark : List ℕ) (given : List (List ℕ)) → is_empty given ≡ false → refused c mark (of_line (fault.Script script.FieldCount)) ≡ ends c mark given
-not_ended c mark given some = when_false (is_empty given) (record (nothing c mark) { is_last = true }) (refused c mark (of_line (fault.Script script.FieldCount))) some
-
 -- ---- hosts
 
 pub hosts_late : (c : ConversationValue) (mark : List ℕ) (given : List (List ℕ)) (s : Settings) (cache : CacheValue) → c.stage ≡ Serving s cache → refused c mark (of_line fault.SettingAfterRequest) ≡ adds_hosts c mark c.stage given
@@ -91,9 +82,9 @@ hosts_more hosts line given e = ap (λ l. hosts ++ l) e ∙ sym (append_assoc ho
 pub hosts_added : (before after : ConversationValue) (mark : List ℕ) (given : List (List ℕ)) (configuration : ConfigurationValue) (hosts now : List ℕ) (heard : Heard)
     → before.stage ≡ Setting configuration hosts → after ≡ record before { stage = Setting configuration now } → now ≡ with_hosts hosts given
     → string_bytes heard.explained ≡ [] → string_bytes heard.text ≡ [] → string_bytes heard.journal ≡ [] → heard.is_last ≡ false
-    → IsAnswered before mark (λ answer. answer ≡ adds_hosts before mark before.stage given) (Ok heard) after
+    → IsActedUpon before mark (said.Hosts given) (Ok heard) after
 hosts_added before after mark given configuration hosts now heard was is added explained text journal last =
-    answered_by before after mark (λ answer. answer ≡ adds_hosts before mark before.stage given) heard
+    answered_by before after mark (λ answer. answer ≡ adds_hosts before mark before.stage given) (IsServedOut before mark (said.Hosts given)) heard
     (record (nothing before mark) { stage = Setting configuration (with_hosts hosts given) })
     (subst (λ x. record (nothing before mark) { stage = Setting configuration (with_hosts hosts given) } ≡ adds_hosts before mark x given) (sym was) refl)
     explained text journal last
@@ -109,13 +100,14 @@ pub setting_late : (c : ConversationValue) (mark : List ℕ) (given : List (List
 setting_late c mark given s cache e = subst (λ x. AnswersSetting c mark x given (refused c mark (of_line fault.SettingAfterRequest))) (sym e) refl
 
 -- a line of a setting is read
-pub setting_read : (before after : ConversationValue) (mark : List ℕ) (given : List (List ℕ)) (configuration : ConfigurationValue) (hosts : List ℕ) (said : Result Line RefusalValue) (result : Result Heard AllocError)
-    → before.stage ≡ Setting configuration hosts → IsScriptLine false given said
-    → IsAnswered before mark (λ answer. answer ≡ sets before mark configuration hosts given said) result after
-    → IsAnswered before mark (λ answer. AnswersSetting before mark before.stage given answer) result after
-setting_read before after mark given configuration hosts said (Ok heard) was is (answer, kind, says, stands) =
-    (answer, subst (λ x. AnswersSetting before mark x given answer) (sym was) (said, is, kind), says, stands)
-setting_read before after mark given configuration hosts said (Err e) was is ran = ran
+pub setting_read : (before after : ConversationValue) (mark : List ℕ) (given : List (List ℕ)) (configuration : ConfigurationValue) (hosts : List ℕ) (said_here : Result Line RefusalValue) (result : Result Heard AllocError)
+    → before.stage ≡ Setting configuration hosts → IsScriptLine false given said_here
+    → IsAnswered before mark (λ answer. answer ≡ sets before mark configuration hosts given said_here) nothing_left result after
+    → IsActedUpon before mark (said.Setting given) result after
+setting_read before after mark given configuration hosts said_here result was is =
+    answered_as before after mark (λ answer. answer ≡ sets before mark configuration hosts given said_here) (AnswersSetting before mark before.stage given) nothing_left (IsServedOut before mark (said.Setting given)) result
+    (λ answer kind. subst (λ x. AnswersSetting before mark x given answer) (sym was) (said_here, is, kind))
+    (none_left (IsServedOut before mark (said.Setting given)))
 
 pub setting_wrong : (c : ConversationValue) (mark : List ℕ) (given : List (List ℕ)) (configuration : ConfigurationValue) (hosts : List ℕ) (refusal : RefusalValue)
     → c.stage ≡ Setting configuration hosts → IsScriptLine false given (Err refusal) → AnswersSetting c mark c.stage given (refused c mark refusal)
@@ -135,9 +127,9 @@ not_set c mark given configuration hosts (line.Request request) a = refl
 pub setting_taken : (before after : ConversationValue) (mark : List ℕ) (given : List (List ℕ)) (configuration : ConfigurationValue) (hosts : List ℕ) (said : Line) (chosen : setting.Setting) (result : Result Heard AllocError)
     → said ≡ line.Configuration chosen → IfOk result (IsSettingTold given)
     → OnOk result (after ≡ record before { stage = Setting (with_setting chosen configuration) hosts }) → OnErr result (after ≡ before)
-    → IsAnswered before mark (λ answer. answer ≡ sets before mark configuration hosts given (Ok said)) result after
+    → IsAnswered before mark (λ answer. answer ≡ sets before mark configuration hosts given (Ok said)) nothing_left result after
 setting_taken before after mark given configuration hosts said chosen (Ok heard) is told set same =
-    answered_by before after mark (λ answer. answer ≡ sets before mark configuration hosts given (Ok said)) heard
+    answered_by before after mark (λ answer. answer ≡ sets before mark configuration hosts given (Ok said)) nothing_left heard
     (sets before mark configuration hosts given (Ok (line.Configuration chosen)))
     (ap (λ x. sets before mark configuration hosts given (Ok x)) (sym is))
     told.explained_is told.text_is told.journal_is told.last_is
@@ -146,4 +138,4 @@ setting_taken before after mark given configuration hosts said chosen (Ok heard)
       stage_is = ap (λ c. c.stage) set;
       requests_are = subst (λ x. Puts mark (request_at mark before.requests) before.requests x) (sym (ap (λ c. c.requests) set)) (puts_same mark before.requests);
     })
-setting_taken before after mark given configuration hosts said chosen (Err e) is told set same = subst (λ x. RanOut mark before x) (sym same) (ran_out_here before mark)
+setting_taken before after mark given configuration hosts said chosen (Err e) is told set same = subst (λ x. RanOut mark nothing_left before x) (sym same) (ran_out_here before mark nothing_left)

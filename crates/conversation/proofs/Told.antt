@@ -1,5 +1,6 @@
 -- What is told of a request over a resolver.
-use Rattle.std.proofs.Common.{◌≡◌, ◌∙◌, ◌⊎◌, ℕ, Bool, false, List, [], ◌∷◌, ◌++◌, None, Some, Result, Ok, Err, IfOk, IsErr, OnOk, string_bytes, refl, sym, ap, subst, append-nil, inl, inr}
+use Rattle.std.proofs.Common.{◌≡◌, ◌∙◌, ◌⊎◌, ℕ, Bool, false, List, [], ◌∷◌, ◌++◌, None, Some, Result, Ok, Err, IfOk, IsErr, OnErr, OnOk, String, string_bytes, refl, sym, ap, subst, append-nil, inl, inr}
+use Rattle.std.specs.Global.{Global}
 use Rattle.std.specs.declared.alloc.AllocError.{AllocError}
 use Rattle.hickory_proto_core.specs.Handles.{OutcomeValue}
 use Rattle.hickory_proto_core.specs.NameGiven.{IsReadName, IsReadAddress}
@@ -17,21 +18,20 @@ use Rattle.hickory_resolver_theorems.specs.ResumingCalls.{WaitingCallValue, Call
 use Rattle.conversation.specs.Answers.{Answer, Came, Clears, ComesTo, Feeds, Looks, Serves, Tells, asking, just_begun}
 use Rattle.conversation.specs.Explaining.{IsStartExplained, alias_text}
 use Rattle.conversation.specs.Hearing.{IsBegunOver, IsFedOut}
-use Rattle.conversation.specs.State.{BegunValue, Puts, Requests, Serving}
-use Rattle.conversation.specs.Telling.{IsBlock, IsClearBlock, IsGiven, IsTold, PutsSome, stage_by}
+use Rattle.conversation.specs.State.{BegunValue, Puts, Requests, Serving, requests_of}
+use Rattle.conversation.specs.Telling.{IsBlock, IsClearBlock, IsGiven, IsQuestion, IsTold, PutsSome, stage_by}
 use Rattle.replay_script.specs.Output.{request_text}
 use Rattle.conversation.specs.Texts.{clear_text, send_text}
 use Rattle.conversation.specs.declared.heard.Heard.{Heard}
+use Rattle.conversation.specs.declared.in_flight.InFlight.{InFlight}
 use Rattle.conversation.proofs.Held.{some_stays}
 
 -- ---- how far a request came
 
-pub told_waits : (mark : List ℕ) (s : Settings) (begun : BegunValue) (w : WaitingCallValue) (cache : CacheValue) (heard : Heard) (before after : Requests) (question : Query) (options : DnsRequestOptions)
-    → question ≡ w.lookup.hop.query → options ≡ s.request_options
-    → string_bytes heard.explained ≡ alias_text mark begun.explains w
-    → string_bytes heard.text ≡ send_text mark question options → string_bytes heard.journal ≡ [] → heard.is_last ≡ false
-    → Puts mark (Some (asking begun w)) before after → IsTold mark (Tells mark [] s begun (Looks (CallWaits w)) cache) (Ok heard) before after
-told_waits mark s begun w cache heard before after question options asks by explained text journal last puts = (
+pub told_waits : (mark : List ℕ) (s : Settings) (begun : BegunValue) (w : WaitingCallValue) (cache : CacheValue) (result : Result Heard AllocError) (es fs : List (String Global × InFlight)) (options : DnsRequestOptions)
+    → options ≡ s.request_options → IfOk result (IsQuestion mark begun w options) → OnOk result (Puts mark (Some (asking begun w)) (requests_of es) (requests_of fs)) → OnErr result (fs ≡ es)
+    → IsTold mark (Tells mark [] s begun (Looks (CallWaits w)) cache) result (requests_of es) (requests_of fs)
+told_waits mark s begun w cache (Ok heard) es fs options by told puts same = (
   record {
     explained = alias_text mark begun.explains w;
     text = send_text mark w.lookup.hop.query s.request_options;
@@ -41,19 +41,18 @@ told_waits mark s begun w cache heard before after question options asks by expl
     held = Some (asking begun w);
   },
   refl,
-  record { explained_is = explained; text_is = text ∙ ap (λ q. send_text mark q options) asks ∙ ap (send_text mark w.lookup.hop.query) by; journal_is = journal; last_is = last },
+  record { explained_is = told.explained_is; text_is = told.text_is ∙ ap (send_text mark w.lookup.hop.query) by; journal_is = told.journal_is; last_is = told.last_is },
   puts,
 )
+told_waits mark s begun w cache (Err e) es fs options by told puts same = subst (λ x. PutsSome mark (requests_of es) (requests_of x)) (sym same) (some_stays mark (requests_of es))
 
 -- the request is kept, with its question
-pub kept_asking : (mark key : List ℕ) (begun now : BegunValue) (w : WaitingCallValue) (question : Query) (result : Result (Unit {0}) AllocError) (before after : Requests)
-    → key ≡ mark → question ≡ w.lookup.hop.query → now ≡ record begun { sent = begun.sent ++ question ∷ [] }
-    → OnOk result (Puts key (Some (record { begun = now; waiting = w; reply = None })) before after)
-    → OnOk result (Puts mark (Some (asking begun w)) before after)
-kept_asking mark key begun now w question result before after key_is asks now_is puts =
-    let now_asks : now ≡ record begun { sent = begun.sent ++ w.lookup.hop.query ∷ [] } = now_is ∙ ap (λ q. record begun { sent = begun.sent ++ q ∷ [] }) asks in
-    subst (λ k. OnOk result (Puts k (Some (asking begun w)) before after)) key_is
-    (subst (λ b. OnOk result (Puts key (Some (record { begun = b; waiting = w; reply = None })) before after)) now_asks puts)
+pub kept_asking : (mark key : List ℕ) (begun now : BegunValue) (w : WaitingCallValue) (before after : Requests)
+    → key ≡ mark → now ≡ record begun { sent = begun.sent ++ w.lookup.hop.query ∷ [] }
+    → Puts key (Some (record { begun = now; waiting = w; reply = None })) before after → Puts mark (Some (asking begun w)) before after
+kept_asking mark key begun now w before after key_is now_is puts =
+    subst (λ k. Puts k (Some (asking begun w)) before after) key_is
+    (subst (λ b. Puts key (Some (record { begun = b; waiting = w; reply = None })) before after) now_is puts)
 
 pub told_done : (mark : List ℕ) (s : Settings) (begun : BegunValue) (found : LookupResult) (cache : CacheValue) (result : Result Heard AllocError) (before after : Requests)
     → IfOk result (IsBlock mark begun cache found) → Puts mark None before after → IsTold mark (Tells mark [] s begun (Looks (CallIsDone found)) cache) result before after
@@ -145,11 +144,6 @@ fed_told mark begun w outcome progress r left (Ok heard) before after resumed (a
     (answer, (progress, left.client.cache, resumed.resumes, told), says, sym (tells_stage mark [] (settings left) begun (Looks progress) left.client.cache answer tells), puts)
 fed_told mark begun w outcome progress r left (Err e) before after resumed some =
     ((progress, left.client.cache, resumed.resumes, ap (λ s. Serving s left.client.cache) (same_settings r left resumed.others_stay)), some)
-
--- memory ran out
-pub told_out : (mark : List ℕ) (Kind : Answer → Type 0) (result : Result Heard AllocError) (before after : Requests) → IsErr result → after ≡ before → IsTold mark Kind result before after
-told_out mark Kind (Ok heard) before after out same = absurd (let h = out in cc)
-told_out mark Kind (Err e) before after out same = subst (λ x. PutsSome mark before x) (sym same) (some_stays mark before)
 
 -- ---- what a resolver was asked
 

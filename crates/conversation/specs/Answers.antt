@@ -1,5 +1,5 @@
 -- What a line is answered, and what stands after it.
-use Rattle.std.specs.Prelude.{◌≡◌, ◌≢◌, ◌⊎◌, ℕ, Bool, true, false, List, [], ◌∷◌, ◌++◌, codes, Option, None, Some, Result, Ok, Err, MatchBool, MatchOption, MatchResult, if◌then◌else◌}
+use Rattle.std.specs.Prelude.{◌≡◌, ◌≢◌, ◌⊎◌, ◌&&◌, ℕ, Bool, true, false, List, [], ◌∷◌, ◌++◌, codes, Option, None, Some, Result, Ok, Err, MatchBool, MatchOption, MatchResult, if◌then◌else◌}
 use Rattle.std.specs.Option.{is_some, option_map}
 use Rattle.hickory_proto_core.specs.Handles.{OutcomeValue}
 use Rattle.hickory_proto_core.specs.Name.{NameValue}
@@ -33,15 +33,13 @@ use Rattle.replay_script.specs.declared.reply_line.ReplyHead.{ReplyHead}
 use Rattle.replay_script.specs.declared.script.OpenReply.{OpenReply}
 use Rattle.conversation.specs.Explaining.{IsStartExplained, alias_text, stored_text}
 use Rattle.conversation.specs.Faults.{RefusalValue, hosts_fault, of_line, unknown}
-use Rattle.conversation.specs.Lines.{IsAsked, IsScriptLine, mark_or_none, verb_named, word_named}
+use Rattle.conversation.specs.Lines.{IsAsked, IsScriptLine}
+use Rattle.conversation.specs.Said as said
+use Rattle.conversation.specs.Said.{SaidValue}
 use Rattle.conversation.specs.State.{BegunValue, ConversationValue, InFlightValue, Setting, Serving, Stage, request_at}
 use Rattle.conversation.specs.Texts.{cancelled_text, clear_text, fault_text, fields_text, looked_up_text, send_text}
 use Rattle.conversation.specs.declared.fault.ConversationFault.{ConversationFault}
 use Rattle.conversation.specs.declared.fault.ConversationFault.TheVariants as fault
-use Rattle.conversation.specs.declared.verbs.Verb.{Verb}
-use Rattle.conversation.specs.declared.verbs.Verb.TheVariants as verb
-use Rattle.conversation.specs.declared.verbs.Word.{Word}
-use Rattle.conversation.specs.declared.verbs.Word.TheVariants as word
 
 -- what a line is answered: the lines that go out, those that say how a request comes about before them, and those for
 -- the journal, whether it is the last; and what stands after it: what is set, or the resolver, and the request of the
@@ -95,12 +93,6 @@ AnswersSetting c mark (Setting configuration hosts) given answer =
     (said : Result Line RefusalValue) × IsScriptLine false given said
     × (answer ≡ sets c mark configuration hosts given said)
 AnswersSetting c mark (Serving s cache) given answer = answer ≡ refused c mark (of_line fault.SettingAfterRequest)
-
--- `end`
-abbrev pub ends : ConversationValue → List ℕ → List (List ℕ) → Answer
-ends c mark behind =
-    if is_empty behind then record (nothing c mark) { is_last = true }
-    else refused c mark (of_line (fault.Script script.FieldCount))
 
 -- ---- the first request
 
@@ -292,50 +284,28 @@ AnswersLine c mark r given answer =
     × Takes c mark r given said answer
 
 -- an outcome can begin only where no reply is open
-abbrev pub AnswersFirstLine : ConversationValue → List ℕ → InFlightValue → List (List ℕ) → Answer → Type 0
-AnswersFirstLine c mark r given answer =
-    MatchBool (is_some r.reply) (answer ≡ refused c mark (of_line fault.ReplyNotDone))
+abbrev pub AnswersOutcome : ConversationValue → List ℕ → InFlightValue → Bool → List (List ℕ) → Answer → Type 0
+AnswersOutcome c mark r begins given answer =
+    MatchBool (begins && is_some r.reply) (answer ≡ refused c mark (of_line fault.ReplyNotDone))
     (AnswersLine c mark r given answer)
-
--- ---- lines with a mark
-
--- for a request in flight; given are all fields behind the mark
-abbrev pub AnswersFor : ConversationValue → List ℕ → InFlightValue → Verb → List (List ℕ) → List (List ℕ) → Answer
-    → Type 0
-AnswersFor c mark r verb.Cancel behind given answer = answer ≡ cancels c mark behind
-AnswersFor c mark r verb.Done behind given answer = AnswersDone c mark r behind answer
-AnswersFor c mark r verb.Record behind given answer = AnswersLine c mark r given answer
-AnswersFor c mark r verb.Reply behind given answer = AnswersFirstLine c mark r given answer
-AnswersFor c mark r verb.Fail behind given answer = AnswersFirstLine c mark r given answer
-AnswersFor c mark r verb.At behind given answer = ⊥
-AnswersFor c mark r verb.Explain behind given answer = ⊥
-
-abbrev pub AnswersOutcome : ConversationValue → List ℕ → Verb → List (List ℕ) → List (List ℕ) → Answer → Type 0
-AnswersOutcome c mark v behind given answer =
-    MatchOption (request_at mark c.requests) (answer ≡ refused c mark (of_line fault.NoSuchRequest))
-    (λ r. AnswersFor c mark r v behind given answer)
-
-abbrev pub AnswersVerb : ConversationValue → List ℕ → Option Verb → List (List ℕ) → List (List ℕ) → Answer → Type 0
-AnswersVerb c mark None behind given answer = answer ≡ refused c mark (unknown given)
-AnswersVerb c mark (Some verb.At) behind given answer = AnswersRequest c mark false given answer
-AnswersVerb c mark (Some verb.Explain) behind given answer = AnswersRequest c mark true behind answer
-AnswersVerb c mark (Some v) behind given answer = AnswersOutcome c mark v behind given answer
-
-abbrev pub AnswersMarked : ConversationValue → List ℕ → List (List ℕ) → Answer → Type 0
-AnswersMarked c mark [] answer = answer ≡ refused c mark (unknown [])
-AnswersMarked c mark (text ∷ behind) answer =
-    AnswersVerb c mark (verb_named text) behind (text ∷ behind) answer
 
 -- ---- lines
 
-abbrev pub AnswersWord : ConversationValue → List ℕ → Word → List (List ℕ) → List (List ℕ) → Answer → Type 0
-AnswersWord c mark word.End behind given answer = answer ≡ ends c mark behind
-AnswersWord c mark word.Hosts behind given answer = answer ≡ adds_hosts c mark c.stage behind
-AnswersWord c mark word.Setting behind given answer = AnswersSetting c mark c.stage given answer
-AnswersWord c mark word.Unused behind given answer = answer ≡ refused c mark (unknown given)
-AnswersWord c mark word.Mark behind given answer = AnswersMarked c mark behind answer
+-- for the request in flight under the mark
+abbrev pub AnswersInFlight : ConversationValue → List ℕ → (InFlightValue → Answer → Type 0) → Answer → Type 0
+AnswersInFlight c mark Kind answer =
+    MatchOption (request_at mark c.requests) (answer ≡ refused c mark (of_line fault.NoSuchRequest))
+    (λ r. Kind r answer)
 
-abbrev pub AnswersFields : ConversationValue → List (List ℕ) → Answer → Type 0
-AnswersFields c [] answer = answer ≡ nothing c (codes "-")
-AnswersFields c (text ∷ behind) answer =
-    AnswersWord c (mark_or_none text) (word_named text) behind (text ∷ behind) answer
+abbrev pub AnswersSaid : ConversationValue → List ℕ → SaidValue → Answer → Type 0
+AnswersSaid c mark said.Nothing answer = answer ≡ nothing c mark
+AnswersSaid c mark said.End answer = answer ≡ record (nothing c mark) { is_last = true }
+AnswersSaid c mark (said.Hosts given) answer = answer ≡ adds_hosts c mark c.stage given
+AnswersSaid c mark (said.Setting given) answer = AnswersSetting c mark c.stage given answer
+AnswersSaid c mark (said.Request explains given) answer = AnswersRequest c mark explains given answer
+AnswersSaid c mark (said.Outcome begins given) answer =
+    AnswersInFlight c mark (λ r. AnswersOutcome c mark r begins given) answer
+AnswersSaid c mark (said.Done behind) answer = AnswersInFlight c mark (λ r. AnswersDone c mark r behind) answer
+AnswersSaid c mark (said.Cancel behind) answer =
+    AnswersInFlight c mark (λ r answer. answer ≡ cancels c mark behind) answer
+AnswersSaid c mark (said.Refused refusal) answer = answer ≡ refused c mark refusal

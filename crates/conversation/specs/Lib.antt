@@ -3,6 +3,7 @@ pub mod Explaining
 pub mod Faults
 pub mod Hearing
 pub mod Lines
+pub mod Said
 pub mod State
 pub mod Telling
 pub mod Texts

@@ -1,4 +1,4 @@
--- What a line is about: its first word, its verb, and the request that it asks.
+-- What a line is about: its first word, its mark, and the request that it asks.
 use Rattle.std.specs.Prelude.{◌≡◌, ◌&&◌, ℕ, Bool, false, List, [], ◌∷◌, codes, Option, Some, None, if◌then◌else◌, Result, Ok, Err, MatchBool, MatchResult}
 use Rattle.std.specs.List.{list_all}
 use Rattle.std.specs.declared.net.IpAddr.{IpAddr}
@@ -18,10 +18,8 @@ use Rattle.replay_script.specs.declared.line.Line.{Line}
 use Rattle.replay_script.specs.declared.line.Line.TheVariants as line
 use Rattle.conversation.specs.Faults.{RefusalValue, of_field, of_line, refusal_of, unknown}
 use Rattle.conversation.specs.declared.fault.ConversationFault.TheVariants as fault
-use Rattle.conversation.specs.declared.verbs.Word.{Word}
-use Rattle.conversation.specs.declared.verbs.Word.TheVariants as word
-use Rattle.conversation.specs.declared.verbs.Verb.{Verb}
-use Rattle.conversation.specs.declared.verbs.Verb.TheVariants as verb
+use Rattle.conversation.specs.declared.words.Word.{Word}
+use Rattle.conversation.specs.declared.words.Word.TheVariants as word
 
 -- ---- words
 
@@ -34,19 +32,6 @@ word_named text =
     if is_text (codes "domain") text then word.Setting else (
     if is_text (codes "search") text then word.Setting else (
     if is_text (codes "-") text then word.Unused else word.Mark)))))
-
--- what the word behind a mark says
-abbrev pub verb_named : List ℕ → Option Verb
-verb_named text =
-    if is_text (codes "explain") text then Some verb.Explain else (
-    if is_text (codes "at") text then Some verb.At else (
-    if is_text (codes "reply") text then Some verb.Reply else (
-    if is_text (codes "answer") text then Some verb.Record else (
-    if is_text (codes "authority") text then Some verb.Record else (
-    if is_text (codes "additional") text then Some verb.Record else (
-    if is_text (codes "done") text then Some verb.Done else (
-    if is_text (codes "fail") text then Some verb.Fail else (
-    if is_text (codes "cancel") text then Some verb.Cancel else None))))))))
 
 -- ---- marks
 

@@ -3,6 +3,7 @@ use Rattle.std.specs.Prelude.{◌≡◌, ◌⊎◌, Bool, false, List, [], ℕ, 
 use Rattle.std.specs.Option.{is_some, option_map}
 use Rattle.std.specs.declared.alloc.AllocError.{AllocError}
 use Rattle.hickory_proto_core.specs.Handles.{OutcomeValue}
+use Rattle.hickory_proto_core.specs.declared.dns_request.DnsRequestOptions.{DnsRequestOptions}
 use Rattle.hickory_resolver.specs.CallProgress.{call_progress_of}
 use Rattle.hickory_resolver_model.specs.Calls.{is_out_of_memory}
 use Rattle.hickory_resolver_model.specs.Lookup.{LookupResult}
@@ -13,19 +14,23 @@ use Rattle.hickory_resolver_model.specs.Cache.{CacheValue}
 use Rattle.hickory_resolver_theorems.specs.ResumingCalls.{WaitingCallValue}
 use Rattle.hickory_resolver.specs.Requests.{request_of}
 use Rattle.hickory_resolver_lookup.specs.declared.request.Request.{Request}
+use Rattle.replay_script.specs.FailLine.{error_of}
 use Rattle.replay_script.specs.Output.{request_text}
+use Rattle.replay_script.specs.declared.fail_line.Failure.{Failure}
+use Rattle.replay_script.specs.declared.line.Line.{Line}
+use Rattle.replay_script.specs.declared.line.Line.TheVariants as line
+use Rattle.replay_script.specs.declared.script.OpenReply.{OpenReply}
 use Rattle.replay_script.specs.Configuration.{ConfigurationValue}
 use Rattle.conversation.specs.Answers as answers
-use Rattle.conversation.specs.Answers.{Answer, Feeds, IsOpened, Serves, config_of, keeps, refused}
-use Rattle.conversation.specs.Explaining.{stored_text}
+use Rattle.conversation.specs.Answers.{Answer, AnswersSaid, Feeds, IsOpened, Serves, config_of, refused, with_line}
+use Rattle.conversation.specs.Explaining.{alias_text, stored_text}
 use Rattle.conversation.specs.Faults.{RefusalValue, is_memory, of_line, out_of_memory}
-use Rattle.conversation.specs.Hearing.{IsBegunOver, IsFedOut, IsLeft, Says, Stands}
+use Rattle.conversation.specs.Hearing.{IsBegunOver, IsFedOut, IsFedWith, IsServedOut, Says, Stands}
+use Rattle.conversation.specs.Said.{SaidValue}
 use Rattle.conversation.specs.State.{BegunValue, ConversationValue, InFlightValue, Puts, Requests, Serving, Setting, Stage, request_at}
-use Rattle.conversation.specs.Texts.{clear_text, fields_text, looked_up_text}
+use Rattle.conversation.specs.Texts.{clear_text, fields_text, looked_up_text, send_text}
 use Rattle.conversation.specs.declared.heard.Heard.{Heard}
 use Rattle.conversation.specs.declared.fault.ConversationFault.{ConversationFault}
-use Rattle.conversation.specs.declared.verbs.Verb.{Verb}
-use Rattle.conversation.specs.declared.verbs.Verb.TheVariants as verb
 use Rattle.conversation.specs.declared.requests.Came.{Came}
 use Rattle.conversation.specs.declared.requests.Came.TheVariants as came
 
@@ -53,24 +58,42 @@ pub record IsClearBlock (mark : List ℕ) (begun : BegunValue) (heard : Heard) :
   pub journal_is : string_bytes heard.journal ≡ begun.told ++ request_text begun.request
   pub last_is : heard.is_last ≡ false
 
+-- the line of a question that is to be sent
+pub record IsQuestion
+    (mark : List ℕ) (begun : BegunValue) (w : WaitingCallValue) (options : DnsRequestOptions) (heard : Heard)
+    : Type 0 where
+  pub explained_is : string_bytes heard.explained ≡ alias_text mark begun.explains w
+  pub text_is : string_bytes heard.text ≡ send_text mark w.lookup.hop.query options
+  pub journal_is : string_bytes heard.journal ≡ []
+  pub last_is : heard.is_last ≡ false
+
 -- an answer of this kind is told of the request of a mark; or memory ran out
 abbrev pub IsTold : List ℕ → (Answer → Type 0) → Result Heard AllocError → Requests → Requests → Type 0
 IsTold mark Kind (Ok heard) before after =
     (answer : Answer) × Kind answer × Says answer heard × Puts mark answer.held before after
 IsTold mark Kind (Err error) before after = PutsSome mark before after
 
--- memory ran out under way
-pub record RanOut (mark : List ℕ) (before after : ConversationValue) : Type 0 where
+-- memory ran out under way: the resolver is as it was, or this is left of it
+pub record RanOut (mark : List ℕ) (Left : Stage → Type 0) (before after : ConversationValue) : Type 0 where
   pub lines_are : after.lines ≡ before.lines
-  pub stage_is : IsLeft before mark after.stage
+  pub stage_is : (after.stage ≡ before.stage) ⊎ Left after.stage
   pub requests_are : PutsSome mark before.requests after.requests
 
 -- an answer of this kind is given; or memory ran out
-abbrev pub IsAnswered : ConversationValue → List ℕ → (Answer → Type 0) → Result Heard AllocError → ConversationValue
-    → Type 0
-IsAnswered before mark Kind (Ok heard) after =
+abbrev pub IsAnswered : ConversationValue → List ℕ → (Answer → Type 0) → (Stage → Type 0) → Result Heard AllocError
+    → ConversationValue → Type 0
+IsAnswered before mark Kind Left (Ok heard) after =
     (answer : Answer) × Kind answer × Says answer heard × Stands mark answer before after
-IsAnswered before mark Kind (Err error) after = RanOut mark before after
+IsAnswered before mark Kind Left (Err error) after = RanOut mark Left before after
+
+-- what a line says is answered; or memory ran out
+abbrev pub IsActedUpon : ConversationValue → List ℕ → SaidValue → Result Heard AllocError → ConversationValue → Type 0
+IsActedUpon before mark said result after =
+    IsAnswered before mark (AnswersSaid before mark said) (IsServedOut before mark said) result after
+
+-- nothing is left
+abbrev pub nothing_left : Stage → Type 0
+nothing_left stage = ⊥
 
 -- a fault that is not one of memory is told
 abbrev pub IsRefused : ConversationValue → List ℕ → RefusalValue → Result Heard AllocError → Type 0
@@ -103,16 +126,20 @@ HasReply requests mark has_reply = option_map (λ r. is_some r.reply) (request_a
 abbrev pub OfRequest : ConversationValue → List ℕ → (InFlightValue → Answer → Type 0) → Answer → Type 0
 OfRequest c mark Kind answer = (r : InFlightValue) → request_at mark c.requests ≡ Some r → Kind r answer
 
--- that answer is given; or memory ran out
-abbrev pub IsForRequest : ConversationValue → List ℕ → (InFlightValue → Answer → Type 0) → Result Heard AllocError
-    → ConversationValue → Type 0
-IsForRequest before mark Kind result after = IsAnswered before mark (OfRequest before mark Kind) result after
+-- that answer is given; or memory ran out, behind an outcome of this kind or before it
+abbrev pub IsForRequest : ConversationValue → List ℕ → (InFlightValue → Answer → Type 0)
+    → (InFlightValue → OutcomeValue → Type 0) → Result Heard AllocError → ConversationValue → Type 0
+IsForRequest before mark Kind Comes result after =
+    IsAnswered before mark (OfRequest before mark Kind) (IsFedWith before mark Comes) result after
 
--- a verb for a request in flight
-abbrev pub IsOfOutcome : Verb → Type 0
-IsOfOutcome verb.At = ⊥
-IsOfOutcome verb.Explain = ⊥
-IsOfOutcome other = Unit {0}
+-- the failure that a line of an outcome says
+abbrev pub IsFailureOf : Line → InFlightValue → OutcomeValue → Type 0
+IsFailureOf said r outcome =
+    (failure : Failure) × (said ≡ line.Fail failure) × (outcome ≡ Err (error_of failure.kind))
+
+-- no outcome
+abbrev pub no_outcome : InFlightValue → OutcomeValue → Type 0
+no_outcome r outcome = ⊥
 
 -- a request that was taken out goes on; where memory runs out, what is left is of it
 abbrev pub IsFed : ConversationValue → List ℕ → BegunValue → WaitingCallValue → OutcomeValue
@@ -124,11 +151,16 @@ IsFed before mark begun w outcome (Err error) after =
     (after.lines ≡ before.lines) × ((after.stage ≡ before.stage) ⊎ IsFedOut before.stage w outcome after.stage)
     × PutsSome mark before.requests after.requests
 
--- a request is kept under its mark, and nothing is said
-abbrev pub IsKept : ConversationValue → List ℕ → InFlightValue → Result Heard AllocError → ConversationValue → Type 0
-IsKept before mark r (Ok heard) after =
-    Says (keeps before mark r) heard × Stands mark (keeps before mark r) before after
-IsKept before mark r (Err error) after = after ≡ before
+-- the request with one more line of what came back, and with this reply
+abbrev pub with_reply : List (List ℕ) → Option OpenReply → InFlightValue → InFlightValue
+with_reply given reply r = record { begun = with_line r.begun given; waiting = r.waiting; reply = reply }
+
+-- the request of a mark is changed so; or memory ran out
+abbrev pub IsChanged : List ℕ → (InFlightValue → InFlightValue) → Result (Unit {0}) AllocError → Requests → Requests
+    → Type 0
+IsChanged mark change (Ok done) before after =
+    (r : InFlightValue) × (request_at mark before ≡ Some r) × Puts mark (Some (change r)) before after
+IsChanged mark change (Err error) before after = PutsSome mark before after
 
 -- ---- a resolver
 

@@ -1,14 +1,17 @@
 //! Requests in flight.
-ghost use Rattle.std.specs.Prelude.{◌≡◌, ◌++◌, ◌∷◌, [], OnOk, Ok};
+ghost use Rattle.std.specs.Prelude.{◌≡◌, ◌++◌, ◌∷◌, [], OnOk, Ok, Some};
+ghost use Rattle.std.specs.Option.{option_map};
 ghost use Rattle.hickory_resolver.specs.Requests.{request_of};
+ghost use Rattle.replay_script.specs.Reader.{answered};
 ghost use Rattle.replay_script.specs.Words.{texts};
 ghost use Rattle.conversation.specs.Answers.{just_begun, with_line};
-ghost use Rattle.conversation.specs.State.{begun_of};
+ghost use Rattle.conversation.specs.State.{begun_of, in_flight_of};
+ghost use Rattle.conversation.specs.Telling.{with_reply};
 
 use crate::writing::push_fields;
-use hickory_proto_core::{DnsResponse, Outcome, Query};
+use hickory_proto_core::{DnsResponse, Outcome, Query, Record};
 use hickory_resolver::{Request, WaitingCall};
-use replay_script::OpenReply;
+use replay_script::{OpenReply, Section};
 use std::alloc::{AllocError, Global};
 
 /// A request, whether it asks how it comes about, the questions that were sent for it, and the lines of what came back,
@@ -57,6 +60,37 @@ impl Begun {
         ensures { OnOk result (begun_of self.new ≡ with_line (begun_of self.old) (texts fields.now)) }
     {
         push_fields(&mut self.told, fields)
+    }
+}
+
+impl InFlight {
+    /// A reply is opened by a line of these fields.
+    pub fn open_reply(&mut self, reply: OpenReply, fields: &[&str]) -> Result<(), AllocError>
+        ensures { OnOk result (in_flight_of self.new
+            ≡ with_reply (texts fields.now) (Some reply) (in_flight_of self.old)) }
+    {
+        let replaced = self.reply.replace(reply);
+        drop(replaced);
+        self.begun.add_line(fields)
+    }
+
+    /// The open reply gets one more record by a line of these fields. No memory is left, too, where none is open.
+    pub fn add_record(
+        &mut self,
+        section: Section,
+        found: Record,
+        fields: &[&str],
+    ) -> Result<(), AllocError>
+        ensures { OnOk result (in_flight_of self.new
+            ≡ with_reply (texts fields.now) (option_map (answered section found) self.old.reply) (in_flight_of self.old)) }
+    {
+        let Some(reply) = &mut self.reply else {
+            return Err(AllocError);
+        };
+        if reply.add(section, found).is_err() {
+            return Err(AllocError);
+        }
+        self.begun.add_line(fields)
     }
 }
 

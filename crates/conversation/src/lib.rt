@@ -9,8 +9,9 @@ pub mod heard;
 mod in_flight;
 mod reading;
 mod requests;
+mod said;
 mod state;
-pub mod verbs;
+pub mod words;
 mod writing;
 
 pub use conversation::Conversation;

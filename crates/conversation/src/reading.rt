@@ -10,7 +10,7 @@ ghost use Rattle.conversation.specs.Lines.{IsAsked, IsPointer, IsReverse, IsScri
 ghost use Rattle.conversation.specs.Telling.{IsAskedOr};
 
 use crate::fault::{ConversationFault, Refusal};
-use crate::verbs::Word;
+use crate::words::Word;
 use hickory_proto_core::{IntoName, Name, RecordType};
 use hickory_resolver::Request;
 use replay_script::words::number64;
@@ -40,8 +40,17 @@ fn first_mark(text: &str) -> &str
     }
 }
 
-/// The mark that the first word is, or `-`.
-pub fn mark_or_none(word: &str) -> &str
+/// The mark that the first of these fields is, or `-`.
+pub fn mark_in<'a>(fields: &[&'a str]) -> &'a str
+    ensures { result.now ≡ mark_in (texts fields.now) }
+{
+    match fields {
+        [word, ..] => mark_or_none(word),
+        [] => "-",
+    }
+}
+
+fn mark_or_none(word: &str) -> &str
     ensures { result.now ≡ mark_or_none word.now }
 {
     match Word::of(word) {
@@ -51,7 +60,7 @@ pub fn mark_or_none(word: &str) -> &str
 }
 
 /// What the fields of a line of a script say.
-pub fn read_said<'a>(
+pub fn read_script_line<'a>(
     alloc: Global,
     has_reply: bool,
     fields: &[&'a str],
@@ -87,7 +96,7 @@ fn is_reverse(at: &str, asked: &str) -> bool
 fn read_script_request<'a>(alloc: Global, fields: &[&'a str]) -> Result<Request, Refusal<'a>>
     ensures { IsAskedOr (IsScriptRequest (texts fields.now)) result }
 {
-    match read_said(alloc, false, fields) {
+    match read_script_line(alloc, false, fields) {
         Ok(line) => request_in(line, fields),
         Err(refusal) => Err(refusal),
     }

@@ -1,21 +1,24 @@
 //! Requests over a resolver: they begin, go on and end.
-ghost use Rattle.std.specs.Prelude.{◌≡◌, [], IfOk, IfSome, OnErr, OnOk, None, Some, string_bytes};
+ghost use Rattle.std.specs.Prelude.{◌≡◌, ◌++◌, ◌∷◌, [], IfOk, OnErr, OnOk, None, Some, string_bytes};
 ghost use Rattle.std.specs.Option.{option_map};
 ghost use Rattle.hickory_resolver.specs.CallProgress.{call_progress_of};
 ghost use Rattle.hickory_resolver.specs.Requests.{request_of};
 ghost use Rattle.hickory_resolver.specs.Starting.{KeepsAllButCache};
 ghost use Rattle.hickory_resolver_model.specs.Resolver.{settings};
+ghost use Rattle.replay_script.specs.Reader.{answered};
+ghost use Rattle.replay_script.specs.Words.{texts};
 ghost use Rattle.conversation.specs.Answers.{ComesTo, Feeds, Looks, Serves, Tells, asking};
 ghost use Rattle.conversation.specs.Hearing.{IsBegunOver, IsFedOut};
 ghost use Rattle.conversation.specs.State.{Puts, begun_of, in_flight_of, request_at, requests_of};
-ghost use Rattle.conversation.specs.Telling.{IsBlock, IsClearBlock, IsGiven, IsTold, came_of, stage_by};
+ghost use Rattle.conversation.specs.Telling.{IsBlock, IsChanged, IsClearBlock, IsGiven, IsQuestion, IsTold, came_of, stage_by, with_reply};
 
 use crate::explaining::{explained_start, push_alias, push_stored};
 use crate::heard::Heard;
 use crate::in_flight::{Begun, InFlight};
 use crate::writing::{told_block, told_clear, told_question};
-use hickory_proto_core::{NetError, Outcome, ScriptHandle};
+use hickory_proto_core::{DnsRequestOptions, NetError, Outcome, Record, ScriptHandle};
 use hickory_resolver::{CallProgress, Lookup, Request, Resolver, ResponseCache, WaitingCall};
+use replay_script::{OpenReply, Section};
 use std::alloc::{AllocError, Global};
 use std::collections::HashMap;
 
@@ -137,10 +140,7 @@ fn settle(
     match progress {
         CallProgress::Waiting(waiting) => {
             let options = resolver.request_options();
-            let mut heard = told_question(alloc, mark, waiting.question(), options)?;
-            push_alias(&mut heard.explained, mark, begun.explains, &waiting)?;
-            keep(alloc, requests, mark, begun, waiting)?;
-            Ok(heard)
+            wait(alloc, options, requests, mark, begun, waiting)
         }
         CallProgress::Done(found) => {
             let cache = resolver.client().cache();
@@ -149,31 +149,54 @@ fn settle(
     }
 }
 
-// Keeps a request that waits, with the question that is sent.
-fn keep(
+// Keeps a request that waits, and tells the question that is to be sent.
+fn wait(
     alloc: Global,
+    options: DnsRequestOptions,
     requests: &mut HashMap<String, InFlight>,
     mark: &str,
     begun: Begun,
     waiting: WaitingCall,
-) -> Result<(), AllocError>
+) -> Result<Heard, AllocError>
+    ensures told { IfOk result (IsQuestion mark.now (begun_of begun) waiting options) }
     ensures kept { OnOk result (Puts mark.now (Some (asking (begun_of begun) waiting))
         (requests_of requests.old.entries) (requests_of requests.new.entries)) }
     ensures unchanged { OnErr result (requests.new.entries ≡ requests.old.entries) }
 {
     let mut begun = begun;
-    begun.add_question(waiting.question())?;
-    let key = String::from_str(alloc, mark)?;
+    let (key, heard) = ask_next(alloc, options, mark, &mut begun, &waiting)?;
     let in_flight = InFlight {
         begun,
         waiting,
         reply: None,
     };
-    put(requests, key, in_flight)
+    put(requests, key, in_flight)?;
+    Ok(heard)
 }
 
-/// Keeps a request under its mark.
-pub fn put(
+// The line of a question that is to be sent, with the key of its request, which notes it.
+fn ask_next(
+    alloc: Global,
+    options: DnsRequestOptions,
+    mark: &str,
+    begun: &mut Begun,
+    waiting: &WaitingCall,
+) -> Result<(String, Heard), AllocError>
+    ensures key { IfOk result (λ asked. string_bytes asked.0 ≡ mark.now) }
+    ensures told { IfOk result (λ asked. IsQuestion mark.now (begun_of begun.old) waiting.now options asked.1) }
+    ensures noted { OnOk result (begun_of begun.new
+        ≡ record (begun_of begun.old) { sent = (begun_of begun.old).sent ++ waiting.now.lookup.hop.query ∷ [] }) }
+{
+    let question = waiting.question();
+    let mut heard = told_question(alloc, mark, question, options)?;
+    push_alias(&mut heard.explained, mark, begun.explains, waiting)?;
+    begun.add_question(question)?;
+    let key = String::from_str(alloc, mark)?;
+    Ok((key, heard))
+}
+
+// Keeps a request under its mark.
+fn put(
     requests: &mut HashMap<String, InFlight>,
     key: String,
     in_flight: InFlight,
@@ -195,14 +218,51 @@ pub fn forget(requests: &mut HashMap<String, InFlight>, mark: &str)
     drop(forgotten);
 }
 
-/// Takes the request of a mark out, where there is one, with the mark.
-pub fn take(requests: &mut HashMap<String, InFlight>, mark: &str) -> Option<(String, InFlight)>
-    ensures mark { IfSome result (λ taken. string_bytes taken.0 ≡ mark.now) }
-    ensures found { option_map (λ taken. in_flight_of taken.1) result
-        ≡ request_at mark.now (requests_of requests.old.entries) }
+/// Takes the request of a mark out, where there is one.
+pub fn take(requests: &mut HashMap<String, InFlight>, mark: &str) -> Option<InFlight>
+    ensures found { option_map in_flight_of result ≡ request_at mark.now (requests_of requests.old.entries) }
     ensures taken { Puts mark.now None (requests_of requests.old.entries) (requests_of requests.new.entries) }
 {
-    requests.remove_entry(mark)
+    requests.remove(mark)
+}
+
+/// Opens a reply to the request of a mark, where there is one, by a line of these fields.
+pub fn open_reply(
+    requests: &mut HashMap<String, InFlight>,
+    mark: &str,
+    reply: OpenReply,
+    fields: &[&str],
+) -> Result<(), AllocError>
+    ensures { IsChanged mark.now (λ r. with_reply (texts fields.now) (Some reply) r) result
+        (requests_of requests.old.entries) (requests_of requests.new.entries) }
+{
+    match requests.get_mut(mark) {
+        Some(in_flight) => in_flight.open_reply(reply, fields),
+        None => {
+            drop(reply);
+            Err(AllocError)
+        }
+    }
+}
+
+/// Adds a record to the open reply to the request of a mark, where there is one, by a line of these fields.
+pub fn add_record(
+    requests: &mut HashMap<String, InFlight>,
+    mark: &str,
+    section: Section,
+    found: Record,
+    fields: &[&str],
+) -> Result<(), AllocError>
+    ensures { IsChanged mark.now (λ r. with_reply (texts fields.now) (option_map (answered section found) r.reply) r)
+        result (requests_of requests.old.entries) (requests_of requests.new.entries) }
+{
+    match requests.get_mut(mark) {
+        Some(in_flight) => in_flight.add_record(section, found, fields),
+        None => {
+            drop(found);
+            Err(AllocError)
+        }
+    }
 }
 
 // Tells what a look-up came to.

@@ -1,26 +1,27 @@
 //! What stands between two lines, and what a line does with it.
-ghost use Rattle.std.specs.Prelude.{◌≡◌, false, IfOk, IfSome, IsOk, None, Ok, OnErr, OnOk, Some, string_bytes};
+ghost use Rattle.std.specs.Prelude.{◌≡◌, ◌&&◌, false, [], Err, IfOk, IsOk, None, Ok, OnErr, OnOk};
 ghost use Rattle.std.specs.Option.{is_some, option_map};
 ghost use Rattle.hickory_resolver.specs.Requests.{request_of};
 ghost use Rattle.hickory_resolver_model.specs.Bounds.{bounds_fault};
 ghost use Rattle.hickory_resolver_model.specs.Options.{bounds_of};
 ghost use Rattle.replay_script.specs.Configuration.{with_setting};
-ghost use Rattle.replay_script.specs.Fields.{fields};
-ghost use Rattle.replay_script.specs.Reader.{answered};
+ghost use Rattle.replay_script.specs.FailLine.{error_of};
 ghost use Rattle.replay_script.specs.Words.{texts};
-ghost use Rattle.conversation.specs.Answers.{Begins, Fails, FeedsReply, Takes, adds, adds_hosts, cancelled, cancels, ends, opens, sets, with_line};
-ghost use Rattle.conversation.specs.Answers.{AnswersDone, AnswersFields, AnswersFirstLine, AnswersFor, AnswersLine, AnswersMarked, AnswersOutcome, AnswersRequest, AnswersSetting, AnswersVerb, AnswersWord, EndsReply};
-ghost use Rattle.conversation.specs.Hearing.{Answers, IsHeard, silent};
-ghost use Rattle.conversation.specs.Lines.{mark_in, mark_of, mark_or_none, verb_named, word_named};
+ghost use Rattle.conversation.specs.Answers.{Begins, Fails, FeedsReply, Takes, AnswersLine, adds, cancelled, opens, sets};
+ghost use Rattle.conversation.specs.Hearing.{IsBegunOut, IsHeard, IsOutcomeOf, silent};
+ghost use Rattle.conversation.specs.Lines.{mark_of};
+ghost use Rattle.conversation.specs.Faults.{of_line};
+ghost use Rattle.conversation.specs.Said as said;
+ghost use Rattle.conversation.specs.Said.{said_by, said_value};
 ghost use Rattle.conversation.specs.State.{begun_of, conversation_of, request_at, requests_of};
-ghost use Rattle.conversation.specs.Telling.{HasReply, IsAnswered, IsFed, IsForRequest, IsKept, IsOfOutcome, IsOpening, IsRefused, IsServing, IsSettingTold, resolver_over, set_so, stage_over};
+ghost use Rattle.conversation.specs.Telling.{HasReply, IsActedUpon, IsAnswered, IsFailureOf, IsFed, IsForRequest, IsOpening, IsRefused, IsServing, IsSettingTold, no_outcome, nothing_left, resolver_over, set_so, stage_over};
 
 use crate::fault::{ConversationFault, Refusal};
 use crate::heard::Heard;
 use crate::in_flight::{Begun, InFlight, outcome_of};
-use crate::reading::{mark_of, mark_or_none, read_request, read_said};
-use crate::requests::{begin, forget, go_on, put, take};
-use crate::verbs::{Verb, Word};
+use crate::reading::{mark_in, mark_of, read_request, read_script_line};
+use crate::requests::{add_record, begin, forget, go_on, open_reply, take};
+use crate::said::Said;
 use crate::writing::{push_fields, told_cancel, told_fault, told_last, told_nothing, told_setting};
 use hickory_proto_core::{Outcome, Record, ScriptHandle};
 use hickory_resolver::{Hosts, Request, Resolver, ResolverConfig, WaitingCall};
@@ -75,57 +76,36 @@ impl State {
 
     // Answers a line.
     fn answer(&mut self, line: &[u8]) -> Result<Heard, AllocError>
-        ensures { let before = conversation_of self.old in IsAnswered before (mark_of line.now)
-            (Answers before line.now)
-            result (conversation_of self.new) }
+        ensures { IsActedUpon (conversation_of self.old) (mark_of line.now) (said_by line.now) result
+            (conversation_of self.new) }
     {
         if is_skipped(line) {
             return Ok(told_nothing(self.alloc));
         }
         match read_text(line) {
-            Ok(text) => self.hear_text(text),
+            Ok(text) => {
+                let fields = split(self.alloc, text)?;
+                self.act(mark_in(&fields), Said::of(&fields))
+            }
             Err(error) => self.refuse("-", &Refusal::from(error)),
         }
     }
 
-    fn hear_text(&mut self, text: &str) -> Result<Heard, AllocError>
-        ensures { let before = conversation_of self.old in IsAnswered before (mark_in (fields text.now))
-            (AnswersFields before (fields text.now))
-            result (conversation_of self.new) }
+    // Does what a line of this mark says.
+    fn act(&mut self, mark: &str, said: Said<'_>) -> Result<Heard, AllocError>
+        ensures { IsActedUpon (conversation_of self.old) mark.now (said_value said.entry) result
+            (conversation_of self.new) }
     {
-        let fields = split(self.alloc, text)?;
-        self.hear_fields(&fields)
-    }
-
-    fn hear_fields(&mut self, fields: &[&str]) -> Result<Heard, AllocError>
-        ensures { let before = conversation_of self.old in IsAnswered before (mark_in (texts fields.now))
-            (AnswersFields before (texts fields.now))
-            result (conversation_of self.new) }
-    {
-        match fields {
-            [word, behind @ ..] => self.hear_word(word, behind, fields),
-            [] => Ok(told_nothing(self.alloc)),
-        }
-    }
-
-    // A line by its first word; behind are the others.
-    fn hear_word(
-        &mut self,
-        word: &str,
-        behind: &[&str],
-        fields: &[&str],
-    ) -> Result<Heard, AllocError>
-        ensures { let before = conversation_of self.old in IsAnswered before (mark_or_none word.now)
-            (AnswersWord before (mark_or_none word.now) (word_named word.now) (texts behind.now) (texts fields.now))
-            result (conversation_of self.new) }
-    {
-        let mark = mark_or_none(word);
-        match Word::of(word) {
-            Word::End => self.end(mark, behind),
-            Word::Hosts => self.add_hosts(mark, behind),
-            Word::Setting => self.add_setting(mark, fields),
-            Word::Unused => self.refuse(mark, &Refusal::unknown(fields)),
-            Word::Mark => self.hear_marked(mark, behind),
+        match said {
+            Said::Nothing => Ok(told_nothing(self.alloc)),
+            Said::End => Ok(told_last(self.alloc)),
+            Said::Hosts(fields) => self.add_hosts(mark, fields),
+            Said::Setting(fields) => self.add_setting(mark, fields),
+            Said::Request { explains, fields } => self.begin(mark, explains, fields),
+            Said::Outcome { begins, fields } => self.add_line(mark, begins, fields),
+            Said::Done(behind) => self.end_reply(mark, behind),
+            Said::Cancel(behind) => self.cancel(mark, behind),
+            Said::Refused(refusal) => self.refuse(mark, &refusal),
         }
     }
 
@@ -139,32 +119,20 @@ impl State {
         told_fault(self.alloc, mark, self.lines, refusal)
     }
 
-    // `end`
-    fn end(&self, mark: &str, fields: &[&str]) -> Result<Heard, AllocError>
-        ensures { IsAnswered (conversation_of self.now) mark.now
-            (λ answer. answer ≡ ends (conversation_of self.now) mark.now (texts fields.now))
-            result (conversation_of self.now) }
+    // A fault of no single field is told.
+    fn refuse_line(&self, mark: &str, fault: ConversationFault) -> Result<Heard, AllocError>
+        ensures { IsRefused (conversation_of self.now) mark.now (of_line fault) result }
     {
-        if fields.is_empty() {
-            return Ok(told_last(self.alloc));
-        }
-        self.refuse(
-            mark,
-            &Refusal::of_line(ConversationFault::Script(ScriptFault::FieldCount)),
-        )
+        self.refuse(mark, &Refusal::of_line(fault))
     }
 
     // A line of a file of hosts.
     fn add_hosts(&mut self, mark: &str, fields: &[&str]) -> Result<Heard, AllocError>
-        ensures { let before = conversation_of self.old in IsAnswered before mark.now
-            (λ answer. answer ≡ adds_hosts before mark.now before.stage (texts fields.now))
-            result (conversation_of self.new) }
+        ensures { IsActedUpon (conversation_of self.old) mark.now (said.Hosts (texts fields.now)) result
+            (conversation_of self.new) }
     {
         if self.resolver.is_some() {
-            return self.refuse(
-                mark,
-                &Refusal::of_line(ConversationFault::SettingAfterRequest),
-            );
+            return self.refuse_line(mark, ConversationFault::SettingAfterRequest);
         }
         let mut line = String::from_str(self.alloc, "\n")?;
         push_fields(&mut line, fields)?;
@@ -174,17 +142,13 @@ impl State {
 
     // A setting.
     fn add_setting(&mut self, mark: &str, fields: &[&str]) -> Result<Heard, AllocError>
-        ensures { let before = conversation_of self.old in IsAnswered before mark.now
-            (AnswersSetting before mark.now before.stage (texts fields.now))
-            result (conversation_of self.new) }
+        ensures { IsActedUpon (conversation_of self.old) mark.now (said.Setting (texts fields.now)) result
+            (conversation_of self.new) }
     {
         if self.resolver.is_some() {
-            return self.refuse(
-                mark,
-                &Refusal::of_line(ConversationFault::SettingAfterRequest),
-            );
+            return self.refuse_line(mark, ConversationFault::SettingAfterRequest);
         }
-        match read_said(self.alloc, false, fields) {
+        match read_script_line(self.alloc, false, fields) {
             Ok(line) => self.take_setting(mark, line, fields),
             Err(refusal) => self.refuse(mark, &refusal),
         }
@@ -196,7 +160,7 @@ impl State {
         ensures { let before = conversation_of self.old in IsAnswered before mark.now
             (λ answer. answer ≡ sets before mark.now self.old.configuration self.old.hosts.items (texts fields.now)
             (Ok line))
-            result (conversation_of self.new) }
+            nothing_left result (conversation_of self.new) }
     {
         match line {
             Line::Configuration(setting) => self.set(fields, setting),
@@ -219,62 +183,13 @@ impl State {
         }
     }
 
-    // A line with a mark.
-    fn hear_marked(&mut self, mark: &str, fields: &[&str]) -> Result<Heard, AllocError>
-        ensures { let before = conversation_of self.old in IsAnswered before mark.now
-            (AnswersMarked before mark.now (texts fields.now))
-            result (conversation_of self.new) }
-    {
-        match fields {
-            [verb, behind @ ..] => self.hear_verb(mark, verb, behind, fields),
-            [] => self.refuse(mark, &Refusal::unknown(fields)),
-        }
-    }
-
-    // A line with a mark by its verb; behind are the fields behind that.
-    fn hear_verb(
-        &mut self,
-        mark: &str,
-        verb: &str,
-        behind: &[&str],
-        fields: &[&str],
-    ) -> Result<Heard, AllocError>
-        ensures { let before = conversation_of self.old in IsAnswered before mark.now
-            (AnswersVerb before mark.now (verb_named verb.now) (texts behind.now) (texts fields.now))
-            result (conversation_of self.new) }
-    {
-        match Verb::of(verb) {
-            Some(verb) => self.hear_known(mark, verb, behind, fields),
-            None => self.refuse(mark, &Refusal::unknown(fields)),
-        }
-    }
-
-    fn hear_known(
-        &mut self,
-        mark: &str,
-        verb: Verb,
-        behind: &[&str],
-        fields: &[&str],
-    ) -> Result<Heard, AllocError>
-        ensures { let before = conversation_of self.old in IsAnswered before mark.now
-            (AnswersVerb before mark.now (Some verb) (texts behind.now) (texts fields.now))
-            result (conversation_of self.new) }
-    {
-        match verb {
-            Verb::At => self.begin(mark, false, fields),
-            Verb::Explain => self.begin(mark, true, behind),
-            _ => self.hear_of(mark, verb, behind, fields),
-        }
-    }
-
     // A request begins, unless its mark is in use.
     fn begin(&mut self, mark: &str, explains: bool, fields: &[&str]) -> Result<Heard, AllocError>
-        ensures { let before = conversation_of self.old in IsAnswered before mark.now
-            (AnswersRequest before mark.now explains (texts fields.now))
-            result (conversation_of self.new) }
+        ensures { IsActedUpon (conversation_of self.old) mark.now (said.Request explains (texts fields.now)) result
+            (conversation_of self.new) }
     {
         if self.requests.contains_key(mark) {
-            return self.refuse(mark, &Refusal::of_line(ConversationFault::MarkInUse));
+            return self.refuse_line(mark, ConversationFault::MarkInUse);
         }
         match read_request(self.alloc, fields) {
             Ok(request) => self.begin_request(mark, explains, request),
@@ -291,11 +206,12 @@ impl State {
     ) -> Result<Heard, AllocError>
         ensures { let before = conversation_of self.old in IsAnswered before mark.now
             (Begins before mark.now explains (request_of request))
+            (IsBegunOut before.stage (request_of request))
             result (conversation_of self.new) }
     {
         match self.open(request.moment()) {
             Ok(()) => self.serve(mark, explains, request),
-            Err(fault) => self.refuse(mark, &Refusal::of_line(fault)),
+            Err(fault) => self.refuse_line(mark, fault),
         }
     }
 
@@ -357,66 +273,24 @@ impl State {
         )
     }
 
-    // A line for a request in flight.
-    fn hear_of(
-        &mut self,
-        mark: &str,
-        verb: Verb,
-        behind: &[&str],
-        fields: &[&str],
-    ) -> Result<Heard, AllocError>
-        requires { IsOfOutcome verb }
-        ensures { let before = conversation_of self.old in IsAnswered before mark.now
-            (AnswersOutcome before mark.now verb (texts behind.now) (texts fields.now))
-            result (conversation_of self.new) }
-    {
-        match has_reply(&self.requests, mark) {
-            Some(has_reply) => self.hear_held(mark, verb, has_reply, behind, fields),
-            None => self.refuse(mark, &Refusal::of_line(ConversationFault::NoSuchRequest)),
-        }
-    }
-
-    fn hear_held(
-        &mut self,
-        mark: &str,
-        verb: Verb,
-        has_reply: bool,
-        behind: &[&str],
-        fields: &[&str],
-    ) -> Result<Heard, AllocError>
-        requires outcome { IsOfOutcome verb }
-        requires held { HasReply (requests_of self.old.requests.entries) mark.now has_reply }
-        ensures { let before = conversation_of self.old in IsForRequest before mark.now
-            (λ r. AnswersFor before mark.now r verb (texts behind.now) (texts fields.now))
-            result (conversation_of self.new) }
-    {
-        match verb {
-            Verb::Cancel => self.cancel(mark, behind),
-            Verb::Done => self.done(mark, has_reply, behind),
-            Verb::Record => self.add_line(mark, has_reply, fields),
-            _ => self.add_first_line(mark, has_reply, fields),
-        }
-    }
-
     // The request is forgotten.
-    fn cancel(&mut self, mark: &str, fields: &[&str]) -> Result<Heard, AllocError>
-        ensures { let before = conversation_of self.old in IsAnswered before mark.now
-            (λ answer. answer ≡ cancels before mark.now (texts fields.now))
-            result (conversation_of self.new) }
+    fn cancel(&mut self, mark: &str, behind: &[&str]) -> Result<Heard, AllocError>
+        ensures { IsActedUpon (conversation_of self.old) mark.now (said.Cancel (texts behind.now)) result
+            (conversation_of self.new) }
     {
-        if fields.is_empty() {
-            return self.cancel_request(mark);
+        if !self.requests.contains_key(mark) {
+            return self.refuse_line(mark, ConversationFault::NoSuchRequest);
         }
-        self.refuse(
-            mark,
-            &Refusal::of_line(ConversationFault::Script(ScriptFault::FieldCount)),
-        )
+        if !behind.is_empty() {
+            return self.refuse_line(mark, ConversationFault::Script(ScriptFault::FieldCount));
+        }
+        self.cancel_request(mark)
     }
 
     fn cancel_request(&mut self, mark: &str) -> Result<Heard, AllocError>
         ensures { let before = conversation_of self.old in IsAnswered before mark.now
             (λ answer. answer ≡ cancelled before mark.now)
-            result (conversation_of self.new) }
+            nothing_left result (conversation_of self.new) }
     {
         let heard = told_cancel(self.alloc, mark)?;
         forget(&mut self.requests, mark);
@@ -424,42 +298,30 @@ impl State {
     }
 
     // The open reply is whole.
-    fn done(&mut self, mark: &str, has_reply: bool, fields: &[&str]) -> Result<Heard, AllocError>
-        requires { HasReply (requests_of self.old.requests.entries) mark.now has_reply }
-        ensures { let before = conversation_of self.old in IsForRequest before mark.now
-            (λ r. AnswersDone before mark.now r (texts fields.now))
-            result (conversation_of self.new) }
+    fn end_reply(&mut self, mark: &str, behind: &[&str]) -> Result<Heard, AllocError>
+        ensures { IsActedUpon (conversation_of self.old) mark.now (said.Done (texts behind.now)) result
+            (conversation_of self.new) }
     {
-        if has_reply {
-            return self.end_reply(mark, fields);
+        let Some(has_reply) = has_reply(&self.requests, mark) else {
+            return self.refuse_line(mark, ConversationFault::NoSuchRequest);
+        };
+        if !has_reply {
+            return self.refuse_line(mark, ConversationFault::Script(ScriptFault::NoReply));
         }
-        self.refuse(
-            mark,
-            &Refusal::of_line(ConversationFault::Script(ScriptFault::NoReply)),
-        )
-    }
-
-    fn end_reply(&mut self, mark: &str, fields: &[&str]) -> Result<Heard, AllocError>
-        ensures { let before = conversation_of self.old in IsForRequest before mark.now
-            (λ r. EndsReply before mark.now r (texts fields.now))
-            result (conversation_of self.new) }
-    {
-        if fields.is_empty() {
-            return self.feed_reply(mark);
+        if !behind.is_empty() {
+            return self.refuse_line(mark, ConversationFault::Script(ScriptFault::FieldCount));
         }
-        self.refuse(
-            mark,
-            &Refusal::of_line(ConversationFault::Script(ScriptFault::FieldCount)),
-        )
+        self.feed_reply(mark)
     }
 
     // The open reply is fed to its request.
     fn feed_reply(&mut self, mark: &str) -> Result<Heard, AllocError>
         ensures { let before = conversation_of self.old in IsForRequest before mark.now
             (λ r. FeedsReply mark.now before.stage r)
+            (IsOutcomeOf (said.Done []))
             result (conversation_of self.new) }
     {
-        let Some((_, in_flight)) = take(&mut self.requests, mark) else {
+        let Some(in_flight) = take(&mut self.requests, mark) else {
             return Err(AllocError);
         };
         let InFlight {
@@ -498,37 +360,18 @@ impl State {
         )
     }
 
-    // The first line of an outcome.
-    fn add_first_line(
-        &mut self,
-        mark: &str,
-        has_reply: bool,
-        fields: &[&str],
-    ) -> Result<Heard, AllocError>
-        requires { HasReply (requests_of self.old.requests.entries) mark.now has_reply }
-        ensures { let before = conversation_of self.old in IsForRequest before mark.now
-            (λ r. AnswersFirstLine before mark.now r (texts fields.now))
-            result (conversation_of self.new) }
+    // A line of an outcome, which is the first one or not.
+    fn add_line(&mut self, mark: &str, begins: bool, fields: &[&str]) -> Result<Heard, AllocError>
+        ensures { IsActedUpon (conversation_of self.old) mark.now (said.Outcome begins (texts fields.now)) result
+            (conversation_of self.new) }
     {
-        if has_reply {
-            return self.refuse(mark, &Refusal::of_line(ConversationFault::ReplyNotDone));
+        let Some(has_reply) = has_reply(&self.requests, mark) else {
+            return self.refuse_line(mark, ConversationFault::NoSuchRequest);
+        };
+        if is_early(begins, has_reply) {
+            return self.refuse_line(mark, ConversationFault::ReplyNotDone);
         }
-        self.add_line(mark, has_reply, fields)
-    }
-
-    // A line of an outcome.
-    fn add_line(
-        &mut self,
-        mark: &str,
-        has_reply: bool,
-        fields: &[&str],
-    ) -> Result<Heard, AllocError>
-        requires { HasReply (requests_of self.old.requests.entries) mark.now has_reply }
-        ensures { let before = conversation_of self.old in IsForRequest before mark.now
-            (λ r. AnswersLine before mark.now r (texts fields.now))
-            result (conversation_of self.new) }
-    {
-        match read_said(self.alloc, has_reply, fields) {
+        match read_script_line(self.alloc, has_reply, fields) {
             Ok(line) => self.take_line(mark, line, fields),
             Err(refusal) => self.refuse(mark, &refusal),
         }
@@ -538,6 +381,7 @@ impl State {
     fn take_line(&mut self, mark: &str, line: Line, fields: &[&str]) -> Result<Heard, AllocError>
         ensures { let before = conversation_of self.old in IsForRequest before mark.now
             (λ r. Takes before mark.now r (texts fields.now) (Ok line))
+            (IsFailureOf line)
             result (conversation_of self.new) }
     {
         match line {
@@ -556,16 +400,13 @@ impl State {
     ) -> Result<Heard, AllocError>
         ensures { let before = conversation_of self.old in IsForRequest before mark.now
             (λ r answer. answer ≡ opens before mark.now r (texts fields.now) head)
-            result (conversation_of self.new) }
+            no_outcome result (conversation_of self.new) }
     {
         let Ok(reply) = OpenReply::open(self.alloc, head) else {
             return Err(AllocError);
         };
-        let Some((key, in_flight)) = take(&mut self.requests, mark) else {
-            return Err(AllocError);
-        };
-        let InFlight { begun, waiting, .. } = in_flight;
-        self.keep(key, begun, waiting, reply, fields)
+        open_reply(&mut self.requests, mark, reply, fields)?;
+        Ok(told_nothing(self.alloc))
     }
 
     fn add_record(
@@ -577,45 +418,9 @@ impl State {
     ) -> Result<Heard, AllocError>
         ensures { let before = conversation_of self.old in IsForRequest before mark.now
             (λ r answer. answer ≡ adds before mark.now r (texts fields.now) section found)
-            result (conversation_of self.new) }
+            no_outcome result (conversation_of self.new) }
     {
-        let Some((key, in_flight)) = take(&mut self.requests, mark) else {
-            return Err(AllocError);
-        };
-        let InFlight {
-            begun,
-            waiting,
-            reply,
-        } = in_flight;
-        match with_record(reply, section, found) {
-            Some(reply) => self.keep(key, begun, waiting, reply, fields),
-            None => Err(AllocError),
-        }
-    }
-
-    // Keeps a request that was taken out, with one more line of its reply.
-    fn keep(
-        &mut self,
-        key: String,
-        begun: Begun,
-        waiting: WaitingCall,
-        reply: OpenReply,
-        fields: &[&str],
-    ) -> Result<Heard, AllocError>
-        ensures { IsKept (conversation_of self.old) (string_bytes key) (record {
-          begun = with_line (begun_of begun) (texts fields.now);
-          waiting = waiting;
-          reply = Some reply;
-        }) result (conversation_of self.new) }
-    {
-        let mut begun = begun;
-        begun.add_line(fields)?;
-        let in_flight = InFlight {
-            begun,
-            waiting,
-            reply: Some(reply),
-        };
-        put(&mut self.requests, key, in_flight)?;
+        add_record(&mut self.requests, mark, section, found, fields)?;
         Ok(told_nothing(self.alloc))
     }
 
@@ -623,9 +428,10 @@ impl State {
     fn fail(&mut self, mark: &str, kind: FailureKind, fields: &[&str]) -> Result<Heard, AllocError>
         ensures { let before = conversation_of self.old in IsForRequest before mark.now
             (λ r. Fails before mark.now r (texts fields.now) kind)
+            (λ r outcome. outcome ≡ Err (error_of kind))
             result (conversation_of self.new) }
     {
-        let Some((_, in_flight)) = take(&mut self.requests, mark) else {
+        let Some(in_flight) = take(&mut self.requests, mark) else {
             return Err(AllocError);
         };
         let InFlight {
@@ -648,15 +454,11 @@ fn has_reply(requests: &HashMap<String, InFlight>, mark: &str) -> Option<bool>
     }
 }
 
-// An open reply with one more record; none where no reply is open, or no memory is left.
-fn with_record(reply: Option<OpenReply>, section: Section, found: Record) -> Option<OpenReply>
-    ensures { IfSome result (λ more. Some more ≡ option_map (answered section found) reply) }
+// Whether the first line of an outcome, if it is one, comes before the open reply is done.
+fn is_early(begins: bool, has_reply: bool) -> bool
+    ensures { result ≡ (begins && has_reply) }
 {
-    let mut reply = reply?;
-    match reply.add(section, found) {
-        Ok(()) => Some(reply),
-        Err(_) => None,
-    }
+    begins && has_reply
 }
 
 // The resolver of this configuration, whose bounds are in order, over these hosts. Its own handle is never asked.

@@ -24,19 +24,19 @@ use Rattle.replay_script.specs.declared.reply_line.ReplyHead.{ReplyHead}
 use Rattle.replay_script.specs.declared.script.OpenReply.{OpenReply}
 use Rattle.replay_script.specs.declared.setting.Setting.{Setting as OneSetting}
 use Rattle.replay_script.specs.declared.setting.Setting.TheVariants as setting
-use Rattle.conversation.specs.Answers.{Answer, AnswersFields, AnswersFirstLine, AnswersFor, AnswersLine, AnswersMarked, AnswersOutcome, AnswersSetting, AnswersVerb, AnswersWord, Begins, Feeds, FeedsReply, IsOpened, Serves, Takes, adds_hosts, cancels, keeps, nothing, refused, sets, with_hosts, with_line}
+use Rattle.conversation.specs.Answers.{Answer, AnswersDone, AnswersInFlight, AnswersLine, AnswersOutcome, AnswersSaid, AnswersSetting, Begins, Feeds, FeedsReply, IsOpened, Serves, Takes, adds_hosts, cancels, keeps, nothing, refused, sets, with_hosts, with_line}
 use Rattle.conversation.specs.Hearing.{Answers}
 use Rattle.conversation_journal.specs.Journal.{moment_asked, moment_at, moment_behind}
 use Rattle.conversation.specs.Faults.{RefusalValue, of_line, refusal_of, unknown}
-use Rattle.conversation.specs.Lines.{IsAsked, mark_by, mark_in, mark_of, said_of, verb_named, word_named}
+use Rattle.conversation.specs.Lines.{IsAsked, mark_by, mark_in, mark_of, said_of, word_named}
+use Rattle.conversation.specs.Said as said
+use Rattle.conversation.specs.Said.{SaidValue, said_behind_mark, said_by_verb, said_by_word, said_explained, said_in}
 use Rattle.conversation.specs.State.{ConversationValue, InFlightValue, Setting, Serving, Stage, request_at}
 use Rattle.conversation.specs.Texts.{fields_text}
 use Rattle.conversation.specs.declared.fault.ConversationFault.{ConversationFault}
 use Rattle.conversation.specs.declared.fault.ConversationFault.TheVariants as fault
-use Rattle.conversation.specs.declared.verbs.Verb.{Verb}
-use Rattle.conversation.specs.declared.verbs.Verb.TheVariants as verb
-use Rattle.conversation.specs.declared.verbs.Word.{Word}
-use Rattle.conversation.specs.declared.verbs.Word.TheVariants as word
+use Rattle.conversation.specs.declared.words.Word.{Word}
+use Rattle.conversation.specs.declared.words.Word.TheVariants as word
 use Rattle.conversation_journal.proofs.JournalTexts.{AreFields, fields-are}
 use Rattle.conversation_journal.proofs.JournalSaid.{word-is}
 
@@ -87,7 +87,7 @@ module _ (c : ConversationValue) (mark : List ℕ) (moment : Option ℕ) (answer
   hosts_by (Setting configuration lines) behind at e = more_hosts configuration lines (with_hosts lines behind) at (ap (λ a. a.stage) e) (ap (λ a. a.journal) e) (ap (λ a. a.held) e)
   hosts_by (Serving s cache) behind at e = refuses (of_line fault.SettingAfterRequest) e
 
-  ends_by : (b : Bool) → answer ≡ cond b (record (nothing c mark) { is_last = true }) (refused c mark (of_line (fault.Script script.FieldCount))) → Happens c mark moment answer
+  ends_by : (b : Bool) → AnswersSaid c mark (cond b said.End (said.Refused (of_line (fault.Script script.FieldCount)))) answer → Happens c mark moment answer
   ends_by true e = unchanged (ap (λ a. a.journal) e) (ap (λ a. a.stage) e) (ap (λ a. a.held) e)
   ends_by false e = refuses (of_line (fault.Script script.FieldCount)) e
 
@@ -176,12 +176,12 @@ module _ (c : ConversationValue) (mark : List ℕ) (moment : Option ℕ) (answer
   a_line : (r : InFlightValue) (given : List (List ℕ)) → ((said : Line) → IsSaid (is_some r.reply) given (Ok said) → Takes c mark r given (Ok said) answer → Happens c mark moment answer) → AnswersLine c mark r given answer → Happens c mark moment answer
   a_line r given go (said, (result, is, e), takes) = line_by r given result go is (subst (λ x. Takes c mark r given x answer) e takes)
 
-  reply_by : (r : InFlightValue) (behind : List (List ℕ)) → request_at mark c.requests ≡ Some r → AreFields (codes "reply" ∷ behind) → AnswersFirstLine c mark r (codes "reply" ∷ behind) answer → Happens c mark moment answer
+  reply_by : (r : InFlightValue) (behind : List (List ℕ)) → request_at mark c.requests ≡ Some r → AreFields (codes "reply" ∷ behind) → AnswersOutcome c mark r true (codes "reply" ∷ behind) answer → Happens c mark moment answer
   reply_by r behind at own is = first_by r (codes "reply" ∷ behind) (λ a none. a_line r (codes "reply" ∷ behind) (λ said is takes.
       let m = made (λ head. line.Reply head) _ said is in
       opened r (codes "reply" ∷ behind) m.0 at (none_open r.reply none) own (λ b. subst (λ l. IsSaid b (codes "reply" ∷ behind) (Ok l)) m.1 is) (subst (λ l. Takes c mark r (codes "reply" ∷ behind) (Ok l) answer) m.1 takes)) a) (is_some r.reply) refl is
 
-  fail_by : (r : InFlightValue) (behind : List (List ℕ)) → request_at mark c.requests ≡ Some r → AreFields (codes "fail" ∷ behind) → AnswersFirstLine c mark r (codes "fail" ∷ behind) answer → Happens c mark moment answer
+  fail_by : (r : InFlightValue) (behind : List (List ℕ)) → request_at mark c.requests ≡ Some r → AreFields (codes "fail" ∷ behind) → AnswersOutcome c mark r true (codes "fail" ∷ behind) answer → Happens c mark moment answer
   fail_by r behind at own is = first_by r (codes "fail" ∷ behind) (λ a none. a_line r (codes "fail" ∷ behind) (λ said is takes.
       let m = made (λ x. line.Fail x) is.0 said is.2 in
       failed r (codes "fail" ∷ behind) m.0 at (none_open r.reply none) own (λ b. subst (λ l. IsSaid b (codes "fail" ∷ behind) (Ok l)) m.1 is) (subst (λ l. Takes c mark r (codes "fail" ∷ behind) (Ok l) answer) m.1 takes)) a) (is_some r.reply) refl is
@@ -208,36 +208,45 @@ module _ (c : ConversationValue) (mark : List ℕ) (moment : Option ℕ) (answer
 
   -- ---- verbs
 
-  by_first : (D w : List ℕ) (behind : List (List ℕ)) (r : InFlightValue) → is_text D w ≡ true → (AreFields (D ∷ behind) → AnswersFirstLine c mark r (D ∷ behind) answer → Happens c mark moment answer) → AreFields (w ∷ behind) → AnswersFirstLine c mark r (w ∷ behind) answer → Happens c mark moment answer
-  by_first D w behind r h go = subst (λ x. AreFields (x ∷ behind) → AnswersFirstLine c mark r (x ∷ behind) answer → Happens c mark moment answer) (sym (word-is D w h)) go
+  by_first : (D w : List ℕ) (behind : List (List ℕ)) (r : InFlightValue) → is_text D w ≡ true → (AreFields (D ∷ behind) → AnswersOutcome c mark r true (D ∷ behind) answer → Happens c mark moment answer) → AreFields (w ∷ behind) → AnswersOutcome c mark r true (w ∷ behind) answer → Happens c mark moment answer
+  by_first D w behind r h go = subst (λ x. AreFields (x ∷ behind) → AnswersOutcome c mark r true (x ∷ behind) answer → Happens c mark moment answer) (sym (word-is D w h)) go
 
-  by_line : (D w : List ℕ) (behind : List (List ℕ)) (r : InFlightValue) → is_text D w ≡ true → (AreFields (D ∷ behind) → AnswersLine c mark r (D ∷ behind) answer → Happens c mark moment answer) → AreFields (w ∷ behind) → AnswersLine c mark r (w ∷ behind) answer → Happens c mark moment answer
-  by_line D w behind r h go = subst (λ x. AreFields (x ∷ behind) → AnswersLine c mark r (x ∷ behind) answer → Happens c mark moment answer) (sym (word-is D w h)) go
+  by_line : (D w : List ℕ) (behind : List (List ℕ)) (r : InFlightValue) → is_text D w ≡ true → (AreFields (D ∷ behind) → AnswersLine c mark r (D ∷ behind) answer → Happens c mark moment answer) → AreFields (w ∷ behind) → AnswersOutcome c mark r false (w ∷ behind) answer → Happens c mark moment answer
+  by_line D w behind r h go = subst (λ x. AreFields (x ∷ behind) → AnswersOutcome c mark r false (x ∷ behind) answer → Happens c mark moment answer) (sym (word-is D w h)) go
 
-  flight_by : (v : Verb) (w : List ℕ) (behind : List (List ℕ)) → ((r : InFlightValue) → request_at mark c.requests ≡ Some r → AnswersFor c mark r v behind (w ∷ behind) answer → Happens c mark moment answer)
-      → (o : Option InFlightValue) → request_at mark c.requests ≡ o → MatchOption o (answer ≡ refused c mark (of_line fault.NoSuchRequest)) (λ r. AnswersFor c mark r v behind (w ∷ behind) answer) → Happens c mark moment answer
-  flight_by v w behind go None at e = refuses (of_line fault.NoSuchRequest) e
-  flight_by v w behind go (Some r) at is = go r at is
+  flight_by : (Kind : InFlightValue → Answer → Type 0) → ((r : InFlightValue) → request_at mark c.requests ≡ Some r → Kind r answer → Happens c mark moment answer)
+      → (o : Option InFlightValue) → request_at mark c.requests ≡ o → MatchOption o (answer ≡ refused c mark (of_line fault.NoSuchRequest)) (λ r. Kind r answer) → Happens c mark moment answer
+  flight_by Kind go None at e = refuses (of_line fault.NoSuchRequest) e
+  flight_by Kind go (Some r) at is = go r at is
 
-  verb_by : (w : List ℕ) (behind : List (List ℕ)) → AreFields (w ∷ behind) → (is_text (codes "explain") w ≡ true → moment ≡ moment_at behind) → (is_text (codes "explain") w ≡ false → moment ≡ moment_at (w ∷ behind)) → AnswersVerb c mark (verb_named w) behind (w ∷ behind) answer → Happens c mark moment answer
+  flight : (Kind : InFlightValue → Answer → Type 0) → ((r : InFlightValue) → request_at mark c.requests ≡ Some r → Kind r answer → Happens c mark moment answer) → AnswersInFlight c mark Kind answer → Happens c mark moment answer
+  flight Kind go a = flight_by Kind go (request_at mark c.requests) refl a
+
+  explained_by : (behind : List (List ℕ)) → AreFields behind → moment ≡ moment_at behind → AnswersSaid c mark (said_explained behind) answer → Happens c mark moment answer
+  explained_by [] own at e = refuses (unknown []) e
+  explained_by (w ∷ behind) own at is =
+      pick (λ v. AnswersSaid c mark v answer) (is_text (codes "at") w) (said.Request true (w ∷ behind)) (said.Refused (unknown (w ∷ behind))) is
+      (λ h a. request_by (w ∷ behind) true own at (request_at mark c.requests) refl a) (λ h e. refuses (unknown (w ∷ behind)) e)
+
+  verb_by : (w : List ℕ) (behind : List (List ℕ)) → AreFields (w ∷ behind) → (is_text (codes "explain") w ≡ true → moment ≡ moment_at behind) → (is_text (codes "explain") w ≡ false → moment ≡ moment_at (w ∷ behind)) → AnswersSaid c mark (said_by_verb w behind (w ∷ behind)) answer → Happens c mark moment answer
   verb_by w behind own explained plain is =
-      let P : Option Verb → Type 0 = λ v. AnswersVerb c mark v behind (w ∷ behind) answer in
-      pick P (is_text (codes "explain") w) (Some verb.Explain) _ is (λ h a. request_by behind true own.1 (explained h) (request_at mark c.requests) refl a) (λ h0 is.
-      pick P (is_text (codes "at") w) (Some verb.At) _ is (λ h a. request_by (w ∷ behind) false own (plain h0) (request_at mark c.requests) refl a) (λ h1 is.
-      pick P (is_text (codes "reply") w) (Some verb.Reply) _ is (λ h a. flight verb.Reply (λ r at x. by_first (codes "reply") w behind r h (reply_by r behind at) own x) a) (λ h2 is.
-      pick P (is_text (codes "answer") w) (Some verb.Record) _ is (λ h a. flight verb.Record (λ r at x. by_line (codes "answer") w behind r h (answer_by r behind at) own x) a) (λ h3 is.
-      pick P (is_text (codes "authority") w) (Some verb.Record) _ is (λ h a. flight verb.Record (λ r at x. by_line (codes "authority") w behind r h (authority_by r behind at) own x) a) (λ h4 is.
-      pick P (is_text (codes "additional") w) (Some verb.Record) _ is (λ h a. flight verb.Record (λ r at x. by_line (codes "additional") w behind r h (additional_by r behind at) own x) a) (λ h5 is.
-      pick P (is_text (codes "done") w) (Some verb.Done) _ is (λ h a. flight verb.Done (λ r at x. done_by r behind (is_some r.reply) (is_empty behind) at x) a) (λ h6 is.
-      pick P (is_text (codes "fail") w) (Some verb.Fail) _ is (λ h a. flight verb.Fail (λ r at x. by_first (codes "fail") w behind r h (fail_by r behind at) own x) a) (λ h7 is.
-      pick P (is_text (codes "cancel") w) (Some verb.Cancel) None is (λ h a. flight verb.Cancel (λ r at x. cancels_by r (is_empty behind) at x) a) (λ h8 e. refuses (unknown (w ∷ behind)) e)))))))))
-    where
-      flight : (v : Verb) → ((r : InFlightValue) → request_at mark c.requests ≡ Some r → AnswersFor c mark r v behind (w ∷ behind) answer → Happens c mark moment answer) → AnswersOutcome c mark v behind (w ∷ behind) answer → Happens c mark moment answer
-      flight v go a = flight_by v w behind go (request_at mark c.requests) refl a
+      let P : SaidValue → Type 0 = λ v. AnswersSaid c mark v answer in
+      let given = w ∷ behind in
+      let First : InFlightValue → Answer → Type 0 = λ r a. AnswersOutcome c mark r true given a in
+      let More : InFlightValue → Answer → Type 0 = λ r a. AnswersOutcome c mark r false given a in
+      pick P (is_text (codes "explain") w) (said_explained behind) _ is (λ h a. explained_by behind own.1 (explained h) a) (λ h0 is.
+      pick P (is_text (codes "at") w) (said.Request false given) _ is (λ h a. request_by given false own (plain h0) (request_at mark c.requests) refl a) (λ h1 is.
+      pick P (is_text (codes "reply") w) (said.Outcome true given) _ is (λ h a. flight First (λ r at x. by_first (codes "reply") w behind r h (reply_by r behind at) own x) a) (λ h2 is.
+      pick P (is_text (codes "fail") w) (said.Outcome true given) _ is (λ h a. flight First (λ r at x. by_first (codes "fail") w behind r h (fail_by r behind at) own x) a) (λ h3 is.
+      pick P (is_text (codes "answer") w) (said.Outcome false given) _ is (λ h a. flight More (λ r at x. by_line (codes "answer") w behind r h (answer_by r behind at) own x) a) (λ h4 is.
+      pick P (is_text (codes "authority") w) (said.Outcome false given) _ is (λ h a. flight More (λ r at x. by_line (codes "authority") w behind r h (authority_by r behind at) own x) a) (λ h5 is.
+      pick P (is_text (codes "additional") w) (said.Outcome false given) _ is (λ h a. flight More (λ r at x. by_line (codes "additional") w behind r h (additional_by r behind at) own x) a) (λ h6 is.
+      pick P (is_text (codes "done") w) (said.Done behind) _ is (λ h a. flight (λ r a. AnswersDone c mark r behind a) (λ r at x. done_by r behind (is_some r.reply) (is_empty behind) at x) a) (λ h7 is.
+      pick P (is_text (codes "cancel") w) (said.Cancel behind) (said.Refused (unknown given)) is (λ h a. flight (λ r a. a ≡ cancels c mark behind) (λ r at x. cancels_by r (is_empty behind) at x) a) (λ h8 e. refuses (unknown given) e)))))))))
 
   -- ---- words
 
-  marked_by : (behind : List (List ℕ)) → AreFields behind → moment ≡ moment_behind behind → AnswersMarked c mark behind answer → Happens c mark moment answer
+  marked_by : (behind : List (List ℕ)) → AreFields behind → moment ≡ moment_behind behind → AnswersSaid c mark (said_behind_mark behind) answer → Happens c mark moment answer
   marked_by [] own at e = refuses (unknown []) e
   marked_by (w ∷ behind) own at is =
       let pick_at : (b : Bool) → Option ℕ = λ b. cond b (moment_at behind) (moment_at (w ∷ behind)) in
@@ -245,10 +254,10 @@ module _ (c : ConversationValue) (mark : List ℕ) (moment : Option ℕ) (answer
 
 -- whatever the first word is
 word_by : (c : ConversationValue) (t : List ℕ) (answer : Answer) (w : List ℕ) (behind : List (List ℕ)) → mark_of t ≡ mark_by (word_named w) w → AreFields (w ∷ behind)
-    → AnswersWord c (mark_by (word_named w) w) (word_named w) behind (w ∷ behind) answer → Happens c (mark_of t) (moment_behind behind) answer
+    → AnswersSaid c (mark_by (word_named w) w) (said_by_word (word_named w) behind (w ∷ behind)) answer → Happens c (mark_of t) (moment_behind behind) answer
 word_by c t answer w behind mark_is own is = subst (λ m. Happens c m (moment_behind behind) answer) (sym mark_is) (by (word_named w) refl is)
   where
-    by : (x : Word) → word_named w ≡ x → AnswersWord c (mark_by x w) x behind (w ∷ behind) answer → Happens c (mark_by (word_named w) w) (moment_behind behind) answer
+    by : (x : Word) → word_named w ≡ x → AnswersSaid c (mark_by x w) (said_by_word x behind (w ∷ behind)) answer → Happens c (mark_by (word_named w) w) (moment_behind behind) answer
     by word.End e is = subst (λ x. Happens c (mark_by x w) (moment_behind behind) answer) (sym e) (ends_by c (codes "-") (moment_behind behind) answer (is_empty behind) is)
     by word.Hosts e is = subst (λ x. Happens c (mark_by x w) (moment_behind behind) answer) (sym e) (hosts_by c (codes "-") (moment_behind behind) answer c.stage behind refl is)
     by word.Setting e is = subst (λ x. Happens c (mark_by x w) (moment_behind behind) answer) (sym e) (setting_by c (codes "-") (moment_behind behind) answer c.stage w behind refl e own is)
@@ -258,18 +267,17 @@ word_by c t answer w behind mark_is own is = subst (λ m. Happens c m (moment_be
 nothing_heard : (c : ConversationValue) (mark : List ℕ) (moment : Option ℕ) (answer : Answer) → answer ≡ nothing c mark → Happens c mark moment answer
 nothing_heard c mark moment answer e = unchanged (ap (λ a. a.journal) e) (ap (λ a. a.stage) e) (ap (λ a. a.held) e)
 
-fields_by : (c : ConversationValue) (t : List ℕ) (answer : Answer) (given : List (List ℕ)) → mark_of t ≡ mark_in given → AreFields given → AnswersFields c given answer → Happens c (mark_of t) (moment_asked given) answer
+fields_by : (c : ConversationValue) (t : List ℕ) (answer : Answer) (given : List (List ℕ)) → mark_of t ≡ mark_in given → AreFields given → AnswersSaid c (mark_in given) (said_in given) answer → Happens c (mark_of t) (moment_asked given) answer
 fields_by c t answer [] mark_is own e = subst (λ m. Happens c m None answer) (sym mark_is) (nothing_heard c (codes "-") None answer e)
 fields_by c t answer (w ∷ behind) mark_is own is = word_by c t answer w behind mark_is own is
 
 -- each answer does one of these
 pub happens : (c : ConversationValue) (t : List ℕ) (answer : Answer) → Answers c t answer → Happens c (mark_of t) (moment_asked (fields t)) answer
-happens c t answer is = skipped (is_skipped t) refl is
+happens c t answer is = by (is_skipped t) (list_all is_allowed t) refl refl is
   where
-    allowed : (b : Bool) → list_all is_allowed t ≡ b → is_skipped t ≡ false → MatchBool b (AnswersFields c (fields t) answer) (answer ≡ refused c (codes "-") (of_line (fault.Script script.BadByte))) → Happens c (mark_of t) (moment_asked (fields t)) answer
-    allowed true e h is = fields_by c t answer (fields t) (rw (h, e) refl) (fields-are t e) is
-    allowed false e h is = subst (λ m. Happens c m (moment_asked (fields t)) answer) (sym (rw (h, e) refl)) (refuses c (codes "-") (moment_asked (fields t)) answer (of_line (fault.Script script.BadByte)) is)
-
-    skipped : (b : Bool) → is_skipped t ≡ b → MatchBool b (answer ≡ nothing c (codes "-")) (MatchBool (list_all is_allowed t) (AnswersFields c (fields t) answer) (answer ≡ refused c (codes "-") (of_line (fault.Script script.BadByte)))) → Happens c (mark_of t) (moment_asked (fields t)) answer
-    skipped true h is = subst (λ m. Happens c m (moment_asked (fields t)) answer) (sym (rw h refl)) (nothing_heard c (codes "-") (moment_asked (fields t)) answer is)
-    skipped false h is = allowed (list_all is_allowed t) refl h is
+    by : (b d : Bool) → is_skipped t ≡ b → list_all is_allowed t ≡ d
+        → AnswersSaid c (cond b (codes "-") (cond d (mark_in (fields t)) (codes "-"))) (cond b said.Nothing (cond d (said_in (fields t)) (said.Refused (of_line (fault.Script script.BadByte))))) answer
+        → Happens c (mark_of t) (moment_asked (fields t)) answer
+    by true d h e is = subst (λ m. Happens c m (moment_asked (fields t)) answer) (sym (rw h refl)) (nothing_heard c (codes "-") (moment_asked (fields t)) answer is)
+    by false true h e is = fields_by c t answer (fields t) (rw (h, e) refl) (fields-are t e) is
+    by false false h e is = subst (λ m. Happens c m (moment_asked (fields t)) answer) (sym (rw (h, e) refl)) (refuses c (codes "-") (moment_asked (fields t)) answer (of_line (fault.Script script.BadByte)) is)

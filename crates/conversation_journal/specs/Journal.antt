@@ -16,6 +16,7 @@ use Rattle.replay_script.specs.Words.{number_field}
 use Rattle.conversation.specs.Answers.{Answer, IsOpened}
 use Rattle.conversation.specs.Hearing.{Answers, RunsOut, Says, Stands, silent}
 use Rattle.conversation.specs.Lines.{mark_of}
+use Rattle.conversation.specs.Said.{said_by}
 use Rattle.conversation.specs.State.{ConversationValue, InFlightValue, Setting, Serving, Stage, counted}
 use Rattle.conversation.specs.declared.heard.Heard.{Heard}
 
@@ -30,7 +31,8 @@ AreHeard before (text ∷ texts) (Some answer ∷ answers) after =
     × Stands (mark_of text) answer (counted before) mid
     × MatchBool answer.is_last ((answers ≡ []) × (after ≡ mid)) (AreHeard mid texts answers after)
 AreHeard before (text ∷ texts) (None ∷ answers) after =
-    (mid : ConversationValue) × RunsOut (mark_of text) (counted before) mid × AreHeard mid texts answers after
+    (mid : ConversationValue) × RunsOut (mark_of text) (said_by text) (counted before) mid
+    × AreHeard mid texts answers after
 AreHeard before _ _ after = ⊥
 
 -- these lines go out, of what lines are answered one after another

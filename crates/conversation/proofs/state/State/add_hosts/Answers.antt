@@ -1,33 +1,35 @@
 use Rattle.std.proofs.Common.{◌≡◌, ◌∙◌, ◌++◌, false, inl, List, ap, refl, string_bytes, sym, ℕ}
 use Rattle.std.specs.Option.{is_some}
 use Rattle.replay_script.specs.Words.{texts}
-use Rattle.conversation.specs.Answers.{adds_hosts}
+use Rattle.conversation.specs.Answers.{AnswersSaid}
 use Rattle.conversation.specs.Faults.{of_line}
+use Rattle.conversation.specs.Hearing.{IsServedOut}
+use Rattle.conversation.specs.Said as said
 use Rattle.conversation.specs.State.{Stage, conversation_of, requests_of, stage_of}
 use Rattle.conversation.specs.Texts.{fields_text}
 use Rattle.conversation.specs.declared.fault.ConversationFault.TheVariants as fault
-use Rattle.conversation.proofs.Answered.{answered_out, out_here}
+use Rattle.conversation.proofs.Answered.{acted_out, acted_refused, answered_out}
 use Rattle.conversation.proofs.Held.{some_stays}
-use Rattle.conversation.proofs.Settings.{hosts_added, hosts_late, hosts_more, refused_for, serving_stage, setting_stage}
+use Rattle.conversation.proofs.Settings.{hosts_added, hosts_late, hosts_more, serving_stage, setting_stage}
 use Rattle.conversation.proofs.state.State.add_hosts.Goals as goal
 
 pub returns-then-is_some : goal.returns-then-is_some
 returns-then-is_some c =
     let s = c.args.self.now in
     let over = serving_stage s.configuration s.hosts.items s.resolver (sym c.is_some.ensures ∙ c.if-is_some.true) in
-    refused_for (conversation_of s) c.args.mark.now c.of_line.result (of_line fault.SettingAfterRequest) (λ answer. answer ≡ adds_hosts (conversation_of s) c.args.mark.now (conversation_of s).stage (texts c.args.fields.now)) c.refuse.result c.refuse.ensures c.of_line.ensures
+    acted_refused (conversation_of s) c.args.mark.now (said.Hosts (texts c.args.fields.now)) (of_line fault.SettingAfterRequest) c.refuse_line.result c.refuse_line.ensures
     (λ told. hosts_late (conversation_of s) c.args.mark.now (texts c.args.fields.now) over.0 over.1 over.2)
 
 pub returns-in_err-line : goal.returns-in_err-line
-returns-in_err-line c = out_here (conversation_of c.args.self.now) c.args.mark.now (λ answer. answer ≡ adds_hosts (conversation_of c.args.self.now) c.args.mark.now (conversation_of c.args.self.now).stage (texts c.args.fields.now)) c.from_residual.result c.from_residual.ensures.0
+returns-in_err-line c = acted_out (conversation_of c.args.self.now) c.args.mark.now (said.Hosts (texts c.args.fields.now)) c.from_residual.result c.from_residual.ensures.0
 
 pub returns-in_err-push_fields : goal.returns-in_err-push_fields
-returns-in_err-push_fields c = out_here (conversation_of c.args.self.now) c.args.mark.now (λ answer. answer ≡ adds_hosts (conversation_of c.args.self.now) c.args.mark.now (conversation_of c.args.self.now).stage (texts c.args.fields.now)) c.from_residual-in_err-push_fields.result c.from_residual-in_err-push_fields.ensures.0
+returns-in_err-push_fields c = acted_out (conversation_of c.args.self.now) c.args.mark.now (said.Hosts (texts c.args.fields.now)) c.from_residual-in_err-push_fields.result c.from_residual-in_err-push_fields.ensures.0
 
 pub returns-in_err-extend_from_slice : goal.returns-in_err-extend_from_slice
 returns-in_err-extend_from_slice c =
     let s = c.args.self.now in
-    answered_out (conversation_of s) (record (conversation_of s) { stage = stage_of s.configuration c.extend_from_slice.new.self.items s.resolver }) c.args.mark.now (λ answer. answer ≡ adds_hosts (conversation_of s) c.args.mark.now (conversation_of s).stage (texts c.args.fields.now)) c.from_residual-in_err-extend_from_slice.result c.from_residual-in_err-extend_from_slice.ensures.0
+    answered_out (conversation_of s) (record (conversation_of s) { stage = stage_of s.configuration c.extend_from_slice.new.self.items s.resolver }) c.args.mark.now (AnswersSaid (conversation_of s) c.args.mark.now (said.Hosts (texts c.args.fields.now))) (IsServedOut (conversation_of s) c.args.mark.now (said.Hosts (texts c.args.fields.now))) c.from_residual-in_err-extend_from_slice.result c.from_residual-in_err-extend_from_slice.ensures.0
     (record {
       lines_are = refl;
       stage_is = inl (ap (λ (lines : List ℕ). stage_of s.configuration lines s.resolver) c.in_err-extend_from_slice.ensures.items);

@@ -1,17 +1,18 @@
-use Rattle.std.proofs.Common.{◌∙◌, false, Ok, refl, sym}
+use Rattle.std.proofs.Common.{◌∙◌, false, Ok, sym}
 use Rattle.replay_script.specs.Words.{texts}
-use Rattle.conversation.specs.Answers.{AnswersSetting}
 use Rattle.conversation.specs.Faults.{of_line}
+use Rattle.conversation.specs.Said as said
 use Rattle.conversation.specs.State.{conversation_of}
 use Rattle.conversation.specs.declared.fault.ConversationFault.TheVariants as fault
-use Rattle.conversation.proofs.Settings.{line_read, line_wrong, refused_for, serving_stage, setting_late, setting_read, setting_stage, setting_wrong}
+use Rattle.conversation.proofs.Answered.{acted_refused}
+use Rattle.conversation.proofs.Settings.{line_read, line_wrong, serving_stage, setting_late, setting_read, setting_stage, setting_wrong}
 use Rattle.conversation.proofs.state.State.add_setting.Goals as goal
 
 pub returns-then-is_some : goal.returns-then-is_some
 returns-then-is_some c =
     let s = c.args.self.now in
     let over = serving_stage s.configuration s.hosts.items s.resolver (sym c.is_some.ensures ∙ c.if-is_some.true) in
-    refused_for (conversation_of s) c.args.mark.now c.of_line.result (of_line fault.SettingAfterRequest) (λ answer. AnswersSetting (conversation_of s) c.args.mark.now (conversation_of s).stage (texts c.args.fields.now) answer) c.refuse.result c.refuse.ensures c.of_line.ensures
+    acted_refused (conversation_of s) c.args.mark.now (said.Setting (texts c.args.fields.now)) (of_line fault.SettingAfterRequest) c.refuse_line.result c.refuse_line.ensures
     (λ told. setting_late (conversation_of s) c.args.mark.now (texts c.args.fields.now) over.0 over.1 over.2)
 
 pub returns-in-Ok : goal.returns-in-Ok
@@ -23,5 +24,5 @@ returns-in-Ok c =
 pub returns-in-Err : goal.returns-in-Err
 returns-in-Err c =
     let s = c.args.self.now in
-    refused_for (conversation_of s) c.args.mark.now c.in-Err.refusal c.in-Err.refusal (λ answer. AnswersSetting (conversation_of s) c.args.mark.now (conversation_of s).stage (texts c.args.fields.now) answer) c.refuse-in-Err.result c.refuse-in-Err.ensures refl
+    acted_refused (conversation_of s) c.args.mark.now (said.Setting (texts c.args.fields.now)) c.in-Err.refusal c.refuse.result c.refuse.ensures
     (λ told. setting_wrong (conversation_of s) c.args.mark.now (texts c.args.fields.now) s.configuration s.hosts.items c.in-Err.refusal (setting_stage s.configuration s.hosts.items s.resolver (sym c.is_some.ensures ∙ c.if-is_some.false)) (line_wrong false (texts c.args.fields.now) c.in-Err.refusal c.in-Err.ensures told))

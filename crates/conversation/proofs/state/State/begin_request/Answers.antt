@@ -9,4 +9,4 @@ returns-in-Ok c =
 
 pub returns-in-Err : goal.returns-in-Err
 returns-in-Err c =
-    not_begun (conversation_of c.args.self.now) (conversation_of c.open.new.self) c.args.mark.now c.args.explains (request_of c.args.request) c.moment.result c.in-Err.fault c.of_line.result c.refuse.result c.moment.ensures c.in-Err.ensures c.of_line.ensures c.refuse.ensures
+    not_begun (conversation_of c.args.self.now) (conversation_of c.open.new.self) c.args.mark.now c.args.explains (request_of c.args.request) c.moment.result c.in-Err.fault c.refuse_line.result c.moment.ensures c.in-Err.ensures c.refuse_line.ensures

@@ -3,6 +3,7 @@ use Rattle.replay_script.specs.Words.{texts}
 use Rattle.conversation.specs.Answers.{sets}
 use Rattle.conversation.specs.Faults.{unknown}
 use Rattle.conversation.specs.State.{conversation_of}
+use Rattle.conversation.specs.Telling.{nothing_left}
 use Rattle.conversation.proofs.Settings.{not_set, refused_for, setting_taken}
 use Rattle.conversation.proofs.state.State.take_setting.Goals as goal
 
@@ -14,5 +15,5 @@ returns-in-Configuration c =
 pub returns : goal.returns
 returns c =
     let s = c.args.self.now in
-    refused_for (conversation_of s) c.args.mark.now c.unknown.result (unknown (texts c.args.fields.now)) (λ answer. answer ≡ sets (conversation_of s) c.args.mark.now s.configuration s.hosts.items (texts c.args.fields.now) (Ok c.args.line)) c.refuse.result c.refuse.ensures c.unknown.ensures
+    refused_for (conversation_of s) c.args.mark.now c.unknown.result (unknown (texts c.args.fields.now)) (λ answer. answer ≡ sets (conversation_of s) c.args.mark.now s.configuration s.hosts.items (texts c.args.fields.now) (Ok c.args.line)) nothing_left c.refuse.result c.refuse.ensures c.unknown.ensures
     (λ told. not_set (conversation_of s) c.args.mark.now (texts c.args.fields.now) s.configuration s.hosts.items c.args.line c.in_default.not-Configuration)

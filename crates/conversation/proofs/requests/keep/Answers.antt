@@ -1,9 +1,0 @@
-use Rattle.std.proofs.Common.{string_bytes}
-use Rattle.conversation.specs.State.{begun_of, requests_of}
-use Rattle.conversation.proofs.Told.{kept_asking}
-use Rattle.conversation.proofs.requests.keep.Goals as goal
-
-pub returns-clause-kept : goal.returns-clause-kept
-returns-clause-kept c =
-    kept_asking c.args.mark.now (string_bytes c.in_ok-key.key) (begun_of c.args.begun) (begun_of c.add_question.new.self) c.args.waiting c.question.result.now c.put.result (requests_of c.args.requests.now.entries) (requests_of c.put.new.requests.entries)
-    c.in_ok-key.ensures.ok c.question.ensures c.in_ok-add_question.ensures c.put.ensures.kept
