@@ -1,0 +1,5 @@
+pub mod Beliefs
+pub mod Cutting
+pub mod TryOctets
+pub mod Streams
+pub mod Varied
