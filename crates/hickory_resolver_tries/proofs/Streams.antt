@@ -1,5 +1,5 @@
 -- The messages of a stream, one by one, and of a stream in two parts.
-use Rattle.std.proofs.Common.{◌≡◌, ℕ, suc, zero, ◌+◌, ◌*◌, ◌≤◌, ◌<◌, List, [], ◌∷◌, ◌++◌, length, take, drop, ap, ap₂, refl, sym, ◌∙◌, arith, Option, Some, None, Bool, true, false, cond, length-drop, length-append}
+use Rattle.std.proofs.Common.{◌≡◌, ℕ, suc, zero, ◌+◌, ◌*◌, ◌≤◌, List, [], ◌∷◌, ◌++◌, length, take, drop, ap, ap₂, refl, sym, ◌∙◌, arith, Option, Some, None, Bool, true, false, cond, length-drop, length-append}
 use Rattle.std.specs.Prelude.{nat_lt}
 use Rattle.std.specs.Option.{option_map_or}
 use Rattle.std.proofs.lemmas.Bool.{ltb-false}

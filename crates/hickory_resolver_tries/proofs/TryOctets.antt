@@ -1,10 +1,9 @@
 -- The octets of a try, part by part, are those of its message, and are read as it.
-use Rattle.std.proofs.Common.{◌≡◌, ℕ, ◌+◌, ◌<◌, Bool, true, false, cond, not, ◌&&◌, List, [], ◌∷◌, ◌++◌, length, refl, ap, ap₂, sym, ◌∙◌, append_assoc, Ok, lit<}
+use Rattle.std.proofs.Common.{◌≡◌, ℕ, ◌+◌, ◌<◌, Bool, true, false, cond, ◌&&◌, List, [], ◌∷◌, ◌++◌, refl, ap, ap₂, sym, ◌∙◌, append_assoc, Ok, lit<}
 use Rattle.std.specs.Prelude.{Option, None, Some}
 use Rattle.std.specs.Option.{is_some, is_none}
 use Rattle.std.specs.List.{list_any}
-use Rattle.hickory_proto_core.specs.Name.{NameValue, is_long_label, label_fault}
-use Rattle.hickory_proto_core.specs.Codes.{type_code, class_code}
+use Rattle.hickory_proto_core.specs.Name.{is_long_label, label_fault}
 use Rattle.hickory_proto_wire.specs.Edns.{EdnsValue, AreInRange}
 use Rattle.hickory_proto_wire.specs.Made.{query_flaw, flaw_unless}
 use Rattle.hickory_proto_wire.specs.Messages.{message_of}
@@ -17,7 +16,7 @@ use Rattle.hickory_resolver_tries.specs.declared.pool_question.PoolQuestion.{Poo
 use Rattle.hickory_resolver_tries.specs.declared.pool_question.SentOpt.{SentOpt}
 use Rattle.hickory_resolver_tries.specs.declared.try_message.TryForm.{TryForm}
 use Rattle.hickory_resolver_tries.specs.Belief.{asked_name, asked_codes}
-use Rattle.hickory_resolver_tries.specs.Tries.{sends_opt, edns_of, edns_if, labels_sent, name_sent, octets_sent, message_of_try, octets_of_try}
+use Rattle.hickory_resolver_tries.specs.Tries.{sends_opt, edns_of, edns_if, labels_sent, octets_sent, message_of_try, octets_of_try}
 use Rattle.hickory_resolver_tries.proofs.Varied.{sent-name, label_fault-sent}
 
 -- ---- the header

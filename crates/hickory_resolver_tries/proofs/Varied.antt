@@ -1,5 +1,5 @@
 -- Varied letters: octets of a name, and its labels.
-use Rattle.std.proofs.Common.{◌≡◌, ℕ, suc, ◌+◌, ◌<◌, Bool, true, false, cond, ◌&&◌, ◌||◌, eqb, ltb, leb, List, [], ◌∷◌, ◌++◌, length, get_or, drop, append_assoc, refl, ap, ap₂, sym, ◌∙◌, arith}
+use Rattle.std.proofs.Common.{◌≡◌, ℕ, suc, ◌+◌, ◌<◌, Bool, true, false, cond, ◌||◌, eqb, ltb, List, [], ◌∷◌, ◌++◌, length, get_or, drop, append_assoc, refl, ap, ap₂, sym, ◌∙◌, arith}
 use Rattle.std.specs.Prelude.{Option, None, Some}
 use Rattle.std.specs.Char.{is_ascii_alphabetic}
 use Rattle.std.specs.List.{list_any, sum_by}
@@ -7,7 +7,7 @@ use Rattle.std.proofs.lemmas.Bool.{ltb-false}
 use Rattle.std.proofs.lemmas.Bool.Decides.{nat_tests}
 use Rattle.std.proofs.lemmas.List.{drop_more}
 use Rattle.std.proofs.lemmas.List.Sums.{sum_by-cons}
-use Rattle.hickory_proto_core.specs.Name.{is_empty_label, is_long_label, wire_len, label_fault}
+use Rattle.hickory_proto_core.specs.Name.{is_long_label, label_fault}
 use Rattle.hickory_proto_core.specs.names.name_error.NameError.TheVariants as names
 use Rattle.hickory_proto_wire.specs.Written.{name_octets}
 use Rattle.hickory_resolver_tries.specs.Letters.{is_set, other_case, varied_octet, next_place, varied_octets, place_behind, varied_labels}

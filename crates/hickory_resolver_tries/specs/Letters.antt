@@ -1,6 +1,6 @@
 -- Letters of a name whose case is varied (0x20 is the weight that tells upper from lower case), so that a forger has to
 -- guess them. The letters are counted from the first of the name; one is changed where the bit of its place is set.
-use Rattle.std.specs.Prelude.{ℕ, suc, ◌+◌, ◌-◌, ◌/◌, ◌%◌, ◌^◌, Bool, List, [], ◌∷◌, ◌==◌, get_or, if◌then◌else◌}
+use Rattle.std.specs.Prelude.{ℕ, ◌+◌, ◌-◌, ◌/◌, ◌%◌, ◌^◌, Bool, List, [], ◌∷◌, ◌==◌, get_or, if◌then◌else◌}
 use Rattle.std.specs.Char.{is_ascii_alphabetic, is_ascii_uppercase}
 
 -- a bit of octets, the one of weight 1 of the first octet first; past the octets none is set

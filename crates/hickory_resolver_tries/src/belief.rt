@@ -77,7 +77,7 @@ fn has_nothing(head: &Head) -> bool
 }
 
 // Whether a code is one of those that do not know OPT: FORMERR and NOTIMP.
-fn knows_no_opt(code: u16) -> bool
+pub(crate) fn knows_no_opt(code: u16) -> bool
     ensures { result ≡ knows_no_opt code }
 {
     code == 1 || code == 4

@@ -3,13 +3,17 @@
 #![tactic(auto)]
 
 pub mod belief;
+mod chain;
 pub mod head;
+pub mod letters_back;
 pub mod message_stream;
+pub mod outcome;
 pub mod pool_question;
 pub mod try_message;
 
 pub use belief::Belief;
 pub use head::Head;
 pub use message_stream::MessageStream;
+pub use outcome::{Reply, ReplyOutcome};
 pub use pool_question::{PoolQuestion, SentOpt};
 pub use try_message::{TryForm, TryMessage};

@@ -1,4 +1,4 @@
-use Rattle.std.proofs.Common.{◌≡◌, ◌+◌, ◌≤◌, length, take, drop, ap, ◌∙◌, arith}
+use Rattle.std.proofs.Common.{◌+◌, ◌≤◌, length, take, drop, ap, ◌∙◌, arith}
 use Rattle.hickory_resolver_tries.specs.Belief.{asked_codes}
 use Rattle.hickory_resolver_tries.proofs.Beliefs.{question_there, other_name, other_codes}
 use Rattle.hickory_resolver_tries.proofs.belief.asked_name.Goals as goal

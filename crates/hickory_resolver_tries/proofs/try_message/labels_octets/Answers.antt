@@ -1,4 +1,4 @@
-use Rattle.std.proofs.Common.{List, ℕ, ◌≡◌, ◌++◌, ◌+◌, [], drop, sym, ap, ◌∙◌, append_assoc}
+use Rattle.std.proofs.Common.{List, ℕ, ◌++◌, ◌+◌, [], drop, sym, ap, ◌∙◌, append_assoc}
 use Rattle.hickory_proto_core.specs.Name.{label_bytes}
 use Rattle.hickory_proto_wire.specs.Writing.{counted}
 use Rattle.hickory_proto_wire.specs.Written.{name_octets}

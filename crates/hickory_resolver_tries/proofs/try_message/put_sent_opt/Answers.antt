@@ -1,4 +1,4 @@
-use Rattle.std.proofs.Common.{List, ℕ, ◌++◌, ◌∷◌, [], ap, ◌∙◌}
+use Rattle.std.proofs.Common.{List, ℕ, ◌++◌, ap, ◌∙◌}
 use Rattle.hickory_proto_wire.specs.Writing.{u16_octets}
 use Rattle.hickory_resolver_tries.proofs.TryOctets.{opt_is}
 use Rattle.hickory_resolver_tries.proofs.try_message.put_sent_opt.Goals as goal

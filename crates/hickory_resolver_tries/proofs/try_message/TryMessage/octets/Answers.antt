@@ -1,4 +1,4 @@
-use Rattle.std.proofs.Common.{List, ℕ, Bool, Ok, ◌++◌, ◌≡◌, ap, ap₂, sym, ◌∙◌}
+use Rattle.std.proofs.Common.{List, ℕ, Bool, Ok, ◌++◌, ap, ap₂, sym, ◌∙◌}
 use Rattle.hickory_proto_wire.specs.Messages.{message_of}
 use Rattle.hickory_proto_wire.specs.Writing.{cut}
 use Rattle.hickory_proto_wire.specs.Written.{header_octets, opt_octets}
