@@ -1,10 +1,12 @@
 -- The messages of a stream, one by one, and of a stream in two parts.
-use Rattle.std.proofs.Common.{◌≡◌, ℕ, suc, zero, ◌+◌, ◌*◌, ◌≤◌, List, [], ◌∷◌, ◌++◌, length, take, drop, ap, ap₂, refl, sym, ◌∙◌, arith, Option, Some, None, Bool, true, false, cond, length-drop, length-append}
+use Rattle.std.proofs.Common.{◌≡◌, ℕ, suc, zero, ◌+◌, ◌*◌, ◌≤◌, ◌<◌, List, [], ◌∷◌, ◌++◌, length, take, drop, ap, ap₂, refl, sym, ◌∙◌, arith, Option, Some, None, Bool, true, false, cond, length-drop, length-append, append_assoc}
 use Rattle.std.specs.Prelude.{nat_lt}
 use Rattle.std.specs.Option.{option_map_or}
 use Rattle.std.proofs.lemmas.Bool.{ltb-false}
-use Rattle.std.proofs.lemmas.List.{take-append-le, drop-append-le}
-use Rattle.hickory_resolver_tries.specs.Stream.{first_of, Cut, with_first, uncut, cut_in, IsCutAnywhere}
+use Rattle.std.proofs.lemmas.List.{take-append-le, drop-append-le, append-nil, map_push}
+use Rattle.std.specs.Global.{Vec}
+use Rattle.hickory_proto_core.specs.Name.{label_bytes}
+use Rattle.hickory_resolver_tries.specs.Stream.{is_partial, first_of, Cut, with_first, uncut, cut_in, messages_of, rest_of, Takes, IsCutAnywhere}
 use Rattle.hickory_resolver_tries.proofs.Cutting.{whole}
 
 abbrev cut_of : List ℕ → Cut
@@ -100,3 +102,59 @@ cut-append (suc n) before after h = by (λ r. cut-append n r after) (first_of be
 pub cut_anywhere : IsCutAnywhere
 cut_anywhere before after =
     let e = cut-append (length before) before after (omega arith) in (ap (λ c. c.messages) e, ap (λ c. c.rest) e)
+
+-- ---- what `next` takes, and the messages
+
+pub none_taken : (s held behind : List ℕ) → Takes s None behind held → (messages_of s ≡ []) × (held ≡ rest_of s)
+none_taken s held behind (none, all, end) =
+    let e = cut_none s none in (ap (λ (c : Cut). c.messages) e, all ∙ sym (ap (λ (c : Cut). c.rest) e))
+
+pub one_taken : (s held behind message : List ℕ) → Takes s (Some message) behind held
+    → (messages_of s ≡ message ∷ messages_of (held ++ behind)) × (rest_of s ≡ rest_of (held ++ behind))
+    × (length held + length behind < length s)
+one_taken s held behind message (some, empty) =
+    let e = cut_some s message behind some in
+    let less = first_shorter s message behind some in
+    let same : held ++ behind ≡ behind = ap (λ (h : List ℕ). h ++ behind) empty in
+    let none : length held ≡ 0 = ap length empty in (
+      ap (λ (c : Cut). c.messages) e ∙ ap (λ (r : List ℕ). message ∷ messages_of r) (sym same),
+      ap (λ (c : Cut). c.rest) e ∙ ap rest_of (sym same),
+      omega arith,
+    )
+
+-- one message more
+pub messages_step : (out next : List (Vec ℕ)) (taken : Vec ℕ) (before after whole : List (List ℕ))
+    → next ≡ out ++ taken ∷ [] → before ≡ taken.items ∷ after → label_bytes out ++ before ≡ whole
+    → label_bytes next ++ after ≡ whole
+messages_step out next taken before after whole en eb so_far =
+    ap (λ (o : List (Vec ℕ)). label_bytes o ++ after) en ∙ ap (λ (o : List (List ℕ)). o ++ after) (map_push (λ (v : Vec ℕ). v.items) out taken)
+    ∙ append_assoc (label_bytes out) (taken.items ∷ []) after
+    ∙ ap (λ (b : List (List ℕ)). label_bytes out ++ b) (sym eb) ∙ so_far
+
+-- one piece more
+pub piece_step : (out next : List (List ℕ)) (held piece after rest rests : List ℕ) (whole : List (List ℕ))
+    → next ≡ out ++ messages_of (held ++ piece) → after ≡ rest_of (held ++ piece) → rest ≡ piece ++ rests
+    → out ++ messages_of (held ++ rest) ≡ whole
+    → next ++ messages_of (after ++ rests) ≡ whole
+piece_step out next held piece after rest rests whole en ea er so_far =
+    let law = cut_anywhere (held ++ piece) rests in
+    ap₂ (λ (n : List (List ℕ)) (a : List ℕ). n ++ messages_of (a ++ rests)) en ea
+    ∙ append_assoc out (messages_of (held ++ piece)) (messages_of (rest_of (held ++ piece) ++ rests))
+    ∙ ap (λ (m : List (List ℕ)). out ++ m) (sym law.0)
+    ∙ ap (λ (s : List ℕ). out ++ messages_of s) (append_assoc held piece rests)
+    ∙ ap (λ (s : List ℕ). out ++ messages_of (held ++ s)) (sym er) ∙ so_far
+
+partial_first : (s : List ℕ) → is_partial s ≡ true → first_of s ≡ None
+partial_first [] h = refl
+partial_first (a ∷ []) h = refl
+partial_first (a ∷ b ∷ s) h =
+    ap (λ t. cond t None (Some (take (a * 256 + b) s, drop (a * 256 + b) s))) h
+
+-- nothing more
+pub no_more : (out whole : List (List ℕ)) (held rest : List ℕ) → is_partial held ≡ true → rest ≡ []
+    → out ++ messages_of (held ++ rest) ≡ whole → out ≡ whole
+no_more out whole held rest partial end so_far =
+    let none : messages_of (held ++ rest) ≡ [] =
+    ap (λ (r : List ℕ). messages_of (held ++ r)) end ∙ ap messages_of (append-nil held)
+    ∙ ap (λ (c : Cut). c.messages) (cut_none held (partial_first held partial)) in
+    sym (append-nil out) ∙ ap (λ (m : List (List ℕ)). out ++ m) (sym none) ∙ so_far

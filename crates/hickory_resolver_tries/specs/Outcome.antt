@@ -20,6 +20,7 @@ use Rattle.hickory_resolver_tries.specs.declared.outcome.ReplyOutcome.TheVariant
 use Rattle.hickory_resolver_tries.specs.declared.pool_question.PoolQuestion.{PoolQuestion}
 use Rattle.hickory_resolver_tries.specs.declared.try_message.TryForm.{TryForm}
 use Rattle.hickory_resolver_tries.specs.Belief.{knows_no_opt}
+use Rattle.hickory_resolver_tries.specs.GivenBack.{given_back}
 use Rattle.hickory_resolver_tries.specs.Heads.{head_of}
 use Rattle.hickory_resolver_tries.specs.Question.{is_dnssec_ok}
 use Rattle.hickory_resolver_tries.specs.Tries.{sends_opt}
@@ -79,7 +80,11 @@ abbrev pub outcome_of : PoolQuestion → TryForm → List ℕ → ReplyOutcome
 outcome_of q form bytes =
     if is_truncated (head_of bytes) then outcome.Truncated else outcome_of_read q form (message_of bytes)
 
+-- the message with the letters that were asked
+abbrev pub with_letters : NameValue → WireMessage → WireMessage
+with_letters asked m = record m { message = given_back asked m.message }
+
 -- the message, where it is read and not cut
-abbrev pub message_if : Bool → Result WireMessage WireFault → Option WireMessage
-message_if cut (Err fault) = None
-message_if cut (Ok m) = if cut then None else Some m
+abbrev pub message_if : Bool → NameValue → Result WireMessage WireFault → Option WireMessage
+message_if cut asked (Err fault) = None
+message_if cut asked (Ok m) = if cut then None else Some (with_letters asked m)

@@ -42,6 +42,7 @@ impl MessageStream {
     pub fn next<'a>(&mut self, piece: &'a [u8]) -> Result<(Option<Vec<u8>>, &'a [u8]), AllocError>
         ensures taken { IfOk result (λ r. Takes (self.old ++ piece.now) (items_or_none r.0) r.1.now self.new) }
         ensures unchanged { OnErr result (self.new ≡ self.old) }
+        ensures partial { is_partial self.new ≡ true }
     {
         let Some(wanted) = wanted(&self.held, piece) else {
             self.held.extend_from_slice(piece)?;
@@ -109,6 +110,40 @@ fn without_length(held: &mut Vec<u8>) -> Vec<u8>
     let mut message = mem::replace(held, empty);
     message.drain(..2);
     message
+}
+
+// Takes all of a piece.
+fn take_all(
+    stream: &mut MessageStream,
+    piece: &[u8],
+    out: &mut Vec<Vec<u8>>,
+) -> Result<(), AllocError>
+    ensures messages { OnOk result (label_bytes out.new.items
+        ≡ label_bytes out.old.items ++ messages_of (stream.old ++ piece.now)) }
+    ensures rest { OnOk result (stream.new ≡ rest_of (stream.old ++ piece.now)) }
+    ensures partial { is_partial stream.new ≡ true }
+{
+    let mut piece = piece;
+    'messages: loop {
+        let (message, behind) = stream.next(piece)?;
+        let Some(message) = message else {
+            return Ok(());
+        };
+        out.push(message)?;
+        piece = behind;
+    }
+}
+
+/// The messages of a stream that comes in these pieces, however it was cut.
+pub fn messages_in(alloc: Global, pieces: &[Vec<u8>]) -> Result<Vec<Vec<u8>>, AllocError>
+    ensures { IfOk result (λ v. label_bytes v.items ≡ messages_of (flat_map (λ piece. piece.items) pieces.now)) }
+{
+    let mut stream = MessageStream::new(alloc);
+    let mut out = Vec::new(alloc);
+    for piece in pieces {
+        take_all(&mut stream, piece, &mut out)?;
+    }
+    Ok(out)
 }
 
 /// The cuts of a stream do not matter: its messages, and what is left, are those of its first part and then of what was

@@ -1,15 +1,16 @@
 //! What a believed reply comes to.
-ghost use Rattle.std.specs.Prelude.{◌≡◌, ◌||◌, ◌&&◌, not, is_some, option_copied, IfOk};
+ghost use Rattle.std.specs.Prelude.{◌≡◌, ◌||◌, ◌&&◌, not, is_some, option_copied, Some, IfOk};
 ghost use Rattle.std.specs.List.{list_any};
 ghost use Rattle.hickory_proto_core.specs.ResponseKind.{is_asked, is_of_type, first_soa};
 ghost use Rattle.hickory_proto_wire.specs.Messages.{message_of};
 ghost use Rattle.hickory_resolver_tries.specs.Heads.{head_of};
 ghost use Rattle.hickory_resolver_tries.specs.Belief.{knows_no_opt};
-ghost use Rattle.hickory_resolver_tries.specs.Outcome.{has_code, has_soa, at_name, is_answered, leads_on, is_lame, refuses_sent_opt, outcome_of_message, is_truncated, outcome_of, message_if};
+ghost use Rattle.hickory_resolver_tries.specs.Outcome.{has_code, has_soa, at_name, is_answered, leads_on, is_lame, refuses_sent_opt, outcome_of_message, is_truncated, outcome_of, with_letters, message_if};
 
 use crate::belief::knows_no_opt;
 use crate::chain::end_of;
 use crate::head::{bit, head_at};
+use crate::letters_back::give_back;
 use crate::try_message::{TryForm, TryMessage};
 use hickory_proto_core::{Message, Name, Query, Record, RecordType, ResponseCode};
 use hickory_proto_wire::{WireError, WireMessage};
@@ -40,7 +41,7 @@ pub enum ReplyOutcome {
 pub struct Reply {
     /// What it comes to.
     pub outcome: ReplyOutcome,
-    /// The message that it spells, unless it was cut or is none.
+    /// The message that it spells, with the letters that were asked, unless it was cut or is none.
     pub message: Option<WireMessage>,
 }
 
@@ -52,7 +53,8 @@ pub fn read_reply(
     octets: &[u8],
 ) -> Result<Reply, AllocError>
     ensures outcome { IfOk result (λ r. r.outcome ≡ outcome_of message.now form.now octets.now) }
-    ensures message { IfOk result (λ r. r.message ≡ message_if (is_truncated (head_of octets.now)) (message_of octets.now)) }
+    ensures message { IfOk result (λ r. r.message
+        ≡ message_if (is_truncated (head_of octets.now)) message.now.query.name (message_of octets.now)) }
 {
     if is_truncated(octets) {
         return Ok(Reply {
@@ -61,16 +63,31 @@ pub fn read_reply(
         });
     }
     match WireMessage::from_wire(alloc, octets) {
-        Ok(read) => Ok(Reply {
-            outcome: outcome_of_message(message, form, &read),
-            message: Some(read),
-        }),
+        Ok(read) => read_message(message, form, read),
         Err(WireError::Fault(_)) => Ok(Reply {
             outcome: ReplyOutcome::BadRest,
             message: None,
         }),
         Err(WireError::OutOfMemory) => Err(AllocError),
     }
+}
+
+// What a message comes to, and the message with the letters that were asked.
+fn read_message(
+    message: &TryMessage,
+    form: &TryForm,
+    read: WireMessage,
+) -> Result<Reply, AllocError>
+    ensures outcome { IfOk result (λ r. r.outcome ≡ outcome_of_message message.now form.now read) }
+    ensures message { IfOk result (λ r. r.message ≡ Some (with_letters message.now.query.name read)) }
+{
+    let outcome = outcome_of_message(message, form, &read);
+    let mut read = read;
+    give_back(&message.question().query.name, &mut read.message)?;
+    Ok(Reply {
+        outcome,
+        message: Some(read),
+    })
 }
 
 // Whether the header says that the message was cut.
