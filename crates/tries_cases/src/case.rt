@@ -1,6 +1,6 @@
 //! A case: a question, the form of a try at it, and a stream.
 use crate::lines::{form_of, octets_of, question_of};
-use crate::shown::{outcome_word, show_octets, show_reply};
+use crate::shown::{read_word, show_octets, show_read, show_taken, show_word};
 use hickory_resolver_tries::belief::judge;
 use hickory_resolver_tries::outcome::read_reply;
 use hickory_resolver_tries::{Belief, MessageStream, TryForm, TryMessage};
@@ -17,9 +17,11 @@ pub struct Case {
 impl Case {
     /// A try of number 0 at a question for the root.
     pub fn new(alloc: Global) -> anyhow::Result<Case> {
+        let question = question_of(alloc, ". A")?;
+        let form = form_of(alloc, "")?;
         Ok(Case {
-            message: TryMessage::new(alloc, question_of(alloc, ". A")?)?,
-            form: form_of(alloc, "")?,
+            message: TryMessage::new(alloc, question)?,
+            form,
             stream: MessageStream::new(alloc),
         })
     }
@@ -27,8 +29,7 @@ impl Case {
     /// Does what a line says.
     pub fn take(&mut self, rt: &impl Print, alloc: Global, line: &str) -> anyhow::Result<()> {
         if let Some(text) = line.strip_prefix("ask ") {
-            self.message = TryMessage::new(alloc, question_of(alloc, text)?)?;
-            return Ok(());
+            return self.ask(alloc, text);
         }
         if let Some(text) = line.strip_prefix("try ") {
             self.form = form_of(alloc, text)?;
@@ -37,15 +38,24 @@ impl Case {
         self.take_octets(rt, alloc, line)
     }
 
+    fn ask(&mut self, alloc: Global, text: &str) -> anyhow::Result<()> {
+        let question = question_of(alloc, text)?;
+        self.message = TryMessage::new(alloc, question)?;
+        Ok(())
+    }
+
     fn take_octets(&mut self, rt: &impl Print, alloc: Global, line: &str) -> anyhow::Result<()> {
         if let Some(text) = line.strip_prefix("came ") {
-            return self.show_came(rt, alloc, &octets_of(alloc, text)?);
+            let octets = octets_of(alloc, text)?;
+            return self.show_came(rt, alloc, &octets);
         }
         if let Some(text) = line.strip_prefix("prefixes ") {
-            return self.show_prefixes(rt, alloc, &octets_of(alloc, text)?);
+            let octets = octets_of(alloc, text)?;
+            return self.show_prefixes(rt, alloc, &octets);
         }
         if let Some(text) = line.strip_prefix("piece ") {
-            return self.show_piece(rt, alloc, &octets_of(alloc, text)?);
+            let octets = octets_of(alloc, text)?;
+            return self.show_piece(rt, alloc, &octets);
         }
         println!(rt; "{line}")?;
         Ok(())
@@ -58,25 +68,19 @@ impl Case {
 
     fn show_came(&self, rt: &impl Print, alloc: Global, octets: &[u8]) -> anyhow::Result<()> {
         match judge(&self.message, &self.form, octets) {
-            Belief::Believed => {
-                let reply = read_reply(alloc, &self.message, &self.form, octets)?;
-                show_reply(rt, &reply)?;
-            }
-            other => {
-                let word = belief_word(other);
-                println!(rt; "{word}")?;
-            }
+            Belief::Believed => self.show_believed(rt, alloc, octets),
+            other => show_word(rt, belief_word(other)),
         }
-        Ok(())
     }
 
-    fn word_of(&self, alloc: Global, octets: &[u8]) -> anyhow::Result<&'static str> {
+    fn show_believed(&self, rt: &impl Print, alloc: Global, octets: &[u8]) -> anyhow::Result<()> {
+        show_read(rt, &read_reply(alloc, &self.message, &self.form, octets))
+    }
+
+    fn word_of(&self, alloc: Global, octets: &[u8]) -> &'static str {
         match judge(&self.message, &self.form, octets) {
-            Belief::Believed => {
-                let reply = read_reply(alloc, &self.message, &self.form, octets)?;
-                Ok(outcome_word(reply.outcome))
-            }
-            other => Ok(belief_word(other)),
+            Belief::Believed => read_word(&read_reply(alloc, &self.message, &self.form, octets)),
+            other => belief_word(other),
         }
     }
 
@@ -84,7 +88,7 @@ impl Case {
     fn show_prefixes(&self, rt: &impl Print, alloc: Global, octets: &[u8]) -> anyhow::Result<()> {
         let mut last = "";
         for end in 0..=octets.len() {
-            let word = self.word_of(alloc, &octets[..end])?;
+            let word = self.word_of(alloc, &octets[..end]);
             if word != last {
                 println!(rt; "from {end} octets on: {word}")?;
             }
@@ -97,10 +101,9 @@ impl Case {
         let mut rest = octets;
         for _ in 0..=octets.len() {
             let (message, behind) = self.stream.next(rest)?;
-            let Some(message) = message else {
+            if !show_taken(rt, alloc, &message)? {
                 break;
-            };
-            show_octets(rt, alloc, "message", &message)?;
+            }
             rest = behind;
         }
         let held = self.stream.held_len();

@@ -1,8 +1,8 @@
 //! What came of octets, as lines.
-use hickory_proto_core::Record;
+use hickory_proto_core::{Query, Record};
 use hickory_proto_wire::WireMessage;
 use hickory_resolver_tries::{Reply, ReplyOutcome};
-use std::alloc::Global;
+use std::alloc::{AllocError, Global};
 use std::io;
 
 /// A word and octets as hex digits.
@@ -17,8 +17,8 @@ pub fn show_octets(
     Ok(())
 }
 
-/// What a reply comes to, in a word.
-pub fn outcome_word(outcome: ReplyOutcome) -> &'static str {
+// What a reply comes to, in a word.
+fn outcome_word(outcome: ReplyOutcome) -> &'static str {
     match outcome {
         ReplyOutcome::Truncated => "believed: truncated",
         ReplyOutcome::BadRest => "believed: no message",
@@ -30,22 +30,56 @@ pub fn outcome_word(outcome: ReplyOutcome) -> &'static str {
     }
 }
 
-/// What a reply comes to, and its message.
-pub fn show_reply(rt: &impl Print, reply: &Reply) -> io::Result<()> {
-    let word = outcome_word(reply.outcome);
-    println!(rt; "{word}")?;
-    match &reply.message {
-        Some(message) => show_message(rt, message),
-        None => Ok(()),
+/// The same of a reply that was read.
+pub fn read_word(read: &Result<Reply, AllocError>) -> &'static str {
+    match read {
+        Ok(reply) => outcome_word(reply.outcome),
+        Err(_) => "out of memory",
     }
 }
 
+/// A line of one word or more.
+pub fn show_word(rt: &impl Print, word: &str) -> anyhow::Result<()> {
+    println!(rt; "{word}")?;
+    Ok(())
+}
+
+/// What a reply comes to, and its message.
+pub fn show_read(rt: &impl Print, read: &Result<Reply, AllocError>) -> anyhow::Result<()> {
+    show_word(rt, read_word(read))?;
+    if let Ok(reply) = read {
+        show_message(rt, &reply.message)?;
+    }
+    Ok(())
+}
+
+/// A message that a stream had, and whether it had one.
+pub fn show_taken(
+    rt: &impl Print,
+    alloc: Global,
+    message: &Option<Vec<u8>>,
+) -> anyhow::Result<bool> {
+    if let Some(octets) = message {
+        show_octets(rt, alloc, "message", octets)?;
+        return Ok(true);
+    }
+    Ok(false)
+}
+
 // Its questions and its answers.
-fn show_message(rt: &impl Print, message: &WireMessage) -> io::Result<()> {
-    for query in &message.message.queries {
+fn show_message(rt: &impl Print, message: &Option<WireMessage>) -> io::Result<()> {
+    if let Some(read) = message {
+        show_queries(rt, &read.message.queries)?;
+        show_records(rt, &read.message.answers)?;
+    }
+    Ok(())
+}
+
+fn show_queries(rt: &impl Print, queries: &[Query]) -> io::Result<()> {
+    for query in queries {
         println!(rt; "  asks {query}")?;
     }
-    show_records(rt, &message.message.answers)
+    Ok(())
 }
 
 fn show_records(rt: &impl Print, records: &[Record]) -> io::Result<()> {
