@@ -1,0 +1,9 @@
+pub mod Belief
+pub mod Chain
+pub mod GivenBack
+pub mod Heads
+pub mod Letters
+pub mod Outcome
+pub mod Question
+pub mod Stream
+pub mod Tries
