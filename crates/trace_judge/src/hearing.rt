@@ -1,14 +1,18 @@
 //! A judge that hears a trace line by line.
-ghost use Rattle.std.specs.Prelude.{◌≡◌, ◌++◌, ◌∷◌, ◌&&◌, [], ℕ, List, is_some, map, if◌then◌else◌, IfOk, OnOk, MatchResult, ⊤};
+ghost use Rattle.std.specs.Prelude.{◌≡◌, ◌++◌, ◌∷◌, ◌&&◌, [], List, is_some, map, if◌then◌else◌, IfOk, OnOk, MatchResult, ⊤};
+ghost use Rattle.trace_judge.specs.Asks.{ask_at};
 ghost use Rattle.trace_judge.specs.Denials.{denial_of, denied_by};
 ghost use Rattle.trace_judge.specs.Judging.{Keeps, event_findings};
 ghost use Rattle.trace_judge.specs.Receptions.{reception_at, received_of};
 ghost use Rattle.trace_judge.specs.Trace.{is_outcome, place_of, without};
 ghost use Rattle.trace_judge.specs.declared.event.Event.{Event};
+ghost use Rattle.trace_judge.specs.declared.options.Options.{Options};
 
+use crate::asks::Ask;
 use crate::classes::{Class, Finding, Place};
 use crate::denials::{Denial, denied_by, last_name, negative_ttl};
 use crate::event::{Event, Moment, Reply, Said, is_outcome};
+use crate::options::Options;
 use crate::receptions::Reception;
 use crate::records::{Evidence, find, judge_told};
 use hickory_proto_core::{Name, Query, Record};
@@ -19,11 +23,14 @@ use std::marker::Model;
 #[derive(Drop)]
 pub struct Judge {
     alloc: Global,
-    slack: u32,
+    options: Options,
     start: Option<Moment>,
+    // The open questions.
     asked: Vec<Query>,
     received: Vec<Reception>,
     denied: Vec<Denial>,
+    asks: Vec<Ask>,
+    answers: Vec<Ask>,
 }
 
 impl Model for Judge {
@@ -32,52 +39,64 @@ impl Model for Judge {
     ghost Value = { JudgeValue };
 
     ghost view = { λ j. record {
-      slack = j.slack;
+      options = j.options;
       start = j.start;
       asked = j.asked.items;
       received = j.received.items;
       denied = j.denied.items;
+      asks = j.asks.items;
+      answers = j.answers.items;
     } };
 }
 
 impl Judge {
-    /// A judge that has heard nothing, and allows this many seconds for rounding.
-    pub fn new(alloc: Global, slack: u32) -> Judge
-        ensures { Keeps slack [] result }
+    /// A judge that has heard nothing.
+    pub fn new(alloc: Global, options: Options) -> Judge
+        ensures { Keeps options [] result }
     {
         Judge {
             alloc,
-            slack,
+            options,
             start: None,
             asked: Vec::new(alloc),
             received: Vec::new(alloc),
             denied: Vec::new(alloc),
+            asks: Vec::new(alloc),
+            answers: Vec::new(alloc),
         }
     }
 
     /// Hears a line, and gives what is found in it: every class that holds, and no other. After an error the judge is
     /// of no further use.
     pub fn hear(&mut self, event: &Event) -> Result<Vec<Finding>, AllocError>
-        ensures { (slack : ℕ) (past : List Event) → Keeps slack past self.old → MatchResult result
-            (λ found. (found.items ≡ event_findings slack past event.now) × Keeps slack (event.now ∷ past) self.new)
+        ensures { (options : Options) (past : List Event) → Keeps options past self.old → MatchResult result
+            (λ found. (found.items ≡ event_findings options past event.now) × Keeps options (event.now ∷ past) self.new)
             (λ _. ⊤) }
     {
         let mut found = Vec::new(self.alloc);
         let now = event.moment;
         match &event.said {
-            Said::Asked(query) => ask(&mut self.asked, query)?,
+            Said::Asked(query) => {
+                ask(&mut self.asked, query)?;
+                note(true, &mut self.asks, now, query)?;
+            }
             Said::Received(reply) => {
                 let counts = answer(&mut self.asked, &reply.query);
                 find(!counts, Place::Response, Class::Unasked, &mut found)?;
                 keep_records(counts, &mut self.received, now, reply)?;
                 keep_denial(counts, &mut self.denied, now, reply)?;
+                let answers = counts && is_outcome(reply.code);
+                note(answers, &mut self.answers, now, &reply.query)?;
             }
             Said::Told(reply) => {
                 let evidence = Evidence {
-                    slack: self.slack,
+                    slack: self.options.slack,
+                    local: &self.options.local,
                     start: self.start.unwrap_or(now),
                     received: &self.received,
                     denied: &self.denied,
+                    asks: &self.asks,
+                    answers: &self.answers,
                 };
                 judge_told(&evidence, now, reply, &mut found)?;
             }
@@ -92,6 +111,18 @@ fn ask(asked: &mut Vec<Query>, query: &Query) -> Result<(), AllocError>
     ensures { OnOk result (asked.new.items ≡ asked.old.items ++ query.now ∷ []) }
 {
     asked.push(Clone::clone(query)?)?;
+    Ok(())
+}
+
+// Notes that a question was asked or answered, where it was.
+fn note(holds: bool, among: &mut Vec<Ask>, moment: Moment, query: &Query) -> Result<(), AllocError>
+    ensures { OnOk result (among.new.items
+        ≡ among.old.items ++ (if holds then ask_at moment query.now ∷ [] else [])) }
+{
+    if holds {
+        let query = Clone::clone(query)?;
+        among.push(Ask { moment, query })?;
+    }
     Ok(())
 }
 

@@ -5,6 +5,7 @@ ghost use Rattle.trace_judge.specs.Traces.{findings_in, judged_at};
 use crate::classes::Finding;
 use crate::event::Event;
 use crate::hearing::Judge;
+use crate::options::Options;
 use std::alloc::{AllocError, Global};
 
 /// A finding, and the line that it is found in, counted from 0.
@@ -14,12 +15,11 @@ pub struct Judged {
     pub finding: Finding,
 }
 
-/// Judges a whole trace: every class that holds of what was told, in order, and no other. `slack` is how many seconds are
-/// allowed for rounding.
-pub fn judge(alloc: Global, trace: &[Event], slack: u32) -> Result<Vec<Judged>, AllocError>
-    ensures { IfOk result (λ found. found.items ≡ findings_in slack trace.now) }
+/// Judges a whole trace: every class that holds of what was told, in order, and no other.
+pub fn judge(alloc: Global, trace: &[Event], options: Options) -> Result<Vec<Judged>, AllocError>
+    ensures { IfOk result (λ found. found.items ≡ findings_in options trace.now) }
 {
-    let mut judge = Judge::new(alloc, slack);
+    let mut judge = Judge::new(alloc, options);
     let mut judged = Vec::new(alloc);
     for (i, event) in trace.iter().enumerate() {
         let found = judge.hear(event)?;
