@@ -5,9 +5,10 @@ import socket
 import subprocess
 import threading
 import time
+from concurrent.futures import ThreadPoolExecutor
 from contextlib import contextmanager
 
-import dns.flags
+import dns.exception
 import dns.message
 import dns.name
 import dns.query
@@ -186,7 +187,7 @@ def trace_of(setting, folder, count, rounds, silent_rounds):
     notes = Notes()
     upstream, port = Upstream(notes), free_port()
     try:
-        with running(SETTINGS[setting](port, upstream.port, folder), port, folder, "resolver.log"):
+        with running(SETTINGS[setting](port, upstream.port, folder), port, folder, f"resolver{port}.log"):
             for done in range(rounds + silent_rounds):
                 upstream.silent = done >= rounds
                 began = time.monotonic()
@@ -218,10 +219,11 @@ WANTED = {
 
 
 def cases(told, program, folder, count=20, rounds=7, silent_rounds=4):
+    with ThreadPoolExecutor(len(WANTED)) as pool:
+        made = {setting: pool.submit(trace_of, setting, folder, count, rounds, silent_rounds) for setting in WANTED}
     for number, (setting, (some, none)) in enumerate(WANTED.items()):
         with told.guard(setting):
-            trace = trace_of(setting, folder, count, rounds, silent_rounds)
-            status, text, counts = judge(program, trace, folder, f"judged{number}")
+            status, text, counts = judge(program, made[setting].result(), folder, f"judged{number}")
             told.tell(f"{setting}: something was told", counts.get("told", 0) > count * rounds // 2, text)
             for name in some:
                 told.tell(f"{setting}: {name}", counts.get(name, 0) > 0 and status == 1, text)
