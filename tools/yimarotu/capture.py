@@ -1,9 +1,12 @@
-"""Reads a capture of packets: the classic form of pcap, with UDP over IPv4 and IPv6."""
+"""Reads a capture of packets: the classic form of pcap, with UDP and TCP over IPv4 and IPv6."""
+import io
 import ipaddress
 import struct
 from dataclasses import dataclass
 
-MAGICS = {b"\xd4\xc3\xb2\xa1": "<", b"\xa1\xb2\xc3\xd4": ">", b"\x4d\x3c\xb2\xa1": "<", b"\xa1\xb2\x3c\x4d": ">"}
+# The order of bytes by the first four of them, and how many units of the second number are a millisecond.
+MAGICS = {b"\xd4\xc3\xb2\xa1": ("<", 1000), b"\xa1\xb2\xc3\xd4": (">", 1000),
+          b"\x4d\x3c\xb2\xa1": ("<", 1000000), b"\xa1\xb2\x3c\x4d": (">", 1000000)}
 ETHERNET = 1
 # The bytes before the packet of IP, by the type of the link: loopback of BSD, raw IP, and Linux's cooked captures.
 LINK_BYTES = {0: 4, 108: 4, 12: 0, 14: 0, 101: 0, 228: 0, 229: 0, 113: 16, 276: 20}
@@ -36,17 +39,26 @@ class Datagram:
 
 def packets(data):
     """The second, the type of the link and the bytes of each packet of a capture."""
-    order = MAGICS.get(data[:4])
-    if order is None or len(data) < 24:
+    for moment, link, packet in stream_packets(io.BytesIO(data)):
+        yield moment // 1000, link, packet
+
+
+def stream_packets(file):
+    """The moment in milliseconds, the type of the link and the bytes of each packet of a capture, as it is read. A last
+    packet that is cut short is left out."""
+    head = file.read(24)
+    order, unit = MAGICS.get(head[:4], (None, None))
+    if order is None or len(head) < 24:
         raise NoCapture("no pcap file; one of pcapng is made into one by: editcap -F pcap IN OUT")
-    link = struct.unpack_from(order + "I", data, 20)[0] & 0xFFFF
+    link = struct.unpack_from(order + "I", head, 20)[0] & 0xFFFF
     if link != ETHERNET and link not in LINK_BYTES:
         raise NoCapture(f"packets of link type {link} are not read")
-    at = 24
-    while at + 16 <= len(data):
-        second, _, length, _ = struct.unpack_from(order + "4I", data, at)
-        yield second, link, data[at + 16:at + 16 + length]
-        at += 16 + length
+    while len(head := file.read(16)) == 16:
+        second, fraction, length, _ = struct.unpack(order + "4I", head)
+        packet = file.read(length)
+        if len(packet) < length:
+            return
+        yield second * 1000 + fraction // unit, link, packet
 
 
 def without_link(link, packet):
@@ -60,15 +72,21 @@ def without_link(link, packet):
     return packet[at + 2:]
 
 
-def read_datagram(second, packet):
-    """The datagram that a packet of IP holds."""
+def ip_parts(packet):
+    """The protocol, the two addresses and the rest of a packet of IP."""
     if not packet:
         raise OtherPacket
     protocol, source, target, rest = (read_ipv4 if packet[0] >> 4 == 4 else read_ipv6)(packet)
+    return protocol, str(source), str(target), rest
+
+
+def read_datagram(second, packet):
+    """The datagram that a packet of IP holds."""
+    protocol, source, target, rest = ip_parts(packet)
     if protocol != UDP:
         raise OtherPacket(is_stream=protocol == TCP)
     source_port, target_port, length = struct.unpack_from(">3H", rest)
-    return Datagram(second, (str(source), source_port), (str(target), target_port), rest[8:length])
+    return Datagram(second, (source, source_port), (target, target_port), rest[8:length])
 
 
 def read_ipv4(packet):

@@ -1,0 +1,43 @@
+//! Judges a trace of a resolver: what it told its clients, by what it received of its upstream.
+#![tactic(auto)]
+
+mod arguments;
+mod error;
+
+use arguments::read_arguments;
+use error::JudgeError;
+use std::fs;
+use std::io::BufReader;
+use std::process::ExitCode;
+use trace_lines::{TraceError, report};
+
+// The status where anything was found.
+const FOUND: u8 = 1;
+
+fn main(rt: HostRuntime) -> ExitCode {
+    match run(&rt) {
+        Ok(false) => ExitCode::SUCCESS,
+        Ok(true) => ExitCode::from(FOUND),
+        Err(error) => {
+            let status = error.status();
+            let _ = rt.eprintln(error);
+            ExitCode::from(status)
+        }
+    }
+}
+
+// Whether anything was found.
+fn run(rt: &HostRuntime) -> Result<bool, JudgeError> {
+    let alloc = rt.alloc();
+    let (trace, settings) = read_arguments(rt)?;
+    if trace.as_str() == "-" {
+        return Ok(report(alloc, settings, &mut rt.reader(), &mut rt.stdout())?);
+    }
+    let Ok(file) = fs::open(rt, trace.as_str()) else {
+        return Err(JudgeError::Unreadable(trace));
+    };
+    let Ok(mut reader) = BufReader::new(alloc, file) else {
+        return Err(JudgeError::Trace(TraceError::Memory));
+    };
+    Ok(report(alloc, settings, &mut reader, &mut rt.stdout())?)
+}

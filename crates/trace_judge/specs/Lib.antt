@@ -1,0 +1,9 @@
+pub mod Trace
+pub mod Receptions
+pub mod Denials
+pub mod Aliases
+pub mod Asks
+pub mod Evidence
+pub mod Findings
+pub mod Judging
+pub mod Traces

@@ -1,0 +1,20 @@
+//! A judge over a trace: what a resolver received of its upstream, and what it told its clients. It finds what the
+//! resolver told that no reception allows.
+#![tactic(auto)]
+
+pub mod aliases;
+pub mod asks;
+pub mod classes;
+pub mod denials;
+pub mod event;
+pub mod hearing;
+pub mod options;
+pub mod receptions;
+pub mod records;
+pub mod trace;
+
+pub use classes::{Class, Finding, Place, Section};
+pub use event::{Event, Moment, Reply, Said};
+pub use hearing::Judge;
+pub use options::Options;
+pub use trace::{Judged, judge};

@@ -1,0 +1,12 @@
+//! What the judge allows.
+
+use hickory_proto_core::Name;
+
+/// What the judge allows.
+#[derive(Debug, Drop)]
+pub struct Options {
+    /// How many seconds more than what was received a TTL may reach, for rounding.
+    pub slack: u32,
+    /// The zones that the resolver answers for by itself: what it tells of them need not have been received.
+    pub local: Vec<Name>,
+}

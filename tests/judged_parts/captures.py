@@ -1,0 +1,146 @@
+"""Cases of `pcap2trace`: small captures that are made here, and the traces that they are."""
+import ipaddress
+import struct
+import subprocess
+import sys
+
+import dns.flags
+import dns.message
+import dns.rrset
+
+RESOLVER, CLIENT, UPSTREAM = "192.0.2.1", "198.51.100.7", "203.0.113.53"
+HEAD = struct.pack("<IHHiIII", 0xA1B2C3D4, 2, 4, 0, 0, 65535, 101)
+UDP, TCP = 17, 6
+SYN, FIN, PSH = 2, 1, 8
+
+
+def packet(milliseconds, protocol, source, target, rest):
+    length = 20 + len(rest)
+    addresses = (ipaddress.IPv4Address(address).packed for address in (source, target))
+    head = struct.pack(">BBHHHBBH4s4s", 0x45, 0, length, 0, 0, 64, protocol, 0, *addresses)
+    stamp = struct.pack("<4I", milliseconds // 1000, milliseconds % 1000 * 1000, length, length)
+    return stamp + head + rest
+
+
+def datagram(milliseconds, source, target, payload):
+    rest = struct.pack(">4H", source[1], target[1], 8 + len(payload), 0) + payload
+    return packet(milliseconds, UDP, source[0], target[0], rest)
+
+
+def segment(milliseconds, source, target, number, flags, payload=b""):
+    rest = struct.pack(">2H2I2B3H", source[1], target[1], number, 0, 5 << 4, flags, 1024, 0, 0) + payload
+    return packet(milliseconds, TCP, source[0], target[0], rest)
+
+
+def query(name, rdtype="A"):
+    return dns.message.make_query(name, rdtype)
+
+
+def reply(asked, *records, cut=False):
+    message = dns.message.make_response(asked)
+    for record in records:
+        name, ttl, rdclass, rdtype, data = record.split(maxsplit=4)
+        message.answer.append(dns.rrset.from_text(name, int(ttl), rdclass, rdtype, data))
+    if cut:
+        message.flags |= dns.flags.TC
+    return message
+
+
+def framed(message):
+    wire = message.to_wire()
+    return struct.pack(">H", len(wire)) + wire
+
+
+def both_sides():
+    """A client's question that is asked once, and answered."""
+    asked = query("www.example.test.")
+    answered = reply(asked, "www.example.test. 60 IN A 192.0.2.80")
+    client, here, there = (CLIENT, 4000), (RESOLVER, 53), (UPSTREAM, 53)
+    return [
+        datagram(100000, client, here, asked.to_wire()),
+        datagram(100001, (RESOLVER, 5353), there, asked.to_wire()),
+        datagram(100021, there, (RESOLVER, 5353), answered.to_wire()),
+        datagram(100022, here, client, answered.to_wire()),
+    ]
+
+
+BOTH_SIDES = """at 100.001 asked www.example.test. A IN
+
+at 100.021 received NOERROR www.example.test. A IN
+answer www.example.test. 60 IN A 192.0.2.80
+
+at 100.022 told NOERROR www.example.test. A IN
+answer www.example.test. 60 IN A 192.0.2.80
+
+"""
+
+
+def by_tcp(order, start=0xFFFFFFF0):
+    """A truncated reply, and the whole one by TCP in three pieces, in this order; the numbers of their bytes wrap."""
+    asked = query("big.example.test.", "TXT")
+    whole = framed(reply(asked, 'big.example.test. 60 IN TXT "a"'))
+    here, there = (RESOLVER, 6000), (UPSTREAM, 53)
+    cuts = [0, 1, 20, len(whole)]
+    pieces = [(cuts[i], whole[cuts[i]:cuts[i + 1]]) for i in range(3)]
+    made = [
+        datagram(1000, (RESOLVER, 5353), there, asked.to_wire()),
+        datagram(1001, there, (RESOLVER, 5353), reply(asked, cut=True).to_wire()),
+        segment(1002, here, there, 7, SYN),
+        segment(1003, there, here, start, SYN),
+        segment(1004, here, there, 8, PSH, framed(asked)),
+    ]
+    for step, at in enumerate(order):
+        offset, payload = pieces[at]
+        made.append(segment(1010 + step, there, here, (start + 1 + offset) & 0xFFFFFFFF, PSH, payload))
+    return made + [segment(1020, there, here, (start + 1 + len(whole)) & 0xFFFFFFFF, FIN)]
+
+
+BY_TCP = """at 1.000 asked big.example.test. TXT IN
+
+at 1.001 received NOERROR big.example.test. TXT IN tc
+
+at 1.004 asked big.example.test. TXT IN
+
+at 1.{last} received NOERROR big.example.test. TXT IN
+answer big.example.test. 60 IN TXT 61
+
+"""
+
+
+def run(top, packets, *options):
+    """What the tool makes of these packets as they come on standard input: its status, text and complaint."""
+    words = [sys.executable, top / "tools/pcap2trace", "-", "--resolver", RESOLVER, *options]
+    done = subprocess.run(words, input=HEAD + b"".join(packets), capture_output=True, timeout=60)
+    return done.returncode, done.stdout.decode(), done.stderr.decode()
+
+
+def live(top, packets):
+    """The lines of the first event, read before the capture ends."""
+    words = [sys.executable, top / "tools/pcap2trace", "-", "--resolver", RESOLVER]
+    with subprocess.Popen(words, stdin=subprocess.PIPE, stdout=subprocess.PIPE) as process:
+        process.stdin.write(HEAD + packets[0])
+        process.stdin.flush()
+        lines = [process.stdout.readline().decode() for _ in range(2)]
+        process.stdin.close()
+        process.wait(timeout=60)
+    return lines
+
+
+def cases(told, top):
+    with told.guard("captures"):
+        told.equal("both sides of a resolver", run(top, both_sides()), (0, BOTH_SIDES, ""))
+        for order, last in (((0, 1, 2), "012"), ((2, 1, 0), "012"), ((0, 0, 2, 1, 1), "013")):
+            name = f"TCP in pieces, {order}"
+            told.equal(name, run(top, by_tcp(order)), (0, BY_TCP.replace("{last}", last), ""))
+        told.equal("each event at once", live(top, both_sides()[1:]), ["at 100.001 asked www.example.test. A IN\n", "\n"])
+        hidden = segment(1, (RESOLVER, 6000), (UPSTREAM, 853), 7, SYN)
+        status, text, complaint = run(top, both_sides() + [hidden])
+        told.equal("an upstream by TLS is refused", (status, text), (1, BOTH_SIDES))
+        told.tell("and it is said why", "not to be seen" in complaint and "853" in complaint, complaint)
+        hidden = datagram(1, (RESOLVER, 6000), (UPSTREAM, 443), b"\xc0")
+        status, text, complaint = run(top, [hidden] + both_sides()[3:])
+        told.tell("one by QUIC is refused where none else is seen", status == 1 and "443" in complaint, complaint)
+        told.equal("web pages beside port 53 are none", run(top, [hidden] + both_sides()), (0, BOTH_SIDES, ""))
+        status, text, complaint = run(top, [datagram(5, (UPSTREAM, 53), (RESOLVER, 5353), b"\x00\x01")] + both_sides())
+        told.equal("what is no message is left out", (status, text), (0, BOTH_SIDES))
+        told.tell("and counted", complaint.startswith("1 packets"), complaint)

@@ -1,0 +1,83 @@
+"""Puts the messages of DNS by TCP together out of segments (RFC 7766, section 8)."""
+import struct
+from dataclasses import dataclass, field
+
+FIN, SYN, RST = 1, 2, 4
+# How many bytes of one direction are held while something before them is missing.
+HELD = 1 << 20
+
+
+@dataclass(frozen=True)
+class Segment:
+    """A segment of TCP: both ends, the number of its first byte, its flags and its bytes."""
+
+    source: tuple
+    target: tuple
+    number: int
+    flags: int
+    payload: bytes
+
+
+def read_segment(source, target, rest):
+    source_port, target_port, number, _, offset, flags = struct.unpack_from(">2H2I2B", rest)
+    return Segment((source, source_port), (target, target_port), number, flags, rest[(offset >> 4) * 4:])
+
+
+@dataclass
+class Direction:
+    """What came one way: the number of the next byte, the bytes so far of the next message, and what came early."""
+
+    following: int
+    whole: bytearray = field(default_factory=bytearray)
+    early: dict = field(default_factory=dict)
+
+    def take(self, number, payload):
+        """The messages that are whole with these bytes. Bytes that came before are left out."""
+        if not self.reaches(number):
+            if sum(map(len, self.early.values())) < HELD:
+                self.early[number] = payload
+            return []
+        self.append(number, payload)
+        while True:
+            ready = [early for early in self.early if self.reaches(early)]
+            if not ready:
+                return self.messages()
+            self.append(ready[0], self.early.pop(ready[0]))
+
+    def reaches(self, number):
+        """Whether bytes from this number on leave no gap."""
+        return (self.following - number) & 0xFFFFFFFF < 1 << 31
+
+    def append(self, number, payload):
+        known = (self.following - number) & 0xFFFFFFFF
+        fresh = payload[known:]
+        self.whole += fresh
+        self.following = (self.following + len(fresh)) & 0xFFFFFFFF
+
+    def messages(self):
+        found = []
+        while len(self.whole) >= 2 and len(self.whole) >= 2 + int.from_bytes(self.whole[:2], "big"):
+            end = 2 + int.from_bytes(self.whole[:2], "big")
+            found.append(bytes(self.whole[2:end]))
+            del self.whole[:end]
+        return found
+
+
+class Streams:
+    """All directions of all connections. One whose beginning is not in the capture begins with its first segment."""
+
+    def __init__(self):
+        self.directions = {}
+
+    def take(self, segment):
+        """The messages that are whole with this segment."""
+        key = (segment.source, segment.target)
+        number = segment.number + (1 if segment.flags & SYN else 0) & 0xFFFFFFFF
+        if segment.flags & SYN or key not in self.directions:
+            self.directions[key] = Direction(number)
+        found = self.directions[key].take(number, segment.payload) if segment.payload else []
+        if segment.flags & RST:
+            self.directions.pop(key, None)
+        elif segment.flags & FIN and not self.directions[key].early:
+            self.directions.pop(key, None)
+        return found
