@@ -13,8 +13,8 @@ use Rattle.hickory_proto_core.specs.Name.{NameValue}
 use Rattle.hickory_proto_core.specs.NameDecided.{text_name}
 use Rattle.hickory_proto_core.specs.names.name_error.NameError.{NameError}
 use Rattle.hickory_proto_core.specs.names.name_error.NameError.TheVariants.{OutOfMemory}
+use Rattle.resolv_conf.specs.AddressDecided.{address_of, address_of_is}
 use Rattle.resolv_conf.specs.Names.{name_of}
-use Rattle.resolv_conf.specs.Servers.{ReadsAddresses}
 
 all_ascii : (bs : List ℕ) → list_all is_ascii bs ≡ true → IsAscii bs
 all_ascii [] h = IsAscii-nil
@@ -51,8 +51,7 @@ nothing_read : (s : Option IpAddr) → ((a : IpAddr) → s ≡ Some a → ⊥) �
 nothing_read None never = refl
 nothing_read (Some b) never = absurd (never b refl)
 
--- what parsing gives is what is read
-pub parsed_reads : {E : Type 0} (reads : List ℕ → Option IpAddr) (text : List ℕ) (r : Result IpAddr E)
-    → Parses IsIpText text r → ReadsAddresses reads → result_ok r ≡ reads text
-parsed_reads reads text (Ok a) spells h = sym ((h.spelled text a).1 spells)
-parsed_reads reads text (Err e) none h = nothing_read (reads text) (λ a is. none a ((h.spelled text a).0 is))
+-- what parsing gives is the address of the text
+pub address_of-parsed : {E : Type 0} (text : List ℕ) (r : Result IpAddr E) → Parses IsIpText text r → result_ok r ≡ address_of text
+address_of-parsed text (Ok a) spells = sym ((address_of_is text a).1 spells)
+address_of-parsed text (Err e) none = nothing_read (address_of text) (λ a is. none a ((address_of_is text a).0 is))

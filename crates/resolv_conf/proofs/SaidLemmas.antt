@@ -1,15 +1,13 @@
 -- What is said, one thing after another.
-use Rattle.std.proofs.Common.{◌≡◌, ◌∙◌, ◌+◌, ◌≤◌, ℕ, List, ◌∷◌, length, Option, None, Some, refl, sym, ap, append_assoc, arith, ◌==◌}
+use Rattle.std.proofs.Common.{◌≡◌, ◌∙◌, ◌+◌, ◌≤◌, ℕ, List, length, Option, None, Some, refl, ap, append_assoc, arith, ◌==◌}
 use Rattle.std.proofs.lemmas.List.{append-nil, length-map}
 use Rattle.std.proofs.lemmas.List.Splits.{length-slice_split}
 use Rattle.std.proofs.lemmas.List.Sums.{count_by-le-length, fold-append}
 use Rattle.std.specs.Option.{option_or}
-use Rattle.std.specs.declared.net.IpAddr.{IpAddr}
 use Rattle.resolv_conf.specs.Keyword.{keyword_of}
 use Rattle.resolv_conf.specs.Names.{last_domains_line}
 use Rattle.resolv_conf.specs.ResolvConf.{default_domain_said, default_server_said, file_said}
-use Rattle.resolv_conf.specs.Said.{ReadingValue, Said, keyword_said, line_said, lines_said, name_said, names_said, nothing_said, option_said, options_said, reading_begun, then_said, with_said}
-use Rattle.resolv_conf.specs.OptionWord.{option_of}
+use Rattle.resolv_conf.specs.Said.{ReadingValue, Said, keyword_said, line_said, lines_said, nothing_said, reading_begun, then_said, with_said}
 use Rattle.resolv_conf.specs.Text.{behind_word, lines_of, words}
 use Rattle.resolv_conf.specs.declared.keyword.Keyword.{Keyword}
 
@@ -32,58 +30,25 @@ pub or_nothing : (a : Option ℕ) → option_or a None ≡ a
 or_nothing None = refl
 or_nothing (Some x) = refl
 
-pub or_in_turn : (a b c : Option ℕ) → option_or (option_or a b) c ≡ option_or a (option_or b c)
-or_in_turn None b c = refl
-or_in_turn (Some x) b c = refl
-
--- a line is read, and then those behind it
-pub lines_step : (reads : List ℕ → Option IpAddr) (last : Option ℕ) (n : ℕ) (line : List ℕ) (before after : List (List ℕ)) (r s whole : ReadingValue)
-    → before ≡ line ∷ after → s ≡ with_said r (line_said reads last (n + 1) line)
-    → with_said r (lines_said reads last (n + 1) before) ≡ whole → with_said s (lines_said reads last (n + 1 + 1) after) ≡ whole
-lines_step reads last n line before after r s whole are is all =
-    let others = lines_said reads last (n + 1 + 1) after in
-    ap (λ x. with_said x others) is
-    ∙ sym (with_said-then r (line_said reads last (n + 1) line) others)
-    ∙ ap (λ ls. with_said r (lines_said reads last (n + 1) ls)) (sym are)
-    ∙ all
-
-pub names_step : (n : ℕ) (word : List ℕ) (before after : List (List ℕ)) (r s whole : ReadingValue)
-    → before ≡ word ∷ after → s ≡ with_said r (name_said n word)
-    → with_said r (names_said n before) ≡ whole → with_said s (names_said n after) ≡ whole
-names_step n word before after r s whole are is all =
-    ap (λ x. with_said x (names_said n after)) is
-    ∙ sym (with_said-then r (name_said n word) (names_said n after))
-    ∙ ap (λ ws. with_said r (names_said n ws)) (sym are)
-    ∙ all
-
-pub options_step : (n : ℕ) (word : List ℕ) (before after : List (List ℕ)) (r s whole : ReadingValue)
-    → before ≡ word ∷ after → s ≡ with_said r (option_said n (option_of word))
-    → with_said r (options_said n before) ≡ whole → with_said s (options_said n after) ≡ whole
-options_step n word before after r s whole are is all =
-    ap (λ x. with_said x (options_said n after)) is
-    ∙ sym (with_said-then r (option_said n (option_of word)) (options_said n after))
-    ∙ ap (λ ws. with_said r (options_said n ws)) (sym are)
-    ∙ all
-
 -- what a line says, by its keyword and its words
-pub line_said-as : (reads : List ℕ → Option IpAddr) (last : Option ℕ) (n : ℕ) (line values : List ℕ) (k : Keyword)
-    → k ≡ keyword_of line → values ≡ behind_word line → keyword_said reads last n k (words values) ≡ line_said reads last n line
+pub line_said-as : (last : Option ℕ) (n : ℕ) (line values : List ℕ) (k : Keyword)
+    → k ≡ keyword_of line → values ≡ behind_word line → keyword_said last n k (words values) ≡ line_said last n line
 unfolding line_said
-line_said-as reads last n line values k named behind =
-    ap (λ x. keyword_said reads last n x (words values)) named
-    ∙ ap (λ v. keyword_said reads last n (keyword_of line) (words v)) behind
+line_said-as last n line values k named behind =
+    ap (λ x. keyword_said last n x (words values)) named
+    ∙ ap (λ v. keyword_said last n (keyword_of line) (words v)) behind
 
 -- a file is read step by step
-pub file_said-steps : (reads : List ℕ → Option IpAddr) (octets hostname : List ℕ) (last : Option ℕ) (begun lines servers whole : ReadingValue)
+pub file_said-steps : (octets hostname : List ℕ) (last : Option ℕ) (begun lines servers whole : ReadingValue)
     → last ≡ last_domains_line 1 (lines_of octets) → begun ≡ reading_begun
-    → lines ≡ with_said begun (lines_said reads last 1 (lines_of octets))
+    → lines ≡ with_said begun (lines_said last 1 (lines_of octets))
     → servers ≡ with_said lines (default_server_said (lines_of octets))
     → whole ≡ with_said servers (default_domain_said last hostname)
-    → whole ≡ file_said reads octets hostname
+    → whole ≡ file_said octets hostname
 unfolding file_said
-file_said-steps reads octets hostname last begun lines servers whole last_is begun_is lines_are servers_are whole_is =
+file_said-steps octets hostname last begun lines servers whole last_is begun_is lines_are servers_are whole_is =
     whole_is
     ∙ ap (λ x. with_said x (default_domain_said last hostname)) servers_are
     ∙ ap (λ x. with_said (with_said x (default_server_said (lines_of octets))) (default_domain_said last hostname)) lines_are
-    ∙ ap (λ x. with_said (with_said (with_said x (lines_said reads last 1 (lines_of octets))) (default_server_said (lines_of octets))) (default_domain_said last hostname)) begun_is
-    ∙ ap (λ x. with_said (with_said (with_said reading_begun (lines_said reads x 1 (lines_of octets))) (default_server_said (lines_of octets))) (default_domain_said x hostname)) last_is
+    ∙ ap (λ x. with_said (with_said (with_said x (lines_said last 1 (lines_of octets))) (default_server_said (lines_of octets))) (default_domain_said last hostname)) begun_is
+    ∙ ap (λ x. with_said (with_said (with_said reading_begun (lines_said x 1 (lines_of octets))) (default_server_said (lines_of octets))) (default_domain_said x hostname)) last_is

@@ -1,3 +1,4 @@
+pub mod AddressDecided
 pub mod Keyword
 pub mod Names
 pub mod OptionWord

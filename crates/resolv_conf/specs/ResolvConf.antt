@@ -75,11 +75,11 @@ default_domain_said None hostname = host_domain_said (domain_of_host hostname)
 default_domain_said (Some line) hostname = nothing_said
 
 -- what a file says, on a host of this name
-unfoldable pub file_said : (List ℕ → Option IpAddr) → List ℕ → List ℕ → ReadingValue
-file_said reads octets hostname =
+unfoldable pub file_said : List ℕ → List ℕ → ReadingValue
+file_said octets hostname =
     let lines = lines_of octets in
     let last = last_domains_line 1 lines in
-    with_said (with_said (with_said reading_begun (lines_said reads last 1 lines)) (default_server_said lines))
+    with_said (with_said (with_said reading_begun (lines_said last 1 lines)) (default_server_said lines))
     (default_domain_said last hostname)
 
 pub record ResolvConfValue : Type 0 where
@@ -104,5 +104,5 @@ configuration_of reading = record {
 }
 
 -- the configuration of a file, on a host of this name
-abbrev pub resolv_conf : (List ℕ → Option IpAddr) → List ℕ → List ℕ → ResolvConfValue
-resolv_conf reads octets hostname = configuration_of (file_said reads octets hostname)
+abbrev pub resolv_conf : List ℕ → List ℕ → ResolvConfValue
+resolv_conf octets hostname = configuration_of (file_said octets hostname)

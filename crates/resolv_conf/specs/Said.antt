@@ -58,9 +58,9 @@ abbrev pub server_found : ℕ → Option Server → Said
 server_found number None = passes number NotAnAddress
 server_found number (Some server) = server_said server
 
-abbrev pub servers_said : (List ℕ → Option IpAddr) → ℕ → List (List ℕ) → Said
-servers_said reads number [] = passes number NoValue
-servers_said reads number (word ∷ others) = server_found number (server_of reads word)
+abbrev pub servers_said : ℕ → List (List ℕ) → Said
+servers_said number [] = passes number NoValue
+servers_said number (word ∷ others) = server_found number (server_of word)
 
 -- a word that is to be a domain
 abbrev pub domain_found : ℕ → Option NameValue → Said
@@ -102,24 +102,24 @@ options_line_said number [] = passes number NoValue
 options_line_said number (word ∷ others) = options_said number (word ∷ others)
 
 -- what the words behind a keyword say
-abbrev pub keyword_said : (List ℕ → Option IpAddr) → Option ℕ → ℕ → Keyword → List (List ℕ) → Said
-keyword_said reads last number keyword.NameServer values = servers_said reads number values
-keyword_said reads last number keyword.Domain values = domain_said last number values
-keyword_said reads last number keyword.Search values = search_said last number values
-keyword_said reads last number keyword.Options values = options_line_said number values
-keyword_said reads last number keyword.Other values = passes number UnknownKeyword
-keyword_said reads last number keyword.Nothing values = nothing_said
+abbrev pub keyword_said : Option ℕ → ℕ → Keyword → List (List ℕ) → Said
+keyword_said last number keyword.NameServer values = servers_said number values
+keyword_said last number keyword.Domain values = domain_said last number values
+keyword_said last number keyword.Search values = search_said last number values
+keyword_said last number keyword.Options values = options_line_said number values
+keyword_said last number keyword.Other values = passes number UnknownKeyword
+keyword_said last number keyword.Nothing values = nothing_said
 
 -- what a line says
-unfoldable pub line_said : (List ℕ → Option IpAddr) → Option ℕ → ℕ → List ℕ → Said
-line_said reads last number line =
-    keyword_said reads last number (keyword_of line) (words (behind_word line))
+unfoldable pub line_said : Option ℕ → ℕ → List ℕ → Said
+line_said last number line =
+    keyword_said last number (keyword_of line) (words (behind_word line))
 
 -- what lines say that are counted from here on
-abbrev pub lines_said : (List ℕ → Option IpAddr) → Option ℕ → ℕ → List (List ℕ) → Said
-lines_said reads last number [] = nothing_said
-lines_said reads last number (line ∷ lines) =
-    then_said (line_said reads last number line) (lines_said reads last (number + 1) lines)
+abbrev pub lines_said : Option ℕ → ℕ → List (List ℕ) → Said
+lines_said last number [] = nothing_said
+lines_said last number (line ∷ lines) =
+    then_said (line_said last number line) (lines_said last (number + 1) lines)
 
 -- what is known once some lines are read. Options are set one after the other, so that the later of two counts
 pub record ReadingValue : Type 0 where

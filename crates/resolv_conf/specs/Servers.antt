@@ -1,16 +1,12 @@
 -- The server of a line `nameserver`.
-use Rattle.std.specs.Prelude.{◌≡◌, ◌↔◌, ℕ, Bool, ◌||◌, ◌&&◌, ◌==◌, not, nat_le, List, length, slice_index, Option, None, Some, option_map, if◌then◌else◌}
+use Rattle.std.specs.Prelude.{ℕ, Bool, ◌||◌, ◌&&◌, ◌==◌, not, nat_le, List, length, slice_index, Option, None, Some, option_map, if◌then◌else◌}
 use Rattle.std.specs.Net.Addr.{ipv6_segments}
 use Rattle.std.specs.declared.net.IpAddr.{IpAddr}
 use Rattle.std.specs.declared.net.IpAddr.TheVariants.{V4, V6}
 use Rattle.std.specs.declared.net.Ipv6Addr.{Ipv6Addr}
-use Rattle.hickory_proto_core.specs.Addresses.{IsAddressText}
+use Rattle.resolv_conf.specs.AddressDecided.{address_of}
 use Rattle.resolv_conf.specs.Text.{cut}
 use Rattle.resolv_conf.specs.declared.server.Server.{Server}
-
--- how addresses are read: of each text the address that it spells, and none where it spells none
-pub record ReadsAddresses (reads : List ℕ → Option IpAddr) : Type 0 where
-  pub spelled : (text : List ℕ) (address : IpAddr) → (reads text ≡ Some address) ↔ IsAddressText text address
 
 -- fe80::/10 (RFC 4291, section 2.5.6)
 abbrev pub is_link_local : Ipv6Addr → Bool
@@ -33,10 +29,10 @@ scoped_server (Some (V6 address)) scope =
     Some (record { address = V6 address; scope = kept_scope address scope })
 
 -- the server that the parts of a word are, before `%` and behind it
-abbrev pub server_of_parts : (List ℕ → Option IpAddr) → List ℕ → Option (List ℕ × List ℕ) → Option Server
-server_of_parts reads word None = option_map plain_server (reads word)
-server_of_parts reads word (Some parts) = scoped_server (reads parts.0) parts.1
+abbrev pub server_of_parts : List ℕ → Option (List ℕ × List ℕ) → Option Server
+server_of_parts word None = option_map plain_server (address_of word)
+server_of_parts word (Some parts) = scoped_server (address_of parts.0) parts.1
 
 -- the server that a word is
-unfoldable pub server_of : (List ℕ → Option IpAddr) → List ℕ → Option Server
-server_of reads word = server_of_parts reads word (cut 37 word)
+unfoldable pub server_of : List ℕ → Option Server
+server_of word = server_of_parts word (cut 37 word)

@@ -1,12 +1,10 @@
 //! What a file says, as the configuration of a resolver.
 ghost use Rattle.std.specs.Prelude.{◌≡◌, ◌↔◌, ℕ, List, Option, None, Some, Ok, IfOk, OnOk, map};
 ghost use Rattle.std.specs.List.{list_any};
-ghost use Rattle.std.specs.declared.net.IpAddr.{IpAddr};
 ghost use Rattle.hickory_resolver_config.specs.Servers.{server_over};
 ghost use Rattle.resolv_conf.specs.Names.{domain_of_host, last_domains_line, names_domains};
 ghost use Rattle.resolv_conf.specs.ResolvConf.{ResolvConfValue, configuration_of, default_domain_said, default_server_said, file_said, ip_strategy_of, is_server_line, options_of, ordering_of, protocols_of, resolv_conf};
 ghost use Rattle.resolv_conf.specs.Said.{with_said};
-ghost use Rattle.resolv_conf.specs.Servers.{ReadsAddresses};
 ghost use Rattle.resolv_conf.specs.Text.{lines_of};
 
 use crate::keyword::{Keyword, keyword_of};
@@ -65,8 +63,7 @@ pub fn read_resolv_conf(
     octets: &[u8],
     hostname: &[u8],
 ) -> Result<ResolvConf, AllocError>
-    ensures { (reads : List ℕ → Option IpAddr) → ReadsAddresses reads
-        → IfOk result (λ c. c ≡ resolv_conf reads octets.now hostname.now) }
+    ensures { IfOk result (λ c. c ≡ resolv_conf octets.now hostname.now) }
 {
     let last = last_domains_line(octets);
     let mut reading = Reading::new(alloc);

@@ -2,10 +2,8 @@
 ghost use Rattle.std.specs.Prelude.{◌≡◌, ◌≢◌, ◌↔◌, ℕ, List, Option, IfOk, MatchOption, OnOk, true, false};
 ghost use Rattle.std.specs.Char.{is_ascii};
 ghost use Rattle.std.specs.List.{list_all};
-ghost use Rattle.std.specs.declared.net.IpAddr.{IpAddr};
 ghost use Rattle.resolv_conf.specs.Names.{counts, name_of};
 ghost use Rattle.resolv_conf.specs.Said.{domain_named, domain_said, line_said, lines_said, name_said, names_said, option_said, options_said, options_line_said, passes, reading_begun, search_said, server_said, servers_said, with_said};
-ghost use Rattle.resolv_conf.specs.Servers.{ReadsAddresses};
 ghost use Rattle.resolv_conf.specs.OptionWord.{option_of};
 ghost use Rattle.resolv_conf.specs.Text.{lines_of, words};
 
@@ -66,8 +64,7 @@ impl Reading {
 
     /// Reads all lines. Of those that name domains the last one counts, whose number is given.
     pub fn read(&mut self, octets: &[u8], last: Option<usize>) -> Result<(), AllocError>
-        ensures { (reads : List ℕ → Option IpAddr) → ReadsAddresses reads
-            → OnOk result (self.new ≡ with_said self.old (lines_said reads last 1 (lines_of octets.now))) }
+        ensures { OnOk result (self.new ≡ with_said self.old (lines_said last 1 (lines_of octets.now))) }
     {
         let mut number = 0;
         for line in Lines::new(octets) {
@@ -83,8 +80,7 @@ impl Reading {
         line: &[u8],
         last: Option<usize>,
     ) -> Result<(), AllocError>
-        ensures { (reads : List ℕ → Option IpAddr) → ReadsAddresses reads
-            → OnOk result (self.new ≡ with_said self.old (line_said reads last number line.now)) }
+        ensures { OnOk result (self.new ≡ with_said self.old (line_said last number line.now)) }
     {
         let (_, values) = split_word(line);
         match keyword_of(line) {
@@ -98,8 +94,7 @@ impl Reading {
     }
 
     fn read_server(&mut self, number: usize, values: &[u8]) -> Result<(), AllocError>
-        ensures { (reads : List ℕ → Option IpAddr) → ReadsAddresses reads
-            → OnOk result (self.new ≡ with_said self.old (servers_said reads number (words values.now))) }
+        ensures { OnOk result (self.new ≡ with_said self.old (servers_said number (words values.now))) }
     {
         let Some(word) = Words::new(values).next() else {
             return self.pass_over(number, Reason::NoValue);

@@ -1,7 +1,7 @@
 //! The server of a line `nameserver`.
 ghost use Rattle.std.specs.Prelude.{◌≡◌, ℕ, List, Option, IfOk, option_map};
-ghost use Rattle.std.specs.declared.net.IpAddr.{IpAddr};
-ghost use Rattle.resolv_conf.specs.Servers.{ReadsAddresses, is_link_local, kept_scope, plain_server, scoped_server, server_of};
+ghost use Rattle.resolv_conf.specs.AddressDecided.{address_of};
+ghost use Rattle.resolv_conf.specs.Servers.{is_link_local, kept_scope, plain_server, scoped_server, server_of};
 
 use crate::text::cut_at;
 use std::alloc::{AllocError, Global};
@@ -43,8 +43,7 @@ pub struct Server {
 
 /// The server that a word is: an address, and behind `%` the scope of an IPv6 address.
 pub fn read_server(alloc: Global, word: &[u8]) -> Result<Option<Server>, AllocError>
-    ensures { (reads : List ℕ → Option IpAddr) → ReadsAddresses reads
-        → IfOk result (λ server. server ≡ server_of reads word.now) }
+    ensures { IfOk result (λ server. server ≡ server_of word.now) }
 {
     match cut_at(b'%', word) {
         Some((text, scope)) => scoped_server(alloc, text, scope),
@@ -54,8 +53,7 @@ pub fn read_server(alloc: Global, word: &[u8]) -> Result<Option<Server>, AllocEr
 
 // The server of this address, without a scope.
 fn plain_server(text: &[u8]) -> Option<Server>
-    ensures { (reads : List ℕ → Option IpAddr) → ReadsAddresses reads
-        → result ≡ option_map plain_server (reads text.now) }
+    ensures { result ≡ option_map plain_server (address_of text.now) }
 {
     match read_address(text) {
         Some(address) => Some(Server {
@@ -68,8 +66,7 @@ fn plain_server(text: &[u8]) -> Option<Server>
 
 // The server of this address, which is to be an IPv6 address, and scope.
 fn scoped_server(alloc: Global, text: &[u8], scope: &[u8]) -> Result<Option<Server>, AllocError>
-    ensures { (reads : List ℕ → Option IpAddr) → ReadsAddresses reads
-        → IfOk result (λ server. server ≡ scoped_server (reads text.now) scope.now) }
+    ensures { IfOk result (λ server. server ≡ scoped_server (address_of text.now) scope.now) }
 {
     match read_address(text) {
         Some(IpAddr::V6(address)) => {
@@ -105,7 +102,7 @@ fn is_link_local(address: Ipv6Addr) -> bool
 
 // The address that the octets spell, if they spell one.
 fn read_address(text: &[u8]) -> Option<IpAddr>
-    ensures { (reads : List ℕ → Option IpAddr) → ReadsAddresses reads → result ≡ reads text.now }
+    ensures { result ≡ address_of text.now }
 {
     IpAddr::parse_ascii(text).ok()
 }

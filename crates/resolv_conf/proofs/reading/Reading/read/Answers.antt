@@ -9,5 +9,5 @@ loop-line-init c =
     let all = ap (λ s. lines_left s.rest) c.into_iter-line-iterator.ensures.into_iter_gives ∙ c.new-line-items.ensures in
     record {
       room = lines_left_le c.args.octets.now _ all;
-      said = λ reads h. ap (λ ls. with_said c.args.self.now (lines_said reads c.args.last 1 ls)) all;
+      said = ap (λ ls. with_said c.args.self.now (lines_said c.args.last 1 ls)) all;
     }
