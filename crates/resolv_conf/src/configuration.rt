@@ -1,9 +1,9 @@
 //! What a file says, as the configuration of a resolver.
-ghost use Rattle.std.specs.Prelude.{◌≡◌, ◌↔◌, ℕ, List, Option, None, Some, Ok, IfOk, OnOk, map};
+ghost use Rattle.std.specs.Prelude.{◌≡◌, Ok, IfOk, OnOk, map};
 ghost use Rattle.std.specs.List.{list_any};
 ghost use Rattle.hickory_resolver_config.specs.Servers.{server_over};
 ghost use Rattle.resolv_conf.specs.Names.{domain_of_host, last_domains_line, names_domains};
-ghost use Rattle.resolv_conf.specs.ResolvConf.{ResolvConfValue, configuration_of, default_domain_said, default_server_said, file_said, ip_strategy_of, is_server_line, options_of, ordering_of, protocols_of, resolv_conf};
+ghost use Rattle.resolv_conf.specs.ResolvConf.{ResolvConfValue, configuration_of, default_domain_said, default_server_said, ip_strategy_of, is_server_line, options_of, ordering_of, protocols_of, resolv_conf};
 ghost use Rattle.resolv_conf.specs.Said.{with_said};
 ghost use Rattle.resolv_conf.specs.Text.{lines_of};
 
@@ -128,10 +128,7 @@ fn has_server_line(octets: &[u8]) -> bool
 fn is_server_line(line: &[u8]) -> bool
     ensures { result ≡ is_server_line line.now }
 {
-    match keyword_of(line) {
-        Keyword::NameServer => true,
-        _ => false,
-    }
+    matches!(keyword_of(line), Keyword::NameServer)
 }
 
 // Where no line names domains, the domain of the host is the one of the search list.

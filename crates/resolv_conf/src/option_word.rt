@@ -1,5 +1,5 @@
 //! The words behind `options`.
-ghost use Rattle.std.specs.Prelude.{◌≡◌, ◌<◌, ◌-◌, IsTrue, min, length};
+ghost use Rattle.std.specs.Prelude.{◌≡◌, IsTrue, min, length};
 ghost use Rattle.std.specs.Char.{is_ascii_digit};
 ghost use Rattle.std.specs.List.{list_all, take_while};
 ghost use Rattle.std.specs.Str.Parse.{digits_value};

@@ -1,5 +1,5 @@
 //! The server of a line `nameserver`.
-ghost use Rattle.std.specs.Prelude.{◌≡◌, ℕ, List, Option, IfOk, option_map};
+ghost use Rattle.std.specs.Prelude.{◌≡◌, ℕ, List, IfOk, option_map};
 ghost use Rattle.resolv_conf.specs.AddressDecided.{address_of};
 ghost use Rattle.resolv_conf.specs.Servers.{is_link_local, kept_scope, plain_server, scoped_server, server_of};
 
@@ -96,8 +96,7 @@ fn kept_scope(alloc: Global, address: Ipv6Addr, scope: &[u8]) -> Result<Option<S
 fn is_link_local(address: Ipv6Addr) -> bool
     ensures { result ≡ is_link_local address }
 {
-    let [first, ..] = address.segments();
-    0xfe80 <= first && first <= 0xfebf
+    matches!(address.segments(), [0xfe80..=0xfebf, ..])
 }
 
 // The address that the octets spell, if they spell one.

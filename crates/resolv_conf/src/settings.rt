@@ -1,6 +1,6 @@
 //! What the lines `options` set.
 ghost use Rattle.std.specs.Prelude.{◌≡◌};
-ghost use Rattle.resolv_conf.specs.OptionWord.{default_settings, with_option};
+ghost use Rattle.resolv_conf.specs.OptionWord.{with_option};
 
 use crate::option_word::OptionWord;
 
@@ -26,22 +26,6 @@ pub struct Settings {
 }
 
 impl Settings {
-    /// What is set where no line says otherwise.
-    pub fn default() -> Settings
-        ensures { result ≡ default_settings }
-    {
-        Settings {
-            ndots: 1,
-            timeout: 5,
-            attempts: 1,
-            rotate: false,
-            use_vc: false,
-            edns0: false,
-            no_aaaa: false,
-            trust_ad: false,
-        }
-    }
-
     /// Sets what a word says.
     pub fn set(&mut self, option: OptionWord)
         ensures { self.new ≡ with_option self.old option }
@@ -56,6 +40,27 @@ impl Settings {
             OptionWord::NoAaaa => self.no_aaaa = true,
             OptionWord::TrustAd => self.trust_ad = true,
             OptionWord::SingleRequest | OptionWord::PassedOver(_) => {}
+        }
+    }
+}
+
+impl Default for Settings {
+    ghost use Rattle.std.specs.Prelude.{◌≡◌};
+    ghost use Rattle.resolv_conf.specs.OptionWord.{default_settings};
+
+    ghost is_default = { λ s. s ≡ default_settings };
+
+    /// What is set where no line says otherwise.
+    fn default() -> Settings {
+        Settings {
+            ndots: 1,
+            timeout: 5,
+            attempts: 1,
+            rotate: false,
+            use_vc: false,
+            edns0: false,
+            no_aaaa: false,
+            trust_ad: false,
         }
     }
 }

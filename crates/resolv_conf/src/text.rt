@@ -1,5 +1,5 @@
 //! The lines of a file, and the words of a line.
-ghost use Rattle.std.specs.Prelude.{◌≡◌, ◌==◌, ◌∷◌, None, Some, MatchOption, length, drop, nat_lt, position};
+ghost use Rattle.std.specs.Prelude.{◌≡◌, ◌==◌, ◌∷◌, None, Some, MatchOption, length, nat_lt, position};
 ghost use Rattle.std.specs.List.{take_while};
 ghost use Rattle.resolv_conf.specs.Text.{cut, first_word, is_blank, is_plain, lines_left, lines_of, text_of, unindented, behind_word, words};
 
@@ -122,10 +122,7 @@ impl<'a> Iterator for Words<'a> {
 pub fn has_word(octets: &[u8]) -> bool
     ensures { result ≡ nat_lt 0 (length (words octets.now)) }
 {
-    match Words::new(octets).next() {
-        Some(_) => true,
-        None => false,
-    }
+    Words::new(octets).next().is_some()
 }
 
 // The octets without the blanks that they begin with.
