@@ -1,0 +1,7 @@
+use Rattle.std.proofs.Common.{◌≡◌}
+use Rattle.resolv_conf.specs.Said.{options_said, with_said}
+use Rattle.resolv_conf.specs.Text.{words}
+use Rattle.resolv_conf.proofs.reading.Reading.read_each_option.Given as goal
+
+abbrev pub invariant-loop-word : goal.invariant-loop-word
+invariant-loop-word l = with_said l.self (options_said l.number (words l.word-iterator.rest.now)) ≡ with_said l.initial.self (options_said l.number (words l.values))
