@@ -46,22 +46,20 @@ fn read_path(
     option: String,
     path: Option<String>,
 ) -> Result<(), ServeError> {
-    let read = match place_of(arguments, option.as_str()) {
-        Some(place) if path.is_some() => {
-            *place = path;
-            Ok(())
-        }
+    let read = match option.as_str() {
+        "--hosts" => put(&mut arguments.hosts, path),
+        "--journal" => put(&mut arguments.journal, path),
         _ => Err(ServeError::Usage),
     };
     drop(option);
     read
 }
 
-// Where the path of an option goes that has none yet.
-fn place_of<'a>(arguments: &'a mut Arguments, option: &str) -> Option<&'a mut Option<String>> {
-    match option {
-        "--hosts" if arguments.hosts.is_none() => Some(&mut arguments.hosts),
-        "--journal" if arguments.journal.is_none() => Some(&mut arguments.journal),
-        _ => None,
+// Puts a path where there is none yet.
+fn put(place: &mut Option<String>, path: Option<String>) -> Result<(), ServeError> {
+    if place.is_some() || path.is_none() {
+        return Err(ServeError::Usage);
     }
+    *place = path;
+    Ok(())
 }
