@@ -1,12 +1,11 @@
 -- What comes back for a request in flight, and a request that is cancelled.
-use Rattle.std.proofs.Common.{◌≡◌, ◌∙◌, ◌⊎◌, ◌&&◌, ℕ, Bool, true, false, List, [], ◌∷◌, Option, None, Some, Result, Ok, Err, IsErr, MatchBool, MatchOption, string_bytes, refl, sym, ap, subst, inl, inr}
+use Rattle.std.proofs.Common.{◌≡◌, ◌∙◌, ◌⊎◌, ◌&&◌, ℕ, Bool, true, false, List, [], ◌∷◌, Option, None, Some, Result, Ok, Err, IsErr, MatchOption, string_bytes, refl, sym, ap, subst, inl, inr}
 use Rattle.std.specs.Option.{is_some, option_map}
 use Rattle.std.specs.declared.alloc.AllocError.{AllocError}
 use Rattle.hickory_proto_core.specs.Handles.{OutcomeValue}
 use Rattle.hickory_proto_core.specs.ResponseKind.{is_empty}
 use Rattle.hickory_proto_core.specs.declared.net_error.NetError.{NetError}
 use Rattle.hickory_resolver_theorems.specs.ResumingCalls.{WaitingCallValue}
-use Rattle.replay_script.specs.FailLine.{error_of}
 use Rattle.replay_script.specs.declared.fault.ScriptFault.TheVariants as script
 use Rattle.hickory_proto_core.specs.Records.{RecordValue}
 use Rattle.replay_script.specs.declared.fail_line.Failure.{Failure}
@@ -17,16 +16,15 @@ use Rattle.replay_script.specs.declared.reply_line.ReplyHead.{ReplyHead}
 use Rattle.replay_script.specs.declared.script.OpenReply.{OpenReply}
 use Rattle.conversation.specs.Answers.{Answer, AnswersDone, AnswersInFlight, AnswersLine, AnswersOutcome, AnswersSaid, EndsReply, Feeds, FeedsReply, Takes, cancelled, cancels, keeps, refused, with_line}
 use Rattle.conversation.specs.Faults.{RefusalValue, is_memory, of_line, unknown}
-use Rattle.conversation.specs.Hearing.{IsFedOut, IsFedWith, IsOutcomeOf, IsServedOut, Stands}
+use Rattle.conversation.specs.Hearing.{IsFedOut, IsFedWith, IsOutcomeOf, IsServedOut}
 use Rattle.conversation.specs.Lines.{IsScriptLine}
 use Rattle.conversation.specs.Said as said
 use Rattle.conversation.specs.State.{BegunValue, ConversationValue, InFlightValue, Puts, Requests, Stage, request_at}
-use Rattle.conversation.specs.Telling.{HasReply, IsActedUpon, IsAnswered, IsChanged, IsFailureOf, IsFed, IsForRequest, IsGiven, IsRefused, OfRequest, PutsSome, no_outcome, nothing_left}
+use Rattle.conversation.specs.Telling.{HasReply, IsActedUpon, IsAnswered, IsFailureOf, IsFed, IsForRequest, IsGiven, IsRefused, OfRequest, PutsSome, nothing_left}
 use Rattle.conversation.specs.Texts.{cancelled_text}
-use Rattle.conversation.specs.declared.fault.ConversationFault.{ConversationFault}
 use Rattle.conversation.specs.declared.fault.ConversationFault.TheVariants as fault
 use Rattle.conversation.specs.declared.heard.Heard.{Heard}
-use Rattle.conversation.proofs.Answered.{answered_as, answered_by, answered_out, answered_refused, none_left}
+use Rattle.conversation.proofs.Answered.{answered_as, answered_by, answered_out, none_left}
 use Rattle.conversation.proofs.Held.{puts_again, some_again, some_stays}
 use Rattle.conversation.proofs.Settings.{refused_for, when_false, when_true}
 use Rattle.conversation.proofs.Choices.{match_false, match_true}

@@ -9,7 +9,6 @@ use Rattle.hickory_resolver_model.specs.Resolver.{ResolverValue, settings}
 use Rattle.hickory_resolver_model.specs.Run.{Settings}
 use Rattle.replay_script.specs.Configuration.{ConfigurationValue, with_setting}
 use Rattle.replay_script.specs.Words.{texts}
-use Rattle.replay_script.specs.declared.fault.ScriptFault.TheVariants as script
 use Rattle.replay_script.specs.declared.line.Line.{Line}
 use Rattle.replay_script.specs.declared.line.Line.TheVariants as line
 use Rattle.replay_script.specs.declared.setting.Setting as setting

@@ -1,5 +1,4 @@
-use Rattle.std.proofs.Common.{◌≡◌, ◌∙◌, false, sym, true}
-use Rattle.std.specs.Option.{is_some}
+use Rattle.std.proofs.Common.{◌≡◌, ◌∙◌, sym}
 use Rattle.replay_script.specs.Words.{texts}
 use Rattle.replay_script.specs.declared.fault.ScriptFault.TheVariants as script
 use Rattle.conversation.specs.Answers.{cancels}

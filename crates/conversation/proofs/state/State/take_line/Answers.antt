@@ -1,5 +1,4 @@
-use Rattle.std.proofs.Common.{◌≡◌, Err, Ok, refl}
-use Rattle.hickory_proto_core.specs.Handles.{OutcomeValue}
+use Rattle.std.proofs.Common.{◌≡◌, Ok, refl}
 use Rattle.replay_script.specs.FailLine.{error_of}
 use Rattle.replay_script.specs.Words.{texts}
 use Rattle.replay_script.specs.declared.line.Line.TheVariants as line
