@@ -3,10 +3,12 @@ is silent in the end. Both sides are noted as they happen, so that no capture is
 import re
 import socket
 import subprocess
+import sys
 import threading
 import time
 from concurrent.futures import ThreadPoolExecutor
 from contextlib import contextmanager
+from pathlib import Path
 
 import dns.exception
 import dns.message
@@ -19,6 +21,7 @@ import dns.rrset
 from live_parts.servers import ADDRESS, free_port
 from yimarotu import records
 
+TOP = Path(__file__).resolve().parents[2]
 ZONE = "judged.test."
 SOA = f"ns.{ZONE} admin.{ZONE} 1 7200 900 1209600 3"
 SECONDS_TO_START = 10
@@ -66,6 +69,39 @@ def dnsmasq(*more):
     return words
 
 
+KNOT = """net.listen('{address}', {port}, {{ kind = 'dns' }})
+cache.open(10 * MB, 'lmdb://{folder}/cache{port}')
+trust_anchors.remove('.')
+policy.add(policy.all(policy.STUB('{address}@{upstream}')))
+{more}
+"""
+
+
+def knot(*more):
+    def words(port, upstream, folder):
+        file = folder / f"kresd{port}.conf"
+        file.write_text(KNOT.format(address=ADDRESS, port=port, upstream=upstream, folder=folder, more="\n".join(more)))
+        return ["/usr/sbin/kresd", "-n", "-c", str(file), str(folder)]
+
+    return words
+
+
+def recursor(*more):
+    def words(port, upstream, folder):
+        state = folder / f"recursor{port}"
+        state.mkdir()
+        return ["/usr/sbin/pdns_recursor", "--daemon=no", f"--local-address={ADDRESS}", f"--local-port={port}",
+                f"--forward-zones-recurse=.={ADDRESS}:{upstream}", f"--socket-dir={state}", f"--config-dir={state}",
+                "--dont-query=", "--dnssec=off", "--security-poll-suffix=", "--write-pid=no", "--setuid=", "--setgid=",
+                "--disable-syslog=yes", "--threads=1", *more]
+
+    return words
+
+
+def forward(port, upstream, folder):
+    return [sys.executable, str(TOP / "tools/forward"), "--listen", f"{ADDRESS}:{port}", "--server", f"{ADDRESS}:{upstream}"]
+
+
 # Each product with a setting, by the words of docs/JUDGED.md.
 SETTINGS = {
     "unbound, as it is": unbound(),
@@ -73,6 +109,11 @@ SETTINGS = {
     "dnsmasq, as it is": dnsmasq(),
     "dnsmasq, --min-cache-ttl=10": dnsmasq("--min-cache-ttl=10"),
     "dnsmasq, --use-stale-cache": dnsmasq("--use-stale-cache"),
+    "knot-resolver, as it is": knot(),
+    "knot-resolver, serve_stale": knot("modules.load('serve_stale < cache')"),
+    "pdns-recursor, as it is": recursor(),
+    "pdns-recursor, --serve-stale-extensions=10": recursor("--serve-stale-extensions=10"),
+    "tools/forward, as it is": forward,
 }
 
 
@@ -215,6 +256,11 @@ WANTED = {
     "dnsmasq, as it is": ((), ("stale", "raised", "never received", "alias outlives", "negative outlives")),
     "dnsmasq, --min-cache-ttl=10": (("stale",), ("never received",)),
     "dnsmasq, --use-stale-cache": (("stale",), ("never received",)),
+    "knot-resolver, as it is": ((), ("stale", "raised", "never received", "alias outlives", "negative outlives")),
+    "knot-resolver, serve_stale": ((), ("never received",)),
+    "pdns-recursor, as it is": ((), ("stale", "raised", "never received", "alias outlives", "negative outlives")),
+    "pdns-recursor, --serve-stale-extensions=10": (("stale",), ("never received",)),
+    "tools/forward, as it is": ((), ("stale", "raised", "never received", "alias outlives", "negative outlives")),
 }
 
 

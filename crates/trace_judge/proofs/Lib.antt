@@ -1,2 +1,11 @@
+pub mod Tests
+pub mod Keys
+pub mod Seen
+pub mod Moments
+pub mod Opens
+pub mod Denying
 pub mod Leading
+pub mod Leads
+pub mod Knowing
+pub mod Standing
 pub mod Sections

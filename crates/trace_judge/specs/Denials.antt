@@ -10,13 +10,13 @@ use Rattle.hickory_proto_core.specs.codes.record_type.RecordType.{RecordType}
 use Rattle.hickory_proto_core.specs.codes.record_type.RecordType.TheVariants as type
 use Rattle.hickory_proto_core.specs.declared.query.Query.{Query}
 use Rattle.trace_judge.specs.Receptions.{grace}
-use Rattle.trace_judge.specs.Trace.{counts, milliseconds_of}
+use Rattle.trace_judge.specs.Trace.{is_counted, milliseconds_of}
 use Rattle.trace_judge.specs.declared.denials.Denial.{Denial}
 use Rattle.trace_judge.specs.declared.denials.Denied.{Denied}
 use Rattle.trace_judge.specs.declared.denials.Denied.TheVariants.{WholeName, OneType}
 use Rattle.trace_judge.specs.declared.event.Event.{Event}
 use Rattle.trace_judge.specs.declared.event.Moment.{Moment}
-use Rattle.trace_judge.specs.declared.event.Reply.{Reply}
+use Rattle.trace_judge.specs.Replies.{ReplyValue}
 use Rattle.trace_judge.specs.declared.event.Said.{Said}
 use Rattle.trace_judge.specs.declared.event.Said.TheVariants.{Asked, Received, Told}
 
@@ -30,12 +30,12 @@ is_referral authorities = list_any (is_of_type type.NS) authorities && not (list
 
 -- What a response denies: the name, by NXDOMAIN; the type, where nothing of it was answered and no other server was
 -- named. One that is cut short denies nothing.
-abbrev pub denied_by : Reply → Option Denied
+abbrev pub denied_by : ReplyValue → Option Denied
 denied_by reply =
     if reply.truncated then None else (
     if response_code reply.code == 3 then Some WholeName else (
     if not (response_code reply.code == 0)
-    || (list_any (has_type reply.query) reply.answers.items || is_referral reply.authorities.items) then None else (
+    || (list_any (has_type reply.query) reply.answers || is_referral reply.authorities) then None else (
     Some (OneType reply.query.query_type))))
 
 -- the name that a CNAME record leads to (RFC 1034, section 3.6.2)
@@ -60,29 +60,28 @@ abbrev pub negative_ttl : List RecordValue → ℕ
 negative_ttl authorities = unwrap_or (option_and_then soa_ttl (first_soa authorities)) 0
 
 -- the denial that a response is, received at a moment
-abbrev pub denial_at : Moment → Reply → Denied → Denial
+abbrev pub denial_at : Moment → ReplyValue → Denied → Denial
 denial_at moment reply denied = record {
   moment = moment;
-  name = last_name reply.query reply.answers.items;
+  name = last_name reply.query reply.answers;
   dns_class = reply.query.query_class;
   denied = denied;
-  ttl = negative_ttl reply.authorities.items;
+  ttl = negative_ttl reply.authorities;
 }
 
-abbrev pub denial_of : Moment → Reply → Option Denied → List Denial
+abbrev pub denial_of : Moment → ReplyValue → Option Denied → List Denial
 denial_of moment reply None = []
 denial_of moment reply (Some denied) = denial_at moment reply denied ∷ []
 
-abbrev pub denied_in : List Event → Moment → Said → List Denial
-denied_in past moment (Asked q) = []
-denied_in past moment (Received reply) =
-    if counts past reply then denial_of moment reply (denied_by reply) else []
-denied_in past moment (Told reply) = []
+abbrev pub denied_in : Bool → Moment → Said → List Denial
+denied_in counts moment (Asked q) = []
+denied_in counts moment (Received reply) = if counts then denial_of moment reply (denied_by reply) else []
+denied_in counts moment (Told reply) = []
 
 -- all denials that were received, in order
 abbrev pub denials : List Event → List Denial
 denials [] = []
-denials (event ∷ past) = denials past ++ denied_in past event.moment event.said
+denials (event ∷ past) = denials past ++ denied_in (is_counted past event.said) event.moment event.said
 
 abbrev pub denial_deadline : Denial → ℕ
 denial_deadline d = milliseconds_of d.moment + 1000 * d.ttl
@@ -101,6 +100,10 @@ covers_denied owner (OneType t) name denied = denies_type denied t && name_eq ow
 abbrev pub covers : DNSClass → NameValue → Denied → Denial → Bool
 covers class name denied d =
     (class_code d.dns_class == class_code class) && covers_denied d.name d.denied name denied
+
+-- such a denial runs out at that moment or later
+abbrev pub covers_until : DNSClass → NameValue → Denied → ℕ → Denial → Bool
+covers_until class name denied until d = covers class name denied d && nat_le until (denial_deadline d)
 
 -- some reception denies this
 abbrev pub was_denied : List Denial → DNSClass → NameValue → Denied → Bool

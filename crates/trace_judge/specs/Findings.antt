@@ -20,7 +20,9 @@ use Rattle.trace_judge.specs.declared.classes.Section.TheVariants as section
 use Rattle.trace_judge.specs.declared.denials.Denial.{Denial}
 use Rattle.trace_judge.specs.declared.denials.Denied.{Denied}
 use Rattle.trace_judge.specs.declared.event.Moment.{Moment}
-use Rattle.trace_judge.specs.declared.event.Reply.{Reply}
+use Rattle.trace_judge.specs.declared.facts.DenialFacts.{DenialFacts}
+use Rattle.trace_judge.specs.declared.facts.Facts.{Facts}
+use Rattle.trace_judge.specs.Replies.{ReplyValue}
 use Rattle.trace_judge.specs.Evidence.{EvidenceValue}
 
 -- the finding, where it holds
@@ -34,41 +36,45 @@ is_first_day start now = nat_lt (milliseconds_of now) (milliseconds_of start + 8
 
 -- ---- classes of a record
 
+-- What is known of a record that is told: whether it was received; whether a reception allows it to be kept for as
+-- long as it is told; whether it was received with that TTL; when the last reception of it runs out; and whether its
+-- question was asked since then, and not answered.
+abbrev pub facts_of : EvidenceValue → Moment → Query → RecordValue → Facts
+facts_of e now q told =
+    let last = last_deadline e.received told in record {
+      received = was_received e.received told;
+      allowed = was_allowed e.slack e.received (reach (milliseconds_of now) told.ttl) told;
+      had_ttl = had_ttl e.slack e.received told;
+      deadline = last;
+      tried = was_asked_since e.asks last q told && not (was_asked_after e.answers last q told);
+    }
+
 -- received, and told so that it lasts longer than every reception of it allows
-abbrev pub is_stale : EvidenceValue → Moment → RecordValue → Bool
-is_stale e now told =
-    was_received e.received told
-    && not (was_allowed e.slack e.received (reach (milliseconds_of now) told.ttl) told)
+abbrev pub is_stale : Facts → Bool
+is_stale f = f.received && not f.allowed
 
 -- by how many milliseconds it reaches past the latest deadline
-abbrev pub overrun : EvidenceValue → Moment → RecordValue → ℕ
-overrun e now told = reach (milliseconds_of now) told.ttl - last_deadline e.received told
+abbrev pub overrun : Moment → RecordValue → Facts → ℕ
+overrun now told f = reach (milliseconds_of now) told.ttl - f.deadline
 
 -- received, and told with a TTL above that of every reception
-abbrev pub is_raised : EvidenceValue → RecordValue → Bool
-is_raised e told = was_received e.received told && not (had_ttl e.slack e.received told)
+abbrev pub is_raised : Facts → Bool
+is_raised f = f.received && not f.had_ttl
 
 -- how many milliseconds ago its latest deadline was
-abbrev pub age_past : EvidenceValue → Moment → RecordValue → ℕ
-age_past e now told = milliseconds_of now - last_deadline e.received told
+abbrev pub age_past : Moment → Facts → ℕ
+age_past now f = milliseconds_of now - f.deadline
 
--- its question was asked since its latest deadline, and not answered
-abbrev pub was_tried : EvidenceValue → Query → RecordValue → Bool
-was_tried e q told =
-    was_asked_since e.asks (last_deadline e.received told) q told
-    && not (was_asked_after e.answers (last_deadline e.received told) q told)
+-- It had run out, is told with a TTL of 30 seconds at the most, and its question was tried in vain since: so a
+-- resolver may serve it (RFC 8767, sections 4 and 5).
+abbrev pub is_served_stale : Moment → RecordValue → Facts → Bool
+is_served_stale now told f = is_stale f && nat_le told.ttl 30 && nat_lt 0 (age_past now f) && f.tried
 
--- It had run out, is told with a TTL of 30 seconds at the most, and its question was tried in vain since: so a resolver may
--- serve it (RFC 8767, sections 4 and 5).
-abbrev pub is_served_stale : EvidenceValue → Moment → Query → RecordValue → Bool
-is_served_stale e now q told =
-    is_stale e now told && nat_le told.ttl 30 && nat_lt 0 (age_past e now told) && was_tried e q told
-
-abbrev pub received_findings : EvidenceValue → Moment → Query → Place → RecordValue → List Finding
-received_findings e now q place told =
-    when (is_stale e now told) place (Stale (overrun e now told))
-    ++ when (is_served_stale e now q told) place (ServedStale (age_past e now told))
-    ++ when (is_raised e told) place Raised
+abbrev pub received_findings : Moment → Place → RecordValue → Facts → List Finding
+received_findings now place told f =
+    when (is_stale f) place (Stale (overrun now told f))
+    ++ when (is_served_stale now told f) place (ServedStale (age_past now f))
+    ++ when (is_raised f) place Raised
 
 -- ---- what was not received, of this name
 
@@ -85,21 +91,30 @@ unknown_findings e now place name =
 
 -- ---- every class of a record
 
+abbrev pub is_in_answer : Place → Bool
+is_in_answer (place.Record section.Answer i) = true
+is_in_answer (place.Record section.Authority i) = false
+is_in_answer (place.Record section.Additional i) = false
+is_in_answer place.Response = false
+
 -- a record of an answer section stands behind an alias that had run out
 abbrev pub is_behind_outlived : EvidenceValue → Moment → Query → Place → RecordValue → Bool
-is_behind_outlived e now q (place.Record section.Answer i) told =
-    is_alias_outlived e.slack e.received (milliseconds_of now) q told.name
-is_behind_outlived e now q other told = false
+is_behind_outlived e now q place told =
+    is_in_answer place && is_alias_outlived e.slack e.received (milliseconds_of now) q told.name
 
 -- the pseudo-record of EDNS is no data (RFC 6891, section 6.1.1)
 abbrev pub is_pseudo : RecordValue → Bool
 is_pseudo r = record_type_code r == 41
 
+-- by what is known of it
+abbrev pub known_findings : EvidenceValue → Moment → Place → RecordValue → Facts → List Finding
+known_findings e now place told f =
+    if f.received then received_findings now place told f else unknown_findings e now place told.name
+
 abbrev pub record_findings : EvidenceValue → Moment → Query → Place → RecordValue → List Finding
 record_findings e now q place told =
     if is_pseudo told then [] else
-    ((if was_received e.received told then received_findings e now q place told
-    else unknown_findings e now place told.name)
+    (known_findings e now place told (facts_of e now q told)
     ++ when (is_behind_outlived e now q place told) place AliasOutlives)
 
 -- of the records of a section from a number on
@@ -110,47 +125,48 @@ section_findings e now q section i (told ∷ more) =
 
 -- ---- classes of a denial
 
-abbrev pub denial_reach : Moment → Reply → ℕ
-denial_reach now reply = reach (milliseconds_of now) (negative_ttl reply.authorities.items)
+abbrev pub denial_reach : Moment → ReplyValue → ℕ
+denial_reach now reply = reach (milliseconds_of now) (negative_ttl reply.authorities)
 
-abbrev pub is_denied : EvidenceValue → Reply → Denied → Bool
-is_denied e reply denied =
-    was_denied e.denied reply.query.query_class (last_name reply.query reply.answers.items) denied
-
--- a reception that denies it allows it to be kept for as long as it is told
-abbrev pub is_denial_allowed : EvidenceValue → Moment → Reply → Denied → Bool
-is_denial_allowed e now reply denied =
-    was_denial_allowed e.slack e.denied (denial_reach now reply) reply.query.query_class
-    (last_name reply.query reply.answers.items) denied
+-- What is known of a denial that is told: whether it was received; whether a reception allows it to be kept for as
+-- long as it is told; and when the last reception of it runs out.
+abbrev pub denial_facts_of : EvidenceValue → Moment → ReplyValue → Denied → DenialFacts
+denial_facts_of e now reply denied =
+    let class = reply.query.query_class in let name = last_name reply.query reply.answers in record {
+      denied = was_denied e.denied class name denied;
+      allowed = was_denial_allowed e.slack e.denied (denial_reach now reply) class name denied;
+      deadline = last_denial e.denied class name denied;
+    }
 
 -- denied by what was received, and told so that it lasts longer than every reception that denies it allows
-abbrev pub is_negative_outlived : EvidenceValue → Moment → Reply → Denied → Bool
-is_negative_outlived e now reply denied = is_denied e reply denied && not (is_denial_allowed e now reply denied)
+abbrev pub is_negative_outlived : DenialFacts → Bool
+is_negative_outlived f = f.denied && not f.allowed
 
-abbrev pub denial_overrun : EvidenceValue → Moment → Reply → Denied → ℕ
-denial_overrun e now reply denied =
-    denial_reach now reply
-    - last_denial e.denied reply.query.query_class (last_name reply.query reply.answers.items) denied
+abbrev pub denial_overrun : Moment → ReplyValue → DenialFacts → ℕ
+denial_overrun now reply f = denial_reach now reply - f.deadline
 
-abbrev pub denied_findings : EvidenceValue → Moment → Reply → Denied → List Finding
-denied_findings e now reply denied =
-    if is_denied e reply denied
-    then when (is_negative_outlived e now reply denied) place.Response (NegativeOutlives (denial_overrun e now reply denied))
-    else unknown_findings e now place.Response (last_name reply.query reply.answers.items)
+abbrev pub known_denial_findings : EvidenceValue → Moment → ReplyValue → DenialFacts → List Finding
+known_denial_findings e now reply f =
+    if f.denied
+    then when (is_negative_outlived f) place.Response (NegativeOutlives (denial_overrun now reply f))
+    else unknown_findings e now place.Response (last_name reply.query reply.answers)
 
-abbrev pub denial_findings : EvidenceValue → Moment → Reply → Option Denied → List Finding
+abbrev pub denied_findings : EvidenceValue → Moment → ReplyValue → Denied → List Finding
+denied_findings e now reply denied = known_denial_findings e now reply (denial_facts_of e now reply denied)
+
+abbrev pub denial_findings : EvidenceValue → Moment → ReplyValue → Option Denied → List Finding
 denial_findings e now reply None = []
 denial_findings e now reply (Some denied) = denied_findings e now reply denied
 
 -- ---- a response that is told
 
-abbrev pub reply_findings : EvidenceValue → Moment → Reply → List Finding
+abbrev pub reply_findings : EvidenceValue → Moment → ReplyValue → List Finding
 reply_findings e now reply =
-    section_findings e now reply.query section.Answer 0 reply.answers.items
-    ++ section_findings e now reply.query section.Authority 0 reply.authorities.items
-    ++ section_findings e now reply.query section.Additional 0 reply.additionals.items
+    section_findings e now reply.query section.Answer 0 reply.answers
+    ++ section_findings e now reply.query section.Authority 0 reply.authorities
+    ++ section_findings e now reply.query section.Additional 0 reply.additionals
     ++ denial_findings e now reply (denied_by reply)
 
 -- codes but NOERROR and NXDOMAIN are not judged
-abbrev pub told_findings : EvidenceValue → Moment → Reply → List Finding
+abbrev pub told_findings : EvidenceValue → Moment → ReplyValue → List Finding
 told_findings e now reply = if is_outcome reply.code then reply_findings e now reply else []

@@ -1,9 +1,13 @@
+pub mod Options
+pub mod Replies
 pub mod Trace
 pub mod Receptions
 pub mod Denials
 pub mod Aliases
 pub mod Asks
+pub mod Forgetting
 pub mod Evidence
+pub mod Index
 pub mod Findings
 pub mod Judging
 pub mod Traces

@@ -3,11 +3,12 @@ use Rattle.std.specs.Prelude.{◌+◌, ◌*◌, ℕ, Bool, ◌&&◌, ◌==◌, n
 use Rattle.std.specs.List.{list_any}
 use Rattle.hickory_proto_core.specs.Codes.{class_code}
 use Rattle.hickory_proto_core.specs.Name.{name_eq}
-use Rattle.hickory_proto_core.specs.Records.{RecordValue, data_eq}
-use Rattle.trace_judge.specs.Trace.{counts, is_outcome, milliseconds_of}
+use Rattle.hickory_proto_core.specs.Records.{RecordValue, data_eq, data_type}
+use Rattle.hickory_proto_core.specs.declared.query.Query.{Query}
+use Rattle.trace_judge.specs.Trace.{is_counted, is_outcome, milliseconds_of}
 use Rattle.trace_judge.specs.declared.event.Event.{Event}
 use Rattle.trace_judge.specs.declared.event.Moment.{Moment}
-use Rattle.trace_judge.specs.declared.event.Reply.{Reply}
+use Rattle.trace_judge.specs.Replies.{ReplyValue}
 use Rattle.trace_judge.specs.declared.event.Said.{Said}
 use Rattle.trace_judge.specs.declared.event.Said.TheVariants.{Asked, Received, Told}
 use Rattle.trace_judge.specs.declared.receptions.Reception.{Reception}
@@ -16,22 +17,26 @@ abbrev pub reception_at : Moment → RecordValue → Reception
 reception_at moment r = record { moment = moment; found = r }
 
 -- each record of a response, received at this moment
-abbrev pub received_of : Moment → Reply → List Reception
+abbrev pub received_of : Moment → ReplyValue → List Reception
 received_of moment reply =
-    map (reception_at moment) reply.answers.items ++ map (reception_at moment) reply.authorities.items
-    ++ map (reception_at moment) reply.additionals.items
+    map (reception_at moment) reply.answers ++ map (reception_at moment) reply.authorities
+    ++ map (reception_at moment) reply.additionals
 
 -- the records that a line receives: those of a response that counts and has an outcome
-abbrev pub received_by : List Event → Moment → Said → List Reception
-received_by past moment (Asked q) = []
-received_by past moment (Received reply) =
-    if counts past reply && is_outcome reply.code then received_of moment reply else []
-received_by past moment (Told reply) = []
+abbrev pub received_by : Bool → Moment → Said → List Reception
+received_by counts moment (Asked q) = []
+received_by counts moment (Received reply) =
+    if counts && is_outcome reply.code then received_of moment reply else []
+received_by counts moment (Told reply) = []
 
 -- all records that were received, in order
 abbrev pub receptions : List Event → List Reception
 receptions [] = []
-receptions (event ∷ past) = receptions past ++ received_by past event.moment event.said
+receptions (event ∷ past) = receptions past ++ received_by (is_counted past event.said) event.moment event.said
+
+-- the question that a record answers
+abbrev pub question_of : RecordValue → Query
+question_of r = record { name = r.name; query_type = data_type r.rdata; query_class = r.dns_class }
 
 -- the same owner (without case), class, type and data; only TTLs may differ
 abbrev pub is_same_record : RecordValue → RecordValue → Bool

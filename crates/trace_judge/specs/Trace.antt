@@ -1,14 +1,13 @@
 -- A trace: what a resolver asked its upstream, what it received, and what it told its clients, each at a moment.
 -- Of an event, `past` is what stands before it, the latest first.
-use Rattle.std.specs.Prelude.{◌+◌, ◌*◌, ℕ, Bool, ◌||◌, ◌==◌, List, [], ◌∷◌, ◌++◌, position, remove, Option, None, Some, is_some, unwrap_or}
-use Rattle.std.specs.Option.{option_map_or}
+use Rattle.std.specs.Prelude.{◌+◌, ◌*◌, ℕ, Bool, false, ◌||◌, ◌==◌, List, [], ◌∷◌, ◌++◌, Option, None, Some, unwrap_or, if◌then◌else◌}
+use Rattle.std.specs.List.{list_any}
 use Rattle.hickory_proto_core.specs.Codes.{response_code}
 use Rattle.hickory_proto_core.specs.Query.{query_eq}
 use Rattle.hickory_proto_core.specs.codes.response_code.ResponseCode.{ResponseCode}
 use Rattle.hickory_proto_core.specs.declared.query.Query.{Query}
 use Rattle.trace_judge.specs.declared.event.Event.{Event}
 use Rattle.trace_judge.specs.declared.event.Moment.{Moment}
-use Rattle.trace_judge.specs.declared.event.Reply.{Reply}
 use Rattle.trace_judge.specs.declared.event.Said.{Said}
 use Rattle.trace_judge.specs.declared.event.Said.TheVariants.{Asked, Received, Told}
 
@@ -19,13 +18,14 @@ milliseconds_of m = 1000 * m.seconds + m.milliseconds
 abbrev pub is_outcome : ResponseCode → Bool
 is_outcome code = (response_code code == 0) || (response_code code == 3)
 
--- the place of the earliest of these questions that is this one
-abbrev pub place_of : Query → List Query → Option ℕ
-place_of q asked = position (λ a. query_eq a q) asked
+-- the question is among these
+abbrev pub is_asked : Query → List Query → Bool
+is_asked q asked = list_any (λ a. query_eq a q) asked
 
--- what is left open where that one is answered
+-- what is left open where it is answered: the earliest of these that is this question is taken out
 abbrev pub without : Query → List Query → List Query
-without q asked = option_map_or (λ i. remove asked i) (place_of q asked) asked
+without q [] = []
+without q (a ∷ asked) = if query_eq a q then asked else a ∷ without q asked
 
 abbrev pub open_after : Said → List Query → List Query
 open_after (Asked q) asked = asked ++ q ∷ []
@@ -38,8 +38,13 @@ open_questions [] = []
 open_questions (event ∷ past) = open_after event.said (open_questions past)
 
 -- a reception counts where its question is open
-abbrev pub counts : List Event → Reply → Bool
-counts past reply = is_some (place_of reply.query (open_questions past))
+abbrev pub is_open_for : Said → List Query → Bool
+is_open_for (Asked q) asked = false
+is_open_for (Received reply) asked = is_asked reply.query asked
+is_open_for (Told reply) asked = false
+
+abbrev pub is_counted : List Event → Said → Bool
+is_counted past said = is_open_for said (open_questions past)
 
 -- the first moment of a trace, where it has begun
 abbrev pub start_in : List Event → Option Moment

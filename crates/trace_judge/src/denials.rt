@@ -4,10 +4,9 @@ ghost use Rattle.std.specs.List.{list_any};
 ghost use Rattle.hickory_proto_core.specs.Name.{name_eq};
 ghost use Rattle.hickory_proto_core.specs.Records.{data_of};
 ghost use Rattle.hickory_proto_core.specs.ResponseKind.{first_soa, is_of_type, soa_ttl};
-ghost use Rattle.trace_judge.specs.Denials.{alias_target, covers, denial_deadline, denied_by, denies_type, follow, has_type, is_referral, last_denial, last_name, negative_ttl, was_denial_allowed, was_denied};
+ghost use Rattle.trace_judge.specs.Denials.{alias_target, denial_deadline, denied_by, follow, has_type, is_referral, last_name, negative_ttl};
 
 use crate::event::{Moment, Reply};
-use crate::receptions::grace;
 use hickory_proto_core::{DNSClass, Name, Query, RData, Record, RecordType};
 
 /// What a denial denies.
@@ -38,30 +37,6 @@ impl Denial {
         ensures bound { result < 2 ^ 43 }
     {
         self.moment.in_milliseconds() + 1000 * u64::from(self.ttl)
-    }
-
-    /// Whether it denies this too.
-    pub fn covers(&self, dns_class: DNSClass, name: &Name, denied: Denied) -> bool
-        ensures { result ≡ covers dns_class name.now denied self.now }
-    {
-        if self.dns_class != dns_class {
-            return false;
-        }
-        match self.denied {
-            Denied::WholeName => self.name.zone_of(name),
-            Denied::OneType(record_type) => {
-                denies_type(denied, record_type) && is_same_name(&self.name, name)
-            }
-        }
-    }
-}
-
-fn denies_type(denied: Denied, record_type: RecordType) -> bool
-    ensures { result ≡ denies_type denied record_type }
-{
-    match denied {
-        Denied::WholeName => false,
-        Denied::OneType(other) => other == record_type,
     }
 }
 
@@ -162,39 +137,4 @@ fn first_soa(authorities: &[Record]) -> Option<&Record>
     ensures { option_copied result ≡ first_soa authorities.now }
 {
     authorities.iter().find(|r| r.rdata.soa_minimum().is_some())
-}
-
-/// Whether some reception denies this.
-pub fn was_denied(denials: &[Denial], dns_class: DNSClass, name: &Name, denied: Denied) -> bool
-    ensures { result ≡ was_denied denials.now dns_class name.now denied }
-{
-    denials.iter().any(|d| d.covers(dns_class, name, denied))
-}
-
-/// Whether a reception that denies this allows it to be kept until a moment, in milliseconds.
-pub fn was_denial_allowed(
-    slack: u32,
-    denials: &[Denial],
-    until: u64,
-    dns_class: DNSClass,
-    name: &Name,
-    denied: Denied,
-) -> bool
-    ensures { result ≡ was_denial_allowed slack denials.now until dns_class name.now denied }
-{
-    let grace = grace(slack);
-    denials.iter().any(|d| d.covers(dns_class, name, denied) && until <= d.deadline() + grace)
-}
-
-/// The latest deadline of the receptions that deny this, in milliseconds; 0 where there is none.
-pub fn last_denial(denials: &[Denial], dns_class: DNSClass, name: &Name, denied: Denied) -> u64
-    ensures { result ≡ last_denial denials.now dns_class name.now denied }
-{
-    denials.iter().fold(0, |latest, d| {
-        if d.covers(dns_class, name, denied) {
-            latest.max(d.deadline())
-        } else {
-            latest
-        }
-    })
 }

@@ -3,6 +3,7 @@ ghost use Rattle.std.specs.Prelude.{◌≡◌, ◌<◌, ◌^◌};
 ghost use Rattle.trace_judge.specs.Trace.{is_outcome, milliseconds_of};
 
 use hickory_proto_core::{Query, Record, ResponseCode};
+use std::marker::Model;
 
 /// A moment of a trace, counted from wherever its clock begins.
 #[derive(Clone, Copy, Debug, PartialEq, Eq)]
@@ -50,6 +51,21 @@ pub struct Reply {
     pub answers: Vec<Record>,
     pub authorities: Vec<Record>,
     pub additionals: Vec<Record>,
+}
+
+impl Model for Reply {
+    ghost use Rattle.trace_judge.specs.Replies.{ReplyValue};
+
+    ghost Value = { ReplyValue };
+
+    ghost view = { λ r. record {
+      query = r.query;
+      code = r.code;
+      truncated = r.truncated;
+      answers = r.answers.items;
+      authorities = r.authorities.items;
+      additionals = r.additionals.items;
+    } };
 }
 
 /// Whether a code says something of records: NOERROR and NXDOMAIN do (RFC 1035, section 4.1.1).

@@ -6,11 +6,17 @@ pub mod aliases;
 pub mod asks;
 pub mod classes;
 pub mod denials;
+pub mod denied;
 pub mod event;
+pub mod evidence;
+pub mod facts;
 pub mod hearing;
+pub mod latest;
+pub mod open;
 pub mod options;
 pub mod receptions;
 pub mod records;
+pub mod sightings;
 pub mod trace;
 
 pub use classes::{Class, Finding, Place, Section};

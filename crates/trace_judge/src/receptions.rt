@@ -2,7 +2,7 @@
 ghost use Rattle.std.specs.Prelude.{◌≡◌, ◌<◌, ◌^◌};
 ghost use Rattle.trace_judge.specs.Trace.{milliseconds_of};
 ghost use Rattle.hickory_proto_core.specs.Records.{data_of, data_eq};
-ghost use Rattle.trace_judge.specs.Receptions.{deadline, grace, had_ttl, is_same_record, last_deadline, reach, was_allowed, was_received};
+ghost use Rattle.trace_judge.specs.Receptions.{deadline, grace, is_same_record, reach};
 
 use crate::event::Moment;
 use hickory_proto_core::{RData, Record};
@@ -37,29 +37,6 @@ fn has_data(a: &RData, b: &RData) -> bool
     a == b
 }
 
-/// Whether some reception is of this record.
-pub fn was_received(received: &[Reception], told: &Record) -> bool
-    ensures { result ≡ was_received received.now told.now }
-{
-    received.iter().any(|r| is_same_record(&r.found, told))
-}
-
-/// Whether a reception of this record allows it to be kept until a moment, in milliseconds.
-pub fn was_allowed(slack: u32, received: &[Reception], until: u64, told: &Record) -> bool
-    ensures { result ≡ was_allowed slack received.now until told.now }
-{
-    let grace = grace(slack);
-    received.iter().any(|r| is_same_record(&r.found, told) && until <= r.deadline() + grace)
-}
-
-/// Whether some reception of this record has a TTL that is not below the one told.
-pub fn had_ttl(slack: u32, received: &[Reception], told: &Record) -> bool
-    ensures { result ≡ had_ttl slack received.now told.now }
-{
-    received.iter().any(|r| is_same_record(&r.found, told)
-        && u64::from(told.ttl) <= u64::from(r.found.ttl) + u64::from(slack))
-}
-
 /// How far past a deadline counts as at it, in milliseconds.
 pub fn grace(slack: u32) -> u64
     ensures value { result ≡ grace slack }
@@ -74,17 +51,4 @@ pub fn reach(now: Moment, ttl: u32) -> u64
     ensures bound { result < 2 ^ 43 }
 {
     now.in_milliseconds() + 1000 * u64::from(ttl)
-}
-
-/// The latest deadline of a record, in milliseconds; 0 where there is none.
-pub fn last_deadline(received: &[Reception], told: &Record) -> u64
-    ensures { result ≡ last_deadline received.now told.now }
-{
-    received.iter().fold(0, |latest, r| {
-        if is_same_record(&r.found, told) {
-            latest.max(r.deadline())
-        } else {
-            latest
-        }
-    })
 }

@@ -1,6 +1,10 @@
-use Rattle.std.proofs.Common.{◌≡◌, ◌++◌, map, take}
+use Rattle.std.proofs.Common.{ℕ, List, ◌++◌, map, take}
+use Rattle.trace_judge.specs.Judging.{SeesAs}
 use Rattle.trace_judge.specs.Receptions.{reception_at}
+use Rattle.trace_judge.specs.declared.receptions.Reception.{Reception}
 use Rattle.trace_judge.proofs.hearing.keep_section.Given as goal
 
+-- the records so far were received
 abbrev pub invariant-loop-r : goal.invariant-loop-r
-invariant-loop-r l = l.received.items ≡ l.initial.received.items ++ map (reception_at l.moment) (take l.r-index l.records)
+invariant-loop-r l = (from : ℕ) (before : List Reception) → SeesAs from l.initial.seen before
+    → SeesAs from l.seen (before ++ map (reception_at l.moment) (take l.r-index l.records))

@@ -1,0 +1,46 @@
+//! What a telling is judged by.
+
+use crate::denied::Denials;
+use crate::event::Moment;
+use crate::latest::LatestMoments;
+use crate::sightings::Sightings;
+use hickory_proto_core::Name;
+use std::marker::Model;
+
+/// What a telling is judged by.
+#[derive(Drop)]
+pub struct Evidence<'a> {
+    /// How many seconds are allowed for rounding.
+    pub slack: u32,
+    /// The moment, in milliseconds, before which all is forgotten.
+    pub oldest: u64,
+    /// The zones that the resolver answers for by itself.
+    pub local: &'a [Name],
+    /// The first moment of the trace.
+    pub start: Moment,
+    /// What was received.
+    pub seen: &'a Sightings,
+    /// When each question was asked last.
+    pub asked: &'a LatestMoments,
+    /// When each question was answered last.
+    pub answered: &'a LatestMoments,
+    /// What was denied.
+    pub denied: &'a Denials,
+}
+
+impl<'a> Model for Evidence<'a> {
+    ghost use Rattle.trace_judge.specs.Index.{IndexValue};
+
+    ghost Value = { IndexValue };
+
+    ghost view = { λ e. record {
+      slack = e.slack;
+      oldest = e.oldest;
+      local = e.local.now;
+      start = e.start;
+      seen = e.seen.now;
+      asked = e.asked.now;
+      answered = e.answered.now;
+      denied = e.denied.now;
+    } };
+}
