@@ -1,3 +1,4 @@
+pub mod Asked
 pub mod Beliefs
 pub mod Chains
 pub mod Cutting

@@ -21,13 +21,17 @@ use Rattle.hickory_resolver_tries.proofs.Varied.{sent-name, label_fault-sent}
 
 -- ---- the header
 
-sum_is : (recursion checking : Bool)
-    → weighed recursion 256 + weighed checking 16
-    ≡ 0 + weighed recursion 256 + 0 + 0 + 0 + weighed checking 16 + 0
-sum_is true true = refl
-sum_is true false = refl
-sum_is false true = refl
-sum_is false false = refl
+sum_is : (recursion authentic checking : Bool)
+    → weighed recursion 256 + weighed authentic 32 + weighed checking 16
+    ≡ 0 + weighed recursion 256 + 0 + 0 + weighed authentic 32 + weighed checking 16 + 0
+sum_is true true true = refl
+sum_is true true false = refl
+sum_is true false true = refl
+sum_is true false false = refl
+sum_is false true true = refl
+sum_is false true false = refl
+sum_is false false true = refl
+sum_is false false false = refl
 
 count_is : (opt : Option SentOpt) (b : Bool) → weighed (is_some opt && b) 1 ≡ 0 + opt_count (edns_if (is_some opt && b) opt)
 count_is None b = refl
@@ -35,12 +39,12 @@ count_is (Some o) true = refl
 count_is (Some o) false = refl
 
 pub header_is : (q : PoolQuestion) (form : TryForm) (sends : Bool) (flags : ℕ) (out : List ℕ)
-    → sends ≡ sends_opt q form → flags ≡ weighed q.recursion_desired 256 + weighed q.checking_disabled 16
+    → sends ≡ sends_opt q form → flags ≡ weighed q.recursion_desired 256 + weighed q.authentic_data 32 + weighed q.checking_disabled 16
     → ((((((out ++ u16_octets form.id) ++ u16_octets flags) ++ u16_octets 1) ++ u16_octets 0) ++ u16_octets 0) ++ u16_octets (weighed sends 1))
     ≡ out ++ header_octets (message_of_try q form) 0
 header_is q form sends flags out es ef =
     let count = ap (λ b. weighed b 1) es ∙ count_is q.opt _ in
-    let sum = ef ∙ sum_is q.recursion_desired q.checking_disabled in
+    let sum = ef ∙ sum_is q.recursion_desired q.authentic_data q.checking_disabled in
     ap₂ (λ f n. ((((((out ++ u16_octets form.id) ++ u16_octets f) ++ u16_octets 1) ++ u16_octets 0) ++ u16_octets 0) ++ u16_octets n)) sum count
     ∙ simp append_assoc
 

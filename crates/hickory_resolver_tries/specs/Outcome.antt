@@ -1,5 +1,5 @@
 -- What a believed reply comes to, by what it says alone: nothing of servers, of other tries, or of the transport.
-use Rattle.std.specs.Prelude.{ℕ, Bool, false, not, ◌&&◌, ◌||◌, ◌==◌, List, Option, None, Some, Result, Ok, Err, if◌then◌else◌}
+use Rattle.std.specs.Prelude.{◌≡◌, ℕ, Bool, false, not, ◌&&◌, ◌||◌, ◌==◌, List, [], ◌∷◌, Option, None, Some, Result, Ok, Err, if◌then◌else◌}
 use Rattle.std.specs.List.{list_any}
 use Rattle.std.specs.Option.{is_some, is_none}
 use Rattle.hickory_proto_core.specs.Name.{NameValue}
@@ -11,6 +11,7 @@ use Rattle.hickory_proto_core.specs.codes.record_type.RecordType.TheVariants as 
 use Rattle.hickory_proto_core.specs.codes.response_code.ResponseCode.{ResponseCode}
 use Rattle.hickory_proto_core.specs.codes.response_code.ResponseCode.TheVariants as code
 use Rattle.hickory_proto_wire.specs.Messages.{bit, message_of}
+use Rattle.hickory_proto_wire.specs.Writing.{named_query}
 use Rattle.hickory_proto_wire.specs.declared.wire_error.WireFault.{WireFault}
 use Rattle.hickory_proto_wire.specs.declared.wire_message.WireMessage.{WireMessage}
 use Rattle.hickory_resolver_model.specs.AliasWalk.{walk_of, is_moved}
@@ -88,3 +89,8 @@ with_letters asked m = record m { message = given_back asked m.message }
 abbrev pub message_if : Bool → NameValue → Result WireMessage WireFault → Option WireMessage
 message_if cut asked (Err fault) = None
 message_if cut asked (Ok m) = if cut then None else Some (with_letters asked m)
+
+-- a message with this question alone; a code of the question that has a name has it
+abbrev pub AsksAlone : Query → Option WireMessage → Type 0
+AsksAlone q None = Unit {0}
+AsksAlone q (Some m) = m.message.queries ≡ named_query q ∷ []

@@ -40,8 +40,8 @@ messages_of stream = (cut_in (length stream) stream).messages
 abbrev pub rest_of : List ℕ → List ℕ
 rest_of stream = (cut_in (length stream) stream).rest
 
--- What is taken of a stream at once: its first message, up to its last octet, where it has a whole one; else all of it is
--- held.
+-- What is taken of a stream at once: its first message, up to its last octet, where it has a whole one; else all of
+-- it is held.
 abbrev pub Takes : List ℕ → Option (List ℕ) → List ℕ → List ℕ → Type 0
 Takes stream None behind held = (first_of stream ≡ None) × (held ≡ stream) × (behind ≡ [])
 Takes stream (Some message) behind held = (first_of stream ≡ Some (message, behind)) × (held ≡ [])

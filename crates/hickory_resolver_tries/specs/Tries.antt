@@ -52,7 +52,7 @@ abbrev pub message_of_try : PoolQuestion → TryForm → WireMessage
 message_of_try q form = record {
   is_response = false;
   reserved = false;
-  authentic_data = false;
+  authentic_data = q.authentic_data;
   checking_disabled = q.checking_disabled;
   edns = edns_if (sends_opt q form) q.opt;
   message = record {

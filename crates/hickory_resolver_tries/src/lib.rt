@@ -15,5 +15,5 @@ pub use belief::Belief;
 pub use head::Head;
 pub use message_stream::MessageStream;
 pub use outcome::{Reply, ReplyOutcome};
-pub use pool_question::{PoolQuestion, SentOpt};
+pub use pool_question::{DnssecOptions, PoolQuestion, SentOpt};
 pub use try_message::{TryForm, TryMessage};

@@ -1,13 +1,14 @@
 //! What a believed reply comes to.
-ghost use Rattle.std.specs.Prelude.{◌≡◌, ◌||◌, ◌&&◌, not, is_some, option_copied, Some, IfOk};
+ghost use Rattle.std.specs.Prelude.{◌≡◌, ◌||◌, ◌&&◌, not, is_some, option_copied, Some, None, true, IfOk};
 ghost use Rattle.std.specs.List.{list_any};
 ghost use Rattle.hickory_proto_core.specs.ResponseKind.{is_asked, is_of_type, first_soa};
 ghost use Rattle.hickory_proto_wire.specs.Messages.{message_of};
 ghost use Rattle.hickory_resolver_tries.specs.Heads.{head_of};
-ghost use Rattle.hickory_resolver_tries.specs.Belief.{knows_no_opt};
-ghost use Rattle.hickory_resolver_tries.specs.Outcome.{has_code, has_soa, at_name, is_answered, leads_on, is_lame, refuses_sent_opt, outcome_of_message, is_truncated, outcome_of, with_letters, message_if};
+ghost use Rattle.hickory_proto_core.specs.Name.{label_fault};
+ghost use Rattle.hickory_resolver_tries.specs.Belief.{knows_no_opt, belief_of};
+ghost use Rattle.hickory_resolver_tries.specs.Outcome.{has_code, has_soa, at_name, is_answered, leads_on, is_lame, refuses_sent_opt, outcome_of_message, is_truncated, outcome_of, with_letters, message_if, AsksAlone};
 
-use crate::belief::knows_no_opt;
+use crate::belief::{Belief, knows_no_opt};
 use crate::chain::end_of;
 use crate::head::{bit, head_at};
 use crate::letters_back::give_back;
@@ -55,6 +56,10 @@ pub fn read_reply(
     ensures outcome { IfOk result (λ r. r.outcome ≡ outcome_of message.now form.now octets.now) }
     ensures message { IfOk result (λ r. r.message
         ≡ message_if (is_truncated (head_of octets.now)) message.now.query.name (message_of octets.now)) }
+
+    // What was believed has the question as it was asked, letter for letter.
+    ensures asked { belief_of message.now form.now octets.now ≡ Belief.Believed
+        → IfOk result (λ r. AsksAlone message.now.query r.message) }
 {
     if is_truncated(octets) {
         return Ok(Reply {
@@ -80,6 +85,8 @@ fn read_message(
 ) -> Result<Reply, AllocError>
     ensures outcome { IfOk result (λ r. r.outcome ≡ outcome_of_message message.now form.now read) }
     ensures message { IfOk result (λ r. r.message ≡ Some (with_letters message.now.query.name read)) }
+    ensures absolute { message.now.query.name.fqdn ≡ true }
+    ensures valid { label_fault message.now.query.name.labels ≡ None }
 {
     let outcome = outcome_of_message(message, form, &read);
     let mut read = read;

@@ -71,9 +71,11 @@ impl TryMessage {
         Ok(TryMessage { question, name })
     }
 
-    /// The question.
+    /// The question. Its name is absolute, and fit for a message.
     pub fn question(&self) -> &PoolQuestion
-        ensures { result.now ≡ self.now }
+        ensures question { result.now ≡ self.now }
+        ensures absolute { self.now.query.name.fqdn ≡ true }
+        ensures valid { label_fault self.now.query.name.labels ≡ None }
     {
         &self.question
     }
@@ -222,9 +224,12 @@ fn weighed(set: bool, weight: u16) -> u16
 
 // The second number of the header.
 fn query_flags(question: &PoolQuestion) -> u16
-    ensures { result ≡ weighed question.now.recursion_desired 256 + weighed question.now.checking_disabled 16 }
+    ensures { result ≡ weighed question.now.recursion_desired 256 + weighed question.now.authentic_data 32
+        + weighed question.now.checking_disabled 16 }
 {
-    weighed(question.recursion_desired, 256) + weighed(question.checking_disabled, 16)
+    weighed(question.recursion_desired, 256)
+        + weighed(question.authentic_data, 32)
+        + weighed(question.checking_disabled, 16)
 }
 
 // The header of a try.

@@ -1,7 +1,7 @@
 //! What the lines of a case say.
 use anyhow::Context;
 use hickory_proto_core::{DnsRequestOptions, Name, Query, RecordType};
-use hickory_resolver_tries::{PoolQuestion, TryForm};
+use hickory_resolver_tries::{DnssecOptions, PoolQuestion, TryForm};
 use std::alloc::Global;
 
 /// Octets in hex digits, with spaces where one likes.
@@ -14,7 +14,7 @@ pub fn octets_of(alloc: Global, text: &str) -> anyhow::Result<Vec<u8>> {
     Ok(octets)
 }
 
-/// A name, a type, and of the words `edns`, `do`, `cd` and `norec` those that hold.
+/// A name, a type, and of the words `edns`, `do`, `cd`, `ad` and `norec` those that hold.
 pub fn question_of(alloc: Global, text: &str) -> anyhow::Result<PoolQuestion> {
     let mut words = text.split_whitespace();
     let name = words.next().context("a name")?;
@@ -27,14 +27,12 @@ pub fn question_of(alloc: Global, text: &str) -> anyhow::Result<PoolQuestion> {
         edns_payload_len: 1232,
         case_randomization: false,
     };
-    let dnssec_ok = has_word(text, "do");
-    let checking_disabled = has_word(text, "cd");
-    Ok(PoolQuestion::new(
-        Query::query(name, kind),
-        options,
-        dnssec_ok,
-        checking_disabled,
-    ))
+    let dnssec = DnssecOptions {
+        dnssec_ok: has_word(text, "do"),
+        checking_disabled: has_word(text, "cd"),
+        authentic_data: has_word(text, "ad"),
+    };
+    Ok(PoolQuestion::new(Query::query(name, kind), options, dnssec))
 }
 
 /// `id=` and a number, `letters=` and bits in hex digits, and `plain` for a try without OPT.

@@ -1,0 +1,3 @@
+pub mod Measures
+pub mod Order
+pub mod Server

@@ -1,0 +1,4 @@
+pub mod Bounded
+pub mod MadeUp
+pub mod Replacing
+pub mod Waiting
