@@ -66,7 +66,6 @@ class Upstream:
         return count
 
     def answer(self, asked, *records):
-        """Answers a question with records."""
         query, peer = asked
         response = dns.message.make_response(query)
         response.answer = [dns.rrset.from_text(query.question[0].name, *record) for record in records]

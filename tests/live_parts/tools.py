@@ -20,7 +20,6 @@ def run(tool, *words):
 
 
 def replayed(program, *files):
-    """What a replay prints."""
     done = subprocess.run([program, *files], stdin=subprocess.DEVNULL, capture_output=True, timeout=SECONDS, text=True)
     return done.stdout if done.returncode == 0 else f"status {done.returncode}: {done.stderr}"
 

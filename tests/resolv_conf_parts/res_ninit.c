@@ -5,6 +5,8 @@
 #include <arpa/inet.h>
 #include <netinet/in.h>
 #include <resolv.h>
+#include <errno.h>
+#include <fcntl.h>
 #include <sched.h>
 #include <stdio.h>
 #include <string.h>
@@ -12,6 +14,20 @@
 #include <unistd.h>
 
 enum { NOT_ALLOWED = 2 };
+
+#define FILE_OF_SYSTEM "/etc/resolv.conf"
+
+/* Where the path leads to nothing, as where a service that writes the file does not run, it lies in a new folder. */
+static int lay_in_new_folder(const char *file)
+{
+    if (errno != ENOENT || mount("none", "/etc", "tmpfs", 0, NULL) != 0)
+        return -1;
+    int place = open(FILE_OF_SYSTEM, O_CREAT | O_WRONLY | O_CLOEXEC, 0644);
+    if (place < 0)
+        return -1;
+    close(place);
+    return mount(file, FILE_OF_SYSTEM, NULL, MS_BIND, NULL);
+}
 
 static int refused(const char *what)
 {
@@ -26,8 +42,8 @@ static int enter(const char *file, const char *hostname)
         return refused("unshare");
     if (mount(NULL, "/", NULL, MS_REC | MS_PRIVATE, NULL) != 0)
         return refused("mount / as private");
-    if (mount(file, "/etc/resolv.conf", NULL, MS_BIND, NULL) != 0)
-        return refused("mount over /etc/resolv.conf");
+    if (mount(file, FILE_OF_SYSTEM, NULL, MS_BIND, NULL) != 0 && lay_in_new_folder(file) != 0)
+        return refused("mount over " FILE_OF_SYSTEM);
     if (sethostname(hostname, strlen(hostname)) != 0)
         return refused("sethostname");
     return 0;

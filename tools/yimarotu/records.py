@@ -131,7 +131,6 @@ def section_lines(message):
 
 
 def reply_line(message):
-    """The line that opens a reply."""
     if message.question:
         asked = message.question[0]
         question = f"{name_text(asked.name)} {type_word(asked.rdtype)} {class_word(asked.rdclass)}"

@@ -1,4 +1,4 @@
-"""The network: a name server that is asked by UDP, and by TCP where its reply is truncated (RFC 1035, section 4.2)."""
+"""The network: name servers that are asked by UDP, and by TCP where the reply is truncated (RFC 1035, section 4.2)."""
 import asyncio
 import ipaddress
 import random
@@ -27,6 +27,8 @@ PORT_TRIES = 8
 
 @dataclass(frozen=True)
 class Server:
+    """A link-local address may have `%` and its scope behind it (RFC 4007, section 11.2)."""
+
     address: str
     port: int = 53
 
@@ -46,6 +48,11 @@ class Server:
     @property
     def family(self):
         return socket.AF_INET6 if ":" in self.address else socket.AF_INET
+
+    def place(self):
+        """The address for a socket: a scope has its number there (getaddrinfo(3))."""
+        flags = socket.AI_NUMERICHOST | socket.AI_NUMERICSERV
+        return socket.getaddrinfo(self.address, self.port, type=socket.SOCK_DGRAM, flags=flags)[0][4]
 
     def __str__(self):
         return f"[{self.address}]:{self.port}" if ":" in self.address else f"{self.address}:{self.port}"
@@ -117,7 +124,6 @@ def check_reply(query, wire, same_case):
 
 
 def whole_reply(query, wire, same_case):
-    """The whole of a reply to this query."""
     check_reply(query, wire, same_case)
     try:
         return records.read_message(wire)
@@ -137,38 +143,48 @@ def bind_somewhere(sock):
 
 
 class Upstream:
-    """A name server. It is asked anew after a timeout, with a fresh id and from a fresh port each time."""
+    """Name servers. One is asked after the other, all of them once in a round, with a fresh id and from a fresh port each
+    time: in their order, or from another one on each time."""
 
-    def __init__(self, server, timeout=2.0, tries=2):
-        self.server, self.timeout, self.tries = server, timeout, tries
+    def __init__(self, servers, timeout=2.0, rounds=2, in_turn=False, tcp_only=False):
+        self.servers, self.timeout, self.rounds = servers, timeout, rounds
+        self.in_turn, self.tcp_only = in_turn, tcp_only
 
     async def ask(self, question):
-        """The outcome of a question, as the lines that a script has for it."""
-        kind = "timeout"
-        for _ in range(self.tries):
+        """The outcome of a question, as the lines that a script has for it, and whose it is: a server, or None where there
+        is none."""
+        server, kind = None, "message"
+        for server in self._order() * self.rounds:
             try:
-                return records.outcome_lines(await self._try(question))
+                return records.outcome_lines(await self._try(server, question)), server
             except (asyncio.TimeoutError, asyncio.IncompleteReadError):
                 kind = "timeout"
             except (OSError, records.NotSayable, Mismatch):
                 kind = "message"
-        return [f"fail {kind} {question.words()}"]
+        return [f"fail {kind} {question.words()}"], server
 
-    async def _try(self, question):
-        query = question.query()
-        reply = await asyncio.wait_for(self._by_udp(query, question.mixed), self.timeout)
+    def _order(self):
+        first = RANDOM.randrange(len(self.servers)) if self.in_turn and self.servers else 0
+        return self.servers[first:] + self.servers[:first]
+
+    async def _try(self, server, question):
+        query, same_case = question.query(), question.mixed
+        reply = None
+        if not self.tcp_only:
+            reply = await asyncio.wait_for(self._by_udp(server, query, same_case), self.timeout)
         if reply is None:
-            reply = await asyncio.wait_for(self._by_tcp(query, question.mixed), self.timeout)
+            reply = await asyncio.wait_for(self._by_tcp(server, query, same_case), self.timeout)
         return reply
 
-    async def _by_udp(self, query, same_case):
+    @staticmethod
+    async def _by_udp(server, query, same_case):
         """The first reply that belongs to the query, or None where it is truncated. Others are dropped: the system
         drops those of another address, since the socket is connected."""
         loop = asyncio.get_running_loop()
-        with socket.socket(self.server.family, socket.SOCK_DGRAM) as sock:
+        with socket.socket(server.family, socket.SOCK_DGRAM) as sock:
             sock.setblocking(False)
             bind_somewhere(sock)
-            sock.connect((self.server.address, self.server.port))
+            sock.connect(server.place())
             sock.send(query.to_wire())
             while True:
                 wire = await loop.sock_recv(sock, 65535)
@@ -179,8 +195,9 @@ class Upstream:
                 except Mismatch:
                     continue
 
-    async def _by_tcp(self, query, same_case):
-        reader, writer = await asyncio.open_connection(self.server.address, self.server.port)
+    @staticmethod
+    async def _by_tcp(server, query, same_case):
+        reader, writer = await asyncio.open_connection(server.address, server.port)
         try:
             wire = query.to_wire()
             writer.write(struct.pack(">H", len(wire)) + wire)

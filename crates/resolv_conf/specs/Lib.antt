@@ -4,5 +4,6 @@ pub mod Names
 pub mod OptionWord
 pub mod ResolvConf
 pub mod Said
+pub mod Script
 pub mod Servers
 pub mod Text

@@ -8,10 +8,12 @@ mod keyword;
 mod option_word;
 mod passed_over;
 mod reading;
+mod script;
 mod server;
 mod settings;
 mod text;
 
 pub use configuration::{ResolvConf, read_resolv_conf};
 pub use passed_over::{PassedOver, Reason};
+pub use script::script_lines;
 pub use server::Scope;
