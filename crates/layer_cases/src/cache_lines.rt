@@ -16,52 +16,63 @@ use hickory_resolver_cache::ResponseCache;
 use hickory_resolver_lookup::TtlConfig;
 use std::alloc::Global;
 
-/// The text of all of it.
-pub fn text_of(alloc: Global, cases: &str) -> Result<String, NetError> {
-    let mut text = String::new(alloc);
+/// All of it.
+pub fn show_lines(rt: &impl Print, alloc: Global, cases: &str) -> Result<(), NetError> {
     let mut cache = ResponseCache::new(alloc, 0, TtlConfig::default(alloc));
-    let pushed = push_lines(alloc, &mut text, &mut cache, cases);
+    let taken = take_lines(rt, alloc, &mut cache, cases);
     // `drop` costs the prover less than the end of the block.
     drop(cache);
-    pushed?;
-    cache_texts::push_equalities(alloc, &mut text)?;
-    comparison::push_comparison(alloc, &mut text)?;
-    Ok(text)
+    taken?;
+    cache_texts::show_equalities(rt, alloc)?;
+    comparison::show_comparison(rt, alloc)
 }
 
-fn push_lines(
+fn take_lines(
+    rt: &impl Print,
     alloc: Global,
-    text: &mut String,
     cache: &mut ResponseCache,
     cases: &str,
 ) -> Result<(), NetError> {
     for line in cases.lines() {
-        text.push_str(line)?;
-        let words: Vec<&str> = line.split_whitespace().collect(alloc)?;
-        take_words(alloc, text, cache, &words)?;
-        text.push_str("\n")?;
+        let _ = rt.print(line);
+        take_line(rt, alloc, cache, line)?;
+        let _ = rt.println("");
     }
     Ok(())
 }
 
-// Does what the words say, and adds what comes of it.
-fn take_words(
+fn take_line(
+    rt: &impl Print,
     alloc: Global,
-    text: &mut String,
+    cache: &mut ResponseCache,
+    line: &str,
+) -> Result<(), NetError> {
+    let words: Vec<&str> = line.split_whitespace().collect(alloc)?;
+    let taken = take_words(rt, alloc, cache, &words);
+    drop(words);
+    taken
+}
+
+// Does what the words say, and shows what comes of it.
+fn take_words(
+    rt: &impl Print,
+    alloc: Global,
     cache: &mut ResponseCache,
     words: &[&str],
 ) -> Result<(), NetError> {
     match words {
-        ["#", ..] => Ok(()),
-        ["bounds", bounds @ ..] => Ok(write!(text, ": {:?}", bounds_of(bounds))?),
+        ["#", ..] | [] => Ok(()),
+        ["bounds", bounds @ ..] => {
+            let _ = rt.print(format_args!(": {:?}", bounds_of(bounds)));
+            Ok(())
+        }
         ["cache", capacity, bounds @ ..] => {
             let config = config_of(alloc, bounds)?;
             *cache = ResponseCache::new(alloc, capacity.parse().unwrap_or(0), config);
             Ok(())
         }
         [moment, words @ ..] => {
-            cache_steps::push_step(alloc, text, cache, moment.parse().unwrap_or(0), words)
+            cache_steps::take_step(rt, alloc, cache, moment.parse().unwrap_or(0), words)
         }
-        [] => Ok(()),
     }
 }

@@ -1,17 +1,17 @@
 //! Calls of a cache, and what comes of them.
-use crate::cache_texts::{push_hit, push_until};
+use crate::cache_texts::{show_hit, show_until};
 use crate::sample::{NO_WORDS, question, type_of};
 use crate::stored_outcomes::outcome_of;
-use hickory_proto_core::{Message, NetError, Query};
+use hickory_proto_core::{Message, NetError, Query, RecordType};
 use hickory_resolver_cache::ResponseCache;
 use std::alloc::Global;
 use std::hash::BuildHasher;
 
-/// Makes the call of a line, and adds what comes of it: what the cache has, the bounds of the type, which are the least
-/// and the greatest of positive answers, and of negative ones, or how many entries it has then.
-pub fn push_step(
+/// Makes the call of a line, and shows what comes of it: what the cache has, the bounds of the type, which are the
+/// least and the greatest of positive answers, and of negative ones, or how many entries it has then.
+pub fn take_step(
+    rt: &impl Print,
     alloc: Global,
-    text: &mut String,
     cache: &mut ResponseCache,
     now: u64,
     words: &[&str],
@@ -20,70 +20,77 @@ pub fn push_step(
         return Err(NO_WORDS);
     };
     let query = question(alloc, name, type_of(asked))?;
-    match *verb {
-        "get" => push_got(text, cache, &query, now),
-        "get_with_deadline" => push_got_until(text, cache, &query, now),
-        "bounds" => {
-            let config = cache.ttl_config();
-            let positive = config.positive_response_ttl_bounds(query.query_type);
-            let negative = config.negative_response_ttl_bounds(query.query_type);
-            Ok(write!(text, ": {positive:?} {negative:?}")?)
-        }
+    let taken = take_call(rt, alloc, cache, &query, now, verb, outcome);
+    // `drop` costs the prover less than the end of the block.
+    drop(query);
+    taken
+}
+
+fn take_call(
+    rt: &impl Print,
+    alloc: Global,
+    cache: &mut ResponseCache,
+    query: &Query,
+    now: u64,
+    verb: &str,
+    words: &[&str],
+) -> Result<(), NetError> {
+    match verb {
+        "get" => show_got(rt, cache, query, now),
+        "get_with_deadline" => show_got_until(rt, cache, query, now),
+        "bounds" => show_bounds(rt, cache, query.query_type),
         _ => {
-            change(alloc, cache, query, now, verb, outcome)?;
-            let kept = cache.len();
-            Ok(write!(text, ": {kept} kept")?)
+            change(alloc, cache, query, now, verb, words)?;
+            let _ = rt.print(format_args!(": {} kept", cache.len()));
         }
     }
+    Ok(())
 }
 
-fn push_got(
-    text: &mut String,
-    cache: &ResponseCache,
-    query: &Query,
-    now: u64,
-) -> Result<(), NetError> {
+fn show_got(rt: &impl Print, cache: &ResponseCache, query: &Query, now: u64) {
     let hit = cache.get(query, now);
-    let pushed = push_hit(text, hit.as_ref());
-    // `drop` costs the prover less than the end of the block.
+    show_hit(rt, hit.as_ref());
     drop(hit);
-    pushed
 }
 
-fn push_got_until(
-    text: &mut String,
-    cache: &ResponseCache,
-    query: &Query,
-    now: u64,
-) -> Result<(), NetError> {
+fn show_got_until(rt: &impl Print, cache: &ResponseCache, query: &Query, now: u64) {
     let hit = cache.get_with_deadline(query, now);
-    let pushed = match &hit {
-        Some((outcome, deadline)) => push_until(text, outcome, *deadline),
-        None => push_hit(text, None),
-    };
+    match &hit {
+        Some((outcome, deadline)) => show_until(rt, outcome, *deadline),
+        None => show_hit(rt, None),
+    }
     drop(hit);
-    pushed
+}
+
+fn show_bounds(rt: &impl Print, cache: &ResponseCache, record_type: RecordType) {
+    let config = cache.ttl_config();
+    let positive = config.positive_response_ttl_bounds(record_type);
+    let negative = config.negative_response_ttl_bounds(record_type);
+    let _ = rt.print(format_args!(": {positive:?} {negative:?}"));
 }
 
 fn change(
     alloc: Global,
     cache: &mut ResponseCache,
-    query: Query,
+    query: &Query,
     now: u64,
     verb: &str,
     words: &[&str],
 ) -> Result<(), NetError> {
     match (verb, words) {
         ("clear", _) => Ok(cache.clear()),
-        ("clear_query", _) => Ok(cache.clear_query(&query)),
+        ("clear_query", _) => Ok(cache.clear_query(query)),
         ("insert_until", [limit, words @ ..]) => {
-            let outcome = outcome_of(alloc, &query, words)?;
-            cache.insert_until(query, outcome, now, limit.parse().unwrap_or(0))
+            let (copy, limit) = (query.clone()?, limit.parse().unwrap_or(0));
+            cache.insert_until(copy, outcome_of(alloc, query, words), now, limit)
         }
-        _ => {
-            let outcome = outcome_of(alloc, &query, words)?;
-            store(cache, query, outcome, now, verb)
-        }
+        _ => store(
+            cache,
+            query.clone()?,
+            outcome_of(alloc, query, words),
+            now,
+            verb,
+        ),
     }
 }
 

@@ -1,41 +1,47 @@
 //! Outcomes that are stored, and what is compared of those that come back.
-use crate::sample::data;
+use crate::sample::whole;
 use crate::scanned::Kept;
 use hickory_proto_core::{
-    DnsError, Message, NetError, NoRecords, OpCode, Query, Record, RecordType, ResponseCode,
+    DnsError, Message, NetError, NoRecords, OpCode, Query, RData, Record, RecordType, ResponseCode,
 };
 use std::alloc::Global;
+use std::net::{Ipv4Addr, Ipv6Addr};
 
 /// A negative answer, or one address of the asked family, with the question or without one.
-pub fn outcome(
-    alloc: Global,
-    query: &Query,
-    kept: Kept,
-) -> Result<Result<Message, NetError>, NetError> {
+pub fn outcome(alloc: Global, query: &Query, kept: Kept) -> Result<Message, NetError> {
     if kept.is_negative {
-        let mut none = NoRecords::new(query.clone()?, ResponseCode::NXDomain);
-        none.negative_ttl = Some(kept.ttl);
-        Ok(Err(NetError::from(none)))
+        Err(NetError::from(negative(query, kept.ttl)?))
     } else {
-        Ok(Ok(answer(alloc, query, kept)?))
+        answer(alloc, query, kept)
     }
 }
 
+fn negative(query: &Query, ttl: u32) -> Result<NoRecords, NetError> {
+    let mut none = NoRecords::new(query.clone()?, ResponseCode::NXDomain);
+    none.negative_ttl = Some(ttl);
+    Ok(none)
+}
+
 fn answer(alloc: Global, query: &Query, kept: Kept) -> Result<Message, NetError> {
-    let given = if query.query_type == RecordType::A {
-        "127.0.0.1"
-    } else {
-        "::1"
-    };
-    let owner = query.name.clone()?;
-    let address = data(alloc, query.query_type, given)?;
-    let added = Record::from_rdata(owner, kept.ttl, address);
     let mut message = Message::response(alloc, 0, OpCode::Query);
-    message.add_answer(added)?;
+    whole(fill(&mut message, query, kept), message)
+}
+
+fn fill(message: &mut Message, query: &Query, kept: Kept) -> Result<(), NetError> {
+    message.add_answer(address(query, kept.ttl)?)?;
     if kept.has_question {
         message.add_query(query.clone()?)?;
     }
-    Ok(message)
+    Ok(())
+}
+
+fn address(query: &Query, ttl: u32) -> Result<Record, NetError> {
+    let rdata = if query.query_type == RecordType::A {
+        RData::A(Ipv4Addr::LOCALHOST)
+    } else {
+        RData::AAAA(Ipv6Addr::LOCALHOST)
+    };
+    Ok(Record::from_rdata(query.name.clone()?, ttl, rdata))
 }
 
 /// Of a hit, what the other body keeps.

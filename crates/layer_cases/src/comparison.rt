@@ -10,17 +10,17 @@ use hickory_resolver_lookup::TtlConfig;
 use std::alloc::Global;
 use std::hash::{BuildHasher, BuildHasherDefault, FoldHasher};
 
-/// Adds how many steps leave both with the same answers, and in how many places the order is the same: once with the
-/// hasher of the kit, and once with a hasher that gives every question the same hash.
-pub fn push_comparison(alloc: Global, text: &mut String) -> Result<(), NetError> {
+/// How many steps leave both with the same answers, and in how many places the order is the same: once with the hasher
+/// of the kit, and once with a hasher that gives every question the same hash.
+pub fn show_comparison(rt: &impl Print, alloc: Global) -> Result<(), NetError> {
     let usual: BuildHasherDefault<FoldHasher> = BuildHasherDefault::new();
-    push_agreeing(alloc, text, usual, "agree")?;
-    push_agreeing(alloc, text, OneHash, "agree under one hash")
+    show_agreeing(rt, alloc, usual, "agree")?;
+    show_agreeing(rt, alloc, OneHash, "agree under one hash")
 }
 
-fn push_agreeing<S: BuildHasher + Copy + Drop>(
+fn show_agreeing<S: BuildHasher + Copy + Drop>(
+    rt: &impl Print,
     alloc: Global,
-    text: &mut String,
     hasher: S,
     what: &str,
 ) -> Result<(), NetError> {
@@ -32,7 +32,7 @@ fn push_agreeing<S: BuildHasher + Copy + Drop>(
     drop(scanned);
     drop(cache);
     let (steps, orders) = (steps?, agreeing_orders(alloc, hasher)?);
-    write!(text, "{steps} steps and {orders} orders {what}\n")?;
+    let _ = println!(rt; "{steps} steps and {orders} orders {what}");
     Ok(())
 }
 
@@ -75,13 +75,28 @@ fn drops_the_same<S: BuildHasher>(
         ttl: 31,
     };
     for bits in 0..6 {
-        let query = asked(alloc, bits, Some(RecordType::MX))?;
-        store(alloc, cache, scanned, query, kept, now, false)?;
+        store_asked(alloc, cache, scanned, bits, kept, now)?;
         if !is_same(alloc, cache, scanned, now)? {
             return Ok(false);
         }
     }
     Ok(true)
+}
+
+// A store for a question of a type of its own.
+fn store_asked<S: BuildHasher>(
+    alloc: Global,
+    cache: &mut ResponseCache<S>,
+    scanned: &mut Scanned,
+    bits: u64,
+    kept: Kept,
+    now: u64,
+) -> Result<(), NetError> {
+    let query = asked(alloc, bits, Some(RecordType::MX))?;
+    let stored = store(alloc, cache, scanned, &query, kept, now, false);
+    // `drop` costs the prover less than the end of the block.
+    drop(query);
+    stored
 }
 
 // How many of the first 500 steps leave both bodies with the same answers to each question.
@@ -113,6 +128,19 @@ fn step<S: BuildHasher>(
     let bits = *state ^ (*state >> 29);
     *now = now.wrapping_add((bits >> 60) % 4);
     let query = asked(alloc, bits >> 16, None)?;
+    let taken = take_step(alloc, cache, scanned, &query, bits, *now);
+    drop(query);
+    taken
+}
+
+fn take_step<S: BuildHasher>(
+    alloc: Global,
+    cache: &mut ResponseCache<S>,
+    scanned: &mut Scanned,
+    query: &Query,
+    bits: u64,
+    now: u64,
+) -> Result<(), NetError> {
     match bits % 32 {
         0 => {
             cache.clear();
@@ -120,13 +148,13 @@ fn step<S: BuildHasher>(
             Ok(())
         }
         1..=4 => {
-            cache.clear_query(&query);
-            scanned.clear_query(&query);
+            cache.clear_query(query);
+            scanned.clear_query(query);
             Ok(())
         }
         step => {
             let kept = kept(bits >> 32);
-            store(alloc, cache, scanned, query, kept, *now, step < 13)
+            store(alloc, cache, scanned, query, kept, now, step < 13)
         }
     }
 }
@@ -157,19 +185,19 @@ fn store<S: BuildHasher>(
     alloc: Global,
     cache: &mut ResponseCache<S>,
     scanned: &mut Scanned,
-    query: Query,
+    query: &Query,
     kept: Kept,
     now: u64,
     is_clamped: bool,
 ) -> Result<(), NetError> {
-    let limit = match scanned.get(&query, now) {
+    let limit = match scanned.get(query, now) {
         Some((_, deadline)) if is_clamped => deadline,
         _ => u64::MAX,
     };
     scanned.insert(query.clone()?, kept, now, limit)?;
-    let stored = outcome(alloc, &query, kept)?;
     let verb = if is_clamped { "upsert" } else { "insert" };
-    cache_steps::store(cache, query, stored, now, verb)
+    let copy = query.clone()?;
+    cache_steps::store(cache, copy, outcome(alloc, query, kept), now, verb)
 }
 
 fn is_same<S: BuildHasher>(
@@ -180,7 +208,9 @@ fn is_same<S: BuildHasher>(
 ) -> Result<bool, NetError> {
     for bits in [0, 1, 2, 3, 4, 5, 256, 257, 258, 259, 260, 261] {
         let query = asked(alloc, bits, None)?;
-        if !is_same_for(cache, scanned, &query, now) {
+        let is_same = is_same_for(cache, scanned, &query, now);
+        drop(query);
+        if !is_same {
             return Ok(false);
         }
     }
@@ -196,7 +226,6 @@ fn is_same_for<S: BuildHasher>(
     for moment in scanned.moments(query, now) {
         let hit = cache.get(query, moment);
         let cached = shown(&hit);
-        // `drop` costs the prover less than the end of the block.
         drop(hit);
         let kept = match scanned.get(query, moment) {
             Some((kept, _)) => Some(kept),

@@ -3,22 +3,30 @@ use crate::sample::no_records;
 use hickory_proto_core::{BoundsError, DnsError, NameError, NetError, ResponseCode};
 use std::alloc::Global;
 use std::error::Error;
-use std::io;
 
-pub fn show_all(rt: &impl Print, alloc: Global) -> anyhow::Result<()> {
-    show_plain(rt)?;
-    show(rt, no_records(alloc, "x.a.", ResponseCode::NXDomain)?)?;
+pub fn show_all(rt: &impl Print, alloc: Global) -> Result<(), NetError> {
+    show_of_names(rt);
+    show_of_bounds(rt);
+    show(rt, NetError::from("no luck"));
+    show(rt, NetError::Timeout);
+    show(rt, NetError::NoOutcome);
+    show(rt, NetError::OutOfMemory);
+    for code in [ResponseCode::FormErr, ResponseCode::Unknown(77)] {
+        show(rt, DnsError::ResponseCode(code));
+        show(rt, NetError::Dns(DnsError::ResponseCode(code)));
+    }
+    show(rt, no_records(alloc, "x.a.", ResponseCode::NXDomain)?);
     let none = no_records(alloc, "x.a.", ResponseCode::NXDomain)?;
-    show(rt, NetError::Dns(none))?;
+    show(rt, NetError::Dns(none));
     Ok(())
 }
 
-fn show<E: Error + Drop>(rt: &impl Print, error: E) -> io::Result<()> {
-    println!(rt; "{error:?}: {error}")
+fn show<E: Error + Drop>(rt: &impl Print, error: E) {
+    let _ = println!(rt; "{error:?}: {error}");
+    drop(error);
 }
 
-// The errors that hold no record.
-fn show_plain(rt: &impl Print) -> io::Result<()> {
+fn show_of_names(rt: &impl Print) {
     for error in [
         NameError::EmptyLabel,
         NameError::LabelTooLong,
@@ -28,20 +36,14 @@ fn show_plain(rt: &impl Print) -> io::Result<()> {
         NameError::NotArpa,
         NameError::OutOfMemory,
     ] {
-        show(rt, error)?;
-        show(rt, NetError::from(error))?;
+        show(rt, error);
+        show(rt, NetError::from(error));
     }
+}
+
+fn show_of_bounds(rt: &impl Print) {
     for error in [BoundsError::PositiveReversed, BoundsError::NegativeReversed] {
-        show(rt, error)?;
-        show(rt, NetError::Bounds(error))?;
+        show(rt, error);
+        show(rt, NetError::Bounds(error));
     }
-    show(rt, NetError::from("no luck"))?;
-    show(rt, NetError::Timeout)?;
-    show(rt, NetError::NoOutcome)?;
-    show(rt, NetError::OutOfMemory)?;
-    for code in [ResponseCode::FormErr, ResponseCode::Unknown(77)] {
-        show(rt, DnsError::ResponseCode(code))?;
-        show(rt, NetError::Dns(DnsError::ResponseCode(code)))?;
-    }
-    Ok(())
 }

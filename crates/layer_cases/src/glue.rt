@@ -1,7 +1,7 @@
 //! The addresses of name servers: each server has its own, in order, and records of one server share them.
-use crate::copies;
+use crate::copies::{say, show};
 use crate::sample::response;
-use hickory_proto_core::{DnsError, DnsResponse, ForwardNSData, Glue, NetError};
+use hickory_proto_core::{DnsError, DnsResponse, ForwardNSData, Glue, NetError, Record};
 use std::alloc::Global;
 
 // Two records of one server and one of another, whose addresses come in turn.
@@ -11,49 +11,63 @@ const REFERRAL: &str = "NOERROR x.a. A \
     additional N.a. 60 A 192.0.2.3 additional o.A. 60 A 192.0.2.4 \
     additional p.a. 60 A 192.0.2.5";
 
-pub fn show_all(rt: &impl Print, alloc: Global) -> anyhow::Result<()> {
+pub fn show_all(rt: &impl Print, alloc: Global) -> Result<(), NetError> {
     let referral = response(alloc, REFERRAL)?;
     match DnsError::from_response(DnsResponse::from_message(referral)) {
-        Ok(_) => Ok(println!(rt; "an answer")?),
+        Ok(answer) => {
+            drop(answer);
+            say(rt, &"an answer");
+            Ok(())
+        }
         Err(error) => show_servers(rt, error),
     }
 }
 
-fn show_servers(rt: &impl Print, error: NetError) -> anyhow::Result<()> {
+fn show_servers(rt: &impl Print, error: NetError) -> Result<(), NetError> {
     let none = error.into_no_records()?;
-    match &none.ns {
+    let shown = match &none.ns {
         Some(servers) => show_each(rt, servers),
         None => Ok(()),
-    }
+    };
+    drop(none);
+    shown
 }
 
-fn show_each(rt: &impl Print, servers: &[ForwardNSData]) -> anyhow::Result<()> {
+fn show_each(rt: &impl Print, servers: &[ForwardNSData]) -> Result<(), NetError> {
     for server in servers {
-        let ns = &server.ns;
-        println!(rt; "{ns}")?;
+        say(rt, &server.ns);
         show_glue(rt, &server.glue)?;
     }
     Ok(())
 }
 
 // The records, and then those of a copy that grows older: the first stay as they are.
-fn show_glue(rt: &impl Print, glue: &Glue) -> anyhow::Result<()> {
+fn show_glue(rt: &impl Print, glue: &Glue) -> Result<(), NetError> {
     let mut older = glue.clone()?;
     older.decrement_ttl(20);
     older.decrement_ttl(15);
-    show_records(rt, "glue", glue)?;
-    show_records(rt, "older", &older)?;
+    let shown = show_beside(rt, glue, &older);
     older.decrement_ttl(u32::MAX);
-    copies::show(rt, "oldest", older)
+    show(rt, "oldest", older);
+    shown
 }
 
-fn show_records(rt: &impl Print, label: &str, glue: &Glue) -> anyhow::Result<()> {
-    let count = glue.len();
-    let none = glue.is_empty();
-    println!(rt; "{label} {count} {none}")?;
+fn show_beside(rt: &impl Print, glue: &Glue, older: &Glue) -> Result<(), NetError> {
+    show_records(rt, "glue", glue)?;
+    show_records(rt, "older", older)
+}
+
+fn show_records(rt: &impl Print, label: &str, glue: &Glue) -> Result<(), NetError> {
+    let (count, is_empty) = (glue.len(), glue.is_empty());
+    let _ = println!(rt; "{label} {count} {is_empty}");
     let records = glue.to_vec()?;
-    for found in &records {
-        println!(rt; "{found}")?;
-    }
+    show_lines(rt, &records);
+    drop(records);
     Ok(())
+}
+
+fn show_lines(rt: &impl Print, records: &[Record]) {
+    for record in records {
+        say(rt, record);
+    }
 }

@@ -1,5 +1,5 @@
 //! The texts of answers.
-use hickory_proto_core::Query;
+use hickory_proto_core::{NetError, Query};
 use hickory_resolver_hosts::{Hosts, HostsError};
 use hickory_resolver_lookup::Lookup;
 use std::alloc::AllocError;
@@ -25,12 +25,23 @@ pub fn push_found<S: BuildHasher>(
     text: &mut String,
     hosts: &Hosts<S>,
     query: &Query,
-) -> anyhow::Result<()> {
-    match hosts.lookup_static_host(query, ASKED_AT)? {
-        Some(lookup) => push_lookup(text, &lookup)?,
-        None => text.push_str("  nothing\n")?,
+) -> Result<(), AllocError> {
+    let found = hosts.lookup_static_host(query, ASKED_AT);
+    let pushed = push_answer(text, &found);
+    // `drop` costs the prover less than the end of the block.
+    drop(found);
+    pushed
+}
+
+fn push_answer(
+    text: &mut String,
+    found: &Result<Option<Lookup>, NetError>,
+) -> Result<(), AllocError> {
+    match found {
+        Ok(Some(lookup)) => push_lookup(text, lookup),
+        Ok(None) => text.push_str("  nothing\n"),
+        Err(error) => write!(text, "  {error}\n"),
     }
-    Ok(())
 }
 
 // The question of a look-up, its deadline, and its answers.

@@ -4,6 +4,7 @@ use crate::hosts_calls::push_calls;
 use crate::hosts_texts::{push_found, push_read};
 use crate::sample::{question, type_of};
 use case_hashers::OneHash;
+use hickory_proto_core::NetError;
 use hickory_resolver_hosts::Hosts;
 use std::alloc::Global;
 use std::hash::{BuildHasher, BuildHasherDefault, FoldHasher};
@@ -21,7 +22,11 @@ pub fn text_of<R: AllocGlobal + Env + Files>(rt: &R) -> anyhow::Result<String> {
     if words_text(rt, one)? == text {
         text.push_str("the same where every key has one hash\n")?;
     }
-    push_calls(rt.alloc(), &mut text, &mut Hosts::default(rt.alloc()))?;
+    let mut hosts = Hosts::default(rt.alloc());
+    let pushed = push_calls(rt.alloc(), &mut text, &mut hosts);
+    // `drop` costs the prover less than the end of the block.
+    drop(hosts);
+    pushed?;
     Ok(text)
 }
 
@@ -33,7 +38,6 @@ fn words_text<R: AllocGlobal + Env + Files, S: BuildHasher + Copy>(
     let mut hosts = Hosts::with_hasher(rt.alloc(), hasher);
     let mut text = String::new(rt.alloc());
     let pushed = push_words(rt, &mut text, &mut hosts, hasher);
-    // `drop` costs the prover less than the end of the block.
     drop(hosts);
     pushed?;
     Ok(text)
@@ -60,7 +64,7 @@ fn push_word<R: AllocGlobal + Files, S: BuildHasher + Copy>(
     word: &str,
 ) -> anyhow::Result<()> {
     match word.split_once('/') {
-        Some((name, record_type)) => ask(rt.alloc(), text, hosts, name, record_type),
+        Some((name, record_type)) => Ok(ask(rt.alloc(), text, hosts, name, record_type)?),
         None => {
             *hosts = Hosts::with_hasher(rt.alloc(), hasher);
             read_file(rt, text, hosts, word)
@@ -86,7 +90,10 @@ fn ask<S: BuildHasher>(
     hosts: &Hosts<S>,
     name: &str,
     record_type: &str,
-) -> anyhow::Result<()> {
+) -> Result<(), NetError> {
     write!(text, "{name} {record_type}\n")?;
-    push_found(text, hosts, &question(alloc, name, type_of(record_type))?)
+    let query = question(alloc, name, type_of(record_type))?;
+    let pushed = push_found(text, hosts, &query);
+    drop(query);
+    Ok(pushed?)
 }

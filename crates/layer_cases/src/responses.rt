@@ -1,5 +1,5 @@
 //! What responses come to.
-use crate::copies;
+use crate::copies::{say, show, show_three};
 use crate::sample::response;
 use hickory_proto_core::{DnsError, DnsResponse, NetError};
 use std::alloc::Global;
@@ -18,26 +18,32 @@ const RESPONSES: [(&str, &str); 7] = [
     ("nothing", ""),
 ];
 
-pub fn show_all(rt: &impl Print, alloc: Global) -> anyhow::Result<()> {
+pub fn show_all(rt: &impl Print, alloc: Global) -> Result<(), NetError> {
     for (label, words) in RESPONSES {
-        show(rt, alloc, label, words)?;
+        let _ = rt.print(format_args!("{label}: "));
+        show_response(rt, alloc, label, words)?;
     }
     Ok(())
 }
 
 // That it is an answer, or its error.
-fn show(rt: &impl Print, alloc: Global, label: &str, words: &str) -> anyhow::Result<()> {
+fn show_response(rt: &impl Print, alloc: Global, label: &str, words: &str) -> Result<(), NetError> {
     let mut message = response(alloc, words)?;
     message.metadata.truncation = label == "cut short";
     match DnsError::from_response(DnsResponse::from_message(message)) {
-        Ok(_) => Ok(println!(rt; "{label}: an answer")?),
-        Err(error) => show_error(rt, label, error),
+        Ok(answer) => {
+            drop(answer);
+            say(rt, &"an answer");
+        }
+        Err(error) => show_error(rt, error),
     }
+    Ok(())
 }
 
-fn show_error(rt: &impl Print, label: &str, error: NetError) -> anyhow::Result<()> {
-    match copies::labelled(rt, label, error)?.into_no_records() {
-        Ok(none) => copies::show_three(rt, none.clone(), none),
-        Err(error) => copies::show(rt, "error", error),
+fn show_error(rt: &impl Print, error: NetError) {
+    say(rt, &error);
+    match error.into_no_records() {
+        Ok(none) => show_three(rt, none.clone(), none),
+        Err(error) => show(rt, "error", error),
     }
 }

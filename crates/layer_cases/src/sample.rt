@@ -8,6 +8,41 @@ use std::alloc::Global;
 /// The error of words that say nothing.
 pub const NO_WORDS: NetError = NetError::Message("words that say nothing");
 
+/// The value, where what was done to it was done. Each `?` while it is alive would cost the prover more.
+pub fn whole<T: Drop>(done: Result<(), NetError>, value: T) -> Result<T, NetError> {
+    match done {
+        Ok(()) => Ok(value),
+        Err(error) => {
+            drop(value);
+            Err(error)
+        }
+    }
+}
+
+/// Two values, where both were made.
+pub fn both<T: Drop, U: Drop>(
+    first: Result<T, NetError>,
+    second: Result<U, NetError>,
+) -> Result<(T, U), NetError> {
+    match first {
+        Ok(first) => beside(first, second),
+        Err(error) => {
+            drop(second);
+            Err(error)
+        }
+    }
+}
+
+fn beside<T: Drop, U: Drop>(first: T, second: Result<U, NetError>) -> Result<(T, U), NetError> {
+    match second {
+        Ok(second) => Ok((first, second)),
+        Err(error) => {
+            drop(first);
+            Err(error)
+        }
+    }
+}
+
 pub fn name(alloc: Global, text: &str) -> Result<Name, NetError> {
     Ok(Name::from_ascii(alloc, text)?)
 }
@@ -64,9 +99,10 @@ fn data_of(record_type: RecordType, name: Name) -> RData {
 }
 
 fn soa_data(alloc: Global, server: &str) -> Result<RData, NetError> {
+    let (mname, rname) = both(name(alloc, server), name(alloc, "r."))?;
     Ok(RData::SOA {
-        mname: name(alloc, server)?,
-        rname: name(alloc, "r.")?,
+        mname,
+        rname,
         serial: 1,
         refresh: 2,
         retry: 3,
@@ -90,15 +126,20 @@ pub fn record(
     record_type: RecordType,
     given: &str,
 ) -> Result<Record, NetError> {
-    let owner = name(alloc, owner)?;
-    Ok(Record::from_rdata(owner, ttl, data(alloc, record_type, given)?))
+    let (owner, rdata) = both(name(alloc, owner), data(alloc, record_type, given))?;
+    Ok(Record::from_rdata(owner, ttl, rdata))
 }
 
 pub fn two_addresses(alloc: Global) -> Result<Vec<Record>, NetError> {
     let mut two = Vec::new(alloc);
-    two.push(record(alloc, "a.", 60, RecordType::A, "192.0.2.1")?)?;
-    two.push(record(alloc, "a.", 60, RecordType::A, "192.0.2.2")?)?;
-    Ok(two)
+    whole(push_addresses(alloc, &mut two), two)
+}
+
+fn push_addresses(alloc: Global, records: &mut Vec<Record>) -> Result<(), NetError> {
+    for given in ["192.0.2.1", "192.0.2.2"] {
+        records.push(record(alloc, "a.", 60, RecordType::A, given)?)?;
+    }
+    Ok(())
 }
 
 /// A response. Its words are a code, the name and the type of a question, and for each record a section, an owner, a

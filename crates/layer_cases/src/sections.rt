@@ -1,18 +1,15 @@
 //! What is added to the sections of a message.
+use crate::copies::say_value;
 use crate::sample::{question, record, two_addresses};
 use hickory_proto_core::{Message, NetError, OpCode, Record, RecordType};
 use std::alloc::Global;
-use std::io;
 
-pub fn show_all(rt: &impl Print, alloc: Global) -> anyhow::Result<()> {
+pub fn show_all(rt: &impl Print, alloc: Global) -> Result<(), NetError> {
     let mut message = Message::response(alloc, 7, OpCode::Query);
-    fill(alloc, &mut message)?;
-    println!(rt; "{:?}", message.metadata)?;
-    println!(rt; "queries {:?}", message.queries)?;
-    show(rt, "answer", &message.answers)?;
-    show(rt, "authority", &message.authorities)?;
-    show(rt, "additional", &message.additionals)?;
-    Ok(())
+    let filled = fill(alloc, &mut message);
+    show_sections(rt, &message);
+    drop(message);
+    filled
 }
 
 fn fill(alloc: Global, message: &mut Message) -> Result<(), NetError> {
@@ -25,12 +22,17 @@ fn fill(alloc: Global, message: &mut Message) -> Result<(), NetError> {
     message.add_additionals(two_addresses(alloc)?)
 }
 
-fn show(rt: &impl Print, section: &str, records: &[Record]) -> io::Result<()> {
+fn show_sections(rt: &impl Print, message: &Message) {
+    let _ = println!(rt; "{:?}", message.metadata);
+    say_value(rt, "queries", &message.queries);
+    show_records(rt, "answer", &message.answers);
+    show_records(rt, "authority", &message.authorities);
+    show_records(rt, "additional", &message.additionals);
+}
+
+fn show_records(rt: &impl Print, section: &str, records: &[Record]) {
     for record in records {
-        println!(rt;
-            "{section} {} {} {:?}",
-            record.name, record.ttl, record.rdata
-        )?;
+        let (name, ttl, rdata) = (&record.name, record.ttl, &record.rdata);
+        let _ = println!(rt; "{section} {name} {ttl} {rdata:?}");
     }
-    Ok(())
 }

@@ -8,7 +8,7 @@ use std::alloc::Global;
 
 /// Each line with the names behind it.
 pub fn show_attempts(rt: &impl Print, alloc: Global, cases: &str) -> Result<(), NetError> {
-    say(rt, &"# attempts");
+    say(rt, &"# attempted names");
     for line in cases.lines() {
         let _ = rt.print(line);
         let _ = rt.print("\t");

@@ -42,8 +42,14 @@ fn show_of_server(rt: &impl Print, alloc: Global) -> Result<(), NetError> {
 fn show_of_group(rt: &impl Print, alloc: Global) -> Result<(), NetError> {
     show_copy(rt, group_of(alloc)?)?;
     let group = group_of(alloc)?;
-    show_copy(rt, ResolverConfig::quic(&group)?)?;
-    show_copy(rt, ResolverConfig::h3(&group)?)?;
+    let shown = show_of_servers(rt, &group);
+    drop(group);
+    shown
+}
+
+fn show_of_servers(rt: &impl Print, group: &ServerGroup<'_>) -> Result<(), NetError> {
+    show_copy(rt, ResolverConfig::quic(group)?)?;
+    show_copy(rt, ResolverConfig::h3(group)?)?;
     Ok(())
 }
 

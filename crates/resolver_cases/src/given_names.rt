@@ -10,16 +10,23 @@ use std::net::{IpAddr, Ipv4Addr, Ipv6Addr};
 /// What each of them sends, and the replies.
 pub fn show_given(rt: &impl Print, alloc: Global) -> Result<(), NetError> {
     say(rt, &"# what may be given for a name");
-    let string = String::from_str(alloc, "a.b")?;
-    let name = name(alloc, "192.0.2.7")?;
     let mut resolver = builder_of(alloc)?.build()?;
-    show_asked(rt, &mut resolver, string, RecordType::A);
-    show_asked(rt, &mut resolver, name, RecordType::A);
-    let v6 = Ipv6Addr::new(0x2001, 0xdb8, 0, 0, 0, 0, 0, 1);
-    show_asked(rt, &mut resolver, IpAddr::V4(address(1)), RecordType::PTR);
-    show_asked(rt, &mut resolver, v6, RecordType::PTR);
-    show_asked(rt, &mut resolver, Ipv4Addr::LOCALHOST, RecordType::PTR);
+    let shown = show_each(rt, alloc, &mut resolver);
     drop(resolver);
+    shown
+}
+
+fn show_each(
+    rt: &impl Print,
+    alloc: Global,
+    resolver: &mut Resolver<Upstream>,
+) -> Result<(), NetError> {
+    show_asked(rt, resolver, String::from_str(alloc, "a.b")?, RecordType::A);
+    show_asked(rt, resolver, name(alloc, "192.0.2.7")?, RecordType::A);
+    let v6 = Ipv6Addr::new(0x2001, 0xdb8, 0, 0, 0, 0, 0, 1);
+    show_asked(rt, resolver, IpAddr::V4(address(1)), RecordType::PTR);
+    show_asked(rt, resolver, v6, RecordType::PTR);
+    show_asked(rt, resolver, Ipv4Addr::LOCALHOST, RecordType::PTR);
     Ok(())
 }
 

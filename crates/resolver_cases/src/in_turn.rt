@@ -1,5 +1,6 @@
 //! Look-ups of several names, one after another.
 use crate::outcomes;
+use crate::parts::both;
 use crate::shown::{say, show_reply};
 use crate::upstream::{Upstream, client_over, hosts_of};
 use hickory_proto_core::{DnsRequestOptions, NetError, RecordType};
@@ -39,12 +40,12 @@ fn looked_up(
     names: &[&str],
     file: &str,
 ) -> Result<Lookup, NetError> {
-    let names = outcomes::names(alloc, names)?;
     let (record_type, options) = (RecordType::A, DnsRequestOptions::default());
     if file.is_empty() {
+        let names = outcomes::names(alloc, names)?;
         return LookupFuture::lookup(names, record_type, options, client, 0);
     }
-    let hosts = hosts_of(alloc, file)?;
+    let (names, hosts) = both(outcomes::names(alloc, names), hosts_of(alloc, file))?;
     let reply = LookupFuture::lookup_with_hosts(names, record_type, options, client, &hosts, 0);
     drop(hosts);
     reply

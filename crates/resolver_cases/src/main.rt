@@ -1,8 +1,14 @@
-//! Prints what clients, resolvers, their builders and configurations answer where no script can ask: by calls for
-//! which a script has no line, over handles of one's own, and with a hasher of one's own. Then come the lines of the
-//! file `attempts.cases`, each with the names that are attempted behind it, and look-ups that wait, where others store,
-//! clear and evict between a question and what comes back to it: the steps of the file `steps.cases` over a client, and
-//! the events of the file `events.cases` over a resolver. The output that is wanted stands beside this crate's sources.
+//! Prints what the layers answer, clients, resolvers, their builders and configurations above all. The output that is
+//! wanted stands beside this crate's sources, written by hand.
+//!
+//! The word `worked` of the arguments stands for worked cases where no script can ask: calls for which a script has no
+//! line, over handles of one's own, and with a hasher of one's own. Then come the lines of the file `attempts.cases`,
+//! each with the names that are attempted behind it. Then come look-ups that wait, where others store, clear and evict
+//! between a question and what comes back to it: the steps of the file `steps.cases` over a client, and the events of
+//! the file `events.cases` over a resolver.
+//!
+//! Every other word names a call that takes memory, or one that takes none: it is made between two marks, and
+//! `tests/refuse_memory` makes each of them with less.
 #![tactic(auto)]
 
 mod attempted;
@@ -14,11 +20,13 @@ mod hashers;
 mod in_turn;
 mod kinds;
 mod large_table;
+mod memory;
 mod negative_replies;
 mod no_names;
 mod options;
 mod outcomes;
 mod own_handle;
+mod parts;
 mod playing;
 mod replaced;
 mod servers;
@@ -30,13 +38,28 @@ mod upstream;
 
 use hickory_proto_core::NetError;
 use std::alloc::Global;
-use std::fs;
+use std::rt::Files;
+use std::{env, fs};
 
 fn main(rt: HostRuntime) -> anyhow::Result<()> {
-    let cases = fs::read_to_string(&rt, "attempts.cases")?;
-    let steps = fs::read_to_string(&rt, "steps.cases")?;
-    let events = fs::read_to_string(&rt, "events.cases")?;
-    show_all(&rt, rt.alloc(), [&cases, &steps, &events])?;
+    for word in env::args(&rt)?.skip(1) {
+        take_word(&rt, word.as_str())?;
+    }
+    Ok(())
+}
+
+fn take_word<R: AllocGlobal + Files + Print>(rt: &R, word: &str) -> anyhow::Result<()> {
+    match word {
+        "worked" => show_worked(rt),
+        call => Ok(memory::make(rt, rt.alloc(), call)?),
+    }
+}
+
+fn show_worked<R: AllocGlobal + Files + Print>(rt: &R) -> anyhow::Result<()> {
+    let cases = fs::read_to_string(rt, "attempts.cases")?;
+    let steps = fs::read_to_string(rt, "steps.cases")?;
+    let events = fs::read_to_string(rt, "events.cases")?;
+    show_all(rt, rt.alloc(), [&cases, &steps, &events])?;
     Ok(())
 }
 

@@ -1,4 +1,5 @@
 //! Names, questions, and what comes back to questions.
+use crate::parts::{both, whole};
 use hickory_proto_core::{
     DnsResponse, Message, Name, NetError, OpCode, Outcome, Query, RData, Record, RecordType,
     ResponseCode, read_ip,
@@ -14,10 +15,14 @@ pub fn name(alloc: Global, text: &str) -> Result<Name, NetError> {
 /// Names, in order.
 pub fn names(alloc: Global, texts: &[&str]) -> Result<Vec<Name>, NetError> {
     let mut names = Vec::new(alloc);
+    whole(push_names(alloc, &mut names, texts), names)
+}
+
+fn push_names(alloc: Global, names: &mut Vec<Name>, texts: &[&str]) -> Result<(), NetError> {
     for text in texts {
         names.push(name(alloc, text)?)?;
     }
-    Ok(names)
+    Ok(())
 }
 
 /// A question for the A records of a name.
@@ -35,8 +40,7 @@ pub fn address(last: u8) -> Ipv4Addr {
 pub fn outcome_of(alloc: Global, words: &[&str]) -> Outcome {
     match words {
         [owner, seconds, _, data] => {
-            let query = query_of(alloc, owner)?;
-            let data = data_of(alloc, data)?;
+            let (query, data) = both(query_of(alloc, owner), data_of(alloc, data))?;
             answer_to(alloc, &query, seconds.parse().unwrap_or(0), data)
         }
         ["memory"] => Err(NetError::OutOfMemory),
@@ -61,22 +65,33 @@ pub fn answered(alloc: Global, owner: &str, data: RData) -> Result<(Query, Outco
 /// A response to a question with one answer of these data, and its TTL in seconds.
 pub fn answer_to(alloc: Global, query: &Query, ttl: u32, data: RData) -> Outcome {
     let mut message = Message::response(alloc, 0, OpCode::Query);
-    fill(&mut message, query, ttl, data)?;
-    Ok(DnsResponse::from_message(message))
+    let filled = fill(&mut message, query, ttl, data);
+    Ok(DnsResponse::from_message(whole(filled, message)?))
 }
 
 fn fill(message: &mut Message, query: &Query, ttl: u32, data: RData) -> Result<(), NetError> {
-    message.add_query(query.clone()?)?;
-    message.add_answer(Record::from_rdata(query.name.clone()?, ttl, data))
+    let (asked, data) = both(query.clone(), Ok(data))?;
+    message.add_answer(Record::from_rdata(asked.name, ttl, data))?;
+    message.add_query(query.clone()?)
 }
 
 /// A response that there is no such name, with an SOA record of this TTL and this minimum (seconds).
 pub fn no_name(alloc: Global, query: &Query, ttl: u32, minimum: u32) -> Outcome {
     let mut message = Message::response(alloc, 0, OpCode::Query);
     message.metadata.response_code = ResponseCode::NXDomain;
+    let filled = refer(alloc, &mut message, query, ttl, minimum);
+    Ok(DnsResponse::from_message(whole(filled, message)?))
+}
+
+fn refer(
+    alloc: Global,
+    message: &mut Message,
+    query: &Query,
+    ttl: u32,
+    minimum: u32,
+) -> Result<(), NetError> {
     message.add_query(query.clone()?)?;
-    message.add_authority(soa(alloc, ttl, minimum))?;
-    Ok(DnsResponse::from_message(message))
+    message.add_authority(soa(alloc, ttl, minimum))
 }
 
 fn soa(alloc: Global, ttl: u32, minimum: u32) -> Record {

@@ -1,5 +1,6 @@
 //! A client over a handle that is written for the occasion, and resolvers over it.
 use crate::outcomes::{address, answer_to, name};
+use crate::parts::whole;
 use crate::shown::say;
 use hickory_proto_core::{
     DnsHandle, DnsRequest, DnsRequestOptions, DnsResponse, Name, NetError, Query, RData, RecordType,
@@ -62,7 +63,12 @@ pub fn resolver_with<S: BuildHasher + Drop>(
     hosts: S,
 ) -> Result<Resolver<OneAddress, S>, NetError> {
     let mut config = ResolverConfig::default(alloc);
-    config.add_search(name(alloc, "x.")?)?;
-    let builder = Resolver::builder_with_config(config, OneAddress { alloc, asked: 0 });
-    builder.with_hasher(cache, hosts).build()
+    let added = add_search(alloc, &mut config);
+    let handle = OneAddress { alloc, asked: 0 };
+    let builder = Resolver::builder_with_config(config, handle).with_hasher(cache, hosts);
+    whole(added, builder)?.build()
+}
+
+fn add_search(alloc: Global, config: &mut ResolverConfig) -> Result<(), NetError> {
+    config.add_search(name(alloc, "x.")?)
 }

@@ -31,10 +31,20 @@ fn played(
     lines: &str,
 ) -> Result<Vec<EventReply>, AllocError> {
     let mut events = Vec::new(alloc);
+    match push_events(alloc, &mut events, lines) {
+        Ok(()) => play(resolver, events),
+        Err(error) => {
+            drop(events);
+            Err(error)
+        }
+    }
+}
+
+fn push_events(alloc: Global, events: &mut Vec<Event>, lines: &str) -> Result<(), AllocError> {
     for line in lines.lines() {
         events.push(event_of(alloc, line)?)?;
     }
-    play(resolver, events)
+    Ok(())
 }
 
 fn event_of(alloc: Global, line: &str) -> Result<Event, AllocError> {

@@ -1,5 +1,6 @@
 //! Parts of configurations and resolvers that take the place of others.
 use crate::outcomes::{address, name};
+use crate::parts::whole;
 use crate::shown::{say, say_of, show_addresses, show_reply};
 use crate::upstream::{Upstream, builder_of, hosts_of};
 use hickory_proto_core::NetError;
@@ -27,8 +28,8 @@ pub fn show_replaced(rt: &impl Print, alloc: Global) -> Result<(), NetError> {
 fn show_parts(rt: &impl Print, alloc: Global) -> Result<(), NetError> {
     say(rt, &"# parts of a configuration");
     let mut config = ResolverConfig::default(alloc);
-    fill(alloc, &mut config)?;
-    let (domain, search, servers) = config.into_parts();
+    let filled = fill(alloc, &mut config);
+    let (domain, search, servers) = whole(filled, config)?.into_parts();
     if let Some(domain) = &domain {
         say_of(rt, "domain ", domain);
     }

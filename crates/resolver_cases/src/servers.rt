@@ -63,11 +63,17 @@ fn show_connection(rt: &impl Print, connection: &ConnectionConfig) {
 // A search list, and what a domain makes of it.
 fn show_searches(rt: &impl Print, alloc: Global) -> Result<(), NetError> {
     let mut config = ResolverConfig::default(alloc);
+    let shown = show_grown(rt, alloc, &mut config);
+    drop(config);
+    shown
+}
+
+fn show_grown(rt: &impl Print, alloc: Global, config: &mut ResolverConfig) -> Result<(), NetError> {
     config.add_search(name(alloc, "b.")?)?;
     config.add_search(name(alloc, "c.")?)?;
-    show_search(rt, &config);
+    show_search(rt, config);
     config.set_domain(name(alloc, "d.")?)?;
-    show_search(rt, &config);
+    show_search(rt, config);
     Ok(())
 }
 

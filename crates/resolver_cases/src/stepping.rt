@@ -100,7 +100,12 @@ impl Session {
     }
 
     // Shows how far a look-up came, and keeps it where it waits.
-    fn show(&mut self, rt: &impl Print, number: u8, progress: Progress) -> Result<(), NetError> {
+    fn show(
+        &mut self,
+        rt: &impl Print,
+        number: u8,
+        progress: Progress<Waiting>,
+    ) -> Result<(), NetError> {
         let _ = rt.print(format_args!("{number} "));
         match progress {
             Progress::Waiting(waiting) => {

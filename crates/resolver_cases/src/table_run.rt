@@ -1,5 +1,6 @@
 //! A run over an upstream that is a table.
 use crate::outcomes::{address, answered, name, no_name, query_of};
+use crate::parts::{both, whole};
 use crate::shown::{say, say_of, show_answers, show_sent};
 use hickory_proto_core::{DnsError, NetError, Outcome, Query, RData, RecordType, TableHandle};
 use hickory_resolver::{
@@ -11,8 +12,12 @@ use std::alloc::Global;
 pub fn show_run(rt: &impl Print, alloc: Global) -> Result<(), NetError> {
     say(rt, &"# a run");
     let mut outcomes = Vec::new(alloc);
-    add_outcomes(alloc, &mut outcomes)?;
-    let transcript = transcript_of(alloc, TableHandle::new(outcomes)?)?;
+    let added = add_outcomes(alloc, &mut outcomes);
+    let handle = TableHandle::new(whole(added, outcomes)?);
+    let (handle, requests) = both(handle, requests(alloc))?;
+    let transcript = transcript_of(alloc, handle, &requests);
+    drop(requests);
+    let transcript = transcript?;
     for step in transcript.steps() {
         show_step(rt, step);
     }
@@ -31,14 +36,21 @@ fn add_outcomes(alloc: Global, outcomes: &mut Vec<(Query, Outcome)>) -> Result<(
     Ok(())
 }
 
-fn transcript_of(alloc: Global, handle: TableHandle) -> Result<Transcript<TableHandle>, NetError> {
+fn requests(alloc: Global) -> Result<Vec<Request>, NetError> {
     let mut requests = Vec::new(alloc);
-    add_requests(alloc, &mut requests)?;
+    whole(add_requests(alloc, &mut requests), requests)
+}
+
+fn transcript_of(
+    alloc: Global,
+    handle: TableHandle,
+    requests: &[Request],
+) -> Result<Transcript<TableHandle>, NetError> {
     let mut options = ResolverOpts::default(alloc);
     options.preserve_intermediates = false;
     options.ip_strategy = LookupIpStrategy::Ipv4AndIpv6;
     let (config, hosts) = (ResolverConfig::default(alloc), Hosts::default(alloc));
-    run(config, options, hosts, handle, &requests)
+    run(config, options, hosts, handle, requests)
 }
 
 // The addresses of a host that has one family; that it lacks the other, out of the cache; its address, cleared and

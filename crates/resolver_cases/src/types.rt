@@ -5,8 +5,8 @@ use hickory_proto_core::{NetError, RecordType};
 use hickory_resolver::{Lookup, Resolver};
 use std::alloc::Global;
 
-// The types of the calls, in their order.
-const TYPES: [RecordType; 11] = [
+/// The types of the calls, in their order.
+pub const TYPES: [RecordType; 11] = [
     RecordType::A,
     RecordType::AAAA,
     RecordType::MX,
@@ -25,7 +25,7 @@ pub fn show_types(rt: &impl Print, alloc: Global) -> Result<(), NetError> {
     say(rt, &"# each look-up of a type");
     let mut resolver = builder_of(alloc)?.build()?;
     for record_type in TYPES {
-        drop(ask(&mut resolver, record_type));
+        drop(ask(&mut resolver, "a.", record_type));
     }
     show_sent(rt, "", resolver.client().handle().exchanges());
     say(rt, &"# debug");
@@ -34,19 +34,23 @@ pub fn show_types(rt: &impl Print, alloc: Global) -> Result<(), NetError> {
     Ok(())
 }
 
-// The look-up of a type by its own call.
-fn ask(resolver: &mut Resolver<Upstream>, record_type: RecordType) -> Result<Lookup, NetError> {
+/// The look-up of a type by its own call.
+pub fn ask(
+    resolver: &mut Resolver<Upstream>,
+    name: &str,
+    record_type: RecordType,
+) -> Result<Lookup, NetError> {
     match record_type {
-        RecordType::A => resolver.ipv4_lookup("a.", 0),
-        RecordType::AAAA => resolver.ipv6_lookup("a.", 0),
-        RecordType::MX => resolver.mx_lookup("a.", 0),
-        RecordType::NS => resolver.ns_lookup("a.", 0),
-        RecordType::SMIMEA => resolver.smimea_lookup("a.", 0),
-        RecordType::SOA => resolver.soa_lookup("a.", 0),
-        RecordType::SRV => resolver.srv_lookup("a.", 0),
-        RecordType::TLSA => resolver.tlsa_lookup("a.", 0),
-        RecordType::TXT => resolver.txt_lookup("a.", 0),
-        RecordType::CERT => resolver.cert_lookup("a.", 0),
-        _ => resolver.reverse_lookup("a.", 0),
+        RecordType::A => resolver.ipv4_lookup(name, 0),
+        RecordType::AAAA => resolver.ipv6_lookup(name, 0),
+        RecordType::MX => resolver.mx_lookup(name, 0),
+        RecordType::NS => resolver.ns_lookup(name, 0),
+        RecordType::SMIMEA => resolver.smimea_lookup(name, 0),
+        RecordType::SOA => resolver.soa_lookup(name, 0),
+        RecordType::SRV => resolver.srv_lookup(name, 0),
+        RecordType::TLSA => resolver.tlsa_lookup(name, 0),
+        RecordType::TXT => resolver.txt_lookup(name, 0),
+        RecordType::CERT => resolver.cert_lookup(name, 0),
+        _ => resolver.reverse_lookup(name, 0),
     }
 }

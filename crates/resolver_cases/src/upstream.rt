@@ -1,5 +1,6 @@
 //! Clients and resolvers over tables of outcomes, tables of hosts, and the question that clients are asked.
 use crate::outcomes::query_of;
+use crate::parts::whole;
 use hickory_proto_core::{
     DnsHandle, DnsRequestOptions, NetError, Outcome, Query, Recorded, TableHandle,
 };
@@ -39,8 +40,9 @@ pub fn builder_of(alloc: Global) -> Result<ResolverBuilder<Upstream>, NetError> 
 /// A table of what a file of hosts says that is read at 0.
 pub fn hosts_of(alloc: Global, file: &str) -> Result<Hosts, NetError> {
     let mut hosts = Hosts::default(alloc);
-    match hosts.read_hosts_bytes(file.as_bytes(), 0) {
-        Ok(()) => Ok(hosts),
+    let read = match hosts.read_hosts_bytes(file.as_bytes(), 0) {
+        Ok(()) => Ok(()),
         Err(_) => Err(NetError::Message("a file of hosts that is not read")),
-    }
+    };
+    whole(read, hosts)
 }

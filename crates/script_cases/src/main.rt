@@ -60,9 +60,8 @@ fn print_hashers<R: AllocGlobal + Print>(rt: &R) -> io::Result<()> {
     let is_told = is_table_told(rt.alloc(), of_cache, of_hosts, of_table);
     let (asks_cache, asks_hosts) = (cache.get() > 0, hosts.get() > 0);
     let asks_table = table.get() > 0;
-    println!(rt;
-        "no request: {is_told}, the cache's hasher is asked: {asks_cache}, that of hosts: {asks_hosts}, that of the table: {asks_table}"
-    )
+    print!(rt; "no request: {is_told}, the cache's hasher is asked: {asks_cache}, ")?;
+    println!(rt; "that of hosts: {asks_hosts}, that of the table: {asks_table}")
 }
 
 fn is_table_told(

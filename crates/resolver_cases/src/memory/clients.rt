@@ -1,15 +1,17 @@
 //! Clients and resolvers: what they answer, what was asked, and what the cache keeps then.
-use crate::caches::has;
-use crate::marks::{both, done, whole};
-use crate::sample::{Pair, Said, name, query, script, table};
-use crate::shown::{Shown, say_waits, show, show_exchanges};
-use crate::waits::waiting_of;
+use crate::memory::caches::has;
+use crate::memory::marks::done;
+use crate::memory::sample::{Pair, Said, name, query, script, table};
+use crate::memory::shown::{Shown, say_waits, show, show_exchanges};
+use crate::memory::waits::waiting_of;
+use crate::parts::{both, whole};
+use crate::types::{self, TYPES};
 use hickory_proto_core::{
     DnsHandle, DnsRequestOptions, Name, NetError, RecordType, Recorded, ScriptHandle, TableHandle,
 };
 use hickory_resolver::{
-    CachingClient, Hosts, Lookup, LookupFuture, LookupIp, LookupIpFuture, LookupIpStrategy,
-    Resolver, ResolverConfig, ResolverOpts, ResponseCache,
+    CachingClient, Hosts, LookupFuture, LookupIp, LookupIpFuture, LookupIpStrategy, Resolver,
+    ResolverConfig, ResolverOpts, ResponseCache,
 };
 use std::alloc::Global;
 
@@ -33,21 +35,6 @@ pub const BEHIND: [Pair; 2] = [("a", A, Said::Alias("b")), ("b", A, Said::NoMemo
 
 // The script of a handle that has no memory at first.
 const AT_FIRST: [Pair; 2] = [("a", A, Said::NoMemory), ("a", A, Said::Address)];
-
-// The types of the look-ups of one type each.
-const TYPES: [RecordType; 11] = [
-    RecordType::A,
-    RecordType::AAAA,
-    RecordType::MX,
-    RecordType::NS,
-    RecordType::SMIMEA,
-    RecordType::SOA,
-    RecordType::SRV,
-    RecordType::TLSA,
-    RecordType::TXT,
-    RecordType::CERT,
-    RecordType::PTR,
-];
 
 // The names that the upstream knows.
 const LABELS: [&str; 3] = ["a", "b", "c"];
@@ -279,30 +266,13 @@ fn with_mut_resolver(
 fn ask_each(resolver: &mut Resolver<Upstream>) -> u8 {
     let mut refused = 0_u8;
     for record_type in TYPES {
-        let answer = ask_for(resolver, record_type);
+        let answer = types::ask(resolver, "d.", record_type);
         if matches!(&answer, Err(NetError::OutOfMemory)) {
             refused = refused.saturating_add(1);
         }
         drop(answer);
     }
     refused
-}
-
-// The look-up of a type by its own call.
-fn ask_for(resolver: &mut Resolver<Upstream>, record_type: RecordType) -> Result<Lookup, NetError> {
-    match record_type {
-        RecordType::A => resolver.ipv4_lookup("d.", 0),
-        RecordType::AAAA => resolver.ipv6_lookup("d.", 0),
-        RecordType::MX => resolver.mx_lookup("d.", 0),
-        RecordType::NS => resolver.ns_lookup("d.", 0),
-        RecordType::SMIMEA => resolver.smimea_lookup("d.", 0),
-        RecordType::SOA => resolver.soa_lookup("d.", 0),
-        RecordType::SRV => resolver.srv_lookup("d.", 0),
-        RecordType::TLSA => resolver.tlsa_lookup("d.", 0),
-        RecordType::TXT => resolver.txt_lookup("d.", 0),
-        RecordType::CERT => resolver.cert_lookup("d.", 0),
-        _ => resolver.reverse_lookup("d.", 0),
-    }
 }
 
 // The canonical name of an alias is asked for, and the handle has no memory for its answer.

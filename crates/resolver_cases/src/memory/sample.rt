@@ -1,5 +1,5 @@
 //! Names, records, messages and outcomes that the calls are given. No copy shares the memory of a name of these yet.
-use crate::marks::{both, whole};
+use crate::parts::{both, whole};
 use hickory_proto_core::{
     DnsError, DnsResponse, Glue, Message, Name, NetError, NoRecords, OpCode, Outcome, Query, RData,
     Record, RecordType, ResponseCode, ScriptHandle, TableHandle,

@@ -1,9 +1,9 @@
 //! Messages that grow, shared addresses, and what responses come to.
-use crate::marks::done;
-use crate::sample::{
+use crate::memory::marks::done;
+use crate::memory::sample::{
     address, empty, five_addresses, glue, no_such_name, one_address, query, with_answer,
 };
-use crate::shown::{Shown, say, show, show_message, show_outcome};
+use crate::memory::shown::{Shown, say, show, show_message, show_outcome};
 use hickory_proto_core::{DnsError, DnsResponse, Glue, Message, NetError, Record};
 use std::alloc::Global;
 

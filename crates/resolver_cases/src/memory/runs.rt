@@ -1,8 +1,9 @@
 //! Runs: the replies, what was asked, and what the cache keeps then.
-use crate::clients::{BEHIND, show_client, show_scripted};
-use crate::marks::{both, done, whole};
-use crate::sample::{Pair, Said, script, table, text};
-use crate::shown::say;
+use crate::memory::clients::{BEHIND, show_client, show_scripted};
+use crate::memory::marks::done;
+use crate::memory::sample::{Pair, Said, script, table, text};
+use crate::memory::shown::say;
+use crate::parts::{both, whole};
 use hickory_proto_core::{Exchange, NetError, RecordType, Recorded, ScriptHandle, TableHandle};
 use hickory_resolver::{
     Heard, Hosts, Listener, LookupIpStrategy, Reply, Request, ResolverConfig, ResolverOpts, Step,

@@ -1,9 +1,9 @@
 //! Look-ups that wait: what a step gives, what the cache keeps then, and what the same look-up starts with after it.
-use crate::caches::cache_of;
-use crate::clients::show_kept;
-use crate::marks::done;
-use crate::sample::{Said, outcome_of, query};
-use crate::shown::{say_waits, show_made};
+use crate::memory::caches::cache_of;
+use crate::memory::clients::show_kept;
+use crate::memory::marks::done;
+use crate::memory::sample::{Said, outcome_of, query};
+use crate::memory::shown::{say_waits, show_made};
 use hickory_proto_core::{NetError, Outcome, Query, RecordType, ScriptHandle};
 use hickory_resolver::{CachingClient, CachingCore, Progress, ResponseCache, Waiting};
 use std::alloc::Global;
@@ -20,14 +20,14 @@ enum Client {
 
 impl Client {
     // Starts a look-up at the moment 0.
-    fn start(&mut self, query: Query) -> Progress {
+    fn start(&mut self, query: Query) -> Progress<Waiting> {
         match self {
             Client::Core(core) => core.start(query, 0),
             Client::Whole(client) => client.start(query, 0),
         }
     }
 
-    fn resume(&mut self, waiting: Waiting, outcome: Outcome) -> Progress {
+    fn resume(&mut self, waiting: Waiting, outcome: Outcome) -> Progress<Waiting> {
         match self {
             Client::Core(core) => core.resume(waiting, outcome),
             Client::Whole(client) => client.resume(waiting, outcome),
@@ -136,7 +136,7 @@ fn resume(
 }
 
 // What a look-up came to.
-fn show_progress(rt: &impl Print, progress: Progress) {
+fn show_progress(rt: &impl Print, progress: Progress<Waiting>) {
     match &progress {
         Progress::Waiting(waiting) => say_waits(rt, waiting.question()),
         Progress::Done(reply) => show_made(rt, reply),
@@ -144,8 +144,8 @@ fn show_progress(rt: &impl Print, progress: Progress) {
     drop(progress);
 }
 
-/// The look-up that waits, or an error where it is done.
-pub fn waiting_of(progress: Progress) -> Result<Waiting, NetError> {
+/// The look-up or the call that waits, or an error where it is done.
+pub fn waiting_of<W: Drop>(progress: Progress<W>) -> Result<W, NetError> {
     match progress {
         Progress::Waiting(waiting) => Ok(waiting),
         done => {

@@ -1,7 +1,8 @@
 //! Look-ups, bounds and attempts.
-use crate::marks::{both, done};
-use crate::sample::{address, five_addresses, name, one, one_address, query, with_answer};
-use crate::shown::{Shown, say, show};
+use crate::memory::marks::done;
+use crate::memory::sample::{address, five_addresses, name, one, one_address, query, with_answer};
+use crate::memory::shown::{Shown, say, show};
+use crate::parts::both;
 use hickory_proto_core::{Message, Name, NetError, OpCode, RData, RecordType};
 use hickory_resolver::{Lookup, TtlBounds, TtlConfig, attempts};
 use std::alloc::Global;

@@ -1,14 +1,11 @@
-//! Makes the calls that the arguments name, each between two marks, and prints what it answered and what stands behind
-//! it. The answers that are wanted where there is enough memory are in the file `stdout` beside the sources, written by
-//! hand; the script `tests/refuse_memory` makes each call with less.
-#![tactic(auto)]
+//! Calls, each between two marks, with what they answered and what stands behind it.
 
 /// Makes a call between the two marks, and gives its answer.
 macro_rules! call {
     ($rt:expr, $case:expr, $call:expr) => {{
-        crate::marks::begin($rt, $case);
+        crate::memory::marks::begin($rt, $case);
         let answer = $call;
-        crate::marks::end($rt);
+        crate::memory::marks::end($rt);
         answer
     }};
 }
@@ -34,16 +31,9 @@ mod without;
 
 use hickory_proto_core::NetError;
 use std::alloc::Global;
-use std::env;
 
-fn main(rt: HostRuntime) -> anyhow::Result<()> {
-    for case in env::args(&rt)?.skip(1) {
-        make(&rt, rt.alloc(), case.as_str())?;
-    }
-    Ok(())
-}
-
-fn make(rt: &impl Print, alloc: Global, case: &str) -> Result<(), NetError> {
+/// Makes the call of this name.
+pub fn make(rt: &impl Print, alloc: Global, case: &str) -> Result<(), NetError> {
     let is_made = names::make(rt, alloc, case)?
         || messages::make(rt, alloc, case)?
         || copies::make(rt, alloc, case)?

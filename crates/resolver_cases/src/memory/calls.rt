@@ -1,11 +1,12 @@
 //! Calls of a resolver that wait: what a step gives, what the cache keeps then, and what the same call starts with
 //! after it.
-use crate::clients::{Upstream, resolver, show_kept};
-use crate::marks::done;
-use crate::sample::{Said, no_such_name, outcome_of};
-use crate::shown::{say_waits, show_made};
+use crate::memory::clients::{Upstream, resolver, show_kept};
+use crate::memory::marks::done;
+use crate::memory::sample::{Said, no_such_name, outcome_of};
+use crate::memory::shown::{say_waits, show_made};
+use crate::memory::waits::waiting_of;
 use hickory_proto_core::{DnsResponse, Name, NetError, Query, RecordType};
-use hickory_resolver::{CallProgress, LookupIpStrategy, Resolver, WaitingCall};
+use hickory_resolver::{CallProgress, LookupIpStrategy, Resolver};
 use std::alloc::Global;
 
 /// Makes the call of a case, and says whether there is such a case.
@@ -110,14 +111,4 @@ fn show_progress(rt: &impl Print, progress: CallProgress) {
         CallProgress::Done(reply) => show_made(rt, reply),
     }
     drop(progress);
-}
-
-fn waiting_of(progress: CallProgress) -> Result<WaitingCall, NetError> {
-    match progress {
-        CallProgress::Waiting(waiting) => Ok(waiting),
-        done => {
-            drop(done);
-            Err(NetError::NoOutcome)
-        }
-    }
 }

@@ -1,7 +1,8 @@
 //! Handles: a table that is made and asked, and one that records what it is asked.
-use crate::marks::{both, done};
-use crate::sample::{Pair, Said, outcomes, query, table};
-use crate::shown::{say, show, show_exchanges};
+use crate::memory::marks::done;
+use crate::memory::sample::{Pair, Said, outcomes, query, table};
+use crate::memory::shown::{say, show, show_exchanges};
+use crate::parts::both;
 use hickory_proto_core::{
     DnsHandle, DnsRequest, DnsRequestOptions, NetError, RecordType, Recorded, TableHandle,
 };

@@ -1,9 +1,10 @@
 //! Copies of values that hold a collection.
-use crate::marks::{begin, both, done, end, whole};
-use crate::sample::{
+use crate::memory::marks::{begin, done, end};
+use crate::memory::sample::{
     IP, Said, address, answer, glue, group, name, none, one, outcome_of, query, server, text,
 };
-use crate::shown::say;
+use crate::memory::shown::say;
+use crate::parts::{both, whole};
 use hickory_proto_core::{DnsError, ForwardNSData, NetError, RData, RecordType, clone_outcome};
 use hickory_resolver::{
     ConnectionConfig, Lookup, LookupIp, NameServerConfig, ProtocolConfig, ResolverConfig,

@@ -1,8 +1,8 @@
 //! The lines of a case: a title behind `#`, octets as hex digits, and the limit for which they are written again.
-use crate::shown;
+use crate::copies::say;
+use crate::wire::shown::{show_message, show_written};
 use hickory_proto_wire::WireMessage;
 use std::alloc::Global;
-use std::io;
 
 /// Prints a title, keeps octets, or reads and writes those that were kept.
 pub fn take(
@@ -12,11 +12,15 @@ pub fn take(
     line: &str,
 ) -> anyhow::Result<()> {
     if line.starts_with('#') {
-        println!(rt; "{line}")?;
+        say(rt, &line);
         return Ok(());
     }
     match line.strip_prefix("limit ") {
-        Some(limit) => end(rt, alloc, octets, limit),
+        Some(limit) => {
+            show(rt, alloc, octets, limit.parse().unwrap_or(0));
+            octets.clear();
+            Ok(())
+        }
         None => keep(alloc, octets, line),
     }
 }
@@ -29,19 +33,17 @@ fn keep(alloc: Global, octets: &mut Vec<u8>, line: &str) -> anyhow::Result<()> {
     Ok(())
 }
 
-fn end(rt: &impl Print, alloc: Global, octets: &mut Vec<u8>, limit: &str) -> anyhow::Result<()> {
-    let limit = limit.parse::<usize>().unwrap_or(0);
-    show(rt, alloc, octets, limit)?;
-    octets.clear();
-    Ok(())
-}
-
-fn show(rt: &impl Print, alloc: Global, octets: &[u8], limit: usize) -> io::Result<()> {
-    match &WireMessage::from_wire(alloc, octets) {
+fn show(rt: &impl Print, alloc: Global, octets: &[u8], limit: usize) {
+    let read = WireMessage::from_wire(alloc, octets);
+    match &read {
         Ok(message) => {
-            shown::show_message(rt, message)?;
-            shown::show_written(rt, alloc, &message.to_wire(alloc, limit), octets)
+            show_message(rt, message);
+            show_written(rt, alloc, message.to_wire(alloc, limit), octets);
         }
-        Err(e) => println!(rt; "not read: {e}"),
+        Err(error) => {
+            let _ = println!(rt; "not read: {error}");
+        }
     }
+    // `drop` costs the prover less than the end of the block.
+    drop(read);
 }
