@@ -124,8 +124,9 @@ typedef struct yimarotu_opened {
 } yimarotu_opened;
 
 /* Opens a session with these settings, the lines of a script that set something (docs/SCRIPTS.md, "Configuration"), over
- * what a file of hosts says. What the hosts answer is said to be usable for a day from this moment, however late it is
- * asked. Where the status is not YIMAROTU_OK the session stays as it was. */
+ * what a file of hosts says. The addresses that the hosts answer are said to be usable for a day from this moment,
+ * however late they are asked, and the names of an address for a day from the question. Where the status is not
+ * YIMAROTU_OK the session stays as it was. */
 yimarotu_opened yimarotu_open(yimarotu_session *session, const uint8_t *settings, size_t settings_length,
                               const uint8_t *hosts, size_t hosts_length, uint64_t moment);
 
@@ -146,7 +147,8 @@ yimarotu_came yimarotu_start(yimarotu_session *session, uint64_t number, const u
                              uint16_t record_type, uint64_t moment);
 
 /* The same of the addresses of a host, in the families that the settings say. A text that is an address is its own
- * answer: a record under the text as an absolute name, or under the root where it is no name, as with IPv6. */
+ * answer: a record under the text as an absolute name, or under the root where it is no name, as with IPv6. But with
+ * `ndots` above 4 a text that is an IPv4 address is first looked up as a name, and is the answer where that has none. */
 yimarotu_came yimarotu_start_ip(yimarotu_session *session, uint64_t number, const uint8_t *host, size_t host_length,
                                 uint64_t moment);
 

@@ -6,14 +6,15 @@ use Rattle.hickory_proto_core.specs.Handles.{OutcomeValue}
 use Rattle.hickory_proto_core.specs.NameGiven.{IsReadName, IsReadAddress}
 use Rattle.hickory_proto_core.specs.codes.record_type.RecordType.{RecordType}
 use Rattle.hickory_proto_core.specs.declared.dns_request.DnsRequestOptions.{DnsRequestOptions}
-use Rattle.hickory_resolver.specs.CallProgress.{call_progress_of}
-use Rattle.hickory_resolver.specs.declared.waiting_call.CallProgress.{CallProgress}
+use Rattle.hickory_resolver.specs.Contexts.{progress_of}
+use Rattle.hickory_resolver.specs.Driving.{CallProgress}
 use Rattle.hickory_resolver.specs.Starting.{KeepsAllButCache, ResumesAt, StartsHost, StartsName}
+use Rattle.hickory_resolver_model.specs.Resuming.{Waits, IsDone}
 use Rattle.hickory_resolver_model.specs.Cache.{CacheValue}
 use Rattle.hickory_resolver_model.specs.Lookup.{LookupResult}
 use Rattle.hickory_resolver_model.specs.Resolver.{ResolverValue, settings}
 use Rattle.hickory_resolver_model.specs.Run.{RequestValue, Lookup, LookupIp, Settings, address_call, call_context_at}
-use Rattle.hickory_resolver_theorems.specs.ResumingCalls.{WaitingCallValue, CallProgressValue, CallWaits, CallIsDone, RunsOutAtStart, StartsCall}
+use Rattle.hickory_resolver_theorems.specs.ResumingCalls.{WaitingCallValue, CallProgressValue, RunsOutAtStart, StartsCall}
 use Rattle.conversation.specs.Answers.{Answer, Came, Clears, ComesTo, Feeds, Looks, Serves, Tells, asking, just_begun}
 use Rattle.conversation.specs.Explaining.{IsStartExplained, alias_text}
 use Rattle.conversation.specs.Hearing.{IsBegunOver, IsFedOut}
@@ -29,7 +30,7 @@ use Rattle.conversation.proofs.Held.{some_stays}
 
 pub told_waits : (mark : List ℕ) (s : Settings) (begun : BegunValue) (w : WaitingCallValue) (cache : CacheValue) (result : Result Heard AllocError) (es fs : List (String Global × InFlight)) (options : DnsRequestOptions)
     → options ≡ s.request_options → IfOk result (IsQuestion mark begun w options) → OnOk result (Puts mark (Some (asking begun w)) (requests_of es) (requests_of fs)) → OnErr result (fs ≡ es)
-    → IsTold mark (Tells mark [] s begun (Looks (CallWaits w)) cache) result (requests_of es) (requests_of fs)
+    → IsTold mark (Tells mark [] s begun (Looks (Waits w)) cache) result (requests_of es) (requests_of fs)
 told_waits mark s begun w cache (Ok heard) es fs options by told puts same = (
   record {
     explained = alias_text mark begun.explains w;
@@ -54,7 +55,7 @@ kept_asking mark key begun now w before after key_is now_is puts =
     (subst (λ b. Puts key (Some (record { begun = b; waiting = w; reply = None })) before after) now_is puts)
 
 pub told_done : (mark : List ℕ) (s : Settings) (begun : BegunValue) (found : LookupResult) (cache : CacheValue) (result : Result Heard AllocError) (before after : Requests)
-    → IfOk result (IsBlock mark begun cache found) → Puts mark None before after → IsTold mark (Tells mark [] s begun (Looks (CallIsDone found)) cache) result before after
+    → IfOk result (IsBlock mark begun cache found) → Puts mark None before after → IsTold mark (Tells mark [] s begun (Looks (IsDone found)) cache) result before after
 told_done mark s begun found cache (Ok heard) before after block puts =
     (record { explained = _; text = _; journal = _; is_last = false; stage = Serving s cache; held = None }, (block.remembered, refl), record { explained_is = block.explained_is; text_is = block.text_is; journal_is = block.journal_is; last_is = block.last_is }, puts)
 told_done mark s begun found cache (Err e) before after block puts = (None, puts)
@@ -66,8 +67,8 @@ told_cleared mark s begun cache (Ok heard) before after block puts =
 told_cleared mark s begun cache (Err e) before after block puts = (None, puts)
 
 tells_stage : (mark : List ℕ) (start : List ℕ) (s : Settings) (begun : BegunValue) (came : Came) (cache : CacheValue) (answer : Answer) → Tells mark start s begun came cache answer → answer.stage ≡ Serving s cache
-tells_stage mark start s begun (Looks (CallWaits w)) cache answer is = ap (λ a. a.stage) is
-tells_stage mark start s begun (Looks (CallIsDone found)) cache answer is = ap (λ a. a.stage) is.1
+tells_stage mark start s begun (Looks (Waits w)) cache answer is = ap (λ a. a.stage) is
+tells_stage mark start s begun (Looks (IsDone found)) cache answer is = ap (λ a. a.stage) is.1
 tells_stage mark start s begun Clears cache answer is = ap (λ a. a.stage) is
 
 -- ---- over a resolver
@@ -79,8 +80,8 @@ same_settings before after same = ap settings same
 behind : (mark start : List ℕ) (s : Settings) (begun : BegunValue) (came : Came) (cache : CacheValue) (answer : Answer)
     → Tells mark [] s begun came cache answer
     → Tells mark start s begun came cache (record answer { explained = start ++ answer.explained })
-behind mark start s begun (Looks (CallWaits w)) cache answer is = ap (λ (a : Answer). record a { explained = start ++ a.explained }) is
-behind mark start s begun (Looks (CallIsDone found)) cache answer is =
+behind mark start s begun (Looks (Waits w)) cache answer is = ap (λ (a : Answer). record a { explained = start ++ a.explained }) is
+behind mark start s begun (Looks (IsDone found)) cache answer is =
     (is.0, ap (λ (a : Answer). record a { explained = start ++ a.explained }) is.1)
 behind mark start s begun Clears cache answer is =
     ap (λ (a : Answer). record a { explained = start ++ a.explained }) is ∙ ap (λ (x : List ℕ). record {
@@ -164,5 +165,5 @@ looks_up_host text now progress r left (address, spells, name, read, inr (memory
 
 -- how far the code's call came
 pub told_as : (mark : List ℕ) (s : Settings) (begun : BegunValue) (progress now : CallProgress) (cache : CacheValue) (result : Result Heard AllocError) (before after : Requests) → progress ≡ now
-    → IsTold mark (Tells mark [] s begun (Looks (call_progress_of now)) cache) result before after → IsTold mark (Tells mark [] s begun (Looks (call_progress_of progress)) cache) result before after
-told_as mark s begun progress now cache result before after same told = subst (λ p. IsTold mark (Tells mark [] s begun (Looks (call_progress_of p)) cache) result before after) (sym same) told
+    → IsTold mark (Tells mark [] s begun (Looks (progress_of now)) cache) result before after → IsTold mark (Tells mark [] s begun (Looks (progress_of progress)) cache) result before after
+told_as mark s begun progress now cache result before after same told = subst (λ p. IsTold mark (Tells mark [] s begun (Looks (progress_of p)) cache) result before after) (sym same) told

@@ -9,13 +9,14 @@ use Rattle.hickory_proto_core.specs.NameGiven.{IsReadName, IsReadAddress}
 use Rattle.hickory_proto_core.specs.names.name_error.NameError.{NameError}
 use Rattle.hickory_proto_core.specs.names.name_error.NameError.TheVariants as name_error
 use Rattle.std.specs.declared.net.IpAddr.{IpAddr}
+use Rattle.hickory_resolver_model.specs.Resuming.{Waits, IsDone}
 use Rattle.hickory_resolver_model.specs.Bounds.{bounds_fault}
 use Rattle.hickory_resolver_model.specs.Cache.{CacheValue}
 use Rattle.hickory_resolver_model.specs.Calls.{is_out_of_memory}
 use Rattle.hickory_resolver_model.specs.Hosts.{Host}
 use Rattle.hickory_resolver_model.specs.Options.{bounds_of}
 use Rattle.hickory_resolver_model.specs.Run.{RequestValue, Lookup, LookupIp, ClearLookup, Clear, Settings, settings_of, first_cache, moment_of, call_context_at, name_call, address_call, after_clear}
-use Rattle.hickory_resolver_theorems.specs.ResumingCalls.{WaitingCallValue, CallProgressValue, CallWaits, CallIsDone, StartsCall, RunsOutAtStart, ResumesCall}
+use Rattle.hickory_resolver_theorems.specs.ResumingCalls.{WaitingCallValue, CallProgressValue, StartsCall, RunsOutAtStart, ResumesCall}
 use Rattle.hickory_resolver.specs.Reading.{IsBytesRead}
 use Rattle.hickory_resolver.specs.hosts.hosts_error.HostsError.{HostsError}
 use Rattle.hickory_resolver_config.specs.ResolverConfig.{ResolverConfigValue}
@@ -155,7 +156,7 @@ asking begun w = record {
 -- a question is to be sent; or the request is over, and the journal has the lines of its outcomes before its own; where
 -- memory ran out, there is no answer. Before what is explained stands this start
 abbrev pub Tells : List ℕ → List ℕ → Settings → BegunValue → Came → CacheValue → Answer → Type 0
-Tells mark start s begun (Looks (CallWaits w)) cache answer = answer ≡ record {
+Tells mark start s begun (Looks (Waits w)) cache answer = answer ≡ record {
   explained = start ++ alias_text mark begun.explains w;
   text = send_text mark w.lookup.hop.query s.request_options;
   journal = [];
@@ -163,7 +164,7 @@ Tells mark start s begun (Looks (CallWaits w)) cache answer = answer ≡ record 
   stage = Serving s cache;
   held = Some (asking begun w);
 }
-Tells mark start s begun (Looks (CallIsDone result)) cache answer =
+Tells mark start s begun (Looks (IsDone result)) cache answer =
     (is_out_of_memory result ≡ false) × (answer ≡ record {
       explained = start ++ stored_text mark begun cache;
       text = looked_up_text mark begun result;

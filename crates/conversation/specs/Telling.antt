@@ -4,7 +4,7 @@ use Rattle.std.specs.Option.{is_some, option_map}
 use Rattle.std.specs.declared.alloc.AllocError.{AllocError}
 use Rattle.hickory_proto_core.specs.Handles.{OutcomeValue}
 use Rattle.hickory_proto_core.specs.declared.dns_request.DnsRequestOptions.{DnsRequestOptions}
-use Rattle.hickory_resolver.specs.CallProgress.{call_progress_of}
+use Rattle.hickory_resolver.specs.Contexts.{progress_of}
 use Rattle.hickory_resolver_model.specs.Calls.{is_out_of_memory}
 use Rattle.hickory_resolver_model.specs.Lookup.{LookupResult}
 use Rattle.hickory_resolver_model.specs.Resolver.{ResolverValue, new_resolver, settings}
@@ -35,7 +35,7 @@ use Rattle.conversation.specs.declared.requests.Came.{Came}
 use Rattle.conversation.specs.declared.requests.Came.TheVariants as came
 
 abbrev pub came_of : Came → answers.Came
-came_of (came.Looks progress) = answers.Looks (call_progress_of progress)
+came_of (came.Looks progress) = answers.Looks (progress_of progress)
 came_of came.Clears = answers.Clears
 
 -- whatever stands under this mark, the requests under others stay

@@ -1,7 +1,7 @@
 //! Requests over a resolver: they begin, go on and end.
 ghost use Rattle.std.specs.Prelude.{◌≡◌, ◌++◌, ◌∷◌, [], IfOk, OnErr, OnOk, None, Some, string_bytes};
 ghost use Rattle.std.specs.Option.{option_map};
-ghost use Rattle.hickory_resolver.specs.CallProgress.{call_progress_of};
+ghost use Rattle.hickory_resolver.specs.Contexts.{progress_of};
 ghost use Rattle.hickory_resolver.specs.Requests.{request_of};
 ghost use Rattle.hickory_resolver.specs.Starting.{KeepsAllButCache};
 ghost use Rattle.hickory_resolver_model.specs.Resolver.{settings};
@@ -133,7 +133,7 @@ fn settle(
     progress: CallProgress,
 ) -> Result<Heard, AllocError>
     ensures { IsTold mark.now
-        (Tells mark.now [] (settings resolver.now) (begun_of begun) (Looks (call_progress_of progress))
+        (Tells mark.now [] (settings resolver.now) (begun_of begun) (Looks (progress_of progress))
         resolver.now.client.cache)
         result (requests_of requests.old.entries) (requests_of requests.new.entries) }
 {

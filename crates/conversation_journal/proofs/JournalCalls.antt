@@ -8,12 +8,13 @@ use Rattle.hickory_proto_core.specs.declared.recorded.Exchange.{Exchange}
 use Rattle.hickory_proto_core.specs.names.name_error.NameError.{NameError}
 use Rattle.hickory_proto_core.specs.names.name_error.NameError.TheVariants as name_error
 use Rattle.hickory_proto_core.specs.declared.net_error.NetError.TheVariants.{OutOfMemory}
+use Rattle.hickory_resolver_model.specs.Resuming.{Waits, IsDone}
 use Rattle.hickory_resolver_model.specs.Cache.{CacheValue}
 use Rattle.hickory_resolver_model.specs.Calls.{IsAnsweredAlone, SubLookup, is_out_of_memory}
 use Rattle.hickory_resolver_model.specs.Lookup.{LookupResult}
 use Rattle.hickory_resolver_model.specs.Run.{RequestValue, Lookup, LookupIp, ClearLookup, Clear, Settings, GivenName, IsGivenBy, Call, IsCall, IsServed, StepReply, LookedUp, LookedUpIp, Cleared, address_call, answers_at, call_context_at, ends_run, moment_of, name_call}
 use Rattle.hickory_resolver_theorems.proofs.SentAlone.{CallSoFar, CallRelation}
-use Rattle.hickory_resolver_theorems.specs.ResumingCalls.{CallProgressValue, CallWaits, CallIsDone, StartsCall}
+use Rattle.hickory_resolver_theorems.specs.ResumingCalls.{CallProgressValue, StartsCall}
 use Rattle.hickory_resolver_theorems.proofs.CallsAlone.{call-alone, started_call}
 use Rattle.replay_script.specs.Output.{reply_text, result_text}
 use Rattle.conversation.specs.Answers.{Looks, Clears, ComesTo}
@@ -72,10 +73,10 @@ pub record IsBegunCall (s : Settings) (q : RequestValue) (start : CacheValue) (p
   pub far : RequestSoFar s q start call [] progress cache
 
 abbrev pub NotOut : CallProgressValue → Type 0
-NotOut (CallWaits w) = Unit {0}
-NotOut (CallIsDone result) = is_out_of_memory result ≡ false
+NotOut (Waits w) = Unit {0}
+NotOut (IsDone result) = is_out_of_memory result ≡ false
 
-not_out : (progress : CallProgressValue) → NotOut progress → progress ≡ CallIsDone (Err OutOfMemory) → ⊥
+not_out : (progress : CallProgressValue) → NotOut progress → progress ≡ IsDone (Err OutOfMemory) → ⊥
 not_out progress live e = let h : true ≡ false = subst NotOut e live in cc
 
 pub begun_call : (s : Settings) (q : RequestValue) (start : CacheValue) (progress : CallProgressValue) (cache : CacheValue) → NotOut progress → ComesTo s q start (Looks progress) cache → IsBegunCall s q start progress cache

@@ -9,6 +9,7 @@ use Rattle.hickory_proto_core.specs.declared.dns_request.DnsRequestOptions.{DnsR
 use Rattle.hickory_proto_core.specs.declared.recorded.Exchange.{Exchange}
 use Rattle.hickory_resolver_model.specs.Cache.{CacheValue}
 use Rattle.hickory_resolver_model.specs.Run.{RequestValue, Settings, Stage, StepValue, IsStage, AreStages, exchanges_of, ends_run, first_cache}
+use Rattle.hickory_resolver_theorems.proofs.PromisesHold.{promised_run}
 use Rattle.replay_script.specs.Output.{run_text, step_text}
 use Rattle.replay.specs.ScriptRun.{IsTold, is_remembered}
 
@@ -96,9 +97,9 @@ run-told s requests exchanges cache text outcomes run are =
       exchanges = exchanges;
       upstream_after = [];
       cache_after = cache;
-      run = record {
+      run = promised_run ScriptStep s (map (λ x. x.outcome) exchanges) requests (map (λ stage. stage.step) run.stages) exchanges [] cache (record {
         led = leads s.request_options exchanges;
         run = record { stages = run.stages; joined = sym run.joined; steps_are = refl; are = run.are };
-      };
+      });
       told = (remembered run.stages run.live, run.text_is ∙ sym (ap (λ xs. run_text requests (map (λ stage. stage.step) run.stages) xs) run.joined ∙ text-of-stages s (first_cache s) requests run.stages cache run.live run.are));
     })

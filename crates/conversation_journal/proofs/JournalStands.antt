@@ -9,6 +9,7 @@ use Rattle.hickory_proto_core.specs.declared.query.Query.{Query}
 use Rattle.hickory_proto_core.specs.declared.recorded.Exchange.{Exchange}
 use Rattle.hickory_resolver_lookup.specs.Requests.{request_of}
 use Rattle.hickory_resolver_lookup.specs.declared.request.Request.{Request}
+use Rattle.hickory_resolver_model.specs.Resuming.{Waits, IsDone}
 use Rattle.hickory_resolver_model.specs.Bounds.{bounds_fault}
 use Rattle.hickory_resolver_model.specs.Cache.{CacheValue}
 use Rattle.hickory_resolver_model.specs.Calls.{SubLookup, asks_of_sub_lookups}
@@ -17,7 +18,7 @@ use Rattle.hickory_resolver_model.specs.Lookup.{LookupResult}
 use Rattle.hickory_resolver_model.specs.Options.{bounds_of}
 use Rattle.hickory_resolver_model.specs.Run.{RequestValue, Lookup, LookupIp, ClearLookup, Clear, Settings, Call, IsServed, StepReply, Cleared, answers_at, call_context_at, ends_run, first_cache, moment_of, settings_of}
 use Rattle.hickory_resolver_model.specs.Run as run
-use Rattle.hickory_resolver_theorems.specs.ResumingCalls.{CallProgressValue, CallWaits, CallIsDone}
+use Rattle.hickory_resolver_theorems.specs.ResumingCalls.{CallProgressValue}
 use Rattle.replay_script.specs.Output.{request_text, result_text, sent_text, step_text}
 use Rattle.replay.specs.ScriptRun.{IsTable, first_moment}
 use Rattle.replay_script.specs.Configuration.{ConfigurationValue}
@@ -162,7 +163,7 @@ pub record IsBusy (hosts J B : List ℕ) (latest : ℕ) (s : Settings) (cache : 
   pub request_is : r.begun.request ≡ request_of asked
   pub sent_are : r.begun.sent ≡ map (λ x. x.query) asks ++ r.waiting.lookup.hop.query ∷ []
   pub call_is : HasCall s (request_of asked) call
-  pub far : RequestSoFar s (request_of asked) start call asks (CallWaits r.waiting) cache
+  pub far : RequestSoFar s (request_of asked) start call asks (Waits r.waiting) cache
   pub latest_is : latest ≡ moment_of (request_of asked)
 
 abbrev pub StandsAt : List ℕ → List ℕ → List ℕ → Turn → Stage → Option InFlightValue → Type 0
@@ -222,7 +223,7 @@ module _ (hosts J B : List ℕ) (s : Settings) (asked : Request) (asks : List Ex
       subst P (sym stage_is) (subst Q (sym held_is) (subst R own (subst T told serving)))
 
   pub proceed : (call : Call) → HasCall s (request_of asked) call → (progress : CallProgressValue) (cache : CacheValue) → RequestSoFar s (request_of asked) start call asks progress cache → (answer : Answer) (explained : List ℕ) → Tells mark explained s begun (Looks progress) cache answer → IsNext answer
-  proceed call call_is (CallWaits x) cache far answer explained e =
+  proceed call call_is (Waits x) cache far answer explained e =
       let busy : IsBusy hosts J B (moment_of (request_of asked)) s cache (asking begun x) = record {
         asked = asked;
         asks = asks;
@@ -238,7 +239,7 @@ module _ (hosts J B : List ℕ) (s : Settings) (asked : Request) (asks : List Ex
       let P : List ℕ → Type 0 = λ j. IsBusy hosts j (B ++ []) (moment_of (request_of asked)) s cache (asking begun x) in
       let Q : List ℕ → Type 0 = λ b. IsBusy hosts J b (moment_of (request_of asked)) s cache (asking begun x) in
       subst IsNext (sym e) (subst P (sym (append-nil J)) (subst Q (sym (append-nil B)) busy))
-  proceed call call_is (CallIsDone result) cache far answer explained (live, e) =
+  proceed call call_is (IsDone result) cache far answer explained (live, e) =
       let up = looked_up s (request_of asked) start call far.parts result cache call_is far.whole in
       let block = step_text (request_of asked) (map (λ x. x.query) asks) up.reply in
       let same : request_text begun.request ++ sent_text begun.sent ++ result_text begun.request result ≡ block =

@@ -15,12 +15,13 @@ use Rattle.hickory_resolver.specs.Reading.{IsBytesRead}
 use Rattle.hickory_resolver.specs.hosts.hosts_error.HostsError.{HostsError}
 use Rattle.hickory_resolver_lookup.specs.Requests.{request_of}
 use Rattle.hickory_resolver_lookup.specs.declared.request.Request.{Request}
+use Rattle.hickory_resolver_model.specs.Resuming.{Waits, IsDone}
 use Rattle.hickory_resolver_model.specs.Bounds.{bounds_fault}
 use Rattle.hickory_resolver_model.specs.Cache.{CacheValue}
 use Rattle.hickory_resolver_model.specs.Hosts.{Host}
 use Rattle.hickory_resolver_model.specs.Options.{bounds_of}
 use Rattle.hickory_resolver_model.specs.Run.{Settings, call_context_at, first_cache, moment_of, settings_of}
-use Rattle.hickory_resolver_theorems.specs.ResumingCalls.{CallProgressValue, CallWaits, CallIsDone, ResumesCall}
+use Rattle.hickory_resolver_theorems.specs.ResumingCalls.{CallProgressValue, ResumesCall}
 use Rattle.hickory_resolver_theorems.proofs.CallsAlone.{resumed}
 use Rattle.replay_script.specs.Output.{request_text}
 use Rattle.replay_script.specs.Configuration.{ConfigurationValue, with_setting}
@@ -229,8 +230,8 @@ pub record IsTold (s : Settings) (cache : CacheValue) (answer : Answer) : Type 0
   pub some : (is_some answer.held || not (is_empty answer.journal)) ≡ true
 
 pub told-of : (mark explained : List ℕ) (s : Settings) (begun : BegunValue) (came : Came) (cache : CacheValue) (answer : Answer) → Tells mark explained s begun came cache answer → IsTold s cache answer
-told-of mark explained s begun (Looks (CallWaits w)) cache answer e = subst (λ a. IsTold s cache a) (sym e) (record { stage_is = refl; some = refl })
-told-of mark explained s begun (Looks (CallIsDone result)) cache answer (live, e) =
+told-of mark explained s begun (Looks (Waits w)) cache answer e = subst (λ a. IsTold s cache a) (sym e) (record { stage_is = refl; some = refl })
+told-of mark explained s begun (Looks (IsDone result)) cache answer (live, e) =
     subst (λ a. IsTold s cache a) (sym e) (record { stage_is = refl; some = ap not (some-behind begun.told (request_text begun.request) (some_request begun.request)) })
 told-of mark explained s begun Clears cache answer e =
     subst (λ a. IsTold s cache a) (sym e) (record { stage_is = refl; some = ap not (some-behind begun.told (request_text begun.request) (some_request begun.request)) })
@@ -363,7 +364,7 @@ serves hosts J B mark explains asked s cache answer w (Looks progress, after, co
     proceed hosts J B s asked [] cache mark (just_begun (request_of asked) explains) w refl refl begun.call begun.call_is progress after begun.far answer explained tells
   where
     not-out : (p : CallProgressValue) → Tells mark explained s (just_begun (request_of asked) explains) (Looks p) after answer → NotOut p
-    not-out (CallWaits x) t = tt
-    not-out (CallIsDone result) (live, e) = live
+    not-out (Waits x) t = tt
+    not-out (IsDone result) (live, e) = live
 serves hosts J B mark explains asked s cache answer w (Clears, after, comes, explained, starts, tells) =
     clear-proceed hosts J B s asked [] cache mark (just_begun (request_of asked) explains) w refl refl refl after comes answer explained tells

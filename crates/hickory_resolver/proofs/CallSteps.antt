@@ -1,6 +1,6 @@
 -- A call that does no I/O, step by step.
 use Rattle.std.proofs.Common.{◌≡◌, ◌∙◌, ℕ, Bool, true, false, ◌||◌, List, [], ◌∷◌, ◌++◌, Option, Some}
-use Rattle.std.proofs.Common.{None, Ok, Err, refl, sym, ap, subst, inl, inr, reverse, arith}
+use Rattle.std.proofs.Common.{None, Ok, Err, refl, sym, ap, subst, inl, inr, reverse, arith, ◌≤◌, length}
 use Rattle.std.proofs.lemmas.List.{reverse-append}
 use Rattle.std.specs.Option.{is_some}
 use Rattle.hickory_proto_core.specs.Name.{NameValue}
@@ -9,7 +9,7 @@ use Rattle.hickory_proto_core.specs.codes.record_type.RecordType.{RecordType}
 use Rattle.hickory_proto_core.specs.declared.query.Query.{Query}
 use Rattle.hickory_proto_core.specs.declared.net_error.NetError.TheVariants.{OutOfMemory}
 use Rattle.hickory_resolver_model.specs.Cache.{CacheValue}
-use Rattle.hickory_resolver_model.specs.Calls.{CallContext, start_at, Plan, One, Both, Fallback}
+use Rattle.hickory_resolver_model.specs.Calls.{CallContext, start_at, FamilyOrder, One, Both, Fallback}
 use Rattle.hickory_resolver_model.specs.Calls.{CallPlan, Says, next_type, IsAttemptResult, IsLastReply}
 use Rattle.hickory_resolver_model.specs.Calls.{joins_results, takes_memory, stops}
 use Rattle.hickory_resolver_model.specs.Client.{ClientValue, KeepsHandle}
@@ -19,49 +19,49 @@ use Rattle.hickory_resolver_model.specs.Lookup.{LookupValue, LookupResult, quest
 use Rattle.hickory_resolver_model.specs.Resuming.{WaitingValue, ProgressValue, Waits, IsDone, ComesTo, Starts, Resumes}
 use Rattle.hickory_resolver_model.specs.Resolver.{call_context_of}
 use Rattle.hickory_resolver_model.specs.Verdict.{Hop}
-use Rattle.hickory_resolver_theorems.specs.ResumingCalls.{AttemptValue, CallProgressValue, CallWaits, CallIsDone}
-use Rattle.hickory_resolver_theorems.specs.ResumingCalls.{GoesOn, by_hosts, waits, at_once, stopped, next_name}
-use Rattle.hickory_resolver_theorems.specs.ResumingCalls.{no_name, GoesOnAfter, StartsNames, with_result, at_next}
+use Rattle.hickory_resolver_theorems.specs.ResumingCalls.{AttemptValue, CallProgressValue}
+use Rattle.hickory_resolver_theorems.specs.ResumingCalls.{Continues, by_hosts, waits, at_once, stopped, next_name}
+use Rattle.hickory_resolver_theorems.specs.ResumingCalls.{no_name, ContinuesAfter, StartsNames, with_result, at_next}
 use Rattle.hickory_resolver.specs.declared.attempting.Attempt.{Attempt}
 use Rattle.hickory_resolver.specs.CallSteps.{first_of, first_question, CallStepValue, Goes, Over, LooksUpOnce}
-use Rattle.hickory_resolver.specs.CallSteps.{ComesAfter, IsBegunWith, IsReady, IsReadyAfter, GoesFrom, kept_name_for}
-use Rattle.hickory_resolver.specs.CallSteps.{types_of, attempt_value, first_type, results_so_far, second_of}
+use Rattle.hickory_resolver.specs.CallSteps.{ComesAfter, IsBegunWith, IsReady, IsReadyAfter, ContinuesFrom, kept_name_for}
+use Rattle.hickory_resolver.specs.CallSteps.{order_of, attempt_value, first_type, results_so_far, second_of}
 use Rattle.hickory_resolver.specs.CallSteps.{count_kept, turns_left, IsFewer}
 
 module _ (s : CallContext) where
   -- a call that is done with this result
   is_done : (a : AttemptValue) (before : CacheValue) (result : LookupResult) (end : CallProgressValue)
-      (after : CacheValue) → GoesOn s a before (CallIsDone result) before → (end ≡ CallIsDone result)
-      × (after ≡ before) → GoesOn s a before end after
+      (after : CacheValue) → Continues s a before (IsDone result) before → (end ≡ IsDone result)
+      × (after ≡ before) → Continues s a before end after
   is_done a before result end after done (end_is, after_is) =
-      subst (λ e. GoesOn s a before e after) (sym end_is)
-      (subst (λ c. GoesOn s a before (CallIsDone result) c) (sym after_is) done)
+      subst (λ e. Continues s a before e after) (sym end_is)
+      (subst (λ c. Continues s a before (IsDone result) c) (sym after_is) done)
 
   -- a type was looked up
   module _ (a : AttemptValue) (t : RecordType) (next : next_type a.plan.types a.results ≡ Some t)
       (before : CacheValue) (step : CallStepValue) (mid : CacheValue) where
     pub looked_up : LooksUpOnce s a.with_hosts a.name t before step mid → (end : CallProgressValue) (after : CacheValue)
-        → ComesAfter s a step mid end after → GoesOn s a before end after
+        → ComesAfter s a step mid end after → Continues s a before end after
     looked_up (inl (progress, step_is, not_static, starts)) end after comes =
         let P : CallStepValue → Type 0 = λ x. ComesAfter s a x mid end after in
         by progress starts (subst P step_is comes)
       where
         by : (p : ProgressValue) → Starts (start_at s before) (question_of a.name t) p mid
-            → GoesOnAfter s a p mid end after → GoesOn s a before end after
+            → ContinuesAfter s a p mid end after → Continues s a before end after
         by (Waits w) starts (end_is, after_is) =
-            let here : GoesOn s a before (CallWaits (record { attempt = a; lookup = w })) mid =
+            let here : Continues s a before (Waits (record { attempt = a; lookup = w })) mid =
             waits (record { next = next; not_static = not_static; starts = starts }) in
-            subst (λ e. GoesOn s a before e after) (sym end_is)
-            (subst (λ c. GoesOn s a before (CallWaits (record { attempt = a; lookup = w })) c) (sym after_is) here)
+            subst (λ e. Continues s a before e after) (sym end_is)
+            (subst (λ c. Continues s a before (Waits (record { attempt = a; lookup = w })) c) (sym after_is) here)
         by (IsDone r) starts rest = at_once (record { next = next; not_static = not_static; starts = starts }) rest
     looked_up (inr (inl (found, step_is, asked, has, mid_is))) end after comes =
         let P : CallStepValue → Type 0 = λ x. ComesAfter s a x mid end after in
-        let rest : GoesOn s (with_result a (Ok found)) mid end after = subst P step_is comes in
+        let rest : Continues s (with_result a (Ok found)) mid end after = subst P step_is comes in
         by_hosts (record { next = next; with_hosts = asked; found = found; has = has; result_is = inl refl })
-        (subst (λ c. GoesOn s (with_result a (Ok found)) c end after) mid_is rest)
+        (subst (λ c. Continues s (with_result a (Ok found)) c end after) mid_is rest)
     looked_up (inr (inr (step_is, mid_is))) end after comes =
         let P : CallStepValue → Type 0 = λ x. ComesAfter s a x mid end after in
-        let over : (end ≡ CallIsDone (Err OutOfMemory)) × (after ≡ mid) = subst P step_is comes in
+        let over : (end ≡ IsDone (Err OutOfMemory)) × (after ≡ mid) = subst P step_is comes in
         let takes : takes_memory a.plan.types a.results ≡ true =
         ap (λ o. is_some o || joins_results a.plan.types a.results) next in
         is_done a before (Err OutOfMemory) end after (stopped (inr (takes, refl)) refl) (over.0, over.1 ∙ mid_is)
@@ -89,16 +89,16 @@ module _ (s : CallContext) where
   -- the types of a name are over, with this result
   module _ (a : AttemptValue) (r : LookupResult) (made : IsAttemptResult a.plan.types a.results r)
       (before : CacheValue) (end : CallProgressValue) (after : CacheValue) where
-    pub ends_call : stops r ≡ true → (end ≡ CallIsDone r) × (after ≡ before) → GoesOn s a before end after
+    pub ends_call : stops r ≡ true → (end ≡ IsDone r) × (after ≡ before) → Continues s a before end after
     ends_call stopping over = is_done a before r end after (stopped made stopping) over
 
     pub ends_names : stops r ≡ false → a.left ≡ [] → (result : LookupResult)
-        → IsLastReply a.plan.literal (λ x. x ≡ r) result → (end ≡ CallIsDone result) × (after ≡ before)
-        → GoesOn s a before end after
+        → IsLastReply a.plan.literal (λ x. x ≡ r) result → (end ≡ IsDone result) × (after ≡ before)
+        → Continues s a before end after
     ends_names live none result last over = is_done a before result end after (no_name made live none last) over
 
     pub goes_to_next : stops r ≡ false → (name : NameValue) (names : List NameValue) → a.left ≡ name ∷ names
-        → GoesOn s (at_next a name names) before end after → GoesOn s a before end after
+        → Continues s (at_next a name names) before end after → Continues s a before end after
     goes_to_next live name names left rest = next_name made live left rest
 
 first_push : (passed : List PassedValue) (p : PassedValue) (query : Query) → first_of (passed ++ p ∷ []) query
@@ -128,12 +128,12 @@ module _ (s : LookupContext) (w : WaitingValue) (now_is : s.now ≡ w.now) (outc
 -- ---- the code at a name
 
 module _ (s : CallContext) (from : AttemptValue) (a : Attempt) (name : NameValue)
-    (from_is : from ≡ attempt_value a name s.now) (kept_is : a.kept_name ≡ kept_name_for (types_of a.sought) a.first name)
+    (from_is : from ≡ attempt_value a name s.now) (kept_is : a.kept_name ≡ kept_name_for (order_of a.sought) a.first name)
     (before : CacheValue) where
   -- a type of the name is looked up
   pub goes_by_look_up : (t : RecordType) → next_type from.plan.types from.results ≡ Some t
       → (step : CallStepValue) (mid : CacheValue) → LooksUpOnce s from.with_hosts from.name t before step mid
-      → GoesFrom s from before a s.now step mid
+      → ContinuesFrom s from before a s.now step mid
   goes_by_look_up t next step mid once = record {
     name = name;
     ready = ready step once;
@@ -151,18 +151,22 @@ module _ (s : CallContext) (from : AttemptValue) (a : Attempt) (name : NameValue
 
 -- ---- what the code knows of the types of a name
 
-pub first_next : (plan : Plan) → next_type plan [] ≡ Some (first_type plan)
+pub first_next : (plan : FamilyOrder) → next_type plan [] ≡ Some (first_type plan)
 first_next (One t) = refl
 first_next (Both t u) = refl
 first_next (Fallback t u) = refl
 
-pub kept_none : (plan : Plan) (r : LookupResult) (name : NameValue) → None ≡ kept_name_for plan (Some r) name
+pub kept_none : (plan : FamilyOrder) (r : LookupResult) (name : NameValue) → None ≡ kept_name_for plan (Some r) name
 kept_none (One t) r name = refl
 kept_none (Both t u) r name = refl
 kept_none (Fallback t u) r name = refl
 
+pub one_at_most : (first : Option LookupResult) → length (results_so_far first) ≤ 1
+one_at_most None = omega arith
+one_at_most (Some r) = omega arith
+
 -- a second type is looked up behind the first result alone
-pub one_before : (plan : Plan) (first : Option LookupResult) (latest : LookupResult) (t : RecordType)
+pub one_before : (plan : FamilyOrder) (first : Option LookupResult) (latest : LookupResult) (t : RecordType)
     → next_type plan (results_so_far first ++ latest ∷ []) ≡ Some t → first ≡ None
 one_before plan None latest t next = refl
 one_before (One a) (Some r) latest t next = let clash : None ≡ Some t = next in cc
@@ -199,8 +203,8 @@ same_context before after hosts now keeps = ap (λ b. record { now = now; preser
 module _ (s : CallContext) where
   -- memory ran out before a type of a name was looked up
   pub refused : (a : AttemptValue) (t : RecordType) (next : next_type a.plan.types a.results ≡ Some t)
-      (before : CacheValue) (end : CallProgressValue) (after : CacheValue) → (end ≡ CallIsDone (Err OutOfMemory))
-      × (after ≡ before) → GoesOn s a before end after
+      (before : CacheValue) (end : CallProgressValue) (after : CacheValue) → (end ≡ IsDone (Err OutOfMemory))
+      × (after ≡ before) → Continues s a before end after
   refused a t next before end after over =
       let takes : takes_memory a.plan.types a.results ≡ true = ap (λ o. is_some o || joins_results a.plan.types a.results) next in
       is_done s a before (Err OutOfMemory) end after (stopped (inr (takes, refl)) refl) over
@@ -210,45 +214,45 @@ module _ (s : CallContext) where
 module _ (s : CallContext) (old : Attempt) (latest : LookupResult) (name : NameValue) (before : CacheValue) where
   -- a second type is looked up
   pub goes_second : (other : NameValue) (t : RecordType) → Some (other, t)
-      ≡ second_of name (next_type (types_of old.sought) (results_so_far old.first ++ latest ∷ [])) → (a : Attempt) → a
+      ≡ second_of name (next_type (order_of old.sought) (results_so_far old.first ++ latest ∷ [])) → (a : Attempt) → a
       ≡ record old { kept_name = None } → (step : CallStepValue) (mid : CacheValue)
       → LooksUpOnce s a.with_hosts other t before step mid
-      → GoesFrom s (with_result (attempt_value old name s.now) latest) before (record a { first = Some latest }) s.now step mid
+      → ContinuesFrom s (with_result (attempt_value old name s.now) latest) before (record a { first = Some latest }) s.now step mid
   goes_second other t is a a_is step mid =
       let P : Attempt → Type 0 = λ m. LooksUpOnce s m.with_hosts other t before step mid
-      → GoesFrom s (with_result (attempt_value old name s.now) latest) before (record m { first = Some latest }) s.now step mid in
+      → ContinuesFrom s (with_result (attempt_value old name s.now) latest) before (record m { first = Some latest }) s.now step mid in
       subst P (sym a_is) here
     where
       here : LooksUpOnce s old.with_hosts other t before step mid
-          → GoesFrom s (with_result (attempt_value old name s.now) latest) before
+          → ContinuesFrom s (with_result (attempt_value old name s.now) latest) before
           (record old { kept_name = None; first = Some latest }) s.now step mid
       here once =
-          let both = second_some name other (next_type (types_of old.sought) (results_so_far old.first ++ latest ∷ [])) t is in
-          let none : old.first ≡ None = one_before (types_of old.sought) old.first latest t both.0 in
+          let both = second_some name other (next_type (order_of old.sought) (results_so_far old.first ++ latest ∷ [])) t is in
+          let none : old.first ≡ None = one_before (order_of old.sought) old.first latest t both.0 in
           let N : NameValue → Type 0 = λ n. LooksUpOnce s old.with_hosts n t before step mid in
           let from : AttemptValue = with_result (attempt_value old name s.now) latest in
           goes_by_look_up s from (record old { kept_name = None; first = Some latest }) name
           (λ i. record from { results = results_so_far (none i) ++ latest ∷ [] })
-          (kept_none (types_of old.sought) latest name) before t both.0 step mid (subst N both.1 once)
+          (kept_none (order_of old.sought) latest name) before t both.0 step mid (subst N both.1 once)
 
   -- no other type follows
-  pub goes_on_end : None ≡ second_of name (next_type (types_of old.sought) (results_so_far old.first ++ latest ∷ []))
+  pub goes_on_end : None ≡ second_of name (next_type (order_of old.sought) (results_so_far old.first ++ latest ∷ []))
       → (a : Attempt) → a ≡ record old { kept_name = None } → (b : Attempt) (step : CallStepValue) (mid : CacheValue)
-      → (next_type (types_of a.sought) (results_so_far a.first ++ latest ∷ []) ≡ None
-      → GoesFrom s (with_result (attempt_value a name s.now) latest) before b s.now step mid)
-      → GoesFrom s (with_result (attempt_value old name s.now) latest) before b s.now step mid
+      → (next_type (order_of a.sought) (results_so_far a.first ++ latest ∷ []) ≡ None
+      → ContinuesFrom s (with_result (attempt_value a name s.now) latest) before b s.now step mid)
+      → ContinuesFrom s (with_result (attempt_value old name s.now) latest) before b s.now step mid
   goes_on_end is a a_is b step mid goes =
-      let P : Attempt → Type 0 = λ m. next_type (types_of m.sought) (results_so_far m.first ++ latest ∷ []) ≡ None
-      → GoesFrom s (with_result (attempt_value m name s.now) latest) before b s.now step mid in
-      subst P a_is goes (second_none name (next_type (types_of old.sought) (results_so_far old.first ++ latest ∷ [])) is)
+      let P : Attempt → Type 0 = λ m. next_type (order_of m.sought) (results_so_far m.first ++ latest ∷ []) ≡ None
+      → ContinuesFrom s (with_result (attempt_value m name s.now) latest) before b s.now step mid in
+      subst P a_is goes (second_none name (next_type (order_of old.sought) (results_so_far old.first ++ latest ∷ [])) is)
 
-  module _ (reply : LookupResult) (made : IsAttemptResult (types_of old.sought)
+  module _ (reply : LookupResult) (made : IsAttemptResult (order_of old.sought)
       (results_so_far old.first ++ latest ∷ []) reply) (b : Attempt) where
     abbrev at_end : AttemptValue
     at_end = with_result (attempt_value old name s.now) latest
 
     -- the reply of the name is that of the call
-    pub goes_over : stops reply ≡ true → GoesFrom s at_end before b s.now (Over reply) before
+    pub goes_over : stops reply ≡ true → ContinuesFrom s at_end before b s.now (Over reply) before
     goes_over stopping = record {
       name = name;
       ready = tt;
@@ -257,7 +261,7 @@ module _ (s : CallContext) (old : Attempt) (latest : LookupResult) (name : NameV
 
     -- it was the last name
     pub goes_last : stops reply ≡ false → old.left.items ≡ [] → (result : LookupResult)
-        → IsLastReply at_end.plan.literal (λ x. x ≡ reply) result → GoesFrom s at_end before b s.now (Over result) before
+        → IsLastReply at_end.plan.literal (λ x. x ≡ reply) result → ContinuesFrom s at_end before b s.now (Over result) before
     goes_last live none result last = record {
       name = name;
       ready = tt;
@@ -268,7 +272,7 @@ module _ (s : CallContext) (old : Attempt) (latest : LookupResult) (name : NameV
     -- another name follows
     pub goes_next : stops reply ≡ false → (rest : List NameValue) (other : NameValue) → old.left.items
         ≡ rest ++ other ∷ [] → (step : CallStepValue) (mid : CacheValue)
-        → GoesFrom s (at_next at_end other (reverse rest)) before b s.now step mid → GoesFrom s at_end before b s.now step mid
+        → ContinuesFrom s (at_next at_end other (reverse rest)) before b s.now step mid → ContinuesFrom s at_end before b s.now step mid
     goes_next live rest other are step mid next =
         let turned : reverse old.left.items ≡ other ∷ reverse rest =
         ap (λ ns. reverse ns) are ∙ reverse-append rest (other ∷ []) in
@@ -296,7 +300,7 @@ pub record StillGoes
   pub name : NameValue
   pub ready : IsReady a name now lookup
   pub goes : (end : CallProgressValue) (after : CacheValue)
-      → GoesOnAfter s (attempt_value a name now) lookup mid end after → GoesOnAfter s from first before end after
+      → ContinuesAfter s (attempt_value a name now) lookup mid end after → ContinuesAfter s from first before end after
 
 pub still_first : (s : CallContext) (a : Attempt) (name : NameValue) (now : ℕ) (lookup : ProgressValue)
     (before : CacheValue) → IsReady a name now lookup → StillGoes s (attempt_value a name now) lookup before a now lookup before
@@ -305,7 +309,7 @@ still_first s a name now lookup before ready = record { name = name; ready = rea
 module _ (s : CallContext) (from : AttemptValue) (first : ProgressValue) (before : CacheValue) (a : Attempt) (now : ℕ) where
   pub still_next : (r : LookupResult) (mid : CacheValue) (still : StillGoes s from first before a now (IsDone r) mid)
       (b : Attempt) (p : ProgressValue) (after : CacheValue)
-      → GoesFrom s (with_result (attempt_value a still.name now) r) mid b now (Goes p) after
+      → ContinuesFrom s (with_result (attempt_value a still.name now) r) mid b now (Goes p) after
       → StillGoes s from first before b now p after
   still_next r mid still b p after step = record {
     name = step.name;
@@ -315,22 +319,22 @@ module _ (s : CallContext) (from : AttemptValue) (first : ProgressValue) (before
 
   pub still_over : (r : LookupResult) (mid : CacheValue) (still : StillGoes s from first before a now (IsDone r) mid)
       (b : Attempt) (result : LookupResult) (after : CacheValue)
-      → GoesFrom s (with_result (attempt_value a still.name now) r) mid b now (Over result) after
-      → GoesOnAfter s from first before (CallIsDone result) after
-  still_over r mid still b result after step = still.goes (CallIsDone result) after
-      (step.goes (CallIsDone result) after (refl, refl))
+      → ContinuesFrom s (with_result (attempt_value a still.name now) r) mid b now (Over result) after
+      → ContinuesAfter s from first before (IsDone result) after
+  still_over r mid still b result after step = still.goes (IsDone result) after
+      (step.goes (IsDone result) after (refl, refl))
 
   module _ (w : WaitingValue) (mid : CacheValue) (still : StillGoes s from first before a now (Waits w) mid) where
-    pub still_waits : GoesOnAfter s from first before
-        (CallWaits (record { attempt = attempt_value a (first_question w).name w.now; lookup = w })) mid
+    pub still_waits : ContinuesAfter s from first before
+        (Waits (record { attempt = attempt_value a (first_question w).name w.now; lookup = w })) mid
     still_waits =
         let same : attempt_value a (first_question w).name w.now ≡ attempt_value a still.name now =
         λ i. attempt_value a (still.ready.begun.0 i) (still.ready.begun.1 i) in
-        still.goes (CallWaits (record { attempt = attempt_value a (first_question w).name w.now; lookup = w })) mid
-        (ap (λ (x : AttemptValue). CallWaits (record { attempt = x; lookup = w })) same, refl)
+        still.goes (Waits (record { attempt = attempt_value a (first_question w).name w.now; lookup = w })) mid
+        (ap (λ (x : AttemptValue). Waits (record { attempt = x; lookup = w })) same, refl)
 
-    pub still_kept : a.kept_name ≡ kept_name_for (types_of a.sought) a.first (first_question w).name
-    still_kept = still.ready.kept_is ∙ ap (λ n. kept_name_for (types_of a.sought) a.first n) (sym still.ready.begun.0)
+    pub still_kept : a.kept_name ≡ kept_name_for (order_of a.sought) a.first (first_question w).name
+    still_kept = still.ready.kept_is ∙ ap (λ n. kept_name_for (order_of a.sought) a.first n) (sym still.ready.begun.0)
 
 -- ---- a call is started
 
@@ -338,7 +342,7 @@ module _ (s : CallContext) (with_hosts : Bool) where
   -- a name is the first
   pub starts_names : (plan : CallPlan) (all left : List NameValue) (name : NameValue) → all ≡ left ++ name ∷ []
       → (before : CacheValue) (end : CallProgressValue) (after : CacheValue)
-      → GoesOn s (record { plan = plan; with_hosts = with_hosts; name = name; results = []; left = reverse left }) before end
+      → Continues s (record { plan = plan; with_hosts = with_hosts; name = name; results = []; left = reverse left }) before end
       after → StartsNames s plan with_hosts (reverse all) before end after
   starts_names plan all left name are before end after goes =
       let turned : reverse all ≡ name ∷ reverse left = ap (λ ns. reverse ns) are ∙ reverse-append left (name ∷ []) in
@@ -348,9 +352,9 @@ module _ (s : CallContext) (with_hosts : Bool) where
   pub starts_none : (plan : CallPlan) (all : List NameValue) → all ≡ [] → (said : LookupResult)
       → Says plan.no_names said → (result : LookupResult) → IsLastReply plan.literal (λ x. x ≡ said) result
       → (before : CacheValue)
-      → StartsNames s plan with_hosts (reverse all) before (CallIsDone result) before
+      → StartsNames s plan with_hosts (reverse all) before (IsDone result) before
   starts_none plan all none said says result last before =
-      subst (λ ns. StartsNames s plan with_hosts ns before (CallIsDone result) before) (sym (ap (λ ns. reverse ns) none)) (
+      subst (λ ns. StartsNames s plan with_hosts ns before (IsDone result) before) (sym (ap (λ ns. reverse ns) none)) (
         result,
         last_known plan.literal (λ x. x ≡ said) (Says plan.no_names)
             (λ x is. subst (Says plan.no_names) (sym is) says) result last,

@@ -30,14 +30,14 @@ use Rattle.hickory_resolver_model.specs.Run.{StepValue, ends_run, after_clear, n
 use Rattle.hickory_resolver_model.specs.Run.{IsCall, RanOutBeforeAsking, IsServed, Stage, IsStage, AreStages}
 use Rattle.hickory_resolver_model.specs.Run.{exchanges_of, moment_of, settings_of}
 use Rattle.hickory_resolver_theorems.specs.CallFacts.{PromisesName, PromisesHost}
-use Rattle.hickory_resolver_theorems.specs.Promises.{IsPromisedRun}
+use Rattle.hickory_resolver_theorems.specs.Promises.{PromisedRun}
 use Rattle.hickory_resolver_theorems.specs.Keeping.{IsServedOver}
 use Rattle.hickory_resolver_theorems.proofs.CallsAlone.{call_by-alone}
 use Rattle.hickory_resolver_theorems.proofs.KeptCalls.{kept_request}
 use Rattle.hickory_resolver_theorems.proofs.PromisesHold.{promised_run}
 use Rattle.hickory_resolver.specs.Listening.{Hears, HearsAll}
 use Rattle.hickory_resolver.specs.Serving.{Answered, MakesRun, FailsToHear}
-use Rattle.hickory_resolver.specs.Transcripts.{IsRunFrom}
+use Rattle.hickory_resolver.specs.Transcripts.{NewRun}
 
 -- ---- a request makes a stage
 
@@ -432,7 +432,7 @@ module _ {H : Type 0} (step : HandleStep H) (config : ResolverConfigValue) (opti
   pub all_exchanges : exchanges ≡ after.client.handle.exchanges
   all_exchanges = sym made_new.exchanges_are
 
-  pub is_run_from : IsRunFrom step config options hosts handle requests steps after
+  pub is_run_from : NewRun step config options hosts handle requests steps after
   is_run_from =
       let m = made_new in
       let s = settings_of config options hosts in
@@ -440,7 +440,7 @@ module _ {H : Type 0} (step : HandleStep H) (config : ResolverConfigValue) (opti
       λ b. record new { client = record after.client { preserve_intermediates = b } } in
       record {
         in_order = in_order;
-        promised = subst (λ xs. IsPromisedRun step s handle requests steps xs after.client.handle.handle
+        promised = subst (λ xs. PromisedRun step s handle requests steps xs after.client.handle.handle
             after.client.cache) all_exchanges
             (promised_run step s handle requests steps exchanges after.client.handle.handle after.client.cache
             (record { led = m.led; run = m.run }));

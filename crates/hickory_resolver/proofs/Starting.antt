@@ -1,20 +1,20 @@
 -- Calls of a resolver that do no I/O.
-use Rattle.std.proofs.Common.{◌≡◌, ◌≢◌, ◌⊎◌, ◌∙◌, ℕ, true, nat_le, if◌then◌else◌, List, Option}
-use Rattle.std.proofs.Common.{Some, None, Result, Ok, Err, refl, sym, ap, subst, inl, inr}
+use Rattle.std.proofs.Common.{◌≡◌, ◌⊎◌, ◌∙◌, ℕ, true, nat_le, if◌then◌else◌, List, Option}
+use Rattle.std.proofs.Common.{Some, Result, Ok, Err, refl, sym, ap, subst, inl, inr}
 use Rattle.std.specs.declared.net.IpAddr.{IpAddr}
-use Rattle.hickory_proto_core.specs.Handles.{HandleStep, OutcomeValue}
+use Rattle.hickory_proto_core.specs.Handles.{OutcomeValue}
 use Rattle.hickory_proto_core.specs.Name.{NameValue}
 use Rattle.hickory_proto_core.specs.names.name_error.NameError.{NameError}
-use Rattle.hickory_proto_core.specs.names.name_error.NameError.TheVariants as name_fault
 use Rattle.hickory_proto_core.specs.declared.net_error.NetError.TheVariants.{OutOfMemory}
+use Rattle.hickory_resolver_model.specs.Resuming.{IsDone}
 use Rattle.hickory_resolver_model.specs.Attempts.{attempts}
 use Rattle.hickory_resolver_model.specs.Calls.{CallPlan, literal_at_once, literal_at_last}
 use Rattle.hickory_resolver_model.specs.Client.{ClientValue, KeepsHandle}
 use Rattle.hickory_resolver_model.specs.Hosts.{Host}
 use Rattle.hickory_resolver_model.specs.Lookup.{LookupResult}
-use Rattle.hickory_resolver_model.specs.Resolver.{ResolverValue, AnswersCall, AnswersHost, call_context_of, settings}
+use Rattle.hickory_resolver_model.specs.Resolver.{ResolverValue, call_context_of, settings}
 use Rattle.hickory_resolver_model.specs.Run.{Call, AtOnce, Attempt, address_call, address_plan}
-use Rattle.hickory_resolver_theorems.specs.ResumingCalls.{WaitingCallValue, CallProgressValue, CallIsDone}
+use Rattle.hickory_resolver_theorems.specs.ResumingCalls.{WaitingCallValue, CallProgressValue}
 use Rattle.hickory_resolver_theorems.specs.ResumingCalls.{StartsNames, ResumesCall}
 use Rattle.hickory_resolver.specs.Starting.{KeepsAllButCache, StartsAt, StartsHost, ResumesAt}
 
@@ -34,22 +34,22 @@ module _ {H : Type 0} (before : ResolverValue H) where
 
   -- memory ran out before anything was looked up
   pub started_out : (now : ℕ) (call : Call) (result : LookupResult) → result ≡ Err OutOfMemory
-      → StartsAt now call before (CallIsDone result) before
-  started_out now call result out = record { starts = inr (ap CallIsDone out, refl); others_stay = refl }
+      → StartsAt now call before (IsDone result) before
+  started_out now call result out = record { starts = inr (ap IsDone out, refl); others_stay = refl }
 
   -- the answer is given at once, or memory ran out for it
   pub started_at_once : (now : ℕ) (call : Call) (answer result : LookupResult) → call ≡ AtOnce answer
-      → (result ≡ answer) ⊎ (result ≡ Err OutOfMemory) → StartsAt now call before (CallIsDone result) before
+      → (result ≡ answer) ⊎ (result ≡ Err OutOfMemory) → StartsAt now call before (IsDone result) before
   started_at_once now call answer result call_is (inl is) =
-      subst (λ x. StartsAt now x before (CallIsDone result) before) (sym call_is)
-      (record { starts = inl (ap CallIsDone is, refl); others_stay = refl })
+      subst (λ x. StartsAt now x before (IsDone result) before) (sym call_is)
+      (record { starts = inl (ap IsDone is, refl); others_stay = refl })
   started_at_once now call answer result call_is (inr out) = started_out now call result out
 
   -- an address that is the reply at once
   pub literal_started : (now : ℕ) (address : IpAddr) (n : NameValue) (result : LookupResult)
       → nat_le (settings before).search.ndots 4 ≡ true
       → (result ≡ Ok (literal_at_once n address now)) ⊎ (result ≡ Err OutOfMemory)
-      → StartsAt now (address_call (settings before) (Some address) (Ok n) now) before (CallIsDone result) before
+      → StartsAt now (address_call (settings before) (Some address) (Ok n) now) before (IsDone result) before
   literal_started now address n result few is =
       started_at_once now (address_call (settings before) (Some address) (Ok n) now) (Ok (literal_at_once n address now)) result
       (ap (λ b. if b then AtOnce (Ok (literal_at_once n address now)) else Attempt n
@@ -94,30 +94,10 @@ module _ {H : Type 0} (before : ResolverValue H) where
         others_stay = cache_alone client after_client after client_is keeps after_is;
       }
 
-  -- a text that is no name: what was answered of it is what a start comes to
-  module _ (step : HandleStep H) (now : ℕ) (fault : NameError) (result : LookupResult) where
-    at_once : (address : Option IpAddr) → AnswersCall step now
-        (address_call (settings before) address (Err fault) now) before result before
-        → StartsAt now (address_call (settings before) address (Err fault) now) before (CallIsDone result) before
-    at_once None a = elim a.is [
-      | inl is ↦ record { starts = inl (ap CallIsDone is.1, refl); others_stay = refl }
-      | inr out ↦ started_out now (address_call (settings before) None (Err fault) now) result out.1
-    ]
-    at_once (Some address) a = elim a.is [
-      | inl is ↦ record { starts = inl (ap CallIsDone is.1, refl); others_stay = refl }
-      | inr out ↦ started_out now (address_call (settings before) (Some address) (Err fault) now) result out.1
-    ]
-
-    pub host_said : (Spells : Option IpAddr → Type 0) (Gives : Result NameValue NameError → Type 0)
-        (address : Option IpAddr) → Spells address → Gives (Err fault)
-        → AnswersHost step (λ a. a ≡ address) (λ n. n ≡ Err fault) now before result before
-        → StartsHost Spells Gives now before (CallIsDone result) before
-    host_said Spells Gives address spells gives (a, a_is, n, n_is, inl (known, answers)) =
-        let A : Option IpAddr → Type 0 = λ o. AnswersCall step now (address_call (settings before) o n now) before
-        result before in
-        let N : Result NameValue NameError → Type 0 =
-        λ m. AnswersCall step now (address_call (settings before) address m now) before result before in
-        let K : Result NameValue NameError → Type 0 = λ m. m ≢ Err name_fault.OutOfMemory in
-        (address, spells, Err fault, gives, inl (subst K n_is known, at_once address (subst N n_is (subst A a_is answers))))
-    host_said Spells Gives address spells gives (a, a_is, n, n_is, inr (out, result_is, same)) =
-        (address, spells, Err fault, gives, inr (sym n_is ∙ out, ap CallIsDone result_is, refl))
+  -- what is known of a text holds of what was given
+  pub host_said : (Spells : Option IpAddr → Type 0) (Gives : Result NameValue NameError → Type 0) (now : ℕ)
+      (address : Option IpAddr) (fault : NameError) (progress : CallProgressValue) → Spells address
+      → Gives (Err fault) → StartsHost (λ a. a ≡ address) (λ n. n ≡ Err fault) now before progress before
+      → StartsHost Spells Gives now before progress before
+  host_said Spells Gives now address fault progress spells gives (a, a_is, n, n_is, starts) =
+      (a, subst Spells (sym a_is) spells, n, subst Gives (sym n_is) gives, starts)

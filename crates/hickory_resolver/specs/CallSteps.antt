@@ -10,13 +10,13 @@ use Rattle.hickory_proto_core.specs.declared.record_data.RData.{RData}
 use Rattle.hickory_proto_core.specs.declared.net_error.NetError.TheVariants.{OutOfMemory}
 use Rattle.hickory_resolver_client.specs.Contexts.{progress_of}
 use Rattle.hickory_resolver_model.specs.Cache.{CacheValue}
-use Rattle.hickory_resolver_model.specs.Calls.{CallContext, start_at, Plan, One, Both, Fallback, CallPlan, last_resort}
-use Rattle.hickory_resolver_model.specs.Hosts.{IsStatic}
+use Rattle.hickory_resolver_model.specs.Calls.{CallContext, start_at, FamilyOrder, One, Both, Fallback, CallPlan, last_resort}
+use Rattle.hickory_resolver_model.specs.Hosts.{HostsHave}
 use Rattle.hickory_resolver_model.specs.Lookup.{LookupValue, LookupResult, question_of}
 use Rattle.hickory_resolver_model.specs.Hops.{PassedValue}
 use Rattle.hickory_resolver_model.specs.Resuming.{WaitingValue, ProgressValue, Waits, IsDone, Starts}
-use Rattle.hickory_resolver_model.specs.Run.{plan_of}
-use Rattle.hickory_resolver_theorems.specs.ResumingCalls.{AttemptValue, CallProgressValue, CallIsDone, GoesOn, GoesOnAfter}
+use Rattle.hickory_resolver_model.specs.Run.{family_order}
+use Rattle.hickory_resolver_theorems.specs.ResumingCalls.{AttemptValue, CallProgressValue, Continues, ContinuesAfter}
 use Rattle.hickory_resolver.specs.declared.attempting.Sought.{Sought}
 use Rattle.hickory_resolver.specs.declared.attempting.Sought.TheVariants.{Records, Addresses}
 use Rattle.hickory_resolver.specs.declared.attempting.Types.{Types}
@@ -27,14 +27,14 @@ use Rattle.hickory_resolver.specs.declared.attempting.CallStep.TheVariants as st
 
 -- ---- what is looked up
 
-abbrev pub types_value : Types → Plan
-types_value (types.One t) = One t
-types_value (types.Both t u) = Both t u
-types_value (types.Fallback t u) = Fallback t u
+abbrev pub order_value : Types → FamilyOrder
+order_value (types.One t) = One t
+order_value (types.Both t u) = Both t u
+order_value (types.Fallback t u) = Fallback t u
 
-abbrev pub types_of : Sought → Plan
-types_of (Records t) = One t
-types_of (Addresses strategy) = plan_of strategy
+abbrev pub order_of : Sought → FamilyOrder
+order_of (Records t) = One t
+order_of (Addresses strategy) = family_order strategy
 
 abbrev pub asks_for_all : Sought → Bool
 asks_for_all (Records t) = false
@@ -47,20 +47,20 @@ no_names_of (Addresses strategy) = codes "can not lookup IPs for no names"
 -- what a call does with each name, whose moment this is
 abbrev pub plan_value : Sought → Option RData → ℕ → CallPlan
 plan_value sought literal now = record {
-  types = types_of sought;
+  types = order_of sought;
   hosts_for_all = asks_for_all sought;
   literal = option_map (λ rdata. last_resort (data_of rdata) now) literal;
   no_names = no_names_of sought;
 }
 
 -- the first type of a name
-abbrev pub first_type : Plan → RecordType
+abbrev pub first_type : FamilyOrder → RecordType
 first_type (One t) = t
 first_type (Both t u) = t
 first_type (Fallback t u) = t
 
 -- the name once more, while the first type is looked up and a second one may follow
-abbrev pub kept_name_for : Plan → Option LookupResult → NameValue → Option NameValue
+abbrev pub kept_name_for : FamilyOrder → Option LookupResult → NameValue → Option NameValue
 kept_name_for (One t) first name = None
 kept_name_for (Both t u) None name = Some name
 kept_name_for (Both t u) (Some r) name = None
@@ -111,7 +111,7 @@ step_of (step.Over result) = Over result
 
 -- the table of hosts is not looked at, or has nothing
 abbrev pub IsNotStatic : CallContext → Bool → NameValue → RecordType → Type 0
-IsNotStatic s with_hosts name t = (with_hosts ≡ false) ⊎ IsStatic (question_of name t) s.now s.hosts None
+IsNotStatic s with_hosts name t = (with_hosts ≡ false) ⊎ HostsHave (question_of name t) s.now s.hosts None
 
 -- A type is looked up for a name: by the client, or the table of hosts has it, or memory runs out before.
 abbrev pub LooksUpOnce : CallContext → Bool → NameValue → RecordType → CacheValue → CallStepValue
@@ -120,14 +120,14 @@ LooksUpOnce s with_hosts name t before step after =
     ((progress : ProgressValue) × (step ≡ Goes progress) × IsNotStatic s with_hosts name t
     × Starts (start_at s before) (question_of name t) progress after)
     ⊎ (((found : LookupValue) × (step ≡ Goes (IsDone (Ok found))) × (with_hosts ≡ true)
-    × IsStatic (question_of name t) s.now s.hosts (Some found) × (after ≡ before))
+    × HostsHave (question_of name t) s.now s.hosts (Some found) × (after ≡ before))
     ⊎ ((step ≡ Over (Err OutOfMemory)) × (after ≡ before)))
 
 -- what a call comes to after a step, over the cache that the step left
 abbrev pub ComesAfter : CallContext → AttemptValue → CallStepValue → CacheValue → CallProgressValue
     → CacheValue → Type 0
-ComesAfter s a (Goes progress) mid end after = GoesOnAfter s a progress mid end after
-ComesAfter s a (Over result) mid end after = (end ≡ CallIsDone result) × (after ≡ mid)
+ComesAfter s a (Goes progress) mid end after = ContinuesAfter s a progress mid end after
+ComesAfter s a (Over result) mid end after = (end ≡ IsDone result) × (after ≡ mid)
 
 -- the code can go on with this name: the name is there once more where it may be needed; and a look-up that waits
 -- was started with the name, at this moment
@@ -136,7 +136,7 @@ IsBegunWith name now (Waits w) = ((first_question w).name ≡ name) × (w.now �
 IsBegunWith name now (IsDone result) = Unit {0}
 
 pub record IsReady (a : Attempt) (name : NameValue) (now : ℕ) (progress : ProgressValue) : Type 0 where
-  pub kept_is : a.kept_name ≡ kept_name_for (types_of a.sought) a.first name
+  pub kept_is : a.kept_name ≡ kept_name_for (order_of a.sought) a.first name
   pub begun : IsBegunWith name now progress
 
 abbrev pub IsReadyAfter : Attempt → NameValue → ℕ → CallStepValue → Type 0
@@ -157,11 +157,11 @@ IsFewer (Goes progress) fewer more = fewer < more
 IsFewer (Over result) fewer more = Unit {0}
 
 -- Whatever a call comes to after a step, it comes to from here.
-pub record GoesFrom
+pub record ContinuesFrom
     (s : CallContext) (from : AttemptValue) (before : CacheValue) (a : Attempt) (now : ℕ) (step : CallStepValue)
     (mid : CacheValue)
     : Type 0 where
   pub name : NameValue
   pub ready : IsReadyAfter a name now step
   pub goes : (end : CallProgressValue) (after : CacheValue)
-      → ComesAfter s (attempt_value a name now) step mid end after → GoesOn s from before end after
+      → ComesAfter s (attempt_value a name now) step mid end after → Continues s from before end after

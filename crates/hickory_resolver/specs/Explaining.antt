@@ -11,8 +11,8 @@ use Rattle.hickory_proto_core.specs.names.name_error.NameError.{NameError}
 use Rattle.hickory_proto_core.specs.names.name_error.NameError.TheVariants as name_fault
 use Rattle.hickory_resolver_model.specs.Attempts.{attempts}
 use Rattle.hickory_resolver_model.specs.Cache.{CacheValue, Entry, current}
-use Rattle.hickory_resolver_model.specs.Calls.{Plan, One, Both, Fallback}
-use Rattle.hickory_resolver_model.specs.Hosts.{Host, IsStatic}
+use Rattle.hickory_resolver_model.specs.Calls.{FamilyOrder, One, Both, Fallback}
+use Rattle.hickory_resolver_model.specs.Hosts.{Host, HostsHave}
 use Rattle.hickory_resolver_model.specs.Lookup.{LookupValue, question_of}
 use Rattle.hickory_resolver_model.specs.Run.{Call, AtOnce, Attempt, RequestValue, Lookup, LookupIp, ClearLookup, Clear, Settings, name_call, address_call}
 use Rattle.hickory_resolver_model.specs.SpecialUse.{is_special_use}
@@ -24,17 +24,17 @@ use Rattle.hickory_resolver.specs.declared.explaining.Planned.{Planned}
 -- ---- the questions
 
 -- the types that may be looked up for a name
-abbrev pub planned_types : Plan → List RecordType
+abbrev pub planned_types : FamilyOrder → List RecordType
 planned_types (One t) = t ∷ []
 planned_types (Both t u) = t ∷ u ∷ []
 planned_types (Fallback t u) = t ∷ u ∷ []
 
 -- the questions for a name, each with whether the table of hosts is asked
-abbrev pub name_questions : Plan → Bool → NameValue → List (Query × Bool)
+abbrev pub name_questions : FamilyOrder → Bool → NameValue → List (Query × Bool)
 name_questions plan asks_hosts name = map (λ t. (question_of name t, asks_hosts)) (planned_types plan)
 
 -- those for names in order; the table of hosts is asked for the first, and may be for all
-abbrev pub names_questions : Plan → Bool → List NameValue → List (Query × Bool)
+abbrev pub names_questions : FamilyOrder → Bool → List NameValue → List (Query × Bool)
 names_questions plan hosts_for_all [] = []
 names_questions plan hosts_for_all (name ∷ names) =
     name_questions plan true name ++ flat_map (name_questions plan hosts_for_all) names
@@ -53,8 +53,8 @@ answered_by_client now cache q =
 -- the table of hosts answers, where it is asked and has something; else the client
 abbrev pub IsAnsweredBy : ℕ → List Host → CacheValue → Query × Bool → Answerer → Type 0
 IsAnsweredBy now hosts cache planned who =
-    ((planned.1 ≡ true) × (found : LookupValue) × IsStatic planned.0 now hosts (Some found) × (who ≡ by.Hosts))
-    ⊎ (((planned.1 ≡ false) ⊎ IsStatic planned.0 now hosts None)
+    ((planned.1 ≡ true) × (found : LookupValue) × HostsHave planned.0 now hosts (Some found) × (who ≡ by.Hosts))
+    ⊎ (((planned.1 ≡ false) ⊎ HostsHave planned.0 now hosts None)
     × (who ≡ answered_by_client now cache planned.0))
 
 abbrev pub AreAnswered : ℕ → List Host → CacheValue → List (Query × Bool) → List Attempted → Type 0
@@ -66,7 +66,7 @@ AreAnswered now hosts cache qs attempted = ⊥
 -- ---- what a request attempts
 
 -- what was read as a name, or is none, is attempted by a plan; out of memory says nothing of the text
-abbrev pub ExplainsNamed : Settings → CacheValue → ℕ → Plan → Bool → Result NameValue NameError → List Attempted
+abbrev pub ExplainsNamed : Settings → CacheValue → ℕ → FamilyOrder → Bool → Result NameValue NameError → List Attempted
     → Type 0
 ExplainsNamed s cache now plan hosts_for_all (Ok name) attempted =
     AreAnswered now s.hosts cache (names_questions plan hosts_for_all (attempts s.search name)) attempted

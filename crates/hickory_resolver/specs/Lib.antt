@@ -1,5 +1,5 @@
-pub mod CallProgress
 pub mod CallSteps
+pub mod Driving
 pub mod Explaining
 pub mod Listening
 pub mod Replies
@@ -8,6 +8,7 @@ pub mod Starting
 pub mod Transcripts
 pub use Rattle.hickory_resolver_cache.specs.Times
 pub use Rattle.hickory_resolver_client.specs.Contexts
+pub use Rattle.hickory_resolver_client.specs.declared as client
 pub use Rattle.hickory_resolver_lookup.specs.Requests
 pub use Rattle.hickory_resolver_model.specs.AliasWalk
 pub use Rattle.hickory_resolver_model.specs.Attempts

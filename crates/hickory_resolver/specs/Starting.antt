@@ -7,9 +7,10 @@ use Rattle.hickory_proto_core.specs.codes.record_type.RecordType.{RecordType}
 use Rattle.hickory_proto_core.specs.names.name_error.NameError.{NameError}
 use Rattle.hickory_proto_core.specs.names.name_error.NameError.TheVariants as name_fault
 use Rattle.hickory_proto_core.specs.declared.net_error.NetError.TheVariants.{OutOfMemory}
+use Rattle.hickory_resolver_model.specs.Resuming.{IsDone}
 use Rattle.hickory_resolver_model.specs.Resolver.{ResolverValue, settings}
 use Rattle.hickory_resolver_model.specs.Run.{Call, call_context_at, name_call, address_call}
-use Rattle.hickory_resolver_theorems.specs.ResumingCalls.{WaitingCallValue, CallProgressValue, CallIsDone}
+use Rattle.hickory_resolver_theorems.specs.ResumingCalls.{WaitingCallValue, CallProgressValue}
 use Rattle.hickory_resolver_theorems.specs.ResumingCalls.{StartsCall, RunsOutAtStart, ResumesCall}
 
 -- of a resolver the cache alone may have changed
@@ -42,7 +43,7 @@ StartsHost Spells Gives now before progress after =
     (address : Option IpAddr) × Spells address × (name : Result NameValue NameError) × Gives name
     × (((name ≢ Err name_fault.OutOfMemory)
     × StartsAt now (address_call (settings before) address name now) before progress after)
-    ⊎ ((name ≡ Err name_fault.OutOfMemory) × (progress ≡ CallIsDone (Err OutOfMemory)) × (after ≡ before)))
+    ⊎ ((name ≡ Err name_fault.OutOfMemory) × (progress ≡ IsDone (Err OutOfMemory)) × (after ≡ before)))
 
 -- a resolver goes on with a call by what came back to its question
 pub record ResumesAt

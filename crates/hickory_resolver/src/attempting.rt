@@ -7,17 +7,17 @@ ghost use Rattle.hickory_proto_core.specs.Records.{data_of};
 ghost use Rattle.hickory_proto_core.specs.declared.net_error.NetError.TheVariants.{OutOfMemory};
 ghost use Rattle.hickory_resolver_model.specs.Calls.{IsAttemptResult, IsLastReply, Says, last_resort, next_type, stops};
 ghost use Rattle.hickory_resolver_model.specs.Client.{KeepsHandle};
-ghost use Rattle.hickory_resolver_model.specs.Hosts.{IsStatic};
+ghost use Rattle.hickory_resolver_model.specs.Hosts.{HostsHave};
 ghost use Rattle.hickory_resolver_model.specs.Resolver.{call_context_of};
 ghost use Rattle.hickory_resolver_theorems.specs.ResumingCalls.{with_result};
-ghost use Rattle.hickory_resolver.specs.CallSteps.{types_value, first_type, kept_name_for, types_of, asks_for_all};
-ghost use Rattle.hickory_resolver.specs.CallSteps.{no_names_of, results_so_far, LooksUpOnce, GoesFrom, IsFewer};
+ghost use Rattle.hickory_resolver.specs.CallSteps.{order_value, first_type, kept_name_for, order_of, asks_for_all};
+ghost use Rattle.hickory_resolver.specs.CallSteps.{no_names_of, results_so_far, LooksUpOnce, ContinuesFrom, IsFewer};
 ghost use Rattle.hickory_resolver.specs.CallSteps.{attempt_value, first_value, second_of, step_of, turns_left};
 
 use crate::literals::last_resort;
 use crate::results::{attempt_result, is_out_of_memory, stops};
 use hickory_proto_core::{DnsHandle, Name, NetError, Query, RData, RecordType};
-use hickory_resolver_client::{CachingClient, Progress};
+use hickory_resolver_client::{CachingClient, Progress, Waiting};
 use hickory_resolver_config::LookupIpStrategy;
 use hickory_resolver_hosts::Hosts;
 use hickory_resolver_lookup::Lookup;
@@ -65,7 +65,7 @@ pub struct Attempt {
 #[derive(Drop)]
 pub enum CallStep {
     /// A type of the name is looked up, and came so far.
-    Goes(Progress),
+    Goes(Progress<Waiting>),
     /// The call is over.
     Over(Result<Lookup, NetError>),
 }
@@ -73,7 +73,7 @@ pub enum CallStep {
 impl Sought {
     /// The types that are looked up for a name.
     pub fn types(self) -> Types
-        ensures { types_value result ≡ types_of self }
+        ensures { order_value result ≡ order_of self }
     {
         let (v4, v6) = (RecordType::A, RecordType::AAAA);
         match self {
@@ -108,7 +108,7 @@ impl Sought {
 impl Types {
     /// The type that is looked up first.
     pub fn first(self) -> RecordType
-        ensures { result ≡ first_type (types_value self) }
+        ensures { result ≡ first_type (order_value self) }
     {
         match self {
             Types::One(first) | Types::Both(first, _) | Types::Fallback(first, _) => first,
@@ -117,7 +117,7 @@ impl Types {
 
     // The name once more, where a second type may follow.
     fn kept_name(self, name: &Name) -> Result<Option<Name>, NetError>
-        ensures ok { IfOk result (λ kept_name. kept_name ≡ kept_name_for (types_value self) None name.now) }
+        ensures ok { IfOk result (λ kept_name. kept_name ≡ kept_name_for (order_value self) None name.now) }
         ensures err { IsOkUnless result OutOfMemory }
     {
         match self {
@@ -128,7 +128,7 @@ impl Types {
 
     // The type that is looked up after the result of the first.
     fn second(self, first: &Result<Lookup, NetError>) -> Option<RecordType>
-        ensures { result ≡ next_type (types_value self) (first.now ∷ []) }
+        ensures { result ≡ next_type (order_value self) (first.now ∷ []) }
     {
         match self {
             Types::One(_) => None,
@@ -153,7 +153,7 @@ impl Attempt {
         hosts: &Hosts<T>,
         now: u64,
     ) -> CallStep
-        ensures goes { GoesFrom (call_context_of client.old hosts.now now) (first_value self.old name now)
+        ensures goes { ContinuesFrom (call_context_of client.old hosts.now now) (first_value self.old name now)
             client.old.cache self.new now (step_of result) client.new.cache }
         ensures left { self.new.left ≡ self.old.left }
         ensures stays { KeepsHandle client.old client.new }
@@ -178,8 +178,8 @@ impl Attempt {
         now: u64,
     ) -> CallStep
         ensures goes { (name : NameValue)
-            → self.old.kept_name ≡ kept_name_for (types_of self.old.sought) self.old.first name
-            → GoesFrom (call_context_of client.old hosts.now now)
+            → self.old.kept_name ≡ kept_name_for (order_of self.old.sought) self.old.first name
+            → ContinuesFrom (call_context_of client.old hosts.now now)
             (with_result (attempt_value self.old name now) latest) client.old.cache self.new now
             (step_of result) client.new.cache }
         ensures fewer { IsFewer (step_of result) (turns_left self.new) (turns_left self.old) }
@@ -196,8 +196,8 @@ impl Attempt {
 
     // The name and the type that are looked up after this result, if any are.
     fn second(&mut self, latest: &Result<Lookup, NetError>) -> Option<(Name, RecordType)>
-        ensures second { (name : NameValue) → self.old.kept_name ≡ kept_name_for (types_of self.old.sought) self.old.first name
-            → result ≡ second_of name (next_type (types_of self.old.sought)
+        ensures second { (name : NameValue) → self.old.kept_name ≡ kept_name_for (order_of self.old.sought) self.old.first name
+            → result ≡ second_of name (next_type (order_of self.old.sought)
             (results_so_far self.old.first ++ latest.now ∷ [])) }
         ensures kept_name { IfSome result (λ both. self.old.kept_name ≡ Some both.0) }
         ensures stays { self.new ≡ record self.old { kept_name = None } }
@@ -220,8 +220,8 @@ impl Attempt {
         now: u64,
     ) -> CallStep
         ensures goes { (name : NameValue)
-            → next_type (types_of self.old.sought) (results_so_far self.old.first ++ latest ∷ []) ≡ None
-            → GoesFrom (call_context_of client.old hosts.now now)
+            → next_type (order_of self.old.sought) (results_so_far self.old.first ++ latest ∷ []) ≡ None
+            → ContinuesFrom (call_context_of client.old hosts.now now)
             (with_result (attempt_value self.old name now) latest) client.old.cache self.new now
             (step_of result) client.new.cache }
         ensures fewer { IsFewer (step_of result) (turns_left self.new) (2 * length self.old.left.items) }
@@ -291,7 +291,7 @@ fn look_up<H: DnsHandle, S: BuildHasher, T: BuildHasher>(
 /// names. Of a question for PTR records that is never known, since the table first reads which address its name
 /// stands for.
 pub fn skips_hosts<T: BuildHasher>(with_hosts: bool, hosts: &Hosts<T>, question: &Query) -> bool
-    ensures none { IsTrue result → (now : ℕ) → (with_hosts ≡ false) ⊎ IsStatic question.now now hosts.now None }
+    ensures none { IsTrue result → (now : ℕ) → (with_hosts ≡ false) ⊎ HostsHave question.now now hosts.now None }
     ensures asked { result ≡ false → with_hosts ≡ true }
 {
     if !with_hosts {

@@ -1,7 +1,7 @@
 //! What a request attempts, and who answers it as things stand.
 ghost use Rattle.std.specs.Prelude.{◌≡◌, ◌∷◌, ◌++◌, [], IfOk, OnOk};
 ghost use Rattle.hickory_resolver_model.specs.Lookup.{question_of};
-ghost use Rattle.hickory_resolver.specs.CallSteps.{asks_for_all, types_of};
+ghost use Rattle.hickory_resolver.specs.CallSteps.{asks_for_all, order_of};
 ghost use Rattle.hickory_resolver.specs.Explaining.{AreAnswered, IsAnsweredBy, answered_by_client, name_questions, names_questions, planned_value, planned_values};
 
 use crate::attempting::{Sought, Types, skips_hosts};
@@ -46,7 +46,7 @@ pub fn plan_questions(
     sought: Sought,
 ) -> Result<Vec<Planned>, AllocError>
     ensures { IfOk result (λ list. planned_values list.items
-        ≡ names_questions (types_of sought) (asks_for_all sought) names.now) }
+        ≡ names_questions (order_of sought) (asks_for_all sought) names.now) }
 {
     let mut list = Vec::new(alloc);
     let [first, rest @ ..] = names else {
@@ -67,7 +67,7 @@ fn push_name(
     asks_hosts: bool,
 ) -> Result<(), AllocError>
     ensures { OnOk result (planned_values list.new.items
-        ≡ planned_values list.old.items ++ name_questions (types_of sought) asks_hosts name.now) }
+        ≡ planned_values list.old.items ++ name_questions (order_of sought) asks_hosts name.now) }
 {
     let types = sought.types();
     push(list, name, types.first(), asks_hosts)?;

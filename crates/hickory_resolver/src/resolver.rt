@@ -5,23 +5,25 @@ ghost use Rattle.hickory_proto_core.specs.Name.{NameValue};
 ghost use Rattle.hickory_proto_core.specs.Records.{data_of};
 ghost use Rattle.hickory_proto_core.specs.codes.record_type.RecordType.TheVariants as type;
 ghost use Rattle.hickory_proto_core.specs.names.name_error.NameError.{NameError};
+ghost use Rattle.hickory_resolver_client.specs.Contexts.{progress_of};
 ghost use Rattle.hickory_resolver_config.specs.ResolverConfig.{default_options};
 ghost use Rattle.hickory_resolver_model.specs.Attempts.{attempts};
 ghost use Rattle.hickory_resolver_model.specs.Cache.{IsCache};
 ghost use Rattle.hickory_resolver_model.specs.Calls.{last_resort, literal_at_last};
 ghost use Rattle.hickory_resolver_model.specs.Options.{request_options_of};
-ghost use Rattle.hickory_resolver_model.specs.Resolver.{AnswersCall, AnswersHost, after_clear_lookup, settings};
+ghost use Rattle.hickory_resolver_model.specs.Resolver.{after_clear_lookup, settings};
+ghost use Rattle.hickory_resolver_model.specs.Resuming.{IsDone};
 ghost use Rattle.hickory_resolver_model.specs.Run.{Attempt, address_call, address_plan, drop_each};
 ghost use Rattle.hickory_resolver_theorems.specs.CallFacts.{KeepsWhatIsKnown, PromisesHost, PromisesName};
-ghost use Rattle.hickory_resolver.specs.CallProgress.{call_progress_of};
-ghost use Rattle.hickory_resolver.specs.CallSteps.{asks_for_all, plan_value, types_of};
+ghost use Rattle.hickory_resolver.specs.CallSteps.{asks_for_all, plan_value, order_of};
+ghost use Rattle.hickory_resolver.specs.Driving.{EndsCall, IsGiven};
 ghost use Rattle.hickory_resolver.specs.Explaining.{Explains, ExplainsHost, ExplainsNamed};
 ghost use Rattle.hickory_resolver_lookup.specs.Requests.{request_of};
 ghost use Rattle.hickory_resolver.specs.Starting.{ResumesAt, StartsAt, StartsHost, StartsName};
 
 use crate::attempting::Sought;
 use crate::calling::{resume_call, start_names};
-use crate::driving::look_up_names;
+use crate::driving::drive;
 use crate::explaining::{Attempted, find_answerers, plan_questions};
 use crate::literals::{as_addresses, literal_at_once};
 use crate::resolver_builder::ResolverBuilder;
@@ -32,7 +34,7 @@ use hickory_proto_core::{
     RecordType,
 };
 use hickory_resolver_cache::ResponseCache;
-use hickory_resolver_client::CachingClient;
+use hickory_resolver_client::{CachingClient, Progress};
 use hickory_resolver_config::{LookupIpStrategy, ResolverConfig, ResolverOpts};
 use hickory_resolver_hosts::Hosts;
 use hickory_resolver_lookup::{Lookup, LookupIp, Request};
@@ -125,20 +127,8 @@ impl<H: DnsHandle, S: BuildHasher> Resolver<H, S> {
     ) -> Result<Lookup, NetError>
         ensures { PromisesName H.step (N.into_name_gives name) record_type now self.old result self.new }
     {
-        let name = name.into_name(self.alloc())?;
-        let mut names = self.attempts(name)?;
-        names.reverse();
-        let options = self.request_options();
-        look_up_names(
-            names,
-            Sought::Records(record_type),
-            None,
-            true,
-            options,
-            &mut self.client,
-            &self.hosts,
-            now,
-        )
+        let progress = self.start_lookup(name, record_type, now);
+        self.drive(progress)
     }
 
     /// Looks up the addresses of a host, at a moment (seconds). The names that are attempted for it are those of
@@ -151,11 +141,8 @@ impl<H: DnsHandle, S: BuildHasher> Resolver<H, S> {
     pub fn lookup_ip<N: IntoName>(&mut self, host: N, now: u64) -> Result<LookupIp, NetError>
         ensures { PromisesHost H.step (N.to_ip_gives host) (N.into_name_gives host) now self.old result self.new }
     {
-        let address = host.to_ip();
-        match host.into_name(self.alloc()) {
-            Ok(name) => self.lookup_host(address, name, now),
-            Err(fault) => as_addresses(self.literal_or_fault(address, fault, now)),
-        }
+        let progress = self.start_lookup_ip(host, now);
+        as_addresses(self.drive(progress))
     }
 
     /// Starts a look-up of records of a type for a name, at a moment (seconds), and leaves it to the caller to send
@@ -167,11 +154,13 @@ impl<H: DnsHandle, S: BuildHasher> Resolver<H, S> {
         record_type: RecordType,
         now: u64,
     ) -> CallProgress
-        ensures { StartsName (N.into_name_gives name) record_type now self.old (call_progress_of result) self.new }
+        ensures starts { StartsName (N.into_name_gives name) record_type now self.old (progress_of result) self.new }
+        ensures cache { IsCache self.old.client.cache.config self.old.client.cache.capacity
+            self.old.client.cache.entries }
     {
         match name.into_name(self.alloc()) {
             Ok(name) => self.start_call(name, Sought::Records(record_type), None, now),
-            Err(fault) => CallProgress::Done(Err(NetError::from(fault))),
+            Err(fault) => Progress::Done(Err(NetError::from(fault))),
         }
     }
 
@@ -179,13 +168,15 @@ impl<H: DnsHandle, S: BuildHasher> Resolver<H, S> {
     /// questions. What is looked up, and in which order, is as `lookup_ip` says. It is done where no question needs
     /// to be sent, else it waits for what comes back to one. `LookupIp::from` reads what it gives as addresses.
     pub fn start_lookup_ip<N: IntoName>(&mut self, host: N, now: u64) -> CallProgress
-        ensures { StartsHost (N.to_ip_gives host) (N.into_name_gives host) now self.old (call_progress_of result)
+        ensures starts { StartsHost (N.to_ip_gives host) (N.into_name_gives host) now self.old (progress_of result)
             self.new }
+        ensures cache { IsCache self.old.client.cache.config self.old.client.cache.capacity
+            self.old.client.cache.entries }
     {
         let address = host.to_ip();
         match host.into_name(self.alloc()) {
             Ok(name) => self.start_host(address, name, now),
-            Err(fault) => CallProgress::Done(self.literal_or_fault(address, fault, now)),
+            Err(fault) => Progress::Done(self.literal_or_fault(address, fault, now)),
         }
     }
 
@@ -221,7 +212,7 @@ impl<H: DnsHandle, S: BuildHasher> Resolver<H, S> {
     /// table of hosts are those that stand: in between, other calls may have kept answers, the cache may have been
     /// cleared, and the table replaced.
     pub fn resume(&mut self, waiting: WaitingCall, outcome: Outcome) -> CallProgress
-        ensures { ResumesAt waiting outcome self.old (call_progress_of result) self.new }
+        ensures { ResumesAt waiting outcome self.old (progress_of result) self.new }
     {
         resume_call(waiting, outcome, &mut self.client, &self.hosts)
     }
@@ -335,33 +326,23 @@ impl<H: DnsHandle, S: BuildHasher> Resolver<H, S> {
         self.client.clear_cache();
     }
 
-    // Looks up the addresses of a name that was read, of a text that spells this address.
-    fn lookup_host(
-        &mut self,
-        address: Option<IpAddr>,
-        name: Name,
-        now: u64,
-    ) -> Result<LookupIp, NetError>
-        ensures { AnswersCall H.step now (address_call (settings self.old) address (Ok name) now) self.old result
-            self.new }
+    // Drives a call to its end: its questions are sent, and it goes on with what comes back.
+    fn drive(&mut self, progress: CallProgress) -> Result<Lookup, NetError>
+        ensures call { EndsCall H.step (progress_of progress) self.old result self.new }
+        ensures given { IsGiven (progress_of progress) self.old result self.new }
     {
-        match address {
-            Some(address) if self.options.ndots <= 4 => {
-                as_addresses(literal_at_once(self.alloc(), name, address, now))
-            }
-            Some(address) => self.attempt_host(name, Some(address), now),
-            None => self.attempt_host(name, None, now),
-        }
+        let options = self.request_options();
+        drive(progress, options, &mut self.client, &self.hosts)
     }
 
     // Starts a look-up of the addresses of a name that was read, of a text that spells this address.
     fn start_host(&mut self, address: Option<IpAddr>, name: Name, now: u64) -> CallProgress
         ensures { StartsAt now (address_call (settings self.old) address (Ok name) now) self.old
-            (call_progress_of result) self.new }
+            (progress_of result) self.new }
     {
         match address {
             Some(address) if self.options.ndots <= 4 => {
-                CallProgress::Done(literal_at_once(self.alloc(), name, address, now))
+                Progress::Done(literal_at_once(self.alloc(), name, address, now))
             }
             Some(address) => self.start_addresses(name, Some(address), now),
             None => self.start_addresses(name, None, now),
@@ -371,7 +352,7 @@ impl<H: DnsHandle, S: BuildHasher> Resolver<H, S> {
     // Starts a look-up of addresses for a name, with this address as the last resort.
     fn start_addresses(&mut self, name: Name, address: Option<IpAddr>, now: u64) -> CallProgress
         ensures { StartsAt now (Attempt name (address_plan (settings self.old).strategy
-            (option_map (λ literal. literal_at_last literal now) address))) self.old (call_progress_of result)
+            (option_map (λ literal. literal_at_last literal now) address))) self.old (progress_of result)
             self.new }
     {
         let sought = Sought::Addresses(self.ip_strategy());
@@ -386,7 +367,7 @@ impl<H: DnsHandle, S: BuildHasher> Resolver<H, S> {
         literal: Option<RData>,
         now: u64,
     ) -> CallProgress
-        ensures { StartsAt now (Attempt name (plan_value sought literal now)) self.old (call_progress_of result)
+        ensures { StartsAt now (Attempt name (plan_value sought literal now)) self.old (progress_of result)
             self.new }
     {
         match self.attempts(name) {
@@ -402,7 +383,7 @@ impl<H: DnsHandle, S: BuildHasher> Resolver<H, S> {
                     now,
                 )
             }
-            Err(_) => CallProgress::Done(Err(NetError::OutOfMemory)),
+            Err(_) => Progress::Done(Err(NetError::OutOfMemory)),
         }
     }
 
@@ -414,7 +395,7 @@ impl<H: DnsHandle, S: BuildHasher> Resolver<H, S> {
         fault: NameError,
         now: u64,
     ) -> Result<Lookup, NetError>
-        ensures { AnswersHost H.step (λ a. a ≡ address) (λ n. n ≡ Err fault) now self.now result self.now }
+        ensures { StartsHost (λ a. a ≡ address) (λ n. n ≡ Err fault) now self.now (IsDone result) self.now }
     {
         match (fault, address) {
             (NameError::OutOfMemory, _) => Err(NetError::OutOfMemory),
@@ -423,32 +404,6 @@ impl<H: DnsHandle, S: BuildHasher> Resolver<H, S> {
             }
             (fault, None) => Err(NetError::from(fault)),
         }
-    }
-
-    // Attempts a name for addresses, with this address as the last resort.
-    fn attempt_host(
-        &mut self,
-        name: Name,
-        address: Option<IpAddr>,
-        now: u64,
-    ) -> Result<LookupIp, NetError>
-        ensures { AnswersCall H.step now (Attempt name (address_plan (settings self.old).strategy
-            (option_map (λ literal. literal_at_last literal now) address))) self.old result self.new }
-    {
-        let mut attempts = self.attempts(name)?;
-        attempts.reverse();
-        let strategy = self.ip_strategy();
-        let options = self.request_options();
-        as_addresses(look_up_names(
-            attempts,
-            Sought::Addresses(strategy),
-            record_data(address),
-            true,
-            options,
-            &mut self.client,
-            &self.hosts,
-            now,
-        ))
     }
 
     // Drops what the cache has for the attempts at a name.
@@ -511,7 +466,7 @@ impl<H: DnsHandle, S: BuildHasher> Resolver<H, S> {
         sought: Sought,
         now: u64,
     ) -> Result<Vec<Attempted>, AllocError>
-        ensures { IfOk result (λ list. ExplainsNamed (settings self.now) self.now.client.cache now (types_of sought)
+        ensures { IfOk result (λ list. ExplainsNamed (settings self.now) self.now.client.cache now (order_of sought)
             (asks_for_all sought) name list.items) }
     {
         match name {

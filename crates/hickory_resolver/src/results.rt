@@ -3,7 +3,7 @@ ghost use Rattle.std.specs.Prelude.{◌≡◌, ◌⊎◌, [], ◌∷◌, ◌++�
 ghost use Rattle.hickory_proto_core.specs.declared.net_error.NetError.TheVariants.{OutOfMemory};
 ghost use Rattle.hickory_resolver_model.specs.Calls.{IsAttemptResult, are_answers, both_results};
 ghost use Rattle.hickory_resolver_model.specs.Calls.{is_out_of_memory, next_type, stops};
-ghost use Rattle.hickory_resolver.specs.CallSteps.{results_so_far, types_value};
+ghost use Rattle.hickory_resolver.specs.CallSteps.{results_so_far, order_value};
 
 use crate::attempting::Types;
 use hickory_proto_core::NetError;
@@ -32,8 +32,8 @@ pub fn attempt_result(
     first: Option<Result<Lookup, NetError>>,
     last: Result<Lookup, NetError>,
 ) -> Result<Lookup, NetError>
-    ensures { next_type (types_value types) (results_so_far first ++ last ∷ []) ≡ None
-        → IsAttemptResult (types_value types) (results_so_far first ++ last ∷ []) result }
+    ensures { next_type (order_value types) (results_so_far first ++ last ∷ []) ≡ None
+        → IsAttemptResult (order_value types) (results_so_far first ++ last ∷ []) result }
 {
     match (types, first) {
         (Types::Both(_, _), Some(first)) => joined(first, last),

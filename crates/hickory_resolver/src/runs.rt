@@ -6,7 +6,7 @@ ghost use Rattle.hickory_resolver_model.specs.Resolver.{new_resolver};
 ghost use Rattle.hickory_resolver_model.specs.Run.{StepValue};
 ghost use Rattle.hickory_resolver_lookup.specs.Requests.{request_of};
 ghost use Rattle.hickory_resolver.specs.Listening.{HearsAll};
-ghost use Rattle.hickory_resolver.specs.Transcripts.{IsNoRun, IsRunFrom};
+ghost use Rattle.hickory_resolver.specs.Transcripts.{IsNoRun, NewRun};
 
 use crate::keeping::keep_steps;
 use crate::listener::{Heard, Listener};
@@ -35,7 +35,7 @@ pub fn run<H: DnsHandle + Drop>(
     handle: H,
     requests: &[Request],
 ) -> Result<Transcript<H>, NetError>
-    ensures run { IfOk result (λ t. IsRunFrom H.step config options hosts handle (map request_of requests.now)
+    ensures run { IfOk result (λ t. NewRun H.step config options hosts handle (map request_of requests.now)
         t.steps t.resolver) }
     ensures refused { IfErr result (IsNoRun (bounds_fault (bounds_of options))) }
 {
@@ -58,7 +58,7 @@ pub fn run_with_hasher<H: DnsHandle + Drop, S: BuildHasher + Drop>(
     requests: &[Request],
     cache_hasher: S,
 ) -> Result<Transcript<H, S>, NetError>
-    ensures run { IfOk result (λ t. IsRunFrom H.step config options hosts handle (map request_of requests.now)
+    ensures run { IfOk result (λ t. NewRun H.step config options hosts handle (map request_of requests.now)
         t.steps t.resolver) }
     ensures refused { IfErr result (IsNoRun (bounds_fault (bounds_of options))) }
 {
@@ -80,7 +80,7 @@ pub fn run_told<H: DnsHandle + Drop, S: BuildHasher + Drop, L: Listener + Drop>(
     mut listener: L,
 ) -> Result<Heard<Recorded<H>, S, L>, NetError>
     ensures run { IfOk result (λ t. (steps : List StepValue)
-        × IsRunFrom H.step config options hosts handle (map request_of requests.now) steps t.resolver
+        × NewRun H.step config options hosts handle (map request_of requests.now) steps t.resolver
         × HearsAll L.hears listener (map request_of requests.now) steps t.resolver.client.handle.exchanges
         t.listener) }
     ensures refused { IfErr result (IsNoRun (bounds_fault (bounds_of options))) }

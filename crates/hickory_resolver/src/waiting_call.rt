@@ -4,9 +4,8 @@ ghost use Rattle.std.specs.Option.{option_copied};
 ghost use Rattle.hickory_resolver_client.specs.Contexts.{first_passed};
 
 use crate::attempting::Attempt;
-use hickory_proto_core::{NetError, Query};
-use hickory_resolver_client::Waiting;
-use hickory_resolver_lookup::Lookup;
+use hickory_proto_core::Query;
+use hickory_resolver_client::{Progress, Waiting};
 use std::marker::Model;
 
 /// A call that waits for what comes back to a question. Its moment is that of its start, however late it goes on.
@@ -24,7 +23,7 @@ pub struct WaitingCall {
 impl Model for WaitingCall {
     ghost use Rattle.std.specs.Prelude.{◌≡◌};
     ghost use Rattle.hickory_resolver_theorems.specs.ResumingCalls.{WaitingCallValue};
-    ghost use Rattle.hickory_resolver.specs.CallSteps.{kept_name_for, attempt_value, first_question, types_of};
+    ghost use Rattle.hickory_resolver.specs.CallSteps.{kept_name_for, attempt_value, first_question, order_of};
 
     ghost Value = { WaitingCallValue };
 
@@ -34,17 +33,11 @@ impl Model for WaitingCall {
     } };
 
     ghost invariant = { λ w. w.attempt.kept_name
-        ≡ kept_name_for (types_of w.attempt.sought) w.attempt.first (first_question w.lookup).name };
+        ≡ kept_name_for (order_of w.attempt.sought) w.attempt.first (first_question w.lookup).name };
 }
 
 /// How far a call came.
-#[derive(Drop)]
-pub enum CallProgress {
-    /// It waits for what comes back to a question.
-    Waiting(WaitingCall),
-    /// It is done, with this result.
-    Done(Result<Lookup, NetError>),
-}
+pub type CallProgress = Progress<WaitingCall>;
 
 impl WaitingCall {
     /// The question that is to be sent, with the options of the resolver (`Resolver::request_options`).

@@ -10,7 +10,7 @@ use Rattle.hickory_proto_core.specs.declared.net_error.DnsError.TheVariants.{Res
 use Rattle.hickory_resolver_model.specs.Cache.{CacheValue, Entry, last_moment, current, aged_result, IsGotUntil}
 use Rattle.hickory_resolver_model.specs.Lookup.{LookupResult}
 use Rattle.hickory_resolver_model.specs.SpecialUse.{special_use_result}
-use Rattle.hickory_resolver_model.specs.Verdict.{Hop, Verdict, Accepted, Alias, NoMatch}
+use Rattle.hickory_resolver_model.specs.Verdict.{Hop, Verdict, Accepted, LeadsTo, NoMatch}
 use Rattle.hickory_resolver_model.specs.Hops.{LookupContext, ChainEnd, Special, Hit, Asked, verdict_on, result_when_asked, result_of, alias_limit, end_limit, result_until, is_kept, last_stores, after_stores, hit_result, PassedValue, limit_of, earlier_stores, is_asked, stores_of}
 use Rattle.hickory_resolver_model.specs.Resuming.{WaitingValue, ProgressValue, IsDone, TakesMemory, EndsAs, ComesTo, Resumes}
 use Rattle.hickory_resolver_client.specs.Special.{IsUnlessOut, IsSpecialReply}
@@ -132,7 +132,7 @@ module _ (s : LookupContext) (w : WaitingValue) (outcome : OutcomeValue) where
   cut_at : (v : Option Verdict) → verdict_on s w.hop (kind_of outcome) ≡ v → IsWorkedOn (kind_of outcome) → length w.passed ≤ 7 → Resumes s w outcome (IsDone (Err OutOfMemory)) s.cache
   cut_at v is worked few = on v is
     where
-      begun : ((next : Hop) → verdict_on s w.hop (kind_of outcome) ≡ Some (Alias next) → length w.passed ≡ 7) → Resumes s w outcome (IsDone (Err OutOfMemory)) s.cache
+      begun : ((next : Hop) → verdict_on s w.hop (kind_of outcome) ≡ Some (LeadsTo next) → length w.passed ≡ 7) → Resumes s w outcome (IsDone (Err OutOfMemory)) s.cache
       begun no_alias = inr (record {
         result = Err OutOfMemory;
         progress_is = refl;
@@ -141,10 +141,10 @@ module _ (s : LookupContext) (w : WaitingValue) (outcome : OutcomeValue) where
       })
 
       on : (v : Option Verdict) → verdict_on s w.hop (kind_of outcome) ≡ v → Resumes s w outcome (IsDone (Err OutOfMemory)) s.cache
-      on None e = begun (λ next h. let clash : None ≡ Some (Alias next) = sym e ∙ h in cc)
-      on (Some (Accepted m)) e = begun (λ next h. let clash : Some (Accepted m) ≡ Some (Alias next) = sym e ∙ h in cc)
-      on (Some NoMatch) e = begun (λ next h. let clash : Some NoMatch ≡ Some (Alias next) = sym e ∙ h in cc)
-      on (Some (Alias next)) e =
+      on None e = begun (λ next h. let clash : None ≡ Some (LeadsTo next) = sym e ∙ h in cc)
+      on (Some (Accepted m)) e = begun (λ next h. let clash : Some (Accepted m) ≡ Some (LeadsTo next) = sym e ∙ h in cc)
+      on (Some NoMatch) e = begun (λ next h. let clash : Some NoMatch ≡ Some (LeadsTo next) = sym e ∙ h in cc)
+      on (Some (LeadsTo next)) e =
           let follows : length w.passed < 7 → Resumes s w outcome (IsDone (Err OutOfMemory)) s.cache =
           λ early. inl (record { next = next; alias = e; early = early; goes_on = inr (refl, refl) }) in
           ⊎_elim (λ same. begun (λ other h. same)) (⊎_elim follows (λ more. absurd (omega (arith, more, few)))) (cases_order (length w.passed) 7)

@@ -13,7 +13,7 @@ use Rattle.hickory_proto_core.specs.codes.dns_class.DNSClass.TheVariants as clas
 use Rattle.hickory_proto_core.specs.declared.query.Query.{Query}
 use Rattle.hickory_resolver_model.specs.Bounds.{least}
 use Rattle.hickory_resolver_model.specs.AliasWalk.{Walk, ends_at, has_target, is_moved}
-use Rattle.hickory_resolver_model.specs.Verdict.{Hop, Verdict, Accepted, Alias, NoMatch, has_class, has_type, is_led_match, is_intermediate, is_accepted, is_filtered, filtered_answers, first_or, next_name, next_hop, with_ttl_at_most, all_records, walk_verdict}
+use Rattle.hickory_resolver_model.specs.Verdict.{Hop, Verdict, Accepted, LeadsTo, NoMatch, has_class, has_type, is_led_match, is_intermediate, is_accepted, is_filtered, filtered_answers, first_or, next_name, next_hop, with_ttl_at_most, all_records, walk_verdict}
 use Rattle.hickory_resolver_client.specs.Walks.{ShowsAs}
 use Rattle.hickory_resolver_client.specs.Verdicts.{IsDecision, is_wanted}
 use Rattle.hickory_resolver_client.specs.declared.verdict.Decision.{Decision}
@@ -56,7 +56,7 @@ abbrev verdict_by : Bool → Hop → MessageValue → Parts → Verdict
 verdict_by keep hop m p =
     cond (some_record (match_by hop.query p) m && (not p.moved || is_empty hop.preserved))
     (Accepted (cond (not (is_empty hop.preserved) || (some_record (led_by hop.query p) m && not keep)) (filtered_by keep hop p m) m))
-    (cond p.stands NoMatch (Alias (next_by keep hop p m)))
+    (cond p.stands NoMatch (LeadsTo (next_by keep hop p m)))
 
 moved_by : (ttls : List ℕ) → not (is_empty ttls) ≡ is_some (least ttls)
 moved_by [] = refl
@@ -114,7 +114,7 @@ none_led_in q w m none =
 
 module _ (keep : Bool) (hop : Hop) (m : MessageValue) (walk : Walk) where
   abbrev by : Bool → Bool → Bool → Verdict
-  by accepted filtered stands = cond accepted (Accepted (cond filtered (record m { answers = filtered_answers keep hop walk m }) m)) (cond stands NoMatch (Alias (next_hop keep hop walk m)))
+  by accepted filtered stands = cond accepted (Accepted (cond filtered (record m { answers = filtered_answers keep hop walk m }) m)) (cond stands NoMatch (LeadsTo (next_hop keep hop walk m)))
 
   stands_so : (accepted filtered stands : Bool) → is_accepted hop walk m ≡ accepted → is_filtered keep hop walk m ≡ filtered → is_empty walk.places ≡ stands → (d : Decision) → IsDecision (by accepted filtered stands) m d → IsDecision (walk_verdict keep hop walk m) m d
   stands_so accepted filtered stands a f s d is =

@@ -12,7 +12,7 @@ use Rattle.hickory_resolver_model.specs.Cache.{CacheValue, last_moment}
 use Rattle.hickory_resolver_model.specs.Lookup.{LookupResult, found_lookup}
 use Rattle.hickory_resolver_model.specs.Bounds.{least}
 use Rattle.hickory_resolver_model.specs.AliasWalk.{walk_of}
-use Rattle.hickory_resolver_model.specs.Verdict.{Hop, Verdict, Accepted, Alias, NoMatch, verdict}
+use Rattle.hickory_resolver_model.specs.Verdict.{Hop, Verdict, Accepted, LeadsTo, NoMatch, verdict}
 use Rattle.hickory_resolver_model.specs.Hops.{LookupContext, alias_deadline, alias_limit, result_of_verdict, stores_of_verdict, store_of, after_stores, no_match}
 use Rattle.hickory_resolver_client.proofs.Limits.{earliest_deadline}
 use Rattle.hickory_resolver_client.specs.Special.{IsUnlessOut}
@@ -48,17 +48,17 @@ worked_answer m error e = let clash : Answer m ≡ Failed error = e in cc
 
 is_exists : (v : Verdict) (m found : MessageValue) → IsVerdict v m (variant.Accepted found) → v ≡ Accepted found
 is_exists (Accepted n) m found e = ap Accepted (sym e)
-is_exists (Alias hop) m found e = absurd e
+is_exists (LeadsTo hop) m found e = absurd e
 is_exists NoMatch m found e = absurd e
 
-is_chain : (v : Verdict) (m : MessageValue) (next : Hop) (held : MessageValue) → IsVerdict v m (variant.Alias next held) → (v ≡ Alias next) × (held ≡ m)
+is_chain : (v : Verdict) (m : MessageValue) (next : Hop) (held : MessageValue) → IsVerdict v m (variant.LeadsTo next held) → (v ≡ LeadsTo next) × (held ≡ m)
 is_chain (Accepted n) m next held e = absurd e
-is_chain (Alias hop) m next held e = (ap Alias (sym e.0), e.1)
+is_chain (LeadsTo hop) m next held e = (ap LeadsTo (sym e.0), e.1)
 is_chain NoMatch m next held e = absurd e
 
 is_none : (v : Verdict) (m held : MessageValue) → IsVerdict v m (variant.NoMatch held) → (v ≡ NoMatch) × (held ≡ m)
 is_none (Accepted n) m held e = absurd e
-is_none (Alias hop) m held e = absurd e
+is_none (LeadsTo hop) m held e = absurd e
 is_none NoMatch m held e = (refl, e)
 
 -- the least TTL of the CNAMEs that counted gives their limit
@@ -83,7 +83,7 @@ module _ (s : LookupContext) (hop : Hop) (depth : ℕ) (m : MessageValue) (keep 
   settle_exists found e result after (inl done) =
       let v = is_exists _ m found (judged (variant.Accepted found) e) in
       inl (
-        (λ next h. let w : Some (Accepted found) ≡ Some (Alias next) = sym (ap (λ u. Some u) v) ∙ h in cc),
+        (λ next h. let w : Some (Accepted found) ≡ Some (LeadsTo next) = sym (ap (λ u. Some u) v) ∙ h in cc),
         (done.0 ∙ ap (λ h. Ok (found_lookup s.cache.config h.query found s.now)) same_hop ∙ ap (result_of_verdict s.cache.config hop.query s.now m) (sym v)),
         limited,
         (done.1 ∙ ap₂ (λ h l. after_stores (store_of h.query (Ok found) s.now l ∷ []) s.cache) same_hop limited ∙ ap (λ u. after_stores (stores_of_verdict hop.query s.now (alias_limit s hop.query (Answer m)) u) s.cache) (sym v)),
@@ -94,16 +94,16 @@ module _ (s : LookupContext) (hop : Hop) (depth : ℕ) (m : MessageValue) (keep 
   settle_none back e result (inl done) =
       let v = is_none _ m back (judged (variant.NoMatch back) e) in
       inl (
-        (λ next h. let w : Some NoMatch ≡ Some (Alias next) = sym (ap (λ u. Some u) v.0) ∙ h in cc),
+        (λ next h. let w : Some NoMatch ≡ Some (LeadsTo next) = sym (ap (λ u. Some u) v.0) ∙ h in cc),
         (done ∙ ap₂ (λ h r. Err (no_match h.query r)) same_hop v.1 ∙ ap (result_of_verdict s.cache.config hop.query s.now m) (sym v.0)),
         limited,
         (ap (λ u. after_stores (stores_of_verdict hop.query s.now (alias_limit s hop.query (Answer m)) u) s.cache) (sym v.0)),
       )
 
-  pub settle_last : (next : Hop) (back : MessageValue) → held ≡ variant.Alias next back → 7 ≤ depth → depth ≤ 7 → (result : LookupResult) → IsUnlessOut (Err (no_match given.query back)) result → IsSettled s hop depth (Answer m) (Ok (Done result limit)) s.cache
+  pub settle_last : (next : Hop) (back : MessageValue) → held ≡ variant.LeadsTo next back → 7 ≤ depth → depth ≤ 7 → (result : LookupResult) → IsUnlessOut (Err (no_match given.query back)) result → IsSettled s hop depth (Answer m) (Ok (Done result limit)) s.cache
   settle_last next back e low high result (inr out) = inr (out, worked_answer m, refl)
   settle_last next back e low high result (inl done) =
-      let v = is_chain _ m next back (judged (variant.Alias next back) e) in
+      let v = is_chain _ m next back (judged (variant.LeadsTo next back) e) in
       inl (
         (λ other h. omega arith),
         (done ∙ ap₂ (λ h r. Err (no_match h.query r)) same_hop v.1 ∙ ap (result_of_verdict s.cache.config hop.query s.now m) (sym v.0)),
@@ -111,7 +111,7 @@ module _ (s : LookupContext) (hop : Hop) (depth : ℕ) (m : MessageValue) (keep 
         (ap (λ u. after_stores (stores_of_verdict hop.query s.now (alias_limit s hop.query (Answer m)) u) s.cache) (sym v.0)),
       )
 
-  pub settle_next : (next : Hop) (back : MessageValue) → held ≡ variant.Alias next back → depth < 7 → IsSettled s hop depth (Answer m) (Ok (Next given.query limit next)) s.cache
+  pub settle_next : (next : Hop) (back : MessageValue) → held ≡ variant.LeadsTo next back → depth < 7 → IsSettled s hop depth (Answer m) (Ok (Next given.query limit next)) s.cache
   settle_next next back e early =
-      let v = is_chain _ m next back (judged (variant.Alias next back) e) in
+      let v = is_chain _ m next back (judged (variant.LeadsTo next back) e) in
       (ap (λ h. h.query) same_hop, limited, ap (λ u. Some u) v.0, early, refl)

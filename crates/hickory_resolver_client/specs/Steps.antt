@@ -7,7 +7,7 @@ use Rattle.hickory_proto_core.specs.declared.net_error.NetError.TheVariants.{Dns
 use Rattle.hickory_proto_core.specs.declared.net_error.DnsError.TheVariants.{NoRecordsFound}
 use Rattle.hickory_resolver_model.specs.Cache.{CacheValue}
 use Rattle.hickory_resolver_model.specs.Lookup.{LookupResult}
-use Rattle.hickory_resolver_model.specs.Verdict.{Hop, Alias}
+use Rattle.hickory_resolver_model.specs.Verdict.{Hop, LeadsTo}
 use Rattle.hickory_resolver_model.specs.Hops.{IsBeginning, LookupContext, verdict_on, result_when_asked, stores_when_asked, alias_limit, result_until, is_kept, Store, after_stores, PassedValue, limit_of, earlier_stores}
 use Rattle.hickory_resolver_client.specs.declared.caching_core.HopStep as code
 use Rattle.hickory_resolver_client.specs.declared.caching_core.HopStep.TheVariants.{Next, Done}
@@ -24,7 +24,7 @@ SettledAs s reply stores result after =
 
 -- an alias ends a look-up only at the eighth question
 abbrev pub EndsAt : LookupContext → Hop → ℕ → ResponseKind → Type 0
-EndsAt s hop depth kind = (next : Hop) → verdict_on s hop kind ≡ Some (Alias next) → depth ≡ 7
+EndsAt s hop depth kind = (next : Hop) → verdict_on s hop kind ≡ Some (LeadsTo next) → depth ≡ 7
 
 -- something is made of what came back: it is no failure
 abbrev pub IsWorkedOn : ResponseKind → Type 0
@@ -35,7 +35,7 @@ abbrev pub IsSettled : LookupContext → Hop → ℕ → ResponseKind → Result
     → Type 0
 IsSettled s hop depth kind (Ok (Next asked limit next)) after =
     (asked ≡ hop.query) × (limit ≡ alias_limit s hop.query kind)
-    × (verdict_on s hop kind ≡ Some (Alias next)) × (depth < 7) × (after ≡ s.cache)
+    × (verdict_on s hop kind ≡ Some (LeadsTo next)) × (depth < 7) × (after ≡ s.cache)
 IsSettled s hop depth kind (Ok (Done result limit)) after =
     (EndsAt s hop depth kind × (result ≡ result_when_asked s hop kind) × (limit ≡ alias_limit s hop.query kind)
     × (after ≡ after_stores (stores_when_asked s hop kind) s.cache))

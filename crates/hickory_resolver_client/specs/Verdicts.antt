@@ -4,7 +4,7 @@ use Rattle.hickory_proto_core.specs.Records.{RecordValue}
 use Rattle.hickory_proto_core.specs.Messages.{MessageValue}
 use Rattle.hickory_proto_core.specs.declared.query.Query.{Query}
 use Rattle.hickory_resolver_model.specs.AliasWalk.{Walk}
-use Rattle.hickory_resolver_model.specs.Verdict.{Hop, Verdict, Accepted, Alias, NoMatch, is_match, is_intermediate}
+use Rattle.hickory_resolver_model.specs.Verdict.{Hop, Verdict, Accepted, LeadsTo, NoMatch, is_match, is_intermediate}
 use Rattle.hickory_resolver_client.specs.declared.verdict.Verdict as code
 use Rattle.hickory_resolver_client.specs.declared.verdict.Verdict.TheVariants as variant
 use Rattle.hickory_resolver_client.specs.declared.verdict.Decision.{Decision}
@@ -15,7 +15,7 @@ hop_of query preserved = record { query = query; preserved = preserved }
 
 abbrev pub IsVerdict : Verdict → MessageValue → code.Verdict → Type 0
 IsVerdict (Accepted m) response (variant.Accepted accepted) = accepted ≡ m
-IsVerdict (Alias hop) response (variant.Alias next held) = (next ≡ hop) × (held ≡ response)
+IsVerdict (LeadsTo hop) response (variant.LeadsTo next held) = (next ≡ hop) × (held ≡ response)
 IsVerdict NoMatch response (variant.NoMatch held) = held ≡ response
 IsVerdict _ response _ = ⊥
 
@@ -23,7 +23,7 @@ IsVerdict _ response _ = ⊥
 abbrev pub IsDecision : Verdict → MessageValue → Decision → Type 0
 IsDecision (Accepted m) response decision.Whole = m ≡ response
 IsDecision (Accepted m) response (decision.Filtered answers) = m ≡ record response { answers = answers.items }
-IsDecision (Alias hop) response (decision.Next next) = next ≡ hop
+IsDecision (LeadsTo hop) response (decision.Next next) = next ≡ hop
 IsDecision NoMatch response decision.Nothing = Unit {0}
 IsDecision _ response _ = ⊥
 

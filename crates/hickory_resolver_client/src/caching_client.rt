@@ -1,11 +1,11 @@
 //! A client that asks an upstream through a cache.
-ghost use Rattle.std.specs.Prelude.{◌≡◌, []};
+ghost use Rattle.std.specs.Prelude.{◌≡◌, ◌≤◌, length, []};
 ghost use Rattle.hickory_resolver_model.specs.Cache.{IsCache, without_query};
 ghost use Rattle.hickory_resolver_model.specs.Client.{ClientValue, start_of, KeepsHandle, empty_cache};
 ghost use Rattle.hickory_resolver_model.specs.Resuming.{Starts, Resumes};
 ghost use Rattle.hickory_resolver_theorems.specs.CallFacts.{KeepsWhatIsKnown};
 ghost use Rattle.hickory_resolver_theorems.specs.Promises.{IsPromisedLookup};
-ghost use Rattle.hickory_resolver_client.specs.Contexts.{progress_of};
+ghost use Rattle.hickory_resolver_client.specs.Contexts.{Advances, progress_of};
 
 use crate::caching_core::CachingCore;
 use crate::verdict::Hop;
@@ -107,17 +107,14 @@ impl<H: DnsHandle, S: BuildHasher> CachingClient<H, S> {
         let mut progress = self.start(query, now);
         loop {
             match progress {
-                Progress::Waiting(waiting) => {
-                    let (waiting, outcome) = self.ask(waiting, options);
-                    progress = self.resume(waiting, outcome);
-                }
+                Progress::Waiting(waiting) => progress = self.advance(waiting, options),
                 Progress::Done(result) => return result,
             }
         }
     }
 
     /// Starts a look-up, and leaves it to the caller to send its questions: see `CachingCore::start`.
-    pub fn start(&mut self, query: Query, now: u64) -> Progress
+    pub fn start(&mut self, query: Query, now: u64) -> Progress<Waiting>
         ensures starts { Starts (start_of self.old now) query (progress_of result) self.new.cache }
         ensures stays { KeepsHandle self.old self.new }
         ensures cache { IsCache self.old.cache.config self.old.cache.capacity self.old.cache.entries }
@@ -126,7 +123,7 @@ impl<H: DnsHandle, S: BuildHasher> CachingClient<H, S> {
     }
 
     /// Goes on with a look-up by what came back to its question: see `CachingCore::resume`.
-    pub fn resume(&mut self, waiting: Waiting, outcome: Outcome) -> Progress
+    pub fn resume(&mut self, waiting: Waiting, outcome: Outcome) -> Progress<Waiting>
         ensures resumes { Resumes (start_of self.old waiting.now) waiting outcome
             (progress_of result) self.new.cache }
         ensures stays { KeepsHandle self.old self.new }
@@ -134,10 +131,20 @@ impl<H: DnsHandle, S: BuildHasher> CachingClient<H, S> {
         self.core.resume(waiting, outcome)
     }
 
-    /// Sends the question of a look-up that waits to the handle, with these options, and gives what came back
-    /// beside the look-up.
+    /// Sends the question of a look-up to the handle, with these options, and goes on with what comes back.
+    pub fn advance(&mut self, waiting: Waiting, options: DnsRequestOptions) -> Progress<Waiting>
+        ensures advances { Advances H.step options waiting self.old (progress_of result) self.new }
+        ensures few { length waiting.passed ≤ 7 }
+    {
+        let (waiting, outcome) = self.ask(waiting, options);
+        self.resume(waiting, outcome)
+    }
+
+    /// Sends the question of a look-up to the handle, with these options, and gives what came back beside the
+    /// look-up.
     pub fn ask(&mut self, waiting: Waiting, options: DnsRequestOptions) -> (Waiting, Outcome)
         ensures same { result.0 ≡ waiting }
+        ensures few { length waiting.passed ≤ 7 }
         ensures sent { H.step self.old.handle (record { query = waiting.hop.query; options = options }) result.1
             self.new.handle }
         ensures stays { self.new ≡ record self.old { handle = self.new.handle } }

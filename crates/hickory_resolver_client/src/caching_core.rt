@@ -95,7 +95,7 @@ impl<S: BuildHasher> CachingCore<S> {
 
     /// Starts a look-up of a question at a moment (seconds). It is done where the name is special, or the cache
     /// has a current entry for the question; else it waits for what comes back to the question.
-    pub fn start(&mut self, query: Query, now: u64) -> Progress
+    pub fn start(&mut self, query: Query, now: u64) -> Progress<Waiting>
         ensures starts { Starts (context_of self.old now) query (progress_of result) self.new.cache }
         ensures stays { self.new.preserve_intermediates ≡ self.old.preserve_intermediates }
         ensures cache { IsCache self.old.cache.config self.old.cache.capacity self.old.cache.entries }
@@ -114,7 +114,7 @@ impl<S: BuildHasher> CachingCore<S> {
     /// answer or a negative answer, and then the result under each question before it, from the last to the first
     /// (RFC 1034, section 3.6.2; RFC 2308, section 5), all as of the moment of its start. Where memory runs out,
     /// a beginning of this was done.
-    pub fn resume(&mut self, waiting: Waiting, outcome: Outcome) -> Progress
+    pub fn resume(&mut self, waiting: Waiting, outcome: Outcome) -> Progress<Waiting>
         ensures resumes { Resumes (context_of self.old waiting.now) waiting outcome
             (progress_of result) self.new.cache }
         ensures stays { self.new.preserve_intermediates ≡ self.old.preserve_intermediates }
@@ -144,7 +144,7 @@ impl<S: BuildHasher> CachingCore<S> {
     }
 
     // Comes to a hop: the reply of a special name, or a hit, or else its question is to be sent.
-    fn come_to(&mut self, passed: Vec<Passed>, hop: Hop, now: u64) -> Progress
+    fn come_to(&mut self, passed: Vec<Passed>, hop: Hop, now: u64) -> Progress<Waiting>
         requires { length passed.items ≤ 7 }
         ensures comes { ComesTo (context_of self.old now) passed.items hop (progress_of result) self.new.cache }
         ensures stays { self.new.preserve_intermediates ≡ self.old.preserve_intermediates }
@@ -247,7 +247,7 @@ impl<S: BuildHasher> CachingCore<S> {
                 result: self.cache_answer(query, message, limit, now),
                 limit,
             }),
-            Verdict::Alias { next, response } => {
+            Verdict::LeadsTo { next, response } => {
                 if depth < 7 {
                     return Ok(HopStep::Next {
                         asked: query,

@@ -32,7 +32,7 @@ pub enum Verdict {
     /// It is accepted, with these sections.
     Accepted(Message),
     /// It leads to another hop.
-    Alias {
+    LeadsTo {
         /// Where it leads.
         next: Hop,
         /// The response itself.
@@ -130,7 +130,7 @@ fn carry_out(decision: Decision, response: DnsResponse) -> Verdict
             accepted.answers = answers;
             Verdict::Accepted(accepted)
         }
-        Decision::Next(next) => Verdict::Alias { next, response },
+        Decision::Next(next) => Verdict::LeadsTo { next, response },
         Decision::Nothing => Verdict::NoMatch(response),
     }
 }

@@ -47,11 +47,11 @@ impl Model for Waiting {
     ghost invariant = { λ w. length w.passed.items ≤ 7 };
 }
 
-/// How far a look-up came.
+/// How far a look-up or a call came.
 #[derive(Drop)]
-pub enum Progress {
+pub enum Progress<W> {
     /// It waits for what comes back to a question.
-    Waiting(Waiting),
+    Waiting(W),
     /// It is done, with this result.
     Done(Result<Lookup, NetError>),
 }

@@ -10,7 +10,7 @@ use Rattle.hickory_resolver_model.specs.Hosts.{Host}
 use Rattle.hickory_resolver_model.specs.Resolver.{ResolverValue, settings}
 use Rattle.hickory_resolver_model.specs.Resuming.{ProgressValue, Waits, IsDone}
 use Rattle.hickory_resolver_model.specs.Run.{Settings, Call, call_context_at, name_call, address_call, after_clear}
-use Rattle.hickory_resolver_theorems.specs.ResumingCalls.{WaitingCallValue, CallProgressValue, CallWaits, CallIsDone, StartsCall, RunsOutAtStart}
+use Rattle.hickory_resolver_theorems.specs.ResumingCalls.{WaitingCallValue, CallProgressValue, StartsCall, RunsOutAtStart}
 use Rattle.hickory_resolver_theorems.specs.InterleavedCalls.{PendingCallValue, CallWorldValue, call_world_of, CallEventValue, CallStarted, CallFed, CallDropped, AllCleared, NameCleared, exchange_with, call_pending, placed, CallHappens, CallsHappen}
 use Rattle.hickory_resolver_theorems.proofs.CallReplies.{replies_promised}
 use Rattle.hickory_resolver_events.specs.Events.{TellsProgress, pending_after, IsStarted, IsFed, IsDropped, IsTold, AreTold, HappenAsPromised, IsPlayed}
@@ -79,8 +79,8 @@ pushed-some (Some d ∷ table) calls c (front, back, are, rest) = (
 )
 
 pushed : (table : List (Option PendingCallValue)) (calls : List PendingCallValue) (call : Call) (asks : List Exchange) (progress : CallProgressValue) → AreInFlight table calls → AreInFlight (table ++ pending_after call asks progress ∷ []) (calls ++ call_pending call asks progress)
-pushed table calls call asks (CallWaits w) h = pushed-some table calls (record { call = call; asks = asks; waiting = w }) h
-pushed table calls call asks (CallIsDone r) h = subst (AreInFlight (table ++ None ∷ [])) (sym (append-nil calls)) (pushed-none table calls h)
+pushed table calls call asks (Waits w) h = pushed-some table calls (record { call = call; asks = asks; waiting = w }) h
+pushed table calls call asks (IsDone r) h = subst (AreInFlight (table ++ None ∷ [])) (sym (append-nil calls)) (pushed-none table calls h)
 
 -- a call that waits is in flight; without it the others are, and with another in its place that one is too
 record Found (table : List (Option PendingCallValue)) (n : ℕ) (c : PendingCallValue) (calls : List PendingCallValue) : Type 0 where
@@ -129,12 +129,12 @@ found (Some d ∷ table) (suc n) c calls e (front, back, are, rest) = let r = fo
 -- after a call was fed, wherever it stands then
 placed-fly : (table : List (Option PendingCallValue)) (n : ℕ) (c : PendingCallValue) (calls : List PendingCallValue) (r : Found table n c calls) (lookup : ProgressValue) (call : Call) (asks : List Exchange) (progress : CallProgressValue)
     → AreInFlight (set table n (pending_after call asks progress)) (placed lookup r.front (call_pending call asks progress) r.back)
-placed-fly table n c calls r (Waits v) call asks (CallWaits w) =
+placed-fly table n c calls r (Waits v) call asks (Waits w) =
     let d : PendingCallValue = record { call = call; asks = asks; waiting = w } in
     subst (AreInFlight (set table n (Some d))) (sym (append_assoc r.front (d ∷ []) r.back)) (r.put d r.front r.back refl)
-placed-fly table n c calls r (Waits v) call asks (CallIsDone x) = subst (AreInFlight (set table n None)) (ap (λ y. y ++ r.back) (sym (append-nil r.front))) r.gone
-placed-fly table n c calls r (IsDone v) call asks (CallWaits w) = r.put (record { call = call; asks = asks; waiting = w }) (r.front ++ r.back) [] (append-nil (r.front ++ r.back))
-placed-fly table n c calls r (IsDone v) call asks (CallIsDone x) = subst (AreInFlight (set table n None)) (sym (append-nil (r.front ++ r.back))) r.gone
+placed-fly table n c calls r (Waits v) call asks (IsDone x) = subst (AreInFlight (set table n None)) (ap (λ y. y ++ r.back) (sym (append-nil r.front))) r.gone
+placed-fly table n c calls r (IsDone v) call asks (Waits w) = r.put (record { call = call; asks = asks; waiting = w }) (r.front ++ r.back) [] (append-nil (r.front ++ r.back))
+placed-fly table n c calls r (IsDone v) call asks (IsDone x) = subst (AreInFlight (set table n None)) (sym (append-nil (r.front ++ r.back))) r.gone
 
 -- ---- what the code keeps of the calls
 
@@ -143,8 +143,8 @@ waiting_of None = None
 waiting_of (Some c) = Some c.waiting
 
 pending-waits : (call : Call) (asks : List Exchange) (progress : CallProgressValue) → waiting_of (pending_after call asks progress) ≡ waiting_in progress
-pending-waits call asks (CallWaits w) = refl
-pending-waits call asks (CallIsDone r) = refl
+pending-waits call asks (Waits w) = refl
+pending-waits call asks (IsDone r) = refl
 
 kept-at : (table : List (Option PendingCallValue)) (n : ℕ) → get_or (map waiting_of table) n None ≡ waiting_of (get_or table n None)
 kept-at [] n = refl
@@ -251,7 +251,7 @@ module _ {H : Type 0} (first : ResolverValue H) where
         }
 
     -- a call that is done is told with its result
-    done-told : (result : LookupResult) (told : EventReply) → TellsProgress (CallIsDone result) told → told ≡ reply.Done result
+    done-told : (result : LookupResult) (told : EventReply) → TellsProgress (IsDone result) told → told ≡ reply.Done result
     done-told result (reply.Done said) same = ap reply.Done same
     done-told result (reply.Waits question) never = absurd never
     done-told result reply.Dropped never = absurd never

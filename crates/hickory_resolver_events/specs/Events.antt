@@ -10,11 +10,12 @@ use Rattle.hickory_proto_core.specs.names.name_error.NameError.{NameError}
 use Rattle.hickory_proto_core.specs.names.name_error.NameError.TheVariants as name_fault
 use Rattle.hickory_proto_core.specs.declared.recorded.Exchange.{Exchange}
 use Rattle.hickory_proto_core.specs.declared.net_error.NetError.TheVariants.{OutOfMemory}
+use Rattle.hickory_resolver_model.specs.Resuming.{Waits, IsDone}
 use Rattle.hickory_resolver_model.specs.Cache.{CacheValue}
 use Rattle.hickory_resolver_model.specs.Hosts.{Host}
 use Rattle.hickory_resolver_model.specs.Resolver.{ResolverValue, settings}
 use Rattle.hickory_resolver_model.specs.Run.{Settings, Call, name_call, address_call}
-use Rattle.hickory_resolver_theorems.specs.ResumingCalls.{CallProgressValue, CallWaits, CallIsDone}
+use Rattle.hickory_resolver_theorems.specs.ResumingCalls.{CallProgressValue}
 use Rattle.hickory_resolver_theorems.specs.InterleavedCalls.{PendingCallValue, CallWorldValue, call_world_of, CallEventValue, CallStarted, CallFed, CallDropped, AllCleared, NameCleared, exchange_with, CallHappens, CallsHappen}
 use Rattle.hickory_resolver_theorems.specs.CallReplies.{IsPromisedCallReplyEvent}
 use Rattle.hickory_resolver.specs.Starting.{KeepsAllButCache}
@@ -25,17 +26,17 @@ use Rattle.hickory_resolver_events.specs.declared.events.EventReply.TheVariants.
 
 -- what is said of how far a call came: its result, or its question, where there is memory for a copy of it
 abbrev pub TellsProgress : CallProgressValue → EventReply → Type 0
-TellsProgress (CallWaits w) (Waits question) =
+TellsProgress (Waits w) (Waits question) =
     IfOk question (λ q. q ≡ w.lookup.hop.query) × IsOkUnless question OutOfMemory
-TellsProgress (CallIsDone result) (Done told) = told ≡ result
+TellsProgress (IsDone result) (Done told) = told ≡ result
 TellsProgress progress reply = ⊥
 
 -- ---- what is told of an event
 
 -- a call after a step, if it waits
 abbrev pub pending_after : Call → List Exchange → CallProgressValue → Option PendingCallValue
-pending_after call asks (CallWaits w) = Some (record { call = call; asks = asks; waiting = w })
-pending_after call asks (CallIsDone result) = None
+pending_after call asks (Waits w) = Some (record { call = call; asks = asks; waiting = w })
+pending_after call asks (IsDone result) = None
 
 -- a call is started, and has the next number
 pub record IsStarted

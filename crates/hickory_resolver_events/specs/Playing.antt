@@ -7,8 +7,9 @@ use Rattle.hickory_proto_core.specs.NameGiven.{IsReadAddress, IsReadName}
 use Rattle.hickory_proto_core.specs.names.name_error.NameError.{NameError}
 use Rattle.hickory_proto_core.specs.names.name_error.NameError.TheVariants as name_fault
 use Rattle.hickory_proto_core.specs.declared.net_error.NetError.TheVariants.{OutOfMemory}
+use Rattle.hickory_resolver_model.specs.Resuming.{Waits, IsDone}
 use Rattle.hickory_resolver_model.specs.Resolver.{ResolverValue, after_clear_lookup}
-use Rattle.hickory_resolver_theorems.specs.ResumingCalls.{WaitingCallValue, CallProgressValue, CallWaits, CallIsDone}
+use Rattle.hickory_resolver_theorems.specs.ResumingCalls.{WaitingCallValue, CallProgressValue}
 use Rattle.hickory_resolver_events.specs.Events.{TellsProgress}
 use Rattle.hickory_resolver.specs.Starting.{ResumesAt, StartsHost, StartsName}
 use Rattle.hickory_resolver_events.specs.declared.events.Event.{Event}
@@ -18,8 +19,8 @@ use Rattle.hickory_resolver_events.specs.declared.events.EventReply.TheVariants.
 
 -- a call that came so far, if it waits
 abbrev pub waiting_in : CallProgressValue → Option WaitingCallValue
-waiting_in (CallWaits w) = Some w
-waiting_in (CallIsDone result) = None
+waiting_in (Waits w) = Some w
+waiting_in (IsDone result) = None
 
 -- a call goes on with what came back, if it waits
 abbrev pub TakesOutcome : {H : Type 0} → Option WaitingCallValue → OutcomeValue → ResolverValue H → EventReply

@@ -1,7 +1,7 @@
 //! Events over one resolver: calls are started, go on and are dropped, in any order, and its cache is cleared.
 ghost use Rattle.std.specs.Prelude.{◌≡◌, ◌≤◌, ◌<◌, ◌+◌, ◌++◌, ◌∷◌, [], None, IfOk, OnErr, Option, get_or, set, length, vec_capacity, vec_len};
 ghost use Rattle.hickory_resolver_theorems.specs.ResumingCalls.{WaitingCallValue};
-ghost use Rattle.hickory_resolver.specs.CallProgress.{call_progress_of};
+ghost use Rattle.hickory_resolver.specs.Contexts.{progress_of};
 ghost use Rattle.hickory_resolver_events.specs.Events.{IsPlayed, TellsProgress};
 ghost use Rattle.hickory_resolver_events.specs.Playing.{Plays, Takes, TakesDrop, TakesOutcome, waiting_in};
 
@@ -126,8 +126,8 @@ fn take<H: DnsHandle, S: BuildHasher>(
 // Gives a call that was started the next number.
 fn begin(waiting: &mut Vec<Option<WaitingCall>>, progress: CallProgress) -> EventReply
     requires { vec_len waiting.old < vec_capacity waiting.old }
-    ensures tells { TellsProgress (call_progress_of progress) result }
-    ensures kept { waiting.new.items ≡ waiting.old.items ++ waiting_in (call_progress_of progress) ∷ [] }
+    ensures tells { TellsProgress (progress_of progress) result }
+    ensures kept { waiting.new.items ≡ waiting.old.items ++ waiting_in (progress_of progress) ∷ [] }
     ensures len { vec_len waiting.new ≡ vec_len waiting.old + 1 }
     ensures room { vec_capacity waiting.new ≡ vec_capacity waiting.old }
 {
@@ -197,8 +197,8 @@ fn abandon_in(place: &mut Option<WaitingCall>) -> EventReply
 // Keeps a call in an empty place if it waits, and says how far it came.
 fn keep(place: &mut Option<WaitingCall>, progress: CallProgress) -> EventReply
     requires { place.old ≡ None }
-    ensures tells { TellsProgress (call_progress_of progress) result }
-    ensures kept { place.new ≡ waiting_in (call_progress_of progress) }
+    ensures tells { TellsProgress (progress_of progress) result }
+    ensures kept { place.new ≡ waiting_in (progress_of progress) }
 {
     match progress {
         CallProgress::Waiting(call) => {

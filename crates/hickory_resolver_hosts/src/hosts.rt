@@ -2,7 +2,7 @@
 ghost use Rattle.std.specs.Prelude.{◌≡◌, ◌≢◌, ◌⊎◌, ◌==◌, [], find, length, option_and_then, None, Ok, IfOk, OnOk, OnErr, IsOkUnless};
 ghost use Rattle.hickory_proto_core.specs.Codes.{type_code};
 ghost use Rattle.hickory_proto_core.specs.codes.record_type.RecordType.TheVariants as type;
-ghost use Rattle.hickory_resolver_model.specs.Hosts.{family, insert_host, is_host, as_fqdn, pointer_lookup, IsStatic};
+ghost use Rattle.hickory_resolver_model.specs.Hosts.{family, insert_host, is_host, as_fqdn, pointer_lookup, HostsHave};
 ghost use Rattle.hickory_resolver_hosts.specs.HostsTable.{HasPointers};
 
 use crate::host::HostLookups;
@@ -89,7 +89,7 @@ impl<S: BuildHasher> Hosts<S> {
     /// in which they were first seen, for a day. The class is not looked at. For other types it has nothing, and takes
     /// no memory to say so.
     pub fn lookup_static_host(&self, query: &Query, now: u64) -> Result<Option<Lookup>, NetError>
-        ensures ok { IfOk result (IsStatic query.now now self.now) }
+        ensures ok { IfOk result (HostsHave query.now now self.now) }
         ensures other { type_code query.now.query_type ≢ type_code type.A
             → type_code query.now.query_type ≢ type_code type.AAAA
             → type_code query.now.query_type ≢ type_code type.PTR → result ≡ Ok None }

@@ -7,7 +7,7 @@ use Rattle.std.specs.List.{list_any}
 use Rattle.hickory_proto_core.specs.Name.{NameValue, name_eq}
 use Rattle.hickory_proto_core.specs.ResponseKind.{asks_for, is_empty}
 use Rattle.hickory_proto_core.specs.codes.record_type.RecordType.TheVariants as type
-use Rattle.hickory_proto_core.specs.Records.{RecordValue, DataValue, a_data, aaaa_data, cname_data, ns_data, ptr_data, soa_data, srv_data, mx_data, txt_data, unknown_data}
+use Rattle.hickory_proto_core.specs.Records.{RecordValue, DataValue, cname_data, srv_data}
 use Rattle.hickory_proto_core.specs.declared.query.Query.{Query}
 use Rattle.hickory_resolver_model.specs.Bounds.{day}
 

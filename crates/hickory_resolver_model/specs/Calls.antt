@@ -16,7 +16,7 @@ use Rattle.hickory_resolver_model.specs.Bounds.{day}
 use Rattle.hickory_resolver_model.specs.Cache.{CacheValue}
 use Rattle.hickory_resolver_model.specs.Lookup.{LookupValue, LookupResult, question_of, answers_for_day}
 use Rattle.hickory_resolver_model.specs.Hops.{LookupContext, RunsOutForAReply, IsReply}
-use Rattle.hickory_resolver_model.specs.Hosts.{Host, append, IsStatic}
+use Rattle.hickory_resolver_model.specs.Hosts.{Host, append, HostsHave}
 
 -- where a call starts, the cache aside: the moment, whether intermediate records are preserved, and the table
 -- of hosts
@@ -30,7 +30,7 @@ start_at s cache = record { cache = cache; now = s.now; preserve_intermediates =
 
 -- a question of a call is answered by the table of hosts, or by the client
 pub data Source : Type 0 where
-  Static : Source
+  Hosts : Source
   Client : Source
 
 pub record SubLookup : Type 0 where
@@ -45,7 +45,7 @@ pub record IsAnsweredByHosts
     : Type 0 where
   pub asks_hosts : with_hosts ≡ true
   pub found : LookupValue
-  pub has : IsStatic p.question s.now s.hosts (Some found)
+  pub has : HostsHave p.question s.now s.hosts (Some found)
   pub result_is : (p.result ≡ Ok found) ⊎ (p.result ≡ Err OutOfMemory)
   pub nothing_asked : p.asks ≡ []
   pub unchanged : after ≡ before
@@ -54,11 +54,11 @@ pub record IsAnsweredByHosts
 pub record IsAnsweredByClient
     (s : CallContext) (with_hosts : Bool) (before : CacheValue) (p : SubLookup) (after : CacheValue)
     : Type 0 where
-  pub not_static : (with_hosts ≡ false) ⊎ IsStatic p.question s.now s.hosts None
+  pub not_static : (with_hosts ≡ false) ⊎ HostsHave p.question s.now s.hosts None
   pub reply : IsReply (start_at s before) p.question p.asks p.result after
 
 abbrev pub IsAnsweredFrom : Source → CallContext → Bool → CacheValue → SubLookup → CacheValue → Type 0
-IsAnsweredFrom Static s with_hosts before p after = IsAnsweredByHosts s with_hosts before p after
+IsAnsweredFrom Hosts s with_hosts before p after = IsAnsweredByHosts s with_hosts before p after
 IsAnsweredFrom Client s with_hosts before p after = IsAnsweredByClient s with_hosts before p after
 
 -- how a question of a call is answered, over the cache that the part before left; the flag says whether the
@@ -78,10 +78,10 @@ IsAnsweredAlone s with_hosts before q p after =
     × (p.source ≡ Client → RunsOutForAReply (start_at s before) p.question p.asks p.result)
 
 -- which types are looked up for a name: one; both; or the second where the first has no answers
-pub data Plan : Type 0 where
-  One : RecordType → Plan
-  Both : RecordType → RecordType → Plan
-  Fallback : RecordType → RecordType → Plan
+pub data FamilyOrder : Type 0 where
+  One : RecordType → FamilyOrder
+  Both : RecordType → RecordType → FamilyOrder
+  Fallback : RecordType → RecordType → FamilyOrder
 
 abbrev pub has_answers : LookupResult → Bool
 has_answers (Ok l) = not (is_empty l.message.answers)
@@ -101,7 +101,7 @@ both_results (Err e) (Err f) = Err e
 
 -- The next type that is looked up for a name after these results; none where the attempt is over. Out of
 -- memory ends it.
-abbrev pub next_type : Plan → List LookupResult → Option RecordType
+abbrev pub next_type : FamilyOrder → List LookupResult → Option RecordType
 next_type (One t) [] = Some t
 next_type (One t) (r ∷ rs) = None
 next_type (Both t u) [] = Some t
@@ -113,7 +113,7 @@ next_type (Fallback t u) (r ∷ k ∷ rs) = None
 
 -- The result of an attempt that is over, by the results of its sub-look-ups: the last one's; where both types
 -- are wanted, both as one.
-abbrev pub attempt_result : Plan → List LookupResult → LookupResult
+abbrev pub attempt_result : FamilyOrder → List LookupResult → LookupResult
 attempt_result plan [] = Err OutOfMemory
 attempt_result plan (r ∷ []) = r
 attempt_result (One t) (r ∷ k ∷ rs) = k
@@ -127,23 +127,23 @@ are_answers (Ok l) (Err e) = false
 are_answers (Err e) k = false
 
 -- whether two results are made one, which may find no memory: only where both are answers
-abbrev pub joins_results : Plan → List LookupResult → Bool
+abbrev pub joins_results : FamilyOrder → List LookupResult → Bool
 joins_results (Both t u) (r ∷ k ∷ rs) = are_answers r k
 joins_results plan results = false
 
 -- memory is taken for the question of each sub-look-up, and to make two answers one
-abbrev pub takes_memory : Plan → List LookupResult → Bool
+abbrev pub takes_memory : FamilyOrder → List LookupResult → Bool
 takes_memory plan results = is_some (next_type plan results) || joins_results plan results
 
 -- what an attempt comes to: the results of its sub-look-ups as one; or memory runs out, where it is taken
-abbrev pub IsAttemptResult : Plan → List LookupResult → LookupResult → Type 0
+abbrev pub IsAttemptResult : FamilyOrder → List LookupResult → LookupResult → Type 0
 IsAttemptResult plan results result =
     ((next_type plan results ≡ None) × (result ≡ attempt_result plan results))
     ⊎ ((takes_memory plan results ≡ true) × (result ≡ Err OutOfMemory))
 
 -- The sub-look-ups of an attempt at a name, each over the cache that the one before it left, after those with
 -- these results.
-abbrev pub AreSubLookups : SubLookupRelation → Bool → NameValue → Plan → CacheValue → List LookupResult
+abbrev pub AreSubLookups : SubLookupRelation → Bool → NameValue → FamilyOrder → CacheValue → List LookupResult
     → List SubLookup → CacheValue → Type 0
 AreSubLookups Answers with_hosts n plan before results [] after = after ≡ before
 AreSubLookups Answers with_hosts n plan before results (p ∷ ps) after =
@@ -157,7 +157,7 @@ results_of parts = map (λ p. p.result) parts
 -- An attempt at a name: its sub-look-ups, what it comes to by theirs, and the cache after it. Where memory ran
 -- out before a sub-look-up, nothing was asked for that one, and it is none of them.
 pub record IsAttempt
-    (Answers : SubLookupRelation) (with_hosts : Bool) (before : CacheValue) (n : NameValue) (plan : Plan)
+    (Answers : SubLookupRelation) (with_hosts : Bool) (before : CacheValue) (n : NameValue) (plan : FamilyOrder)
     (parts : List SubLookup) (result : LookupResult) (after : CacheValue)
     : Type 0 where
   pub are : AreSubLookups Answers with_hosts n plan before [] parts after
@@ -176,7 +176,7 @@ IsLastReply (Some literal) IsLast result = (result ≡ Ok literal) ⊎ (result �
 -- name or for the first alone, the literal address that stands in where no attempt has answers, and what is
 -- said where there is no name.
 pub record CallPlan : Type 0 where
-  pub types : Plan
+  pub types : FamilyOrder
   pub hosts_for_all : Bool
   pub literal : Option LookupValue
   pub no_names : List ℕ

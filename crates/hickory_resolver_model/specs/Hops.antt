@@ -18,7 +18,7 @@ use Rattle.hickory_resolver_model.specs.Cache.{CacheValue, Entry, last_moment, s
 use Rattle.hickory_resolver_model.specs.Lookup.{LookupResult, hit_lookup, found_lookup, response_to}
 use Rattle.hickory_resolver_model.specs.SpecialUse.{special_use_result}
 use Rattle.hickory_resolver_model.specs.AliasWalk.{walk_of}
-use Rattle.hickory_resolver_model.specs.Verdict.{Hop, first_hop, Verdict, Accepted, Alias, NoMatch, verdict}
+use Rattle.hickory_resolver_model.specs.Verdict.{Hop, first_hop, Verdict, Accepted, LeadsTo, NoMatch, verdict}
 
 -- where a look-up starts: the cache before it, the moment, and whether intermediate records are preserved
 pub record LookupContext : Type 0 where
@@ -44,7 +44,7 @@ verdict_on s hop other = None
 pub record IsAliasHop (s : LookupContext) (hop : Hop) (x : Exchange) (next : Hop) : Type 0 where
   pub upstream : GoesUpstream s hop.query
   pub asked : x.query ≡ hop.query
-  pub alias : verdict_on s hop (kind_of x.outcome) ≡ Some (Alias next)
+  pub alias : verdict_on s hop (kind_of x.outcome) ≡ Some (LeadsTo next)
 
 -- These exchanges lead by aliases from a hop to another; for each there is the cache that its hop read. The first target
 -- of a service's SRV records counts as an alias where no CNAME counted
@@ -67,7 +67,7 @@ IsChainEnd s count hop (Hit entry) =
     (special_use_result hop.query s.now ≡ None) × (current hop.query s.now s.cache.entries ≡ Some entry)
 IsChainEnd s count hop (Asked outcome) =
     GoesUpstream s hop.query
-    × ((next : Hop) → verdict_on s hop (kind_of outcome) ≡ Some (Alias next) → count ≡ 7)
+    × ((next : Hop) → verdict_on s hop (kind_of outcome) ≡ Some (LeadsTo next) → count ≡ 7)
 
 -- ---- what a hop comes to that was asked, and what is stored under its question
 --
@@ -100,7 +100,7 @@ hit_result q now (Err e) = Err e
 -- the result of a last hop that was asked. An alias too many comes to no records
 abbrev pub result_of_verdict : ConfigValue → Query → ℕ → MessageValue → Verdict → LookupResult
 result_of_verdict config q now response (Accepted m) = Ok (found_lookup config q m now)
-result_of_verdict config q now response (Alias next) = Err (no_match q response)
+result_of_verdict config q now response (LeadsTo next) = Err (no_match q response)
 result_of_verdict config q now response NoMatch = Err (no_match q response)
 
 abbrev pub result_when_asked : LookupContext → Hop → ResponseKind → LookupResult
@@ -191,8 +191,8 @@ pub record Store : Type 0 where
   pub limit : ℕ
 
 -- the entry that a store makes, if it makes one
-abbrev pub made_entry : ConfigValue → Store → Option Entry
-made_entry config s = option_map (not_after s.limit) (entry_of config s.query s.outcome s.now)
+abbrev pub entry_of_store : ConfigValue → Store → Option Entry
+entry_of_store config s = option_map (not_after s.limit) (entry_of config s.query s.outcome s.now)
 
 abbrev pub store_of : Query → OutcomeValue → ℕ → ℕ → Store
 store_of q outcome now limit = record { query = q; outcome = outcome; now = now; limit = limit }
@@ -201,7 +201,7 @@ store_of q outcome now limit = record { query = q; outcome = outcome; now = now;
 -- walked, so that no CNAME limits a negative answer there
 abbrev pub stores_of_verdict : Query → ℕ → ℕ → Verdict → List Store
 stores_of_verdict q now limit (Accepted m) = store_of q (Ok m) now limit ∷ []
-stores_of_verdict q now limit (Alias next) = []
+stores_of_verdict q now limit (LeadsTo next) = []
 stores_of_verdict q now limit NoMatch = []
 
 abbrev pub stores_when_asked : LookupContext → Hop → ResponseKind → List Store

@@ -173,7 +173,7 @@ static_answer address q now hosts =
     else None)
 
 -- only a question for PTR records asks which address its name stands for
-abbrev pub IsStatic : Query → ℕ → List Host → Option LookupValue → Type 0
-IsStatic q now hosts result =
+abbrev pub HostsHave : Query → ℕ → List Host → Option LookupValue → Type 0
+HostsHave q now hosts result =
     (address : Option DataValue) × (IsTrue (asks_for type.PTR q) → StandsFor (as_fqdn q.name) address)
     × (result ≡ static_answer address q now hosts)

@@ -9,7 +9,7 @@ use Rattle.hickory_proto_core.specs.declared.net_error.NetError.{NetError}
 use Rattle.hickory_proto_core.specs.declared.net_error.NetError.TheVariants.{OutOfMemory}
 use Rattle.hickory_resolver_model.specs.Cache.{CacheValue}
 use Rattle.hickory_resolver_model.specs.Lookup.{LookupResult}
-use Rattle.hickory_resolver_model.specs.Verdict.{Hop, first_hop, Alias}
+use Rattle.hickory_resolver_model.specs.Verdict.{Hop, first_hop, LeadsTo}
 use Rattle.hickory_resolver_model.specs.Hops.{IsBeginning, LookupContext, GoesUpstream, ChainEnd, Special, Hit, Asked, IsChainEnd, verdict_on, is_asked, PassedValue, passed_by, stores_of, reply_of, after_stores}
 
 -- ---- one step: a look-up is started, or goes on with what came back
@@ -21,10 +21,13 @@ pub record WaitingValue : Type 0 where
   pub passed : List PassedValue
   pub hop : Hop
 
--- how far a look-up came: it waits, or it is done
-pub data ProgressValue : Type 0 where
-  Waits : WaitingValue → ProgressValue
-  IsDone : LookupResult → ProgressValue
+-- how far a look-up or a call came: it waits, as this says, or it is done
+pub data Progress (W : Type 0) : Type 0 where
+  Waits : W → Progress W
+  IsDone : LookupResult → Progress W
+
+abbrev pub ProgressValue : Type 0
+ProgressValue = Progress WaitingValue
 
 -- something is made of how it ends, and that takes memory: all but a failure, which is given as it is
 abbrev pub TakesMemory : ChainEnd → Type 0
@@ -57,7 +60,7 @@ pub record FollowsAlias
     (s : LookupContext) (w : WaitingValue) (outcome : OutcomeValue) (progress : ProgressValue) (after : CacheValue)
     : Type 0 where
   pub next : Hop
-  pub alias : verdict_on s w.hop (kind_of outcome) ≡ Some (Alias next)
+  pub alias : verdict_on s w.hop (kind_of outcome) ≡ Some (LeadsTo next)
   pub early : length w.passed < 7
   pub goes_on : ComesTo s (w.passed ++ passed_by s w.hop.query outcome ∷ []) next progress after
       ⊎ ((progress ≡ IsDone (Err OutOfMemory)) × (after ≡ s.cache))
@@ -68,7 +71,7 @@ pub record IsEndedBy
     : Type 0 where
   pub result : LookupResult
   pub progress_is : progress ≡ IsDone result
-  pub no_alias : (next : Hop) → verdict_on s w.hop (kind_of outcome) ≡ Some (Alias next) → length w.passed ≡ 7
+  pub no_alias : (next : Hop) → verdict_on s w.hop (kind_of outcome) ≡ Some (LeadsTo next) → length w.passed ≡ 7
   pub ends : EndsAs s w.passed w.hop (Asked outcome) result after
 
 -- a look-up that waits goes on with what came back to its question

@@ -23,16 +23,16 @@ use Rattle.hickory_resolver_model.specs.Lookup.{LookupValue, LookupResult, quest
 use Rattle.hickory_resolver_model.specs.Hosts.{Host}
 use Rattle.hickory_resolver_model.specs.Attempts.{Search, attempts}
 use Rattle.hickory_resolver_model.specs.Options.{search_of, bounds_of, request_options_of}
-use Rattle.hickory_resolver_model.specs.Calls.{CallContext, Plan, One, Both, Fallback, SubLookup, SubLookupRelation, IsAnsweredFor, CallPlan, Says, AreAttempts, no_name, literal_at_once, literal_at_last, asks_of_sub_lookups, is_out_of_memory}
+use Rattle.hickory_resolver_model.specs.Calls.{CallContext, FamilyOrder, One, Both, Fallback, SubLookup, SubLookupRelation, IsAnsweredFor, CallPlan, Says, AreAttempts, no_name, literal_at_once, literal_at_last, asks_of_sub_lookups, is_out_of_memory}
 
 -- which addresses a look-up of addresses asks for
-abbrev pub plan_of : LookupIpStrategy → Plan
-plan_of Ipv4Only = One type.A
-plan_of Ipv6Only = One type.AAAA
-plan_of Ipv4AndIpv6 = Both type.A type.AAAA
-plan_of Ipv6AndIpv4 = Both type.AAAA type.A
-plan_of Ipv6thenIpv4 = Fallback type.AAAA type.A
-plan_of Ipv4thenIpv6 = Fallback type.A type.AAAA
+abbrev pub family_order : LookupIpStrategy → FamilyOrder
+family_order Ipv4Only = One type.A
+family_order Ipv6Only = One type.AAAA
+family_order Ipv4AndIpv6 = Both type.A type.AAAA
+family_order Ipv6AndIpv4 = Both type.AAAA type.A
+family_order Ipv6thenIpv4 = Fallback type.AAAA type.A
+family_order Ipv4thenIpv6 = Fallback type.A type.AAAA
 
 -- what stays the same in a run: how names are attempted, which addresses are asked for, whether intermediate
 -- records are preserved, how many entries the cache has room for and the bounds on times to live, how each
@@ -122,7 +122,7 @@ name_call t (Err fault) = AtOnce (Err (net_error_of fault))
 -- the attempts of a look-up of addresses: the hosts are looked at for every name
 abbrev pub address_plan : LookupIpStrategy → Option LookupValue → CallPlan
 address_plan strategy literal = record {
-  types = plan_of strategy;
+  types = family_order strategy;
   hosts_for_all = true;
   literal = literal;
   no_names = codes "can not lookup IPs for no names";
@@ -240,7 +240,7 @@ pub record Run
 
 -- A run over a handle: the exchanges led the handle, each with the options of the settings, and the replies
 -- and the cache are those of a run from a new resolver's cache.
-pub record IsRun
+pub record LedRun
     {H : Type 0} (step : HandleStep H) (s : Settings) (handle : H) (requests : List RequestValue)
     (steps : List StepValue) (exchanges : List Exchange) (handle_after : H) (cache_after : CacheValue)
     : Type 0 where

@@ -24,7 +24,7 @@ first_hop q = record { query = q; preserved = [] }
 -- for
 pub data Verdict : Type 0 where
   Accepted : MessageValue → Verdict
-  Alias : Hop → Verdict
+  LeadsTo : Hop → Verdict
   NoMatch : Verdict
 
 abbrev pub has_class : Query → RecordValue → Bool
@@ -99,7 +99,7 @@ next_hop keep hop walk m = record {
 abbrev pub walk_verdict : Bool → Hop → Walk → MessageValue → Verdict
 walk_verdict keep hop walk m =
     if is_accepted hop walk m then Accepted (found_message keep hop walk m)
-    else (if is_empty walk.places then NoMatch else Alias (next_hop keep hop walk m))
+    else (if is_empty walk.places then NoMatch else LeadsTo (next_hop keep hop walk m))
 
 -- the verdict on a response to a hop; `keep` says whether intermediate records are wanted
 abbrev pub verdict : Bool → Hop → MessageValue → Verdict

@@ -14,12 +14,12 @@ use Rattle.hickory_resolver_model.specs.Bounds.{ConfigValue, bounds_for, positiv
 use Rattle.hickory_resolver_model.specs.Cache.{CacheValue, Entry, last_moment, entry_of, not_after}
 use Rattle.hickory_resolver_model.specs.Lookup.{LookupValue, LookupResult}
 use Rattle.hickory_resolver_model.specs.AliasWalk.{walk_of}
-use Rattle.hickory_resolver_model.specs.Verdict.{Hop, Verdict, Accepted, Alias, NoMatch, verdict}
+use Rattle.hickory_resolver_model.specs.Verdict.{Hop, Verdict, Accepted, LeadsTo, NoMatch, verdict}
 use Rattle.hickory_resolver_model.specs.Hops.{LookupContext, ChainEnd, Special, Hit, Asked, Store, IsReplyOver, one_cache, passed_of, asks_of, earliest, alias_deadline, alias_limit, end_limit, limit_of, result_of, result_until, reply_of, last_stores, earlier_store, earlier_stores, stores_of, stores_when_asked, stores_of_verdict}
-use Rattle.hickory_resolver_model.specs.Calls.{CallContext, start_at, Source, Static, Client, SubLookup, IsAnsweredFrom, IsAnsweredFor}
+use Rattle.hickory_resolver_model.specs.Calls.{CallContext, start_at, Source, Hosts, Client, SubLookup, IsAnsweredFrom, IsAnsweredFor}
 use Rattle.hickory_resolver_model.specs.Run.{Settings, call_context_at, RequestValue, StepValue, answers_at, Run}
 use Rattle.hickory_resolver_theorems.specs.Statements.{LeastTtlIsZero}
-use Rattle.hickory_resolver_theorems.specs.Aliases.{counted_in, IsWithinAlias, OutlivesNoAlias, StoreOutlivesNoAlias, StoresOutliveNoAlias, NoAliasOutlives, IsLimitedBy, LimitedSubLookup, RunOutlivesNoAlias}
+use Rattle.hickory_resolver_theorems.specs.Aliases.{counted_in, IsWithinAlias, OutlivesNoAlias, StoreOutlivesNoAlias, StoresOutliveNoAlias, NoAliasOutlives, OutlivesNoAliasBy, SubLookupOutlivesNoAlias, RunOutlivesNoAlias}
 use Rattle.hickory_resolver_theorems.proofs.Weaker.{stages-weaker}
 
 module _ (s : LookupContext) (zero : LeastTtlIsZero s.cache.config (type_code type.CNAME)) where
@@ -75,7 +75,7 @@ module _ (s : LookupContext) (zero : LeastTtlIsZero s.cache.config (type_code ty
 
       on : (v : Verdict) → StoresOutliveNoAlias s [] hop last (stores_of_verdict hop.query s.now limit v)
       on (Accepted found) = (refl, cut (OutlivesNoAlias s (asks_of hop last) last) limit (entry_of config hop.query (Ok found) s.now) below)
-      on (Alias next) = tt
+      on (LeadsTo next) = tt
       on NoMatch = tt
   kind-limited hop last (Negative none) below = (refl, cut (OutlivesNoAlias s (asks_of hop last) last) last_moment (entry_of config hop.query (Err (Dns (NoRecordsFound none))) s.now) below)
   kind-limited hop last (Failed error) below = tt
@@ -133,13 +133,13 @@ no_alias_outlives s caches question asks result after (inr (out, inr cut)) = tt
 
 -- ---- a call, and a run
 
-pub part_limited : (t : CallContext) (with_hosts : Bool) (before : CacheValue) (q : Query) (p : SubLookup) (after : CacheValue) → IsAnsweredFor t with_hosts before q p after → LimitedSubLookup t with_hosts before q p after
+pub part_limited : (t : CallContext) (with_hosts : Bool) (before : CacheValue) (q : Query) (p : SubLookup) (after : CacheValue) → IsAnsweredFor t with_hosts before q p after → SubLookupOutlivesNoAlias t with_hosts before q p after
 part_limited t with_hosts before q p after (for, is) = (for, by p.source is)
   where
-    by : (source : Source) → IsAnsweredFrom source t with_hosts before p after → IsLimitedBy source t with_hosts before p after
-    by Static is = is
+    by : (source : Source) → IsAnsweredFrom source t with_hosts before p after → OutlivesNoAliasBy source t with_hosts before p after
+    by Hosts is = is
     by Client is = (is, no_alias_outlives (start_at t before) (one_cache (start_at t before) p.asks) p.question p.asks p.result after is.reply)
 
 pub run_limited : (s : Settings) (first : CacheValue) (requests : List RequestValue) (steps : List StepValue) (exchanges : List Exchange) (after : CacheValue) → (run : Run s first requests steps exchanges after) → RunOutlivesNoAlias s first requests steps exchanges after run
 run_limited s first requests steps exchanges after run =
-    stages-weaker (answers_at s) (λ now. LimitedSubLookup (call_context_at s now)) (λ now with_hosts before q p end is. part_limited (call_context_at s now) with_hosts before q p end is) s first requests run.stages after run.are
+    stages-weaker (answers_at s) (λ now. SubLookupOutlivesNoAlias (call_context_at s now)) (λ now with_hosts before q p end is. part_limited (call_context_at s now) with_hosts before q p end is) s first requests run.stages after run.are

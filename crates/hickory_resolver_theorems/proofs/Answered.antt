@@ -14,7 +14,7 @@ use Rattle.hickory_resolver_model.specs.Bounds.{ConfigValue, greatest_ttl}
 use Rattle.hickory_resolver_model.specs.Cache.{CacheValue}
 use Rattle.hickory_resolver_model.specs.Lookup.{LookupValue, LookupResult}
 use Rattle.hickory_resolver_model.specs.Hosts.{append}
-use Rattle.hickory_resolver_model.specs.Calls.{SubLookup, SubLookupRelation, Plan, One, Both, Fallback, has_answers, is_out_of_memory, both_results, next_type, attempt_result, IsAttemptResult, AreSubLookups, results_of, IsAttempt, stops, CallPlan, IsLastReply, Says, AreAttempts, no_name, literal_at_once, literal_at_last}
+use Rattle.hickory_resolver_model.specs.Calls.{SubLookup, SubLookupRelation, FamilyOrder, One, Both, Fallback, has_answers, is_out_of_memory, both_results, next_type, attempt_result, IsAttemptResult, AreSubLookups, results_of, IsAttempt, stops, CallPlan, IsLastReply, Says, AreAttempts, no_name, literal_at_once, literal_at_last}
 use Rattle.hickory_resolver_model.specs.Attempts.{attempts}
 use Rattle.hickory_resolver_model.specs.Run.{Settings, RequestValue, Lookup, LookupIp, ClearLookup, Clear, StepReply, LookedUp, LookedUpIp, Cleared, address_plan, Call, AtOnce, Attempt, name_call, address_call, IsCall, IsServed, Stage}
 use Rattle.hickory_resolver_theorems.specs.Covered.{Dated, IsCovered, IsLoopback}
@@ -74,7 +74,7 @@ given-both ps (Err e) (Err f) given too = tt
 
 -- ---- an attempt
 
-given-attempt : (plan : Plan) (ps : List SubLookup) → AreGiven ps (attempt_result plan (results_of ps))
+given-attempt : (plan : FamilyOrder) (ps : List SubLookup) → AreGiven ps (attempt_result plan (results_of ps))
 given-attempt plan [] = tt
 given-attempt plan (p ∷ []) = given-own (p ∷ []) p (inl refl)
 given-attempt (One t) (p ∷ q ∷ qs) = given-own (p ∷ q ∷ qs) q (inr (inl refl))
@@ -88,7 +88,7 @@ given-attempt (Both t u) (p ∷ q ∷ qs) = by (is_out_of_memory q.result)
     by true = second
     by false = given-both (p ∷ q ∷ qs) p.result q.result (given-own (p ∷ q ∷ qs) p (inl refl)) second
 
-given-result : (plan : Plan) (ps : List SubLookup) (r : LookupResult) → IsAttemptResult plan (results_of ps) r → AreGiven ps r
+given-result : (plan : FamilyOrder) (ps : List SubLookup) (r : LookupResult) → IsAttemptResult plan (results_of ps) r → AreGiven ps r
 given-result plan ps r (inl (over, e)) = subst (AreGiven ps) (sym e) (given-attempt plan ps)
 given-result plan ps r (inr (takes, e)) = subst (AreGiven ps) (sym e) tt
 
@@ -144,7 +144,7 @@ fallback-none t u v r on = by (has_answers r) refl on
     by false e k = e
 
 -- the sub-look-ups of an attempt that is not out of memory are each to be used as long as its result
-usable-attempt : (Answers : SubLookupRelation) (with_hosts : Bool) (n : NameValue) (plan : Plan) (deadline : ℕ) (before : CacheValue) (ps : List SubLookup) (after : CacheValue) → AreSubLookups Answers with_hosts n plan before [] ps after
+usable-attempt : (Answers : SubLookupRelation) (with_hosts : Bool) (n : NameValue) (plan : FamilyOrder) (deadline : ℕ) (before : CacheValue) (ps : List SubLookup) (after : CacheValue) → AreSubLookups Answers with_hosts n plan before [] ps after
     → is_out_of_memory (attempt_result plan (results_of ps)) ≡ false → IsUsable deadline (attempt_result plan (results_of ps)) → AreUsable deadline ps
 usable-attempt Answers with_hosts n plan deadline before [] after are live usable = tt
 usable-attempt Answers with_hosts n plan deadline before (p ∷ []) after are live usable = (usable, tt)
@@ -157,7 +157,7 @@ usable-attempt Answers with_hosts n (Both t u) deadline before (p ∷ q ∷ []) 
 usable-attempt Answers with_hosts n (Fallback t u) deadline before (p ∷ q ∷ x ∷ xs) after (a, b, next, is, (v, m, on, second, (w, k, more, third, rest))) live usable = absurd (let clash : None ≡ Some w = more in cc)
 usable-attempt Answers with_hosts n (Both t u) deadline before (p ∷ q ∷ x ∷ xs) after (a, b, next, is, (v, m, on, second, (w, k, more, third, rest))) live usable = absurd (let clash : None ≡ Some w = more in cc)
 
-usable-result : (Answers : SubLookupRelation) (with_hosts : Bool) (before : CacheValue) (n : NameValue) (plan : Plan) (ps : List SubLookup) (r : LookupResult) (after : CacheValue) (deadline : ℕ) → IsAttempt Answers with_hosts before n plan ps r after
+usable-result : (Answers : SubLookupRelation) (with_hosts : Bool) (before : CacheValue) (n : NameValue) (plan : FamilyOrder) (ps : List SubLookup) (r : LookupResult) (after : CacheValue) (deadline : ℕ) → IsAttempt Answers with_hosts before n plan ps r after
     → is_out_of_memory r ≡ false → IsUsable deadline r → AreUsable deadline ps
 usable-result Answers with_hosts before n plan ps r after deadline attempt live usable = by attempt.result_is
   where

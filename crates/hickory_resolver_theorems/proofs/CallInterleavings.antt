@@ -11,7 +11,7 @@ use Rattle.hickory_resolver_model.specs.Attempts.{attempts}
 use Rattle.hickory_resolver_model.specs.Cache.{CacheValue, without_query}
 use Rattle.hickory_resolver_model.specs.Lookup.{LookupResult, question_of}
 use Rattle.hickory_resolver_model.specs.Hops.{LookupContext}
-use Rattle.hickory_resolver_model.specs.Hosts.{Host, IsStatic}
+use Rattle.hickory_resolver_model.specs.Hosts.{Host, HostsHave}
 use Rattle.hickory_resolver_model.specs.Calls.{CallContext, start_at, SubLookup, SubLookupRelation, next_type, CallPlan, Says, AreAttempts, asks_of_sub_lookups}
 use Rattle.hickory_resolver_model.specs.Resuming.{WaitingValue, ProgressValue, Waits, IsDone, Resumes}
 use Rattle.hickory_resolver_model.specs.Run.{Settings, Call, AtOnce, Attempt, IsCall, drop_each}
@@ -19,7 +19,7 @@ use Rattle.hickory_resolver_theorems.proofs.SentAlone.{IsRestOfCall, LeadsToWhol
 use Rattle.hickory_resolver_theorems.specs.Covered.{Dated, dated_exchanges}
 use Rattle.hickory_resolver_theorems.specs.Interleaved.{PendingValue, DoneValue, WorldValue, world_of, EventValue, Started, Fed, Dropped, ClearedOfAll, ClearedOf, asks_with, caches_with, Happens, Happen, ended_by, received_by, ended_in, received_in}
 use Rattle.hickory_resolver_theorems.specs.InterleavedCalls.{PendingCallValue, DoneCallValue, CallWorldValue, call_world_of, call_context_over, CallEventValue, CallStarted, CallFed, CallDropped, AllCleared, NameCleared, HostsReplaced, exchange_with, call_pending, call_done, placed, CallHappens, CallsHappen, calls_ended_by, calls_received_by, calls_received_in, tables_by, tables_in, IsQuestionOf, last_table, StoodSince, IsStartedIn, IsAskedIn, IsPromisedAmong, InterleavedSubLookup, IsPromisedCallEnd, IsPromisedCallEndSince, IsPromisedCallInterleaving}
-use Rattle.hickory_resolver_theorems.specs.ResumingCalls.{AttemptValue, WaitingCallValue, CallProgressValue, CallWaits, CallIsDone, with_result, at_next, FindsStatic, StartsSub, GoesOn, by_hosts, waits, at_once, stopped, next_name, no_name, StartsNames, StartsCall, RunsOutAtStart, GoesOnAfter}
+use Rattle.hickory_resolver_theorems.specs.ResumingCalls.{AttemptValue, WaitingCallValue, CallProgressValue, with_result, at_next, FindsInHosts, StartsSub, Continues, by_hosts, waits, at_once, stopped, next_name, no_name, StartsNames, StartsCall, RunsOutAtStart, ContinuesAfter}
 use Rattle.hickory_resolver_theorems.proofs.Fronts.{IsFront, front-self, front-more, front-trans, contains-front}
 use Rattle.hickory_resolver_theorems.proofs.Interleavings.{interleaved}
 use Rattle.hickory_resolver_theorems.proofs.Lists.{ContainsByRecursion, all-weaker, all-append, all-front, all-back, contains-from_recursion, contains-to_recursion, has-right}
@@ -99,7 +99,7 @@ module _ (s : Settings) (empty : CacheValue) (none : empty.entries ≡ []) (open
     asked_type : RecordType
     next : next_type c.waiting.attempt.plan.types c.waiting.attempt.results ≡ Some asked_type
     question_is : p.question ≡ question_of c.waiting.attempt.name asked_type
-    not_static : (c.waiting.attempt.with_hosts ≡ false) ⊎ IsStatic (question_of c.waiting.attempt.name asked_type) c.waiting.lookup.now hosts None
+    not_static : (c.waiting.attempt.with_hosts ≡ false) ⊎ HostsHave (question_of c.waiting.attempt.name asked_type) c.waiting.lookup.now hosts None
     done : List SubLookup
     asks_are : c.asks ≡ asks_of_sub_lookups done ++ p.asks
     leads : Leads tables lookups c.call c.waiting.lookup.now done c.waiting.attempt
@@ -231,14 +231,14 @@ module _ (s : Settings) (empty : CacheValue) (none : empty.entries ≡ []) (open
     abbrev ctx : CallContext
     ctx = call_context_over s now hosts
 
-    leads-found : (lookups : List EventValue) (done : List SubLookup) (a : AttemptValue) (t : RecordType) (result : LookupResult) → FindsStatic ctx a t result → Leads tables lookups call now done a → Leads tables lookups call now (done ++ static a t result ∷ []) (with_result a result)
+    leads-found : (lookups : List EventValue) (done : List SubLookup) (a : AttemptValue) (t : RecordType) (result : LookupResult) → FindsInHosts ctx a t result → Leads tables lookups call now done a → Leads tables lookups call now (done ++ static a t result ∷ []) (with_result a result)
     leads-found lookups done a t result f leads T L h k =
         more_done (Answers T L now) (IsCall (Answers T L now) s empty call) done a t empty empty (static a t result) f.next
         (refl, (hosts, contains-front tables T hosts stood h, record { asks_hosts = f.with_hosts; found = f.found; has = f.has; result_is = f.result_is; nothing_asked = refl; unchanged = refl }))
         (leads T L h k)
 
     -- a look-up of the client ended
-    leads-ended : (lookups more : List EventValue) (done : List SubLookup) (a : AttemptValue) (t : RecordType) (d : DoneValue) → next_type a.plan.types a.results ≡ Some t → ((a.with_hosts ≡ false) ⊎ IsStatic (question_of a.name t) now hosts None) → d.question ≡ question_of a.name t → d.now ≡ now
+    leads-ended : (lookups more : List EventValue) (done : List SubLookup) (a : AttemptValue) (t : RecordType) (d : DoneValue) → next_type a.plan.types a.results ≡ Some t → ((a.with_hosts ≡ false) ⊎ HostsHave (question_of a.name t) now hosts None) → d.question ≡ question_of a.name t → d.now ≡ now
         → IsFront lookups more → IsPromisedAmong preserve empty more d → Leads tables lookups call now done a → Leads tables more call now (done ++ by_client a t d.asks d.result ∷ []) (with_result a d.result)
     leads-ended lookups more done a t d next not_static question_is now_is g among leads T L h k =
         more_done (Answers T L now) (IsCall (Answers T L now) s empty call) done a t empty empty (by_client a t d.asks d.result) next (
@@ -275,7 +275,7 @@ module _ (s : Settings) (empty : CacheValue) (none : empty.entries ≡ []) (open
 
     -- it is done, and nothing more was looked up
     gone-done : (lookups : List EventValue) (parts : List SubLookup) (result : LookupResult) (after : CacheValue) (ps : List PendingValue) → Happen preserve (world_of empty) lookups (record { cache = after; pending = ps }) → IsPromisedCallEnd s empty tables lookups (record { call = call; now = now; asks = asks_of_sub_lookups parts; result = result })
-        → Gone lookups (asks_of_sub_lookups parts) (CallIsDone result) after ps
+        → Gone lookups (asks_of_sub_lookups parts) (IsDone result) after ps
     gone-done lookups parts result after ps happened is =
         let Q : List EventValue → List PendingValue → Type 0 = λ ls qs. Happen preserve (world_of empty) ls (record { cache = after; pending = qs }) in
         record {
@@ -290,7 +290,7 @@ module _ (s : Settings) (empty : CacheValue) (none : empty.entries ≡ []) (open
         }
 
     gone-over : (lookups : List EventValue) (done : List SubLookup) (a : AttemptValue) (result : LookupResult) (after : CacheValue) (ps : List PendingValue) → Happen preserve (world_of empty) lookups (record { cache = after; pending = ps }) → Leads tables lookups call now done a → IsRestOfCall (Answers tables lookups now) a empty [] result empty
-        → Gone lookups (asks_of_sub_lookups done) (CallIsDone result) after ps
+        → Gone lookups (asks_of_sub_lookups done) (IsDone result) after ps
     gone-over lookups done a result after ps happened leads rest =
         let whole = leads tables lookups (front-self tables) (front-self lookups) [] result empty rest in
         gone-done lookups done result after ps happened
@@ -316,7 +316,7 @@ module _ (s : Settings) (empty : CacheValue) (none : empty.entries ≡ []) (open
         subst (λ xs. Gone lookups xs progress after ps) (asks-append done p ∙ ap (λ xs. asks_of_sub_lookups done ++ xs) unasked ∙ append-nil (asks_of_sub_lookups done)) g
 
     gone-waits : (lookups : List EventValue) (done : List SubLookup) (a : AttemptValue) (t : RecordType) (w : WaitingValue) (before after : CacheValue) (ps : List PendingValue) → Happen preserve (world_of empty) lookups (record { cache = before; pending = ps }) → Leads tables lookups call now done a → Within call a → StartsSub ctx a t before (Waits w) after
-        → Gone lookups (asks_of_sub_lookups done) (CallWaits (record { attempt = a; lookup = w })) after ps
+        → Gone lookups (asks_of_sub_lookups done) (Waits (record { attempt = a; lookup = w })) after ps
     gone-waits lookups done a t w before after ps happened leads within started =
         let q = question_of a.name t in
         let p : PendingValue = record { question = q; asks = []; caches = []; cache = before; waiting = w } in
@@ -335,7 +335,7 @@ module _ (s : Settings) (empty : CacheValue) (none : empty.entries ≡ []) (open
               asked_type = t;
               next = started.next;
               question_is = refl;
-              not_static = subst (λ n. (a.with_hosts ≡ false) ⊎ IsStatic q n hosts None) (sym now_is) started.not_static;
+              not_static = subst (λ n. (a.with_hosts ≡ false) ⊎ HostsHave q n hosts None) (sym now_is) started.not_static;
               done = done;
               asks_are = sym (append-nil (asks_of_sub_lookups done));
               leads = subst (λ n. Leads tables (lookups ++ event ∷ []) call n done a) (sym now_is) (leads-later tables tables lookups (lookups ++ event ∷ []) call now done a (front-self tables) (front-more lookups (event ∷ [])) leads);
@@ -365,7 +365,7 @@ module _ (s : Settings) (empty : CacheValue) (none : empty.entries ≡ []) (open
           promised = (subst (AllByRecursion _) is_end all).0;
         }
 
-    goes : (a : AttemptValue) (before : CacheValue) (progress : CallProgressValue) (after : CacheValue) (lookups : List EventValue) (done : List SubLookup) (ps : List PendingValue) → Happen preserve (world_of empty) lookups (record { cache = before; pending = ps }) → Leads tables lookups call now done a → Within call a → GoesOn ctx a before progress after
+    goes : (a : AttemptValue) (before : CacheValue) (progress : CallProgressValue) (after : CacheValue) (lookups : List EventValue) (done : List SubLookup) (ps : List PendingValue) → Happen preserve (world_of empty) lookups (record { cache = before; pending = ps }) → Leads tables lookups call now done a → Within call a → Continues ctx a before progress after
         → Gone lookups (asks_of_sub_lookups done) progress after ps
     goes a before progress after lookups done ps happened leads within (by_hosts {t = t} {result = result} found more) =
         gone-asks lookups done (static a t result) progress after ps refl
@@ -478,8 +478,8 @@ module _ (s : Settings) (empty : CacheValue) (none : empty.entries ≡ []) (open
   -- a call that is done, by the tables that stood since its start
   ends-since : (events : List CallEventValue) (tables : List (List Host)) (lookups : List EventValue) (call : Call) (now : ℕ) (asks : List Exchange) (progress : CallProgressValue) → StoodSince opening events call now tables → AllByRecursion (IsPromisedCallEnd s empty tables lookups) (call_done call now asks progress)
       → AllByRecursion (IsPromisedCallEndSince s empty opening events lookups) (call_done call now asks progress)
-  ends-since events tables lookups call now asks (CallWaits w) since ends = tt
-  ends-since events tables lookups call now asks (CallIsDone result) since (ends, none_else) = ((tables, since, ends), tt)
+  ends-since events tables lookups call now asks (Waits w) since ends = tt
+  ends-since events tables lookups call now asks (IsDone result) since (ends, none_else) = ((tables, since, ends), tt)
 
   -- an event that leaves the table of hosts
   stands-on : (events : List CallEventValue) (event : CallEventValue) (hosts others : List Host) → tables_by event ≡ [] → last_table opening (tables_in events) ≡ hosts → others ≡ hosts → last_table opening (tables_in (events ++ event ∷ [])) ≡ others
@@ -559,7 +559,7 @@ module _ (s : Settings) (empty : CacheValue) (none : empty.entries ≡ []) (open
       resumes_own lookup mid resumes = let P : WaitingValue → Type 0 = λ v. Resumes (start_at (call_context_over s v.now before.hosts) before.cache) v outcome lookup mid in subst P (sym k.same) resumes
 
       -- its look-up waits on
-      waits-good : (lookup : WaitingValue) (mid : CacheValue) → Resumes (start_at step before.cache) c.waiting.lookup outcome (Waits lookup) mid → (progress : CallProgressValue) → GoesOnAfter step c.waiting.attempt (Waits lookup) mid progress after.cache → after.hosts ≡ before.hosts
+      waits-good : (lookup : WaitingValue) (mid : CacheValue) → Resumes (start_at step before.cache) c.waiting.lookup outcome (Waits lookup) mid → (progress : CallProgressValue) → ContinuesAfter step c.waiting.attempt (Waits lookup) mid progress after.cache → after.hosts ≡ before.hosts
           → after.calls ≡ front ++ call_pending c.call (c.asks ++ x ∷ []) progress ++ back → GoodStep now_events (received ++ dated_exchanges c.waiting.lookup.now (x ∷ [])) (call_done c.call c.waiting.lookup.now (c.asks ++ x ∷ []) progress) after
       waits-good lookup mid resumes progress (is, cache_is) hosts_is calls_is =
           let w : WaitingCallValue = record { attempt = c.waiting.attempt; lookup = lookup } in
@@ -579,7 +579,7 @@ module _ (s : Settings) (empty : CacheValue) (none : empty.entries ≡ []) (open
             asked_type = k.asked_type;
             next = k.next;
             question_is = k.question_is;
-            not_static = subst (λ n. (c.waiting.attempt.with_hosts ≡ false) ⊎ IsStatic (question_of c.waiting.attempt.name k.asked_type) n k.hosts None) (sym now_is) k.not_static;
+            not_static = subst (λ n. (c.waiting.attempt.with_hosts ≡ false) ⊎ HostsHave (question_of c.waiting.attempt.name k.asked_type) n k.hosts None) (sym now_is) k.not_static;
             done = k.done;
             asks_are = asks_now;
             leads = subst (λ n. Leads tables all c.call n k.done c.waiting.attempt) (sym now_is)
@@ -605,7 +605,7 @@ module _ (s : Settings) (empty : CacheValue) (none : empty.entries ≡ []) (open
           }
 
       -- its look-up is done
-      done-good : (result : LookupResult) (mid : CacheValue) → Resumes (start_at step before.cache) c.waiting.lookup outcome (IsDone result) mid → (progress : CallProgressValue) → GoesOnAfter step c.waiting.attempt (IsDone result) mid progress after.cache → after.hosts ≡ before.hosts
+      done-good : (result : LookupResult) (mid : CacheValue) → Resumes (start_at step before.cache) c.waiting.lookup outcome (IsDone result) mid → (progress : CallProgressValue) → ContinuesAfter step c.waiting.attempt (IsDone result) mid progress after.cache → after.hosts ≡ before.hosts
           → after.calls ≡ (front ++ back) ++ call_pending c.call (c.asks ++ x ∷ []) progress → GoodStep now_events (received ++ dated_exchanges c.waiting.lookup.now (x ∷ [])) (call_done c.call c.waiting.lookup.now (c.asks ++ x ∷ []) progress) after
       done-good result mid resumes progress more hosts_is calls_is =
           let now = c.waiting.lookup.now in
@@ -729,7 +729,7 @@ module _ (s : Settings) (empty : CacheValue) (none : empty.entries ≡ []) (open
           let rest = all-back (IsBegun events) front (c ∷ back) all in
           (all-front (IsBegun events) front (c ∷ back) all, rest.0, rest.1)
 
-      by : (lookup : ProgressValue) → Resumes (start_at (call_context_over s c.waiting.lookup.now before.hosts) before.cache) c.waiting.lookup outcome lookup mid → GoesOnAfter (call_context_over s c.waiting.lookup.now before.hosts) c.waiting.attempt lookup mid progress after.cache
+      by : (lookup : ProgressValue) → Resumes (start_at (call_context_over s c.waiting.lookup.now before.hosts) before.cache) c.waiting.lookup outcome lookup mid → ContinuesAfter (call_context_over s c.waiting.lookup.now before.hosts) c.waiting.attempt lookup mid progress after.cache
           → after.calls ≡ placed lookup front (call_pending c.call (c.asks ++ exchange_with c outcome ∷ []) progress) back
           → GoodStep (events ++ CallFed c outcome progress ∷ []) (received ++ dated_exchanges c.waiting.lookup.now (exchange_with c outcome ∷ [])) (call_done c.call c.waiting.lookup.now (c.asks ++ exchange_with c outcome ∷ []) progress) after
       by (Waits w) resumes more calls_is = waits-good events received before good after c outcome front back around (CallFed c outcome progress) refl begun w mid resumes progress more hosts_is calls_is

@@ -8,8 +8,8 @@ use Rattle.hickory_proto_core.specs.declared.net_error.NetError.TheVariants.{Out
 use Rattle.hickory_resolver_model.specs.Bounds.{ConfigValue}
 use Rattle.hickory_resolver_model.specs.Cache.{CacheValue}
 use Rattle.hickory_resolver_model.specs.Lookup.{LookupResult}
-use Rattle.hickory_resolver_model.specs.Hosts.{Host, IsStatic}
-use Rattle.hickory_resolver_model.specs.Calls.{Source, Static, Client, SubLookup, SubLookupRelation, is_out_of_memory}
+use Rattle.hickory_resolver_model.specs.Hosts.{Host, HostsHave}
+use Rattle.hickory_resolver_model.specs.Calls.{Source, Hosts, Client, SubLookup, SubLookupRelation, is_out_of_memory}
 use Rattle.hickory_resolver_model.specs.Run.{Settings, Call, IsCall}
 use Rattle.hickory_resolver_theorems.specs.Cacheless.{ResolvesTo, IsConsistentWith}
 use Rattle.hickory_resolver_theorems.specs.CallFacts.{IsCallBy, IsOwnAnswer}
@@ -90,14 +90,14 @@ module _ (s : Settings) (empty : CacheValue) (tables : List (List Host)) (lookup
     part-fresh with_hosts before q p after (for, is) = by p.source refl is
       where
         by : (source : Source) → p.source ≡ source → IsInterleavedFrom source s empty tables lookups now with_hosts before p after → IsFreshSubLookup empty.config (λ code. received_in lookups) now p
-        by Static e part = λ client. absurd (let clash : Static ≡ Client = sym e ∙ client in cc)
+        by Hosts e part = λ client. absurd (let clash : Hosts ≡ Client = sym e ∙ client in cc)
         by Client e (own, same) = λ client zero. lookup-fresh with_hosts p own zero
 
     part-few : (with_hosts : Bool) (before : CacheValue) (q : Query) (p : SubLookup) (after : CacheValue) → Answers with_hosts before q p after → length p.asks ≤ 8
     part-few with_hosts before q p after (for, is) = by p.source is
       where
         by : (source : Source) → IsInterleavedFrom source s empty tables lookups now with_hosts before p after → length p.asks ≤ 8
-        by Static (hosts, stood, part) = omega (arith, ap length part.nothing_asked)
+        by Hosts (hosts, stood, part) = omega (arith, ap length part.nothing_asked)
         by Client (own, same) = subst (λ xs. length xs ≤ 8) own.asks_are own.promised.promised.few
 
     -- a part is out of memory, or the cacheless resolver's
@@ -114,14 +114,14 @@ module _ (s : Settings) (empty : CacheValue) (tables : List (List Host)) (lookup
             let cacheless : IsCachelessSubLookup table (call_context_over s now own.hosts) with_hosts q p = record {
               reply = reply_core p.result;
               length_is = n;
-              not_static = subst (λ x. (with_hosts ≡ false) ⊎ IsStatic x now own.hosts None) for own.not_static;
+              not_static = subst (λ x. (with_hosts ≡ false) ⊎ HostsHave x now own.hosts None) for own.not_static;
               means = subst (λ r. ResolvesTo table q (reply_core r) n) own.result_is asked;
               result_is = refl;
             } in
             inr (own.hosts, own.stood, (for, inr (cacheless, same)))
 
         by : (source : Source) → IsInterleavedFrom source s empty tables lookups now with_hosts before p after → PartAlike table with_hosts before q p after
-        by Static (hosts, stood, part) = inr (hosts, stood, (for, inl part))
+        by Hosts (hosts, stood, part) = inr (hosts, stood, (for, inl part))
         by Client (own, same) = meant own same (done-meant own.lookup own.promised table seen)
 
   -- ---- a call

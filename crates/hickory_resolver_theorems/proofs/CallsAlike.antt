@@ -3,11 +3,12 @@
 use Rattle.std.proofs.Common.{◌≡◌, ◌∙◌, ◌⊎◌, true, false, List, [], ◌∷◌, ◌++◌, sym, subst, inl, inr, append_assoc}
 use Rattle.std.proofs.lemmas.List.{append-nil}
 use Rattle.hickory_proto_core.specs.declared.recorded.Exchange.{Exchange}
+use Rattle.hickory_resolver_model.specs.Resuming.{Waits, IsDone}
 use Rattle.hickory_resolver_model.specs.Cache.{CacheValue}
 use Rattle.hickory_resolver_model.specs.Lookup.{LookupResult}
 use Rattle.hickory_resolver_model.specs.Calls.{CallContext, SubLookup, IsAnsweredAlone, asks_of_sub_lookups, is_out_of_memory}
 use Rattle.hickory_resolver_model.specs.Run.{Settings, Call, IsCall}
-use Rattle.hickory_resolver_theorems.specs.ResumingCalls.{CallProgressValue, CallWaits, CallIsDone, IsCallDriven, IsCallStartedAndDriven, IsCallDrivenAlike}
+use Rattle.hickory_resolver_theorems.specs.ResumingCalls.{CallProgressValue, IsCallDriven, IsCallStartedAndDriven, IsCallDrivenAlike}
 use Rattle.hickory_resolver_theorems.proofs.SentAlone.{CallRelation, IsCallDoneAlone, CallSoFar}
 use Rattle.hickory_resolver_theorems.proofs.CallsAlone.{call-alone, started_call, resumed}
 use Rattle.hickory_resolver_theorems.proofs.DrivenCalls.{WholeSubLookup, call-whole, call-driven}
@@ -17,12 +18,12 @@ module _ (s : CallContext) (IsWhole : CallRelation) where
   driven-on xs progress cache [] result after far (done, same) =
       subst (λ zs. IsCallDoneAlone IsWhole zs result after) (sym (append-nil xs))
       (subst (λ c. IsCallDoneAlone IsWhole xs result c) (sym same) (subst (λ p. CallSoFar s IsWhole xs p cache) done far))
-  driven-on xs (CallWaits w) cache (x ∷ ys) result after far (now_is, asked, next, mid, resumes, rest) =
+  driven-on xs (Waits w) cache (x ∷ ys) result after far (now_is, asked, next, mid, resumes, rest) =
       let own : record { query = w.lookup.hop.query; outcome = x.outcome } ≡ x = λ i. record { query = sym asked i; outcome = x.outcome } in
       let there : CallSoFar s IsWhole (xs ++ x ∷ []) next mid =
       subst (λ y. CallSoFar s IsWhole (xs ++ y ∷ []) next mid) own (resumed s IsWhole xs w cache far x.outcome next mid resumes) in
       subst (λ zs. IsCallDoneAlone IsWhole zs result after) (append_assoc xs (x ∷ []) ys) (driven-on (xs ++ x ∷ []) next mid ys result after there rest)
-  driven-on xs (CallIsDone early) cache (x ∷ ys) result after far never = absurd never
+  driven-on xs (IsDone early) cache (x ∷ ys) result after far never = absurd never
 
 pub call_driven_alike : (s : CallContext) (settings : Settings) (call : Call) (before : CacheValue) (asks : List Exchange) (result : LookupResult) (after : CacheValue) → IsCallDrivenAlike s settings call before asks result after
 call_driven_alike s settings call before asks result after = record {

@@ -9,11 +9,11 @@ use Rattle.hickory_proto_core.specs.codes.record_type.RecordType.{RecordType}
 use Rattle.hickory_resolver_model.specs.Attempts.{attempts}
 use Rattle.hickory_resolver_model.specs.Cache.{CacheValue}
 use Rattle.hickory_resolver_model.specs.Lookup.{LookupResult, question_of}
-use Rattle.hickory_resolver_model.specs.Calls.{CallContext, start_at, Static, Client, SubLookup, IsAnsweredFor, IsAnsweredAlone, CallPlan, Says, AreAttempts, asks_of_sub_lookups}
+use Rattle.hickory_resolver_model.specs.Calls.{CallContext, start_at, Hosts, Client, SubLookup, IsAnsweredFor, IsAnsweredAlone, CallPlan, Says, AreAttempts, asks_of_sub_lookups}
 use Rattle.hickory_resolver_model.specs.Resuming.{WaitingValue, ProgressValue, Waits, IsDone}
 use Rattle.hickory_resolver_model.specs.Run.{Settings, Call, AtOnce, Attempt, IsCall, RanOutBeforeAsking}
 use Rattle.hickory_resolver_theorems.specs.CallFacts.{IsCallBy}
-use Rattle.hickory_resolver_theorems.specs.ResumingCalls.{AttemptValue, WaitingCallValue, CallProgressValue, with_result, at_next, FindsStatic, StartsSub, GoesOn, by_hosts, waits, at_once, stopped, next_name, no_name, StartsNames, StartsCall, RunsOutAtStart, GoesOnAfter, ResumesCall}
+use Rattle.hickory_resolver_theorems.specs.ResumingCalls.{AttemptValue, WaitingCallValue, CallProgressValue, with_result, at_next, FindsInHosts, StartsSub, Continues, by_hosts, waits, at_once, stopped, next_name, no_name, StartsNames, StartsCall, RunsOutAtStart, ContinuesAfter, ResumesCall}
 use Rattle.hickory_resolver_theorems.proofs.SentAlone.{LookupSoFar, IsRestOfCall, CallRelation, LeadsToWhole, IsCallSentAlone, IsCallDoneAlone, CallSoFar}
 use Rattle.hickory_resolver_theorems.proofs.RestOfCall.{asks-append, by_client, static, rest_stopped, attempts_of, rest_next, rest_none, more_done}
 use Rattle.hickory_resolver_theorems.proofs.Weaker.{call-weaker}
@@ -25,9 +25,9 @@ module _ (s : CallContext) where
     at_end done a result before whole rest =
         record { parts = done; asks_are = refl; whole = subst (λ ps. IsWhole ps result before) (append-nil done) (whole [] result before rest) }
 
-    found_done : (done : List SubLookup) (a : AttemptValue) (t : RecordType) (result : LookupResult) (before : CacheValue) → FindsStatic s a t result → LeadsToWhole (IsAnsweredAlone s) IsWhole done a before → LeadsToWhole (IsAnsweredAlone s) IsWhole (done ++ static a t result ∷ []) (with_result a result) before
+    found_done : (done : List SubLookup) (a : AttemptValue) (t : RecordType) (result : LookupResult) (before : CacheValue) → FindsInHosts s a t result → LeadsToWhole (IsAnsweredAlone s) IsWhole done a before → LeadsToWhole (IsAnsweredAlone s) IsWhole (done ++ static a t result ∷ []) (with_result a result) before
     found_done done a t result before f whole =
-        more_done (IsAnsweredAlone s) IsWhole done a t before before (static a t result) f.next ((refl, record { asks_hosts = f.with_hosts; found = f.found; has = f.has; result_is = f.result_is; nothing_asked = refl; unchanged = refl }), (λ client. let clash : Static ≡ Client = client in cc)) whole
+        more_done (IsAnsweredAlone s) IsWhole done a t before before (static a t result) f.next ((refl, record { asks_hosts = f.with_hosts; found = f.found; has = f.has; result_is = f.result_is; nothing_asked = refl; unchanged = refl }), (λ client. let clash : Hosts ≡ Client = client in cc)) whole
 
     started_wait : (done : List SubLookup) (a : AttemptValue) (t : RecordType) (w : WaitingValue) (before after : CacheValue) → StartsSub s a t before (Waits w) after → LeadsToWhole (IsAnsweredAlone s) IsWhole done a before → IsCallSentAlone s IsWhole (asks_of_sub_lookups done) (record { attempt = a; lookup = w }) after
     started_wait done a t w before after started whole =
@@ -53,7 +53,7 @@ module _ (s : CallContext) where
     asks_stay done p progress after none far =
         subst (λ xs. CallSoFar s IsWhole xs progress after) (asks-append done p ∙ ap (λ xs. asks_of_sub_lookups done ++ xs) none ∙ append-nil (asks_of_sub_lookups done)) far
 
-    pub goes_on : (a : AttemptValue) (before : CacheValue) (progress : CallProgressValue) (after : CacheValue) (done : List SubLookup) → LeadsToWhole (IsAnsweredAlone s) IsWhole done a before → GoesOn s a before progress after → CallSoFar s IsWhole (asks_of_sub_lookups done) progress after
+    pub goes_on : (a : AttemptValue) (before : CacheValue) (progress : CallProgressValue) (after : CacheValue) (done : List SubLookup) → LeadsToWhole (IsAnsweredAlone s) IsWhole done a before → Continues s a before progress after → CallSoFar s IsWhole (asks_of_sub_lookups done) progress after
     goes_on a before progress after done whole (by_hosts {t = t} {result = result} found more) =
         asks_stay done (static a t result) progress after refl
         (goes_on (with_result a result) before progress after (done ++ static a t result ∷ []) (found_done done a t result before found whole) more)
@@ -113,7 +113,7 @@ module _ (s : CallContext) where
     asks_now : asks_of_sub_lookups far.done ++ sent ≡ asks ++ came ∷ []
     asks_now = sym (append_assoc (asks_of_sub_lookups far.done) far.sent (came ∷ [])) ∙ ap (λ xs. xs ++ came ∷ []) (sym far.asks_are)
 
-    resumed_by : (lookup : ProgressValue) (mid : CacheValue) → LookupSoFar (start_at s cache) question sent lookup mid → (progress : CallProgressValue) (after : CacheValue) → GoesOnAfter s w.attempt lookup mid progress after → CallSoFar s IsWhole (asks ++ came ∷ []) progress after
+    resumed_by : (lookup : ProgressValue) (mid : CacheValue) → LookupSoFar (start_at s cache) question sent lookup mid → (progress : CallProgressValue) (after : CacheValue) → ContinuesAfter s w.attempt lookup mid progress after → CallSoFar s IsWhole (asks ++ came ∷ []) progress after
     resumed_by (Waits lookup) mid still progress after (is, e) =
         let P : CacheValue → Type 0 = λ c. CallSoFar s IsWhole (asks ++ came ∷ []) progress c in
         let Q : CacheValue → Type 0 = λ c. LookupSoFar (start_at s cache) question sent (Waits lookup) c in

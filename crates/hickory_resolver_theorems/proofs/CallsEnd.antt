@@ -1,18 +1,14 @@
 -- A call that does no I/O ends: each outcome that it goes on with leaves fewer questions that it may send.
-use Rattle.std.proofs.Common.{◌≡◌, ◌<◌, ◌≤◌, ◌+◌, ◌-◌, ◌∙◌, ◌*◌, ℕ, suc, List, [], ◌∷◌, ◌++◌, length, Some, None, sym, ap, subst, inl, inr, arith, length-append}
+use Rattle.std.proofs.Common.{◌≡◌, ◌<◌, ◌≤◌, ◌+◌, ◌-◌, ◌∙◌, ◌*◌, ℕ, suc, List, [], ◌∷◌, ◌++◌, length, sym, ap, subst, inl, inr, arith, length-append}
 use Rattle.hickory_proto_core.specs.Handles.{OutcomeValue}
 use Rattle.hickory_proto_core.specs.Name.{NameValue}
-use Rattle.hickory_proto_core.specs.declared.recorded.Exchange.{Exchange}
-use Rattle.hickory_proto_core.specs.codes.record_type.RecordType.{RecordType}
 use Rattle.hickory_resolver_model.specs.Cache.{CacheValue}
 use Rattle.hickory_resolver_model.specs.Lookup.{LookupResult}
 use Rattle.hickory_resolver_model.specs.Verdict.{Hop}
 use Rattle.hickory_resolver_model.specs.Hops.{LookupContext, PassedValue, passed_by}
-use Rattle.hickory_resolver_model.specs.Calls.{CallContext, start_at, Plan, One, Both, Fallback, next_type}
+use Rattle.hickory_resolver_model.specs.Calls.{CallContext, start_at}
 use Rattle.hickory_resolver_model.specs.Resuming.{WaitingValue, ProgressValue, Waits, IsDone, ComesTo, Resumes}
-use Rattle.hickory_resolver_theorems.specs.ResumingCalls.{AttemptValue, WaitingCallValue, CallProgressValue, CallWaits, CallIsDone, with_result, at_next, GoesOn, by_hosts, waits, at_once, stopped, next_name, no_name, GoesOnAfter, ResumesCall}
-use Rattle.hickory_resolver_theorems.proofs.InFlight.{passed_of-length}
-use Rattle.hickory_resolver_theorems.proofs.SentAlone.{CallRelation, IsCallSentAlone}
+use Rattle.hickory_resolver_theorems.specs.ResumingCalls.{AttemptValue, WaitingCallValue, CallProgressValue, with_result, at_next, Continues, by_hosts, waits, at_once, stopped, next_name, no_name, ContinuesAfter, ResumesCall}
 
 -- ---- a look-up of the client
 
@@ -42,8 +38,8 @@ turns a = length a.left + length a.left + (2 - length a.results)
 
 -- how many questions it may send yet, at most
 abbrev pub call_left : CallProgressValue → ℕ
-call_left (CallWaits w) = 8 * turns w.attempt - length w.lookup.passed
-call_left (CallIsDone result) = 0
+call_left (Waits w) = 8 * turns w.attempt - length w.lookup.passed
+call_left (IsDone result) = 0
 
 fewer_turns : (a : AttemptValue) (r : LookupResult) → turns (with_result a r) ≤ turns a
 fewer_turns a r = omega (arith, length-append a.results (r ∷ []))
@@ -51,7 +47,7 @@ fewer_turns a r = omega (arith, length-append a.results (r ∷ []))
 next_turns : (a : AttemptValue) (name : NameValue) (names : List NameValue) → a.left ≡ name ∷ names → turns (at_next a name names) ≤ turns a
 next_turns a name names left = let more : length a.left ≡ suc (length names) = ap length left in omega (arith, more)
 
-pub few_left : (s : CallContext) (a : AttemptValue) (before : CacheValue) (progress : CallProgressValue) (after : CacheValue) → GoesOn s a before progress after → call_left progress ≤ 8 * turns a
+pub few_left : (s : CallContext) (a : AttemptValue) (before : CacheValue) (progress : CallProgressValue) (after : CacheValue) → Continues s a before progress after → call_left progress ≤ 8 * turns a
 few_left s a before progress after (by_hosts {result = result} found more) = omega (arith, fewer_turns a result, few_left s (with_result a result) before progress after more)
 few_left s a before progress after (waits {w = w} started) = omega arith
 few_left s a before progress after (at_once {result = result} {mid = mid} started more) = omega (arith, fewer_turns a result, few_left s (with_result a result) mid progress after more)
@@ -59,26 +55,13 @@ few_left s a before progress after (stopped is stop) = omega arith
 few_left s a before progress after (next_name {name = name} {names = names} is on left more) = omega (arith, next_turns a name names left, few_left s (at_next a name names) before progress after more)
 few_left s a before progress after (no_name is on left reply) = omega arith
 
--- a type is left to look up only where at most one was
-one_result : (plan : Plan) (results : List LookupResult) (t : RecordType) → next_type plan results ≡ Some t → length results ≤ 1
-one_result (One a) [] t e = omega arith
-one_result (One a) (r ∷ rs) t e = let clash : None ≡ Some t = e in cc
-one_result (Both a b) [] t e = omega arith
-one_result (Both a b) (r ∷ []) t e = omega arith
-one_result (Both a b) (r ∷ k ∷ rs) t e = let clash : None ≡ Some t = e in cc
-one_result (Fallback a b) [] t e = omega arith
-one_result (Fallback a b) (r ∷ []) t e = omega arith
-one_result (Fallback a b) (r ∷ k ∷ rs) t e = let clash : None ≡ Some t = e in cc
-
 module _ (s : CallContext) (w : WaitingCallValue) (few : length w.lookup.passed ≤ 7) (open_turn : length w.attempt.results ≤ 1) where
-  fewer_by : (lookup : ProgressValue) (mid : CacheValue) (progress : CallProgressValue) (after : CacheValue) → lookup_left lookup < lookup_left (Waits w.lookup) → GoesOnAfter s w.attempt lookup mid progress after → call_left progress < call_left (CallWaits w)
-  fewer_by (Waits lookup) mid progress after less (is, e) = subst (λ p. call_left p < call_left (CallWaits w)) (sym is) (omega (arith, few, open_turn, less))
+  fewer_by : (lookup : ProgressValue) (mid : CacheValue) (progress : CallProgressValue) (after : CacheValue) → lookup_left lookup < lookup_left (Waits w.lookup) → ContinuesAfter s w.attempt lookup mid progress after → call_left progress < call_left (Waits w)
+  fewer_by (Waits lookup) mid progress after less (is, e) = subst (λ p. call_left p < call_left (Waits w)) (sym is) (omega (arith, few, open_turn, less))
   fewer_by (IsDone result) mid progress after less more =
       omega (arith, few, open_turn, length-append w.attempt.results (result ∷ []), few_left s (with_result w.attempt result) mid progress after more)
 
 -- each outcome leaves fewer
-pub fewer_call : (s : CallContext) (IsWhole : CallRelation) (asks : List Exchange) (w : WaitingCallValue) (cache : CacheValue) → IsCallSentAlone s IsWhole asks w cache → (outcome : OutcomeValue) (progress : CallProgressValue) (after : CacheValue) → ResumesCall s w outcome cache progress after → call_left progress < call_left (CallWaits w)
-fewer_call s IsWhole asks w cache far outcome progress after (lookup, mid, resumes, more) =
-    let count : length w.lookup.passed ≡ length far.sent = ap length far.lookup.passed_are ∙ passed_of-length (start_at s cache) far.sent in
-    let few : length w.lookup.passed ≤ 7 = omega (arith, count, far.lookup.few) in
-    fewer_by s w few (one_result w.attempt.plan.types w.attempt.results far.asked_type far.next) lookup mid progress after (fewer_lookup (start_at s cache) w.lookup outcome lookup mid few resumes) more
+pub fewer_resumed : (s : CallContext) (w : WaitingCallValue) → length w.lookup.passed ≤ 7 → length w.attempt.results ≤ 1 → (cache : CacheValue) (outcome : OutcomeValue) (progress : CallProgressValue) (after : CacheValue) → ResumesCall s w outcome cache progress after → call_left progress < call_left (Waits w)
+fewer_resumed s w few open_turn cache outcome progress after (lookup, mid, resumes, more) =
+    fewer_by s w few open_turn lookup mid progress after (fewer_lookup (start_at s cache) w.lookup outcome lookup mid few resumes) more

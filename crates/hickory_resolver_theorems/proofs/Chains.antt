@@ -8,7 +8,7 @@ use Rattle.hickory_proto_core.specs.declared.query.Query.{Query}
 use Rattle.hickory_proto_core.specs.codes.record_type.RecordType.{RecordType}
 use Rattle.hickory_resolver_model.specs.Cache.{CacheValue}
 use Rattle.hickory_resolver_model.specs.Lookup.{LookupResult, question_of}
-use Rattle.hickory_resolver_model.specs.Calls.{SubLookup, SubLookupRelation, Plan, AreSubLookups, CallPlan, AreAttempts}
+use Rattle.hickory_resolver_model.specs.Calls.{SubLookup, SubLookupRelation, FamilyOrder, AreSubLookups, CallPlan, AreAttempts}
 use Rattle.hickory_resolver_model.specs.Run.{Settings, GivenName, IsGivenBy, Call, AtOnce, Attempt, name_call, address_call, IsCall, RanOutBeforeAsking}
 
 -- parts that answer some questions, from one cache to another
@@ -25,7 +25,7 @@ pub chain-append : (Answers : SubLookupRelation) (before mid after : CacheValue)
 chain-append Answers before mid after [] qs e k = subst (λ c. Chain Answers c qs after) e k
 chain-append Answers before mid after (p ∷ ps) qs (with_hosts, q, next, is, rest) k = (with_hosts, q, next, is, chain-append Answers next mid after ps qs rest k)
 
-pub chain-subs : (Answers : SubLookupRelation) (with_hosts : Bool) (n : NameValue) (plan : Plan) (before : CacheValue) (results : List LookupResult) (parts : List SubLookup) (after : CacheValue)
+pub chain-subs : (Answers : SubLookupRelation) (with_hosts : Bool) (n : NameValue) (plan : FamilyOrder) (before : CacheValue) (results : List LookupResult) (parts : List SubLookup) (after : CacheValue)
     → AreSubLookups Answers with_hosts n plan before results parts after → Chain Answers before parts after
 chain-subs Answers with_hosts n plan before results [] after same = same
 chain-subs Answers with_hosts n plan before results (p ∷ ps) after (t, mid, next, is, rest) =

@@ -10,12 +10,12 @@ use Rattle.hickory_resolver_model.specs.Attempts.{attempts}
 use Rattle.hickory_resolver_model.specs.Cache.{CacheValue}
 use Rattle.hickory_resolver_model.specs.Lookup.{LookupResult, question_of}
 use Rattle.hickory_resolver_model.specs.Hops.{IsWhole, one_cache}
-use Rattle.hickory_resolver_model.specs.Hosts.{IsStatic}
-use Rattle.hickory_resolver_model.specs.Calls.{CallContext, start_at, Source, Static, Client, SubLookup, SubLookupRelation, IsAnsweredByHosts, IsAnsweredFrom, IsAnsweredFor, is_out_of_memory, next_type, IsAttemptResult, AreSubLookups, results_of, IsAttempt, stops, CallPlan, Says, AreAttempts, asks_of_sub_lookups}
+use Rattle.hickory_resolver_model.specs.Hosts.{HostsHave}
+use Rattle.hickory_resolver_model.specs.Calls.{CallContext, start_at, Source, Hosts, Client, SubLookup, SubLookupRelation, IsAnsweredByHosts, IsAnsweredFrom, IsAnsweredFor, is_out_of_memory, next_type, IsAttemptResult, AreSubLookups, results_of, IsAttempt, stops, CallPlan, Says, AreAttempts, asks_of_sub_lookups}
 use Rattle.hickory_resolver_model.specs.Resuming.{WaitingValue, ProgressValue, Waits, IsDone, Starts, Resumes}
 use Rattle.hickory_resolver_model.specs.Run.{Settings, Call, AtOnce, Attempt, IsCall}
 use Rattle.hickory_resolver_theorems.specs.Resumed.{IsDriven, IsStartedAndDriven}
-use Rattle.hickory_resolver_theorems.specs.ResumingCalls.{AttemptValue, CallProgressValue, CallWaits, CallIsDone, with_result, GoesOn, by_hosts, waits, at_once, stopped, next_name, no_name, StartsNames, IsCallDriven, IsCallStartedAndDriven}
+use Rattle.hickory_resolver_theorems.specs.ResumingCalls.{AttemptValue, CallProgressValue, with_result, Continues, by_hosts, waits, at_once, stopped, next_name, no_name, StartsNames, IsCallDriven, IsCallStartedAndDriven}
 use Rattle.hickory_resolver_theorems.proofs.Lists.{has-all}
 use Rattle.hickory_resolver_theorems.proofs.CallInterleavings.{now-stays}
 use Rattle.hickory_resolver_theorems.proofs.Driven.{whole_driven}
@@ -23,8 +23,8 @@ use Rattle.hickory_resolver_theorems.proofs.UnlessOut.{call-unless}
 
 -- a question is answered by the table of hosts, or by a look-up of the client that ends with all its stores
 abbrev pub IsWholeFrom : Source → CallContext → Bool → CacheValue → SubLookup → CacheValue → Type 0
-IsWholeFrom Static t with_hosts before p after = IsAnsweredByHosts t with_hosts before p after
-IsWholeFrom Client t with_hosts before p after = ((with_hosts ≡ false) ⊎ IsStatic p.question t.now t.hosts None) × IsWhole (start_at t before) (one_cache (start_at t before) p.asks) p.question p.asks p.result after
+IsWholeFrom Hosts t with_hosts before p after = IsAnsweredByHosts t with_hosts before p after
+IsWholeFrom Client t with_hosts before p after = ((with_hosts ≡ false) ⊎ HostsHave p.question t.now t.hosts None) × IsWhole (start_at t before) (one_cache (start_at t before) p.asks) p.question p.asks p.result after
 
 abbrev pub WholeSubLookup : CallContext → SubLookupRelation
 WholeSubLookup t with_hosts before q p after = (p.question ≡ q) × IsWholeFrom p.source t with_hosts before p after
@@ -39,7 +39,7 @@ module _ (t : CallContext) where
   part-whole with_hosts before q p after (for, is) = by p.source is (λ whole. (for, whole))
     where
       by : (source : Source) → IsAnsweredFrom source t with_hosts before p after → (IsWholeFrom source t with_hosts before p after → WholeSubLookup t with_hosts before q p after) → (is_out_of_memory p.result ≡ true) ⊎ WholeSubLookup t with_hosts before q p after
-      by Static part k = inr (k part)
+      by Hosts part k = inr (k part)
       by Client part k = elim part.reply [
         | inl whole ↦ inr (k (part.not_static, whole))
         | inr out ↦ inl (ap is_out_of_memory out.0)
@@ -55,23 +55,23 @@ module _ (t : CallContext) where
   record GoesOnDriven (a : AttemptValue) (before : CacheValue) (asks : List Exchange) (result : LookupResult) (after : CacheValue) : Type 0 where
     progress : CallProgressValue
     cache : CacheValue
-    goes : GoesOn t a before progress cache
+    goes : Continues t a before progress cache
     driven : IsCallDriven t progress cache asks result after
 
   -- a look-up that waits is driven to its end, and the call from there
   sub-driven : (a : AttemptValue) (first : CacheValue) (w : WaitingValue) (cache : CacheValue) (xs ys : List Exchange) (r : LookupResult) (mid : CacheValue) (result : LookupResult) (after : CacheValue) → w.now ≡ t.now → IsDriven (start_at t first) (Waits w) cache xs r mid → GoesOnDriven (with_result a r) mid ys result after
-      → IsCallDriven t (CallWaits (record { attempt = a; lookup = w })) cache (xs ++ ys) result after
+      → IsCallDriven t (Waits (record { attempt = a; lookup = w })) cache (xs ++ ys) result after
   sub-driven a first w cache [] ys r mid result after now_is (done, same) more = let clash : Waits w ≡ IsDone r = done in cc
   sub-driven a first w cache (x ∷ xs) ys r mid result after now_is (asked, next, m, resumes, rest) more = by next xs resumes rest (λ v. sub-driven a first v m xs ys r mid result after)
     where
       Driven : List Exchange → Type 0
-      Driven zs = IsCallDriven t (CallWaits (record { attempt = a; lookup = w })) cache (x ∷ zs ++ ys) result after
+      Driven zs = IsCallDriven t (Waits (record { attempt = a; lookup = w })) cache (x ∷ zs ++ ys) result after
 
       by : (lookup : ProgressValue) (zs : List Exchange) → Resumes (start_at t cache) w x.outcome lookup m → IsDriven (start_at t first) lookup m zs r mid
-          → ((v : WaitingValue) → v.now ≡ t.now → IsDriven (start_at t first) (Waits v) m zs r mid → GoesOnDriven (with_result a r) mid ys result after → IsCallDriven t (CallWaits (record { attempt = a; lookup = v })) m (zs ++ ys) result after)
+          → ((v : WaitingValue) → v.now ≡ t.now → IsDriven (start_at t first) (Waits v) m zs r mid → GoesOnDriven (with_result a r) mid ys result after → IsCallDriven t (Waits (record { attempt = a; lookup = v })) m (zs ++ ys) result after)
           → Driven zs
       by (Waits v) zs resumes rest on =
-          (now_is, asked, CallWaits (record { attempt = a; lookup = v }), m, (Waits v, m, resumes, (refl, refl)), on v (now-stays (start_at t cache) w x.outcome v m resumes) rest more)
+          (now_is, asked, Waits (record { attempt = a; lookup = v }), m, (Waits v, m, resumes, (refl, refl)), on v (now-stays (start_at t cache) w x.outcome v m resumes) rest more)
       by (IsDone early) [] resumes (done, same) on =
           let one : early ≡ r = cc in
           let ended : GoesOnDriven (with_result a early) m ys result after = subst (λ c. GoesOnDriven (with_result a early) c ys result after) same (subst (λ e. GoesOnDriven (with_result a e) mid ys result after) (sym one) more) in
@@ -79,7 +79,7 @@ module _ (t : CallContext) where
       by (IsDone early) (z ∷ zs) resumes never on = absurd never
 
   -- a look-up of the client is started and driven
-  client-driven : (a : AttemptValue) (u : RecordType) (before : CacheValue) (xs ys : List Exchange) (r : LookupResult) (mid : CacheValue) (result : LookupResult) (after : CacheValue) → next_type a.plan.types a.results ≡ Some u → (a.with_hosts ≡ false) ⊎ IsStatic (question_of a.name u) t.now t.hosts None
+  client-driven : (a : AttemptValue) (u : RecordType) (before : CacheValue) (xs ys : List Exchange) (r : LookupResult) (mid : CacheValue) (result : LookupResult) (after : CacheValue) → next_type a.plan.types a.results ≡ Some u → (a.with_hosts ≡ false) ⊎ HostsHave (question_of a.name u) t.now t.hosts None
       → IsWhole (start_at t before) (one_cache (start_at t before) xs) (question_of a.name u) xs r mid → GoesOnDriven (with_result a r) mid ys result after → GoesOnDriven a before (xs ++ ys) result after
   client-driven a u before xs ys r mid result after next not_static whole more = by d.progress xs d.starts d.driven
     where
@@ -88,7 +88,7 @@ module _ (t : CallContext) where
 
       by : (lookup : ProgressValue) (zs : List Exchange) → Starts (start_at t before) (question_of a.name u) lookup d.cache → IsDriven (start_at t before) lookup d.cache zs r mid → GoesOnDriven a before (zs ++ ys) result after
       by (Waits w) zs starts driven = record {
-        progress = CallWaits (record { attempt = a; lookup = w });
+        progress = Waits (record { attempt = a; lookup = w });
         cache = d.cache;
         goes = waits (record { next = next; not_static = not_static; starts = starts });
         driven = sub-driven a before w d.cache zs ys r mid result after (ap (λ (v : WaitingValue). v.now) starts.1) driven more;
@@ -103,7 +103,7 @@ module _ (t : CallContext) where
       → GoesOnDriven (with_result a p.result) mid ys result after → GoesOnDriven a before (p.asks ++ ys) result after
   hosts-driven a u before p ys mid result after next for part more =
       let here : GoesOnDriven (with_result a p.result) before ys result after = subst (λ c. GoesOnDriven (with_result a p.result) c ys result after) part.unchanged more in
-      let has : IsStatic (question_of a.name u) t.now t.hosts (Some part.found) = subst (λ q. IsStatic q t.now t.hosts (Some part.found)) for part.has in
+      let has : HostsHave (question_of a.name u) t.now t.hosts (Some part.found) = subst (λ q. HostsHave q t.now t.hosts (Some part.found)) for part.has in
       subst (λ xs. GoesOnDriven a before (xs ++ ys) result after) (sym part.nothing_asked)
       (record { progress = here.progress; cache = here.cache; goes = by_hosts (record { next = next; with_hosts = part.asks_hosts; found = part.found; has = has; result_is = part.result_is }) here.goes; driven = here.driven })
 
@@ -112,9 +112,9 @@ module _ (t : CallContext) where
   part-driven a u before p ys mid result after next (for, is) more = by p.source is
     where
       by : (source : Source) → IsWholeFrom source t a.with_hosts before p mid → GoesOnDriven a before (p.asks ++ ys) result after
-      by Static part = hosts-driven a u before p ys mid result after next for part more
+      by Hosts part = hosts-driven a u before p ys mid result after next for part more
       by Client (not_static, whole) =
-          client-driven a u before p.asks ys p.result mid result after next (subst (λ q. (a.with_hosts ≡ false) ⊎ IsStatic q t.now t.hosts None) for not_static)
+          client-driven a u before p.asks ys p.result mid result after next (subst (λ q. (a.with_hosts ≡ false) ⊎ HostsHave q t.now t.hosts None) for not_static)
           (subst (λ q. IsWhole (start_at t before) (one_cache (start_at t before) p.asks) q p.asks p.result mid) for whole) more
 
   -- the parts of an attempt, and what is left behind them
@@ -142,7 +142,7 @@ module _ (t : CallContext) where
   stop-driven : (a : AttemptValue) (back : List SubLookup) (r : LookupResult) (mid : CacheValue) (result : LookupResult) (after : CacheValue) → IsAttemptResult a.plan.types a.results r → stops r ≡ true → back ≡ [] → result ≡ r → after ≡ mid → GoesOnDriven a mid (asks_of_sub_lookups back) result after
   stop-driven a back r mid result after is stop none e same =
       subst (λ ps. GoesOnDriven a mid (asks_of_sub_lookups ps) result after) (sym none)
-      (record { progress = CallIsDone r; cache = mid; goes = stopped is stop; driven = (ap CallIsDone (sym e), same) })
+      (record { progress = IsDone r; cache = mid; goes = stopped is stop; driven = (ap IsDone (sym e), same) })
 
   attempts-driven : (plan : CallPlan) (with_hosts : Bool) (name : NameValue) (names : List NameValue) (before : CacheValue) (last : LookupResult → Type 0) (parts : List SubLookup) (result : LookupResult) (after : CacheValue) → AreAttempts (WholeSubLookup t) plan with_hosts before (name ∷ names) last parts result after
       → GoesOnDriven (AttemptDone plan with_hosts name names []) before (asks_of_sub_lookups parts) result after
@@ -154,7 +154,7 @@ module _ (t : CallContext) where
       by (inl (stop, none, e, same)) = stop-driven (AttemptDone plan with_hosts name [] front) back r mid result after attempt.result_is stop none e same
       by (inr (live, (none, reply, same))) =
           subst (λ ps. GoesOnDriven (AttemptDone plan with_hosts name [] front) mid (asks_of_sub_lookups ps) result after) (sym none)
-          (record { progress = CallIsDone result; cache = mid; goes = no_name attempt.result_is live refl reply; driven = (refl, same) })
+          (record { progress = IsDone result; cache = mid; goes = no_name attempt.result_is live refl reply; driven = (refl, same) })
   attempts-driven plan with_hosts name (m ∷ ms) before last parts result after (front, back, r, mid, are, attempt, goes) =
       attempt-driven plan with_hosts name (m ∷ ms) before front back parts r mid result after are attempt (by goes (λ rest. attempts-driven plan plan.hosts_for_all m ms mid (λ x. x ≡ r) back result after rest))
     where
@@ -171,13 +171,13 @@ module _ (t : CallContext) where
   pub call-driven : (s : Settings) (call : Call) (before : CacheValue) (parts : List SubLookup) (result : LookupResult) (after : CacheValue) → IsCall (WholeSubLookup t) s before call parts result after → IsCallStartedAndDriven t s call before (asks_of_sub_lookups parts) result after
   call-driven s (AtOnce answer) before parts result after (none, e, same) =
       subst (λ ps. IsCallStartedAndDriven t s (AtOnce answer) before (asks_of_sub_lookups ps) result after) (sym none)
-      (record { progress = CallIsDone answer; cache = before; starts = (refl, refl); driven = (ap CallIsDone (sym e), same) })
+      (record { progress = IsDone answer; cache = before; starts = (refl, refl); driven = (ap IsDone (sym e), same) })
   call-driven s (Attempt n plan) before parts result after tries = by (attempts s.search n) refl tries
     where
       by : (names : List NameValue) → attempts s.search n ≡ names → AreAttempts (WholeSubLookup t) plan true before names (Says plan.no_names) parts result after → IsCallStartedAndDriven t s (Attempt n plan) before (asks_of_sub_lookups parts) result after
       by [] e (none, reply, same) =
           subst (λ ps. IsCallStartedAndDriven t s (Attempt n plan) before (asks_of_sub_lookups ps) result after) (sym none)
-          (record { progress = CallIsDone result; cache = before; starts = subst (λ ns. StartsNames t plan true ns before (CallIsDone result) before) (sym e) (result, reply, refl, refl); driven = (refl, same) })
+          (record { progress = IsDone result; cache = before; starts = subst (λ ns. StartsNames t plan true ns before (IsDone result) before) (sym e) (result, reply, refl, refl); driven = (refl, same) })
       by (name ∷ names) e tried =
           let d = attempts-driven plan true name names before (Says plan.no_names) parts result after tried in
           record { progress = d.progress; cache = d.cache; starts = subst (λ ns. StartsNames t plan true ns before d.progress d.cache) (sym e) d.goes; driven = d.driven }

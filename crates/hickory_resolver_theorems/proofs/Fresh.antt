@@ -19,7 +19,7 @@ use Rattle.hickory_resolver_model.specs.Cache.{CacheValue, Entry, current, is_fo
 use Rattle.hickory_resolver_model.specs.Lookup.{LookupResult, hit_lookup, hit_seconds}
 use Rattle.hickory_resolver_model.specs.SpecialUse.{special_use_result, is_loopback_name, is_nonexistent_name, loopback_data, one_record, no_records}
 use Rattle.hickory_resolver_model.specs.AliasWalk.{Walk, walk_of}
-use Rattle.hickory_resolver_model.specs.Verdict.{Hop, Accepted, Alias, NoMatch, is_accepted, found_message, next_hop, all_records, with_ttl_at_most}
+use Rattle.hickory_resolver_model.specs.Verdict.{Hop, Accepted, LeadsTo, NoMatch, is_accepted, found_message, next_hop, all_records, with_ttl_at_most}
 use Rattle.hickory_resolver_model.specs.Hops.{LookupContext, ChainEnd, Special, Hit, Asked, IsChainEnd, HopList, Store, IsReplyOver, PassedValue, passed_of, asks_of, hit_result, result_of_verdict, result_when_asked, result_of, alias_limit, end_limit, limit_of, is_asked, result_until, reply_of, stores_of_verdict, stores_when_asked, last_stores, earlier_store, stores_of, after_stores}
 use Rattle.hickory_resolver_theorems.specs.Covered.{Dated, dated_exchanges, IsCovered, IsLoopback}
 use Rattle.hickory_resolver_theorems.specs.Statements.{LeastTtlIsZero, IsFreshRecord, AreFreshRecords, IsFreshReply, IsFreshOutcome, IsFreshEntry, AreFreshEntries, IsFresh}
@@ -176,7 +176,7 @@ result-fresh s sources hop count (Asked outcome) cache keeps fresh zero there en
     x = record { query = hop.query; outcome = outcome }
 
     on : (response : MessageValue) → outcome ≡ Ok response → (accepted nowhere : Bool)
-        → IsFreshReply config sources code s.now (result_of_verdict config hop.query s.now response (if accepted then Accepted (found_message s.preserve_intermediates hop (walk_of hop.query response.answers) response) else (if nowhere then NoMatch else Alias (next_hop s.preserve_intermediates hop (walk_of hop.query response.answers) response))))
+        → IsFreshReply config sources code s.now (result_of_verdict config hop.query s.now response (if accepted then Accepted (found_message s.preserve_intermediates hop (walk_of hop.query response.answers) response) else (if nowhere then NoMatch else LeadsTo (next_hop s.preserve_intermediates hop (walk_of hop.query response.answers) response))))
     on response came true nowhere =
         arrived-fresh config sources hop.query s.now (found_message s.preserve_intermediates hop (walk_of hop.query response.answers) response) zero
         (found-arrives config sources s.now code s.preserve_intermediates hop x response keeps zero there.0 came)
@@ -215,7 +215,7 @@ last-arrives s sources hop (Asked outcome) keeps there = by (kind_of outcome) re
     x = record { query = hop.query; outcome = outcome }
 
     on : (response : MessageValue) → outcome ≡ Ok response → (accepted nowhere : Bool)
-        → AllByRecursion (StoresArrived config sources) (stores_of_verdict hop.query s.now (alias_limit s hop.query (Answer response)) (if accepted then Accepted (found_message s.preserve_intermediates hop (walk_of hop.query response.answers) response) else (if nowhere then NoMatch else Alias (next_hop s.preserve_intermediates hop (walk_of hop.query response.answers) response))))
+        → AllByRecursion (StoresArrived config sources) (stores_of_verdict hop.query s.now (alias_limit s hop.query (Answer response)) (if accepted then Accepted (found_message s.preserve_intermediates hop (walk_of hop.query response.answers) response) else (if nowhere then NoMatch else LeadsTo (next_hop s.preserve_intermediates hop (walk_of hop.query response.answers) response))))
     on response came true nowhere = ((λ zero. found-arrives config sources s.now (type_code hop.query.query_type) s.preserve_intermediates hop x response keeps zero there.0 came), tt)
     on response came false true = tt
     on response came false false = tt

@@ -10,9 +10,9 @@ use Rattle.hickory_proto_core.specs.declared.recorded.Exchange.{Exchange}
 use Rattle.hickory_proto_core.specs.declared.net_error.NetError.TheVariants.{OutOfMemory}
 use Rattle.hickory_resolver_model.specs.Cache.{CacheValue, is_for, without_query}
 use Rattle.hickory_resolver_model.specs.Lookup.{LookupResult, question_of}
-use Rattle.hickory_resolver_model.specs.Hosts.{IsStatic}
+use Rattle.hickory_resolver_model.specs.Hosts.{HostsHave}
 use Rattle.hickory_resolver_model.specs.Hops.{one_cache}
-use Rattle.hickory_resolver_model.specs.Calls.{CallContext, Source, Static, Client, SubLookup, IsAnsweredFrom, IsAnsweredFor, start_at, is_out_of_memory, asks_of_sub_lookups}
+use Rattle.hickory_resolver_model.specs.Calls.{CallContext, Source, Hosts, Client, SubLookup, IsAnsweredFrom, IsAnsweredFor, start_at, is_out_of_memory, asks_of_sub_lookups}
 use Rattle.hickory_resolver_model.specs.Attempts.{attempts}
 use Rattle.hickory_resolver_model.specs.Run.{Settings, call_context_at, RequestValue, Lookup, LookupIp, ClearLookup, Clear, StepReply, LookedUp, LookedUpIp, Cleared, ends_run, drop_each, after_clear, Call, name_call, address_call, IsCall, IsServed, StepValue, Stage, IsStage, AreStages, exchanges_of, Run}
 use Rattle.hickory_resolver_theorems.specs.Cacheless.{IsTable, ResolvesTo, IsConsistentWith, AreConsistentWith}
@@ -38,7 +38,7 @@ part-alike : (table : TableValue) (t : CallContext) (with_hosts : Bool) (c befor
 part-alike table t with_hosts c before q p after seen meant has tells (for, is) = by p.source refl is
   where
     by : (source : Source) → p.source ≡ source → IsAnsweredFrom source t with_hosts before p after → PartAlike table t with_hosts c q p after
-    by Static e part = (
+    by Hosts e part = (
       inr (for, inl (record { asks_hosts = part.asks_hosts; found = part.found; has = part.has; result_is = part.result_is; nothing_asked = part.nothing_asked; unchanged = refl })),
       subst (AreWhatTheyResolveTo table) (sym part.unchanged) meant,
     )
@@ -56,7 +56,7 @@ part-alike table t with_hosts c before q p after seen meant has tells (for, is) 
                 record {
                   reply = (has e).0;
                   length_is = (has e).1;
-                  not_static = subst (λ x. (with_hosts ≡ false) ⊎ IsStatic x t.now t.hosts None) for part.not_static;
+                  not_static = subst (λ x. (with_hosts ≡ false) ⊎ HostsHave x t.now t.hosts None) for part.not_static;
                   means = subst (λ x. ResolvesTo table x (has e).0 (has e).1) for (has e).2;
                   result_is = same;
                 },

@@ -11,7 +11,7 @@ use Rattle.hickory_proto_core.specs.declared.net_error.NetError.TheVariants.{Mes
 use Rattle.hickory_proto_core.specs.declared.net_error.DnsError.TheVariants.{ResponseCode, NoRecordsFound}
 use Rattle.hickory_resolver_model.specs.Cache.{CacheValue}
 use Rattle.hickory_resolver_model.specs.Lookup.{LookupResult}
-use Rattle.hickory_resolver_model.specs.Verdict.{Hop, Verdict, Accepted, Alias, NoMatch, first_hop, verdict}
+use Rattle.hickory_resolver_model.specs.Verdict.{Hop, Verdict, Accepted, LeadsTo, NoMatch, first_hop, verdict}
 use Rattle.hickory_resolver_model.specs.AliasWalk.{walk_of}
 use Rattle.hickory_resolver_model.specs.Hops.{IsBeginning, LookupContext, GoesUpstream, IsAliasHop, FollowsAliases, ChainEnd, Special, Hit, Asked, IsChainEnd, HopList, IsReplyOver, Store, PassedValue, passed_by, passed_of, verdict_on, result_of, result_when_asked, result_of_verdict, asks_of, alias_limit, alias_deadline, earliest, end_limit, limit_of, is_asked, last_stores, earlier_store, earlier_stores, stores_of, after_store, after_stores, is_kept}
 use Rattle.hickory_resolver_model.specs.Resuming.{ProgressValue, Waits, IsDone, TakesMemory, EndsAs, ComesTo, FollowsAlias, IsEndedBy, Resumes}
@@ -61,7 +61,7 @@ kept-asked s hop outcome takes = by (kind_of outcome) takes
   where
     on : (m : MessageValue) (v : Verdict) → is_kept (result_of_verdict s.cache.config hop.query s.now m v) ≡ true
     on m (Accepted found) = refl
-    on m (Alias next) = refl
+    on m (LeadsTo next) = refl
     on m NoMatch = refl
 
     by : (kind : ResponseKind) → ((error : _) → kind ≡ Failed error → ⊥) → is_kept (result_when_asked s hop kind) ≡ true
@@ -185,7 +185,7 @@ resumed s p outcome progress after is = by
     count : length p.waiting.passed ≡ length p.asks
     count = ap length is.passed.passed_are ∙ passed_of-length s p.asks
 
-    has : (next : Hop) → verdict_on s hop (kind_of outcome) ≡ Some (Alias next) → length p.waiting.passed < 7
+    has : (next : Hop) → verdict_on s hop (kind_of outcome) ≡ Some (LeadsTo next) → length p.waiting.passed < 7
         → HasPassed s p.question (p.asks ++ x ∷ []) (p.caches ++ p.cache ∷ []) (p.waiting.passed ++ passed_by s hop.query outcome ∷ []) next
     has next alias early = record {
       leads = follows-more s p.caches (first_hop p.question) p.asks hop p.cache x next is.passed.leads (record { upstream = is.upstream; asked = refl; alias = verdict-elsewhere s p.cache hop (kind_of outcome) ∙ alias });

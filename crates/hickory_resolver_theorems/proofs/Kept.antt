@@ -11,7 +11,7 @@ use Rattle.hickory_proto_core.specs.declared.recorded.Exchange.{Exchange}
 use Rattle.hickory_proto_core.specs.declared.net_error.NetError.TheVariants.{OutOfMemory}
 use Rattle.hickory_resolver_model.specs.Cache.{CacheValue}
 use Rattle.hickory_resolver_model.specs.Lookup.{LookupResult}
-use Rattle.hickory_resolver_model.specs.Verdict.{Hop, first_hop, Verdict, Accepted, Alias, NoMatch, verdict}
+use Rattle.hickory_resolver_model.specs.Verdict.{Hop, first_hop, Verdict, Accepted, LeadsTo, NoMatch, verdict}
 use Rattle.hickory_resolver_model.specs.Hops.{LookupContext, GoesUpstream, FollowsAliases, ChainEnd, Special, Hit, Asked, IsChainEnd, verdict_on, result_when_asked, stores_when_asked, result_of_verdict, stores_of_verdict, result_of, asks_of, as_outcome, alias_limit, end_limit, limit_of, is_asked, result_until, reply_of, last_stores, earlier_store, earlier_stores, stores_of, Store, PassedValue, passed_of, one_cache, after_store, after_stores, HopList, IsCutInAsks, IsReply}
 use Rattle.hickory_resolver_theorems.proofs.Lists.{all-append, has-all}
 use Rattle.hickory_resolver_theorems.proofs.OneCache.{one-before, last-read}
@@ -28,7 +28,7 @@ none_stored (s ∷ ss) back cache a = ap (λ (o : OutcomeValue). after_stores ss
 
 verdict_out : (s : LookupContext) (hop : Hop) (m : MessageValue) (limit : ℕ) (v : Verdict) → result_of_verdict s.cache.config hop.query s.now m v ≡ Err OutOfMemory → AllOut (stores_of_verdict hop.query s.now limit v)
 verdict_out s hop m limit (Accepted n) e = cc
-verdict_out s hop m limit (Alias next) e = tt
+verdict_out s hop m limit (LeadsTo next) e = tt
 verdict_out s hop m limit NoMatch e = tt
 
 kind_out : (s : LookupContext) (hop : Hop) (kind : ResponseKind) → result_when_asked s hop kind ≡ Err OutOfMemory → AllOut (stores_when_asked s hop kind)
@@ -69,8 +69,8 @@ record FrontKept (front tail kept : List Exchange) : Type 0 where
   parts : kept ≡ front ++ rest
   recorded : RecordedAs tail rest
 
-no_alias : (s : LookupContext) (hop next : Hop) (outcome : OutcomeValue) → outcome ≡ Err OutOfMemory → verdict_on s hop (kind_of outcome) ≡ Some (Alias next) → ⊥
-no_alias s hop next outcome out alias = let clash : None ≡ Some (Alias next) = sym (ap (λ (o : OutcomeValue). verdict_on s hop (kind_of o)) out) ∙ alias in cc
+no_alias : (s : LookupContext) (hop next : Hop) (outcome : OutcomeValue) → outcome ≡ Err OutOfMemory → verdict_on s hop (kind_of outcome) ≡ Some (LeadsTo next) → ⊥
+no_alias s hop next outcome out alias = let clash : None ≡ Some (LeadsTo next) = sym (ap (λ (o : OutcomeValue). verdict_on s hop (kind_of o)) out) ∙ alias in cc
 
 front_kept : (s : LookupContext) (caches : List CacheValue) (hop last : Hop) (front tail kept : List Exchange) → FollowsAliases s caches hop front last → RecordedAs (front ++ tail) kept → FrontKept front tail kept
 front_kept s [] hop last [] tail kept leads r = record { rest = kept; parts = refl; recorded = r }

@@ -8,7 +8,7 @@ use Rattle.hickory_proto_core.specs.declared.recorded.Exchange.{Exchange}
 use Rattle.hickory_resolver_model.specs.Attempts.{attempts}
 use Rattle.hickory_resolver_model.specs.Cache.{CacheValue}
 use Rattle.hickory_resolver_model.specs.Lookup.{LookupResult}
-use Rattle.hickory_resolver_model.specs.Calls.{CallContext, Source, Static, Client, SubLookup, IsAnsweredFrom, IsAnsweredFor, Plan, IsAttemptResult, AreSubLookups, results_of, stops, CallPlan, Says, AreAttempts, asks_of_sub_lookups, start_at}
+use Rattle.hickory_resolver_model.specs.Calls.{CallContext, Source, Hosts, Client, SubLookup, IsAnsweredFrom, IsAnsweredFor, FamilyOrder, IsAttemptResult, AreSubLookups, results_of, stops, CallPlan, Says, AreAttempts, asks_of_sub_lookups, start_at}
 use Rattle.hickory_resolver_model.specs.Run.{Settings, call_context_at, RequestValue, Lookup, LookupIp, ClearLookup, Clear, StepReply, LookedUp, LookedUpIp, Cleared, Call, AtOnce, Attempt, name_call, address_call, IsCall, IsServed}
 use Rattle.hickory_resolver_theorems.specs.Keeping.{IsServedOver}
 use Rattle.hickory_resolver_theorems.proofs.Kept.{kept_reply}
@@ -46,7 +46,7 @@ module _ (t : CallContext) where
   kept_part with_hosts before q p after kept r (for, is) = (for, by p.source is)
     where
       by : (source : Source) → IsAnsweredFrom source t with_hosts before p after → IsAnsweredFrom source t with_hosts before (record { question = p.question; source = p.source; asks = kept; result = p.result }) after
-      by Static is = record {
+      by Hosts is = record {
         asks_hosts = is.asks_hosts;
         found = is.found;
         has = is.has;
@@ -58,13 +58,13 @@ module _ (t : CallContext) where
 
   -- ---- the sub-look-ups of an attempt
 
-  record KeptSubs (with_hosts : Bool) (n : NameValue) (plan : Plan) (before : CacheValue) (results : List LookupResult) (ps : List SubLookup) (after : CacheValue) (kept : List Exchange) : Type 0 where
+  record KeptSubs (with_hosts : Bool) (n : NameValue) (plan : FamilyOrder) (before : CacheValue) (results : List LookupResult) (ps : List SubLookup) (after : CacheValue) (kept : List Exchange) : Type 0 where
     parts : List SubLookup
     asks_are : asks_of_sub_lookups parts ≡ kept
     results_are : results_of parts ≡ results_of ps
     are : AreSubLookups (IsAnsweredFor t) with_hosts n plan before results parts after
 
-  kept_subs : (with_hosts : Bool) (n : NameValue) (plan : Plan) (before : CacheValue) (results : List LookupResult) (ps : List SubLookup) (after : CacheValue) (kept : List Exchange) → RecordedAs (asks_of_sub_lookups ps) kept
+  kept_subs : (with_hosts : Bool) (n : NameValue) (plan : FamilyOrder) (before : CacheValue) (results : List LookupResult) (ps : List SubLookup) (after : CacheValue) (kept : List Exchange) → RecordedAs (asks_of_sub_lookups ps) kept
       → AreSubLookups (IsAnsweredFor t) with_hosts n plan before results ps after → KeptSubs with_hosts n plan before results ps after kept
   kept_subs with_hosts n plan before results [] after kept r same = record { parts = []; asks_are = sym r; results_are = refl; are = same }
   kept_subs with_hosts n plan before results (p ∷ ps) after kept r (u, mid, next, is, rest) =

@@ -24,13 +24,13 @@ use Rattle.hickory_resolver_model.specs.Bounds.{ConfigValue, clamped_message, cl
 use Rattle.hickory_resolver_model.specs.Lookup.{LookupResult}
 use Rattle.hickory_resolver_model.specs.SpecialUse.{special_use_result, loopback_zones, is_loopback_name, is_nonexistent_name, loopback_data, one_record, no_records, full_name}
 use Rattle.hickory_resolver_model.specs.AliasWalk.{walk_of}
-use Rattle.hickory_resolver_model.specs.Verdict.{Hop, Verdict, Accepted, Alias, NoMatch, next_hop, verdict, first_hop}
+use Rattle.hickory_resolver_model.specs.Verdict.{Hop, Verdict, Accepted, LeadsTo, NoMatch, next_hop, verdict, first_hop}
 use Rattle.hickory_resolver_model.specs.Hops.{LookupContext, verdict_on, result_when_asked, result_of_verdict}
 use Rattle.hickory_resolver_theorems.specs.Cacheless.{cacheless_context, ResolvesTo, at_special, at_last, at_alias}
 use Rattle.hickory_resolver_theorems.specs.Cores.{folded_name, folded_query, folded_data, record_core, sections, ReplyCore, reply_core}
 use Rattle.hickory_resolver_theorems.proofs.Folding.{lowers-twice, query_type-folded_name, query_class-folded_name, map-map}
 use Rattle.hickory_resolver_theorems.proofs.VerdictFacts.{alias-leads}
-use Rattle.hickory_resolver_theorems.proofs.Responses.{Ends, GoesOn, next_verdict, next_class, next_outcome, next-same}
+use Rattle.hickory_resolver_theorems.proofs.Responses.{Ends, LeadsOn, next_verdict, next_class, next_outcome, next-same}
 
 -- ---- special names
 
@@ -127,12 +127,12 @@ sections-clamped_message config m =
 -- a hop passes to a next one, or its result ends the look-up
 pub record GoesOnTo (s : LookupContext) (hop : Hop) (c : ResponseKind) : Type 0 where
   pub next : Hop
-  pub alias : verdict_on s hop c ≡ Some (Alias next)
-  pub on : next_class hop.query c ≡ GoesOn (folded_query next.query)
+  pub alias : verdict_on s hop c ≡ Some (LeadsTo next)
+  pub on : next_class hop.query c ≡ LeadsOn (folded_query next.query)
   pub plain : next.preserved ≡ []
 
 pub record EndsWith (s : LookupContext) (hop : Hop) (c : ResponseKind) : Type 0 where
-  pub no_alias : (next : Hop) → verdict_on s hop c ≡ Some (Alias next) → ⊥
+  pub no_alias : (next : Hop) → verdict_on s hop c ≡ Some (LeadsTo next) → ⊥
   pub ends : next_class hop.query c ≡ Ends (reply_core (result_when_asked s hop c))
 
 pub hop-next : (s : LookupContext) (hop : Hop) (c : ResponseKind) → s.preserve_intermediates ≡ false → hop.preserved ≡ [] → GoesOnTo s hop c ⊎ EndsWith s hop c
@@ -149,10 +149,10 @@ hop-next s hop (Answer m) off none = by (verdict s.preserve_intermediates hop m)
     by : (v : Verdict) → verdict s.preserve_intermediates hop m ≡ v → GoesOnTo s hop (Answer m) ⊎ EndsWith s hop (Answer m)
     by (Accepted f) e =
         inr (record {
-          no_alias = λ next h. let clash : Some (Accepted f) ≡ Some (Alias next) = ap Some (sym e) ∙ h in cc;
+          no_alias = λ next h. let clash : Some (Accepted f) ≡ Some (LeadsTo next) = ap Some (sym e) ∙ h in cc;
           ends = ap (next_verdict q m) (sym plain ∙ e) ∙ ap (λ x. Ends (Ok x)) (sym (sections-clamped_message s.cache.config f)) ∙ ap (λ v. Ends (reply_core (result_of_verdict s.cache.config q s.now m v))) (sym e);
         })
-    by (Alias next) e =
+    by (LeadsTo next) e =
         let there : next ≡ next_hop s.preserve_intermediates hop (walk_of q m.answers) m = (alias-leads s.preserve_intermediates hop m next e).next_is in
         inl (record {
           next = next;
@@ -162,7 +162,7 @@ hop-next s hop (Answer m) off none = by (verdict s.preserve_intermediates hop m)
         })
     by NoMatch e =
         inr (record {
-          no_alias = λ next h. let clash : Some NoMatch ≡ Some (Alias next) = ap Some (sym e) ∙ h in cc;
+          no_alias = λ next h. let clash : Some NoMatch ≡ Some (LeadsTo next) = ap Some (sym e) ∙ h in cc;
           ends = ap (next_verdict q m) (sym plain ∙ e) ∙ ap (λ v. Ends (reply_core (result_of_verdict s.cache.config q s.now m v))) (sym e);
         })
 
@@ -173,7 +173,7 @@ pub means-ends : (table : TableValue) (q : Query) (o : OutcomeValue) (r : ReplyC
 means-ends table q o r plain found ends = by (hop-next cacheless_context (first_hop q) (kind_of o) refl refl)
   where
     by : GoesOnTo cacheless_context (first_hop q) (kind_of o) ⊎ EndsWith cacheless_context (first_hop q) (kind_of o) → ResolvesTo table q r 1
-    by (inl on) = let clash : Ends r ≡ GoesOn (folded_query on.next.query) = sym ends ∙ on.on in cc
+    by (inl on) = let clash : Ends r ≡ LeadsOn (folded_query on.next.query) = sym ends ∙ on.on in cc
     by (inr last) =
         let same : Ends (reply_core (result_when_asked cacheless_context (first_hop q) (kind_of o))) ≡ Ends r = sym last.ends ∙ ends in
         let cores : reply_core (result_when_asked cacheless_context (first_hop q) (kind_of o)) ≡ r = cc in
@@ -196,7 +196,7 @@ pub record ByAlias (table : TableValue) (q : Query) (r : ReplyCore) (n : ℕ) : 
   pub outcome : OutcomeValue
   pub found : outcome_in q table ≡ Some outcome
   pub next : Query
-  pub on : next_outcome q outcome ≡ GoesOn (folded_query next)
+  pub on : next_outcome q outcome ≡ LeadsOn (folded_query next)
   pub rest : ℕ
   pub means : ResolvesTo table next r rest
   pub length_is : n ≡ suc rest
@@ -211,11 +211,11 @@ means-cases table q r n (at_last {outcome = o} plain found no_alias) = inr (inl 
 means-cases table q r n (at_alias {next = next} {outcome = o} {n = m} plain found alias means) =
     inr (inr (record { plain = plain; outcome = o; found = found; next = next.query; on = by (hop-next cacheless_context (first_hop q) (kind_of o) refl refl); rest = m; means = means; length_is = refl }))
   where
-    by : GoesOnTo cacheless_context (first_hop q) (kind_of o) ⊎ EndsWith cacheless_context (first_hop q) (kind_of o) → next_outcome q o ≡ GoesOn (folded_query next.query)
+    by : GoesOnTo cacheless_context (first_hop q) (kind_of o) ⊎ EndsWith cacheless_context (first_hop q) (kind_of o) → next_outcome q o ≡ LeadsOn (folded_query next.query)
     by (inl there) =
-        let twice : Some (Alias there.next) ≡ Some (Alias next) = sym there.alias ∙ alias in
+        let twice : Some (LeadsTo there.next) ≡ Some (LeadsTo next) = sym there.alias ∙ alias in
         let same : there.next ≡ next = cc in
-        there.on ∙ ap (λ h. GoesOn (folded_query h.query)) same
+        there.on ∙ ap (λ h. LeadsOn (folded_query h.query)) same
     by (inr last) = absurd (last.no_alias next alias)
 
 pub means-some : (table : TableValue) (q : Query) (r : ReplyCore) (n : ℕ) → ResolvesTo table q r n → 1 ≤ n
@@ -237,12 +237,12 @@ means-same table p q r n e (at_alias {next = next} {outcome = o} {n = m} plain f
         → ((there : Query) → folded_query next.query ≡ folded_query there → ResolvesTo table there r m) → ResolvesTo table q r (suc m)
     by (inr last) other rest = absurd (last.no_alias next alias)
     by (inl here) (inl there) rest =
-        let twice : Some (Alias here.next) ≡ Some (Alias next) = sym here.alias ∙ alias in
+        let twice : Some (LeadsTo here.next) ≡ Some (LeadsTo next) = sym here.alias ∙ alias in
         let same : here.next ≡ next = cc in
-        let both : GoesOn (folded_query here.next.query) ≡ GoesOn (folded_query there.next.query) = sym here.on ∙ next-same p q o o e refl ∙ there.on in
+        let both : LeadsOn (folded_query here.next.query) ≡ LeadsOn (folded_query there.next.query) = sym here.on ∙ next-same p q o o e refl ∙ there.on in
         let questions : folded_query here.next.query ≡ folded_query there.next.query = cc in
         at_alias (special_use_result-none p q 0 0 e plain) (sym (outcome-same p q table e) ∙ found) there.alias (rest there.next.query (ap (λ h. folded_query h.query) (sym same) ∙ questions))
-    by (inl here) (inr last) rest = let clash : GoesOn (folded_query here.next.query) ≡ Ends (reply_core (result_when_asked cacheless_context (first_hop q) (kind_of o))) = sym here.on ∙ next-same p q o o e refl ∙ last.ends in cc
+    by (inl here) (inr last) rest = let clash : LeadsOn (folded_query here.next.query) ≡ Ends (reply_core (result_when_asked cacheless_context (first_hop q) (kind_of o))) = sym here.on ∙ next-same p q o o e refl ∙ last.ends in cc
 
 -- and they mean one reply at most
 pub means-one : (table : TableValue) (q : Query) (r c : ReplyCore) (n m : ℕ) → ResolvesTo table q r n → ResolvesTo table q c m → r ≡ c
@@ -265,7 +265,7 @@ means-one table q r c n m (at_last {outcome = o} plain found no_alias) other = b
     by (inr last) (inr (inr a)) =
         let twice : Some o ≡ Some a.outcome = sym found ∙ a.found in
         let same : o ≡ a.outcome = cc in
-        let clash : Ends (reply_core (result_when_asked cacheless_context (first_hop q) (kind_of o))) ≡ GoesOn (folded_query a.next) = sym last.ends ∙ ap (next_outcome q) same ∙ a.on in
+        let clash : Ends (reply_core (result_when_asked cacheless_context (first_hop q) (kind_of o))) ≡ LeadsOn (folded_query a.next) = sym last.ends ∙ ap (next_outcome q) same ∙ a.on in
         cc
 means-one table q r c n m (at_alias {next = next} {outcome = o} {n = k} plain found alias means) other = by (hop-next cacheless_context (first_hop q) (kind_of o) refl refl) (means-cases table q c m other) (λ j there. means-one table next.query r c k j means there)
   where
@@ -275,13 +275,13 @@ means-one table q r c n m (at_alias {next = next} {outcome = o} {n = k} plain fo
     by (inl on) (inr (inl u)) rest =
         let twice : Some o ≡ Some u.outcome = sym found ∙ u.found in
         let same : o ≡ u.outcome = cc in
-        let clash : GoesOn (folded_query on.next.query) ≡ Ends c = sym on.on ∙ ap (next_outcome q) same ∙ u.ends in
+        let clash : LeadsOn (folded_query on.next.query) ≡ Ends c = sym on.on ∙ ap (next_outcome q) same ∙ u.ends in
         cc
     by (inl on) (inr (inr a)) rest =
         let twice : Some o ≡ Some a.outcome = sym found ∙ a.found in
         let same : o ≡ a.outcome = cc in
-        let hops : Some (Alias on.next) ≡ Some (Alias next) = sym on.alias ∙ alias in
+        let hops : Some (LeadsTo on.next) ≡ Some (LeadsTo next) = sym on.alias ∙ alias in
         let one : on.next ≡ next = cc in
-        let both : GoesOn (folded_query a.next) ≡ GoesOn (folded_query on.next.query) = sym a.on ∙ ap (next_outcome q) (sym same) ∙ on.on in
+        let both : LeadsOn (folded_query a.next) ≡ LeadsOn (folded_query on.next.query) = sym a.on ∙ ap (next_outcome q) (sym same) ∙ on.on in
         let questions : folded_query a.next ≡ folded_query on.next.query = cc in
         rest a.rest (means-same table a.next next.query c a.rest (questions ∙ ap (λ h. folded_query h.query) one) a.means)

@@ -23,8 +23,8 @@ use Rattle.hickory_proto_core.specs.names.name_error.NameError.{NameError}
 use Rattle.hickory_proto_core.specs.declared.net_error.NetError.TheVariants.{OutOfMemory}
 use Rattle.hickory_resolver_model.specs.Cache.{CacheValue}
 use Rattle.hickory_resolver_model.specs.Lookup.{LookupValue, LookupResult, question_of}
-use Rattle.hickory_resolver_model.specs.Hosts.{Host, as_fqdn, family, is_host, has_address, pointers, pointer_lookup, StandsFor, static_answer, IsStatic}
-use Rattle.hickory_resolver_model.specs.Calls.{CallContext, SubLookup, Plan, One, Both, Fallback, has_answers, is_out_of_memory, both_results, next_type, attempt_result, IsAttemptResult, AreSubLookups, results_of, IsAttempt, IsAnsweredByHosts, stops, CallPlan, IsLastReply, Says, AreAttempts}
+use Rattle.hickory_resolver_model.specs.Hosts.{Host, as_fqdn, family, is_host, has_address, pointers, pointer_lookup, StandsFor, static_answer, HostsHave}
+use Rattle.hickory_resolver_model.specs.Calls.{CallContext, SubLookup, FamilyOrder, One, Both, Fallback, has_answers, is_out_of_memory, both_results, next_type, attempt_result, IsAttemptResult, AreSubLookups, results_of, IsAttempt, IsAnsweredByHosts, stops, CallPlan, IsLastReply, Says, AreAttempts}
 use Rattle.hickory_resolver_model.specs.Attempts.{attempts}
 use Rattle.hickory_resolver_model.specs.Run.{Settings, call_context_at, RequestValue, Lookup, LookupIp, ClearLookup, Clear, LookedUp, LookedUpIp, Call, AtOnce, Attempt, name_call, address_call, IsCall}
 use Rattle.hickory_resolver_theorems.specs.AttemptLaws.{some_attempt}
@@ -82,7 +82,7 @@ same-stands n None (Some d) h (net, is, e) = absurd (h net is)
 same-stands n (Some c) None (net, is, e) k = absurd (k net is)
 same-stands n (Some c) (Some d) (net, is, e) (other, too, f) = ap Some (e ∙ ap (λ x. data_of_address x.addr) (same-net n net other is too) ∙ sym f)
 
-same-static : (q : Query) (now : ℕ) (hosts : List Host) (a b : Option LookupValue) → IsStatic q now hosts a → IsStatic q now hosts b → a ≡ b
+same-static : (q : Query) (now : ℕ) (hosts : List Host) (a b : Option LookupValue) → HostsHave q now hosts a → HostsHave q now hosts b → a ≡ b
 same-static q now hosts a b (x, h, e) (y, k, f) = e ∙ by (asks_for type.PTR q) refl ∙ sym f
   where
     n : NameValue
@@ -159,15 +159,15 @@ found-meets a b l k e (inl ok) (inr out) = inr (inl (ap is_out_of_memory out))
 found-meets a b l k e (inl ok) (inl too) = inr (inr (ap reply_core (ok ∙ ap Ok e ∙ sym too)))
 
 -- where the table is looked at and has something, nothing else is asked
-never : (t : CallContext) (with_hosts : Bool) (q : Query) (found : LookupValue) → with_hosts ≡ true → IsStatic q t.now t.hosts (Some found) → (with_hosts ≡ false) ⊎ IsStatic q t.now t.hosts None → ⊥
+never : (t : CallContext) (with_hosts : Bool) (q : Query) (found : LookupValue) → with_hosts ≡ true → HostsHave q t.now t.hosts (Some found) → (with_hosts ≡ false) ⊎ HostsHave q t.now t.hosts None → ⊥
 never t with_hosts q found asks has (inl not_looked) = absurd (let clash : true ≡ false = sym asks ∙ not_looked in cc)
 never t with_hosts q found asks has (inr none) = absurd (let clash : Some found ≡ None = same-static q t.now t.hosts (Some found) None has none in cc)
 
 part-once : (table : TableValue) (t : CallContext) (with_hosts : Bool) (q : Query) (c d e f : CacheValue) (p u : SubLookup) → CachelessSubLookup table t with_hosts c q p d → CachelessSubLookup table t with_hosts e q u f → Meet p.result u.result
 part-once table t with_hosts q c d e f p u (for, is) (for_too, is_too) = by is is_too
   where
-    has-at : (x : SubLookup) → x.question ≡ q → (found : LookupValue) → IsStatic x.question t.now t.hosts (Some found) → IsStatic q t.now t.hosts (Some found)
-    has-at x same found has = subst (λ y. IsStatic y t.now t.hosts (Some found)) same has
+    has-at : (x : SubLookup) → x.question ≡ q → (found : LookupValue) → HostsHave x.question t.now t.hosts (Some found) → HostsHave q t.now t.hosts (Some found)
+    has-at x same found has = subst (λ y. HostsHave y t.now t.hosts (Some found)) same has
 
     by : IsAnsweredByHosts t with_hosts c p d ⊎ (IsCachelessSubLookup table t with_hosts q p × (d ≡ c)) → IsAnsweredByHosts t with_hosts e u f ⊎ (IsCachelessSubLookup table t with_hosts q u × (f ≡ e)) → Meet p.result u.result
     by (inl s) (inl v) = found-meets p.result u.result s.found v.found (let both : Some s.found ≡ Some v.found = same-static q t.now t.hosts (Some s.found) (Some v.found) (has-at p for s.found s.has) (has-at u for_too v.found v.has) in let one : s.found ≡ v.found = cc in one) s.result_is v.result_is
@@ -191,7 +191,7 @@ answered-once table t with_hosts q a b x y =
     meet a b x.live y.live (subst (Meet a) y.result_is (subst (λ r. Meet r y.part.result) x.result_is (part-once table t with_hosts q x.before x.after y.before y.after x.part y.part x.is y.is)))
 
 -- the results that an attempt is made of, by what it looks up
-abbrev Made : TableValue → CallContext → Bool → NameValue → Plan → LookupResult → Type 0
+abbrev Made : TableValue → CallContext → Bool → NameValue → FamilyOrder → LookupResult → Type 0
 Made table t with_hosts n (One u) r = Answered table t with_hosts (question_of n u) r
 Made table t with_hosts n (Both u v) r =
     (a : LookupResult) × (b : LookupResult) × Answered table t with_hosts (question_of n u) a × Answered table t with_hosts (question_of n v) b × (r ≡ both_results a b)
@@ -199,7 +199,7 @@ Made table t with_hosts n (Fallback u v) r =
     (Answered table t with_hosts (question_of n u) r × (has_answers r ≡ true))
     ⊎ ((a : LookupResult) × Answered table t with_hosts (question_of n u) a × (has_answers a ≡ false) × Answered table t with_hosts (question_of n v) r)
 
-made-once : (table : TableValue) (t : CallContext) (with_hosts : Bool) (n : NameValue) (plan : Plan) (r k : LookupResult) → Made table t with_hosts n plan r → Made table t with_hosts n plan k → Same r k
+made-once : (table : TableValue) (t : CallContext) (with_hosts : Bool) (n : NameValue) (plan : FamilyOrder) (r k : LookupResult) → Made table t with_hosts n plan r → Made table t with_hosts n plan k → Same r k
 made-once table t with_hosts n (One u) r k x y = answered-once table t with_hosts (question_of n u) r k x y
 made-once table t with_hosts n (Both u v) r k (a, b, x, y, e) (c, d, z, w, f) =
     ap reply_core e ∙ same-both a b c d (answered-once table t with_hosts (question_of n u) a c x z) (answered-once table t with_hosts (question_of n v) b d y w) ∙ sym (ap reply_core f)
@@ -219,7 +219,7 @@ or-left true b h k = refl
 or-left false b h k = let clash : true ≡ false = sym h ∙ k in cc
 
 -- an attempt that is over, out of memory aside, is made of answers
-made : (table : TableValue) (t : CallContext) (with_hosts : Bool) (n : NameValue) (plan : Plan) (before : CacheValue) (ps : List SubLookup) (r : LookupResult) (after : CacheValue) → AreSubLookups (CachelessSubLookup table t) with_hosts n plan before [] ps after
+made : (table : TableValue) (t : CallContext) (with_hosts : Bool) (n : NameValue) (plan : FamilyOrder) (before : CacheValue) (ps : List SubLookup) (r : LookupResult) (after : CacheValue) → AreSubLookups (CachelessSubLookup table t) with_hosts n plan before [] ps after
     → next_type plan (results_of ps) ≡ None → r ≡ attempt_result plan (results_of ps) → is_out_of_memory r ≡ false → Made table t with_hosts n plan r
 made table t with_hosts n (One u) before [] r after are over e live = let clash : Some u ≡ None = over in cc
 made table t with_hosts n (Both u v) before [] r after are over e live = let clash : Some u ≡ None = over in cc
@@ -273,7 +273,7 @@ made table t with_hosts n (Fallback u v) before (p ∷ q ∷ []) r after (w, mid
 made table t with_hosts n (Both u v) before (p ∷ q ∷ y ∷ ys) r after (w, mid, next, is, (x, m, more, second, (z, k, third, it, rest))) over e live = let clash : None ≡ Some z = third in cc
 made table t with_hosts n (Fallback u v) before (p ∷ q ∷ y ∷ ys) r after (w, mid, next, is, (x, m, more, second, (z, k, third, it, rest))) over e live = let clash : None ≡ Some z = third in cc
 
-made-of : (table : TableValue) (t : CallContext) (with_hosts : Bool) (n : NameValue) (plan : Plan) (before : CacheValue) (ps : List SubLookup) (r : LookupResult) (after : CacheValue) → IsAttempt (CachelessSubLookup table t) with_hosts before n plan ps r after → is_out_of_memory r ≡ false → Made table t with_hosts n plan r
+made-of : (table : TableValue) (t : CallContext) (with_hosts : Bool) (n : NameValue) (plan : FamilyOrder) (before : CacheValue) (ps : List SubLookup) (r : LookupResult) (after : CacheValue) → IsAttempt (CachelessSubLookup table t) with_hosts before n plan ps r after → is_out_of_memory r ≡ false → Made table t with_hosts n plan r
 made-of table t with_hosts n plan before ps r after attempt live = by attempt.result_is
   where
     by : IsAttemptResult plan (results_of ps) r → Made table t with_hosts n plan r

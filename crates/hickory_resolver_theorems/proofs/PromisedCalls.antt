@@ -15,13 +15,13 @@ use Rattle.hickory_proto_core.specs.declared.net_error.NetError.TheVariants.{Mes
 use Rattle.hickory_resolver_model.specs.Bounds.{ConfigValue}
 use Rattle.hickory_resolver_model.specs.Cache.{CacheValue, Entry, IsCache, OutlivesNoAnswer, is_for, is_current, without_query}
 use Rattle.hickory_resolver_model.specs.Lookup.{LookupResult}
-use Rattle.hickory_resolver_model.specs.Verdict.{Hop, Verdict, Accepted, Alias, NoMatch, first_hop, verdict}
-use Rattle.hickory_resolver_model.specs.Hops.{LookupContext, ChainEnd, Special, Hit, Asked, HopList, Store, IsReply, one_cache, passed_of, end_limit, alias_limit, made_entry, stores_of_verdict, stores_when_asked, last_stores, earlier_store, earlier_stores, stores_of, result_of, after_stores}
-use Rattle.hickory_resolver_model.specs.Calls.{CallContext, start_at, Source, Static, Client, SubLookup, SubLookupRelation, IsAnsweredFrom, IsAnsweredFor, is_out_of_memory, asks_of_sub_lookups}
+use Rattle.hickory_resolver_model.specs.Verdict.{Hop, Verdict, Accepted, LeadsTo, NoMatch, first_hop, verdict}
+use Rattle.hickory_resolver_model.specs.Hops.{LookupContext, ChainEnd, Special, Hit, Asked, HopList, Store, IsReply, one_cache, passed_of, end_limit, alias_limit, entry_of_store, stores_of_verdict, stores_when_asked, last_stores, earlier_store, earlier_stores, stores_of, result_of, after_stores}
+use Rattle.hickory_resolver_model.specs.Calls.{CallContext, start_at, Source, Hosts, Client, SubLookup, SubLookupRelation, IsAnsweredFrom, IsAnsweredFor, is_out_of_memory, asks_of_sub_lookups}
 use Rattle.hickory_resolver_model.specs.Attempts.{attempts}
 use Rattle.hickory_resolver_model.specs.Run.{Settings, call_context_at, Call, IsCall, after_clear, name_call, address_call}
 use Rattle.hickory_resolver_model.specs.Resolver.{ResolverValue, settings, AnswersCall, AnswersName, AnswersHost}
-use Rattle.hickory_resolver_theorems.specs.Aliases.{LimitedSubLookup}
+use Rattle.hickory_resolver_theorems.specs.Aliases.{SubLookupOutlivesNoAlias}
 use Rattle.hickory_resolver_theorems.specs.Covered.{Dated, dated_exchanges}
 use Rattle.hickory_resolver_theorems.specs.Provenance.{is_source, dated_entry, stores_made}
 use Rattle.hickory_resolver_theorems.specs.Statements.{LeastTtlIsZero, IsFreshReply, IsFreshEntry, IsFreshSubLookup, IsWhatItResolvesTo, AreWhatTheyResolveTo, CachelessSubLookup}
@@ -55,7 +55,7 @@ own-typed s code hop (Asked outcome) same = by (kind_of outcome)
       where
         on : (v : Verdict) → AllByRecursion (IsOfType code) (stores_of_verdict hop.query s.now (alias_limit s hop.query (Answer m)) v)
         on (Accepted found) = (same, tt)
-        on (Alias next) = tt
+        on (LeadsTo next) = tt
         on NoMatch = tt
     by (Negative none) = (same, tt)
     by (Failed error) = tt
@@ -95,7 +95,7 @@ module _ (now : ℕ) (first : CacheValue) (cache : IsCache first.config first.ca
 
   -- what a part keeps to
   record IsSourcedPart (config : ConfigValue) (s : LookupContext) (p : SubLookup) (after : CacheValue) (reply : IsReply s p.question p.asks p.result after) : Type 0 where
-    stores : AllByRecursion (λ store. IfSome (made_entry config store) (IsFreshForType config sources)) (stores_made s (one_cache s p.asks) p.question p.asks p.result after reply)
+    stores : AllByRecursion (λ store. IfSome (entry_of_store config store) (IsFreshForType config sources)) (stores_made s (one_cache s p.asks) p.question p.asks p.result after reply)
     fresh : LeastTtlIsZero config (type_code p.question.query_type) → IsFreshReply config (sources (type_code p.question.query_type)) (type_code p.question.query_type) s.now p.result
     known : AllByRecursion (IsKnown config) after.entries
 
@@ -129,9 +129,9 @@ module _ (now : ℕ) (first : CacheValue) (cache : IsCache first.config first.ca
           let both = and_parts (is_for q e) (is_current s.now e) found.1 in
           hit e both.1 (for-type q e both.0 ∙ same) (all-has (IsKnown config) s.cache.entries e known found.0)
 
-      made : (stores : List Store) → AllByRecursion (HasArrived config code) stores → AllByRecursion (λ store. IfSome (made_entry config store) (IsFreshForType config sources)) stores
+      made : (stores : List Store) → AllByRecursion (HasArrived config code) stores → AllByRecursion (λ store. IfSome (entry_of_store config store) (IsFreshForType config sources)) stores
       made stores arrived =
-          all-weaker (HasArrived config code) (λ store. IfSome (made_entry config store) (IsFreshForType config sources))
+          all-weaker (HasArrived config code) (λ store. IfSome (entry_of_store config store) (IsFreshForType config sources))
           (λ store h. makes-some (IsFreshForType config sources) config store (stores-fresh_entry config code store h)) stores arrived
 
       stored : (stores : List Store) → AllByRecursion (HasArrived config code) stores → after ≡ after_stores stores s.cache → AllByRecursion (IsKnown config) after.entries
@@ -179,8 +179,8 @@ module _ (now : ℕ) (first : CacheValue) (cache : IsCache first.config first.ca
   sourced-step t moment with_hosts before q p after (bounds, known) asked (for, is) = let there = by p.source refl is in (((for, there.0.0), there.0.1), there.1)
     where
       by : (source : Source) → p.source ≡ source → IsAnsweredFrom source t with_hosts before p after → (IsFreshlyStoredBy sources source t with_hosts before p after × IsFreshSubLookup first.config sources now p) × Holds after
-      by Static e part = (
-        (part, λ client. absurd (let clash : Static ≡ Client = sym e ∙ client in cc)),
+      by Hosts e part = (
+        (part, λ client. absurd (let clash : Hosts ≡ Client = sym e ∙ client in cc)),
         subst Holds (sym part.unchanged) (bounds, known),
       )
       by Client e part =
@@ -266,7 +266,7 @@ part-few : (t : CallContext) (with_hosts : Bool) (before : CacheValue) (q : Quer
 part-few t with_hosts before q p after (for, is) = by p.source is
   where
     by : (source : Source) → IsAnsweredFrom source t with_hosts before p after → length p.asks ≤ 8
-    by Static part = omega (arith, ap length part.nothing_asked)
+    by Hosts part = omega (arith, ap length part.nothing_asked)
     by Client part = few (start_at t before) (one_cache (start_at t before) p.asks) p.question p.asks p.result after part.reply
 
 pub few_call : (s : Settings) (now : ℕ) (before : CacheValue) (call : Call) (parts : List SubLookup) (reply : LookupResult) (after : CacheValue) → IsCallBy (IsAnsweredFor (call_context_at s now)) s before call parts reply after → AllByRecursion (λ p. length p.asks ≤ 8) parts
@@ -274,8 +274,8 @@ few_call s now before call parts reply after is = chain-all (IsAnsweredFor (call
 
 -- ---- no alias outlives its CNAMEs
 
-limited_call : (s : Settings) (now : ℕ) (before : CacheValue) (call : Call) (parts : List SubLookup) (reply : LookupResult) (after : CacheValue) → IsCallBy (IsAnsweredFor (call_context_at s now)) s before call parts reply after → IsCallBy (LimitedSubLookup (call_context_at s now)) s before call parts reply after
-limited_call s now before call parts reply after (inl is) = inl (call-weaker (IsAnsweredFor (call_context_at s now)) (LimitedSubLookup (call_context_at s now)) (part_limited (call_context_at s now)) s before call parts reply after is)
+limited_call : (s : Settings) (now : ℕ) (before : CacheValue) (call : Call) (parts : List SubLookup) (reply : LookupResult) (after : CacheValue) → IsCallBy (IsAnsweredFor (call_context_at s now)) s before call parts reply after → IsCallBy (SubLookupOutlivesNoAlias (call_context_at s now)) s before call parts reply after
+limited_call s now before call parts reply after (inl is) = inl (call-weaker (IsAnsweredFor (call_context_at s now)) (SubLookupOutlivesNoAlias (call_context_at s now)) (part_limited (call_context_at s now)) s before call parts reply after is)
 limited_call s now before call parts reply after (inr unserved) = inr unserved
 
 -- ---- transparency

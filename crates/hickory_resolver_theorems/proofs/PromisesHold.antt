@@ -8,8 +8,8 @@ use Rattle.hickory_resolver_model.specs.Cache.{CacheValue, IsCache}
 use Rattle.hickory_resolver_model.specs.Lookup.{LookupResult}
 use Rattle.hickory_resolver_model.specs.Client.{ClientValue, start_of, IsLookup}
 use Rattle.hickory_resolver_model.specs.Hops.{LookupContext, IsReplyOver, one_cache}
-use Rattle.hickory_resolver_model.specs.Run.{Settings, first_cache, RequestValue, StepValue, IsRun}
-use Rattle.hickory_resolver_theorems.specs.Promises.{IsPromisedLookup, IsPromisedRun}
+use Rattle.hickory_resolver_model.specs.Run.{Settings, first_cache, RequestValue, StepValue, LedRun}
+use Rattle.hickory_resolver_theorems.specs.Promises.{IsPromisedLookup, PromisedRun}
 use Rattle.hickory_resolver_theorems.specs.Resumed.{IsPromisedOver}
 use Rattle.hickory_resolver_theorems.proofs.Few.{few}
 use Rattle.hickory_resolver_theorems.proofs.Provenances.{from_sources}
@@ -32,8 +32,8 @@ promised_lookup step options now before question result after cache is =
       no_alias_outlives = no_alias_outlives s caches question is.asks result after.cache is.reply;
     }
 
-pub promised_run : {H : Type 0} (step : HandleStep H) (s : Settings) (handle : H) (requests : List RequestValue) (steps : List StepValue) (exchanges : List Exchange) (handle_after : H) (cache_after : CacheValue) → IsRun step s handle requests steps exchanges handle_after cache_after
-    → IsPromisedRun step s handle requests steps exchanges handle_after cache_after
+pub promised_run : {H : Type 0} (step : HandleStep H) (s : Settings) (handle : H) (requests : List RequestValue) (steps : List StepValue) (exchanges : List Exchange) (handle_after : H) (cache_after : CacheValue) → LedRun step s handle requests steps exchanges handle_after cache_after
+    → PromisedRun step s handle requests steps exchanges handle_after cache_after
 promised_run step s handle requests steps exchanges handle_after cache_after is = record {
   is = is;
   headline = headline s (first_cache s) requests steps exchanges cache_after is.run refl;

@@ -12,7 +12,7 @@ use Rattle.hickory_proto_core.specs.declared.net_error.NetError.TheVariants.{Out
 use Rattle.hickory_resolver_model.specs.Bounds.{ConfigValue, greatest_ttl}
 use Rattle.hickory_resolver_model.specs.Cache.{CacheValue, Entry, IsCache, IsTimelyAnswer, OutlivesNoAnswer, is_for, is_current}
 use Rattle.hickory_resolver_model.specs.Lookup.{LookupResult}
-use Rattle.hickory_resolver_model.specs.Hops.{LookupContext, Store, IsReplyOver, made_entry, after_stores}
+use Rattle.hickory_resolver_model.specs.Hops.{LookupContext, Store, IsReplyOver, entry_of_store, after_stores}
 use Rattle.hickory_resolver_theorems.specs.Covered.{Dated, dated_exchanges, IsCovered}
 use Rattle.hickory_resolver_theorems.specs.Statements.{IsFreshRecord, IsFreshReply, IsFreshOutcome, IsFreshEntry}
 use Rattle.hickory_resolver_theorems.specs.Provenance.{is_positive, is_source, answers_alone, dated_entry, sources_of, stores_made, IsFromSources, HasProvenance}
@@ -90,8 +90,8 @@ from_sources s caches question asks result after cache reply zero = by reply
     out : result ≡ Err OutOfMemory → IsFreshReply s.cache.config sources code s.now result
     out e = subst (IsFreshReply s.cache.config sources code s.now) (sym e) tt
 
-    made : (stores : List Store) → AllByRecursion (StoresArrived s.cache.config sources) stores → AllByRecursion (λ store. IfSome (made_entry s.cache.config store) (IsFreshEntry s.cache.config sources)) stores
-    made stores arrive = all-weaker (StoresArrived s.cache.config sources) (λ store. IfSome (made_entry s.cache.config store) (IsFreshEntry s.cache.config sources)) (store-fresh s.cache.config sources) stores arrive
+    made : (stores : List Store) → AllByRecursion (StoresArrived s.cache.config sources) stores → AllByRecursion (λ store. IfSome (entry_of_store s.cache.config store) (IsFreshEntry s.cache.config sources)) stores
+    made stores arrive = all-weaker (StoresArrived s.cache.config sources) (λ store. IfSome (entry_of_store s.cache.config store) (IsFreshEntry s.cache.config sources)) (store-fresh s.cache.config sources) stores arrive
 
     by : (reply : IsReplyOver s caches question asks result after) → IsFromSources s question asks result (stores_made s caches question asks result after reply) after
     by (inl whole) =

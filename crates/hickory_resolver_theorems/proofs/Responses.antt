@@ -18,7 +18,7 @@ use Rattle.hickory_proto_core.specs.declared.net_error.NetError.{NetError}
 use Rattle.hickory_proto_core.specs.declared.net_error.NetError.TheVariants.{Message, Timeout, Proto, Dns, NoOutcome, Bounds, OutOfMemory}
 use Rattle.hickory_proto_core.specs.declared.net_error.DnsError.TheVariants.{ResponseCode, NoRecordsFound}
 use Rattle.hickory_resolver_model.specs.AliasWalk.{Walk, Counted, AliasTo, Server, counted, reached_by, ends_at, has_target, is_moved, standing, walk_step, walk_from, walk_of, follows_aliases}
-use Rattle.hickory_resolver_model.specs.Verdict.{Verdict, Accepted, Alias, NoMatch, is_match, is_led_match, is_accepted, is_filtered, is_intermediate, found_message, filtered_answers, first_or, next_name, next_hop, all_records, with_ttl_at_most, verdict, first_hop}
+use Rattle.hickory_resolver_model.specs.Verdict.{Verdict, Accepted, LeadsTo, NoMatch, is_match, is_led_match, is_accepted, is_filtered, is_intermediate, found_message, filtered_answers, first_or, next_name, next_hop, all_records, with_ttl_at_most, verdict, first_hop}
 use Rattle.hickory_resolver_model.specs.Hops.{no_match}
 use Rattle.hickory_resolver_theorems.specs.Cores.{folded_name, folded_query, record_core, Sections, sections, forward_core, error_core, ReplyCore, ResponseCore, outcome_core}
 use Rattle.hickory_resolver_theorems.proofs.Folding.{name_eq-folded_name, zone_of-folded_name, minimum-folded_name, target-folded_name, folded_counted, counted-folded_name, record_type-folded_name, query_type-folded_name, query_class-folded_name, record_class-folded_name, any-map, filter-map, find-map, map-map}
@@ -26,11 +26,11 @@ use Rattle.hickory_resolver_theorems.proofs.Folding.{name_eq-folded_name, zone_o
 -- what a question comes to by one outcome: a reply, or another question
 pub data Next : Type 0 where
   Ends : ReplyCore → Next
-  GoesOn : Query → Next
+  LeadsOn : Query → Next
 
 abbrev pub next_verdict : Query → MessageValue → Verdict → Next
 next_verdict q m (Accepted f) = Ends (Ok (sections f))
-next_verdict q m (Alias h) = GoesOn (folded_query h.query)
+next_verdict q m (LeadsTo h) = LeadsOn (folded_query h.query)
 next_verdict q m NoMatch = Ends (Err (error_core (no_match q m)))
 
 abbrev pub next_class : Query → ResponseKind → Next
@@ -83,7 +83,7 @@ found_core q walk m =
 abbrev walk_core : Query → Walk → MessageValue → Next
 walk_core q walk m =
     if is_accepted (first_hop q) walk m then Ends (Ok (found_core q walk m))
-    else (if is_empty walk.places then Ends (Err (no_match_core q m)) else GoesOn (record { name = next_name walk; query_type = q.query_type; query_class = class.IN }))
+    else (if is_empty walk.places then Ends (Err (no_match_core q m)) else LeadsOn (record { name = next_name walk; query_type = q.query_type; query_class = class.IN }))
 
 abbrev answer_core : Query → MessageValue → Next
 answer_core q m = walk_core q (walk_of q m.answers) m
@@ -327,13 +327,13 @@ verdict-folded_name q m = by (is_accepted (first_hop q) walk m) (is_accepted (fi
     core_by : Bool → Bool → Next
     core_by accepted nowhere =
         if accepted then Ends (Ok (found_core (folded_query q) (at_walk walk) (folded_message m)))
-        else (if nowhere then Ends (Err (no_match_core (folded_query q) (folded_message m))) else GoesOn (record { name = next_name (at_walk walk); query_type = (folded_query q).query_type; query_class = class.IN }))
+        else (if nowhere then Ends (Err (no_match_core (folded_query q) (folded_message m))) else LeadsOn (record { name = next_name (at_walk walk); query_type = (folded_query q).query_type; query_class = class.IN }))
 
     by : (a b : Bool) → b ≡ a → (nowhere : Bool)
-        → next_verdict q m (if a then Accepted (found_message false (first_hop q) walk m) else (if nowhere then NoMatch else Alias (next_hop false (first_hop q) walk m))) ≡ core_by b nowhere
+        → next_verdict q m (if a then Accepted (found_message false (first_hop q) walk m) else (if nowhere then NoMatch else LeadsTo (next_hop false (first_hop q) walk m))) ≡ core_by b nowhere
     by true b e nowhere = ap (λ f. Ends (Ok f)) (found-folded_name q walk m) ∙ sym (ap (λ c. core_by c nowhere) e)
     by false b e true = ap (λ x. Ends (Err x)) (no_match-folded_name q m) ∙ sym (ap (λ c. core_by c true) e)
-    by false b e false = ap (λ n. GoesOn (record { name = n; query_type = (folded_query q).query_type; query_class = class.IN })) (sym (next-folded_name walk)) ∙ sym (ap (λ c. core_by c false) e)
+    by false b e false = ap (λ n. LeadsOn (record { name = n; query_type = (folded_query q).query_type; query_class = class.IN })) (sym (next-folded_name walk)) ∙ sym (ap (λ c. core_by c false) e)
 
 -- ---- an outcome
 

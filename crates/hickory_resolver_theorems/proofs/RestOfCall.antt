@@ -6,7 +6,7 @@ use Rattle.hickory_proto_core.specs.declared.recorded.Exchange.{Exchange}
 use Rattle.hickory_proto_core.specs.codes.record_type.RecordType.{RecordType}
 use Rattle.hickory_resolver_model.specs.Cache.{CacheValue}
 use Rattle.hickory_resolver_model.specs.Lookup.{LookupResult, question_of}
-use Rattle.hickory_resolver_model.specs.Calls.{Static, Client, SubLookup, SubLookupRelation, asks_of_sub_lookups, next_type, IsAttemptResult, IsLastReply, results_of, stops, CallPlan, AreAttempts}
+use Rattle.hickory_resolver_model.specs.Calls.{Hosts, Client, SubLookup, SubLookupRelation, asks_of_sub_lookups, next_type, IsAttemptResult, IsLastReply, results_of, stops, CallPlan, AreAttempts}
 use Rattle.hickory_resolver_theorems.specs.ResumingCalls.{AttemptValue, with_result, at_next}
 use Rattle.hickory_resolver_theorems.proofs.SentAlone.{IsRestOfCall, CallRelation, LeadsToWhole}
 
@@ -19,7 +19,7 @@ abbrev pub by_client : (a : AttemptValue) (t : RecordType) (asks : List Exchange
 by_client a t asks result = record { question = question_of a.name t; source = Client; asks = asks; result = result }
 
 abbrev pub static : (a : AttemptValue) (t : RecordType) (result : LookupResult) → SubLookup
-static a t result = record { question = question_of a.name t; source = Static; asks = []; result = result }
+static a t result = record { question = question_of a.name t; source = Hosts; asks = []; result = result }
 
 module _ (Answers : SubLookupRelation) where
   pub rest_after : (a : AttemptValue) (t : RecordType) (before mid : CacheValue) (p : SubLookup) → next_type a.plan.types a.results ≡ Some t → Answers a.with_hosts before (question_of a.name t) p mid → (parts : List SubLookup) (result : LookupResult) (after : CacheValue) → IsRestOfCall Answers (with_result a p.result) mid parts result after → IsRestOfCall Answers a before (p ∷ parts) result after

@@ -11,7 +11,7 @@ use Rattle.hickory_resolver_model.specs.Run.{Settings, call_context_at, moment_o
 use Rattle.hickory_resolver_theorems.specs.Covered.{Dated, dated_exchanges}
 use Rattle.hickory_resolver_theorems.specs.InterleavedCalls.{PendingCallValue, DoneCallValue, CallWorldValue, call_world_of, CallEventValue, CallStarted, CallFed, AllCleared, NameCleared, call_pending, call_done, placed, CallHappens, CallsHappen, calls_ended_by, calls_received_by, calls_received_in}
 use Rattle.hickory_resolver_theorems.specs.OneCallAtATime.{HappensAlone, HappenAlone, IsCallOf, AreOfCall, IsClearOf, AreOfReply, HaveMemory, cache_before, AreOneCallAtATime, IsOneCallAtATime}
-use Rattle.hickory_resolver_theorems.specs.ResumingCalls.{WaitingCallValue, CallProgressValue, CallWaits, CallIsDone, GoesOnAfter, ResumesCall, IsCallDriven, IsCallStartedAndDriven}
+use Rattle.hickory_resolver_theorems.specs.ResumingCalls.{WaitingCallValue, CallProgressValue, ContinuesAfter, ResumesCall, IsCallDriven, IsCallStartedAndDriven}
 use Rattle.hickory_resolver_theorems.proofs.DrivenCalls.{WholeSubLookup, call-whole, call-driven}
 
 -- ---- lists of events
@@ -71,7 +71,7 @@ module _ (s : Settings) (call : Call) (now : ℕ) where
       lookup,
       end,
       subst (λ n. Resumes (record { cache = cache; now = n; preserve_intermediates = s.preserve_intermediates }) w.lookup x.outcome lookup end) (sym now_is) resumes,
-      subst (λ n. GoesOnAfter (call_context_at s n) w.attempt lookup end next mid) (sym now_is) more,
+      subst (λ n. ContinuesAfter (call_context_at s n) w.attempt lookup end next mid) (sym now_is) more,
     ),
     refl,
     placed-alone lookup (call_pending call (asks ++ record { query = w.lookup.hop.query; outcome = x.outcome } ∷ []) next),
@@ -80,15 +80,15 @@ module _ (s : Settings) (call : Call) (now : ℕ) where
   -- from where it stands
   wait-events : (progress : CallProgressValue) (asks : List Exchange) (cache : CacheValue) (xs : List Exchange) (result : LookupResult) (after : CacheValue) → IsCallDriven (call_context_at s now) progress cache xs result after
       → (rest : List DoneCallValue) × AreEvents s (world_with cache (call_pending call asks progress)) (world_with after []) (dated_exchanges now xs) rest × (call_done call now asks progress ++ rest ≡ done_with (asks ++ xs) result)
-  wait-events (CallWaits w) asks cache [] result after (done, same) = let clash : CallWaits w ≡ CallIsDone result = done in cc
-  wait-events (CallIsDone early) asks cache [] result after (done, same) =
+  wait-events (Waits w) asks cache [] result after (done, same) = let clash : Waits w ≡ IsDone result = done in cc
+  wait-events (IsDone early) asks cache [] result after (done, same) =
       let one : early ≡ result = cc in (
         [],
         no-events s (world_with cache []) (world_with after []) (ap (λ c. world_with c []) same),
         ap₂ done_with (sym (append-nil asks)) one,
       )
-  wait-events (CallIsDone early) asks cache (x ∷ xs) result after never = absurd never
-  wait-events (CallWaits w) asks cache (x ∷ xs) result after (now_is, asked, next, mid, resumes, driven) =
+  wait-events (IsDone early) asks cache (x ∷ xs) result after never = absurd never
+  wait-events (Waits w) asks cache (x ∷ xs) result after (now_is, asked, next, mid, resumes, driven) =
       let c : PendingCallValue = record { call = call; asks = asks; waiting = w } in
       let came : Exchange = record { query = w.lookup.hop.query; outcome = x.outcome } in
       let same : came ≡ x = λ i. record { query = sym asked i; outcome = x.outcome } in

@@ -10,7 +10,7 @@ use Rattle.hickory_proto_core.specs.declared.recorded.Exchange.{Exchange}
 use Rattle.hickory_resolver_model.specs.Cache.{CacheValue, without_query}
 use Rattle.hickory_resolver_model.specs.Lookup.{question_of}
 use Rattle.hickory_resolver_model.specs.Attempts.{attempts}
-use Rattle.hickory_resolver_model.specs.Calls.{CallContext, Source, Static, Client, SubLookup, IsAnsweredFrom, IsAnsweredFor, asks_of_sub_lookups}
+use Rattle.hickory_resolver_model.specs.Calls.{CallContext, Source, Hosts, Client, SubLookup, IsAnsweredFrom, IsAnsweredFor, asks_of_sub_lookups}
 use Rattle.hickory_resolver_model.specs.Run.{Settings, call_context_at, moment_of, RequestValue, Lookup, LookupIp, ClearLookup, Clear, StepValue, StepReply, LookedUp, LookedUpIp, Cleared, drop_each, after_clear, IsServed, Stage, IsStage, AreStages, Run}
 use Rattle.hickory_resolver_theorems.specs.Covered.{Dated, dated_exchanges}
 use Rattle.hickory_resolver_theorems.specs.Interleaved.{DoneValue, WorldValue, world_of, EventValue, ClearedOfAll, ClearedOf, Blocked, Happens, Happen, ended_by, ended_in, received_by, received_in}
@@ -78,8 +78,8 @@ part-events : (t : CallContext) (with_hosts : Bool) (before : CacheValue) (q : Q
 part-events t with_hosts before q p after (for, is) = by p.source refl is
   where
     by : (source : Source) → p.source ≡ source → IsAnsweredFrom source t with_hosts before p after → AreAtOnce t.preserve_intermediates before after (dated_exchanges t.now p.asks) (client_parts (p ∷ []))
-    by Static e part =
-        subst (λ ps. AreAtOnce t.preserve_intermediates before after (dated_exchanges t.now p.asks) ps) (sym (own-parts p Static e))
+    by Hosts e part =
+        subst (λ ps. AreAtOnce t.preserve_intermediates before after (dated_exchanges t.now p.asks) ps) (sym (own-parts p Hosts e))
         (subst (λ xs. AreAtOnce t.preserve_intermediates before after (dated_exchanges t.now xs) []) (sym part.nothing_asked) (no-events t.preserve_intermediates before after part.unchanged))
     by Client e part =
         let d : DoneValue = record { question = p.question; now = t.now; asks = p.asks; caches = map (λ x. before) p.asks; result = p.result } in

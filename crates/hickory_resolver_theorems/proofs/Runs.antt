@@ -13,7 +13,7 @@ use Rattle.hickory_resolver_model.specs.Bounds.{ConfigValue, greatest_ttl}
 use Rattle.hickory_resolver_model.specs.Cache.{CacheValue, is_for, without_query}
 use Rattle.hickory_resolver_model.specs.Lookup.{LookupResult, question_of}
 use Rattle.hickory_resolver_model.specs.Hops.{LookupContext, IsReplyOver, one_cache, passed_of, stores_of}
-use Rattle.hickory_resolver_model.specs.Calls.{CallContext, Source, Static, Client, SubLookup, IsAnsweredFrom, IsAnsweredFor, start_at, asks_of_sub_lookups}
+use Rattle.hickory_resolver_model.specs.Calls.{CallContext, Source, Hosts, Client, SubLookup, IsAnsweredFrom, IsAnsweredFor, start_at, asks_of_sub_lookups}
 use Rattle.hickory_resolver_model.specs.Run.{Settings, call_context_at, RequestValue, Lookup, LookupIp, ClearLookup, Clear, moment_of, StepReply, LookedUp, LookedUpIp, Cleared, drop_each, after_clear, IsServed, StepValue, Stage, IsStage, AreStages, Run}
 use Rattle.hickory_resolver_model.specs.Attempts.{attempts}
 use Rattle.hickory_resolver_theorems.specs.Covered.{Dated, dated_exchanges, IsCovered, IsLoopback}
@@ -54,9 +54,9 @@ good-part : (t : CallContext) (with_hosts : Bool) (q : Query) (before : CacheVal
 good-part t with_hosts q before sources p after entries (for, is) = by p.source refl is
   where
     by : (source : Source) → p.source ≡ source → IsAnsweredFrom source t with_hosts before p after → IsGoodPart t.now before sources p after
-    by Static e part = record {
+    by Hosts e part = record {
       few = omega (arith, ap length part.nothing_asked);
-      fresh = λ client. absurd (let clash : Static ≡ Client = sym e ∙ client in cc);
+      fresh = λ client. absurd (let clash : Hosts ≡ Client = sym e ∙ client in cc);
       entries = subst (λ c. AreFreshEntries c (sources ++ dated_exchanges t.now p.asks)) (sym part.unchanged) (entries-more before sources (dated_exchanges t.now p.asks) entries);
       config = ap (λ c. c.config) part.unchanged;
     }

@@ -8,10 +8,10 @@ use Rattle.hickory_resolver_model.specs.Cache.{CacheValue}
 use Rattle.hickory_resolver_model.specs.Lookup.{LookupResult, question_of}
 use Rattle.hickory_resolver_model.specs.Verdict.{first_hop}
 use Rattle.hickory_resolver_model.specs.Hops.{LookupContext, GoesUpstream, FollowsAliases, IsReply, one_cache, passed_of}
-use Rattle.hickory_resolver_model.specs.Hosts.{IsStatic}
+use Rattle.hickory_resolver_model.specs.Hosts.{HostsHave}
 use Rattle.hickory_resolver_model.specs.Calls.{CallContext, start_at, SubLookup, SubLookupRelation, IsAnsweredAlone, next_type, IsAttemptResult, AreSubLookups, results_of, stops, AreAttempts, asks_of_sub_lookups}
 use Rattle.hickory_resolver_model.specs.Resuming.{WaitingValue, ProgressValue, Waits, IsDone}
-use Rattle.hickory_resolver_theorems.specs.ResumingCalls.{AttemptValue, WaitingCallValue, CallProgressValue, CallWaits, CallIsDone}
+use Rattle.hickory_resolver_theorems.specs.ResumingCalls.{AttemptValue, WaitingCallValue, CallProgressValue}
 
 -- ---- a look-up of the client
 
@@ -64,7 +64,7 @@ pub record IsCallSentAlone
   pub sent : List Exchange
   pub asked_type : RecordType
   pub next : next_type w.attempt.plan.types w.attempt.results ≡ Some asked_type
-  pub not_static : (w.attempt.with_hosts ≡ false) ⊎ IsStatic (question_of w.attempt.name asked_type) s.now s.hosts None
+  pub not_static : (w.attempt.with_hosts ≡ false) ⊎ HostsHave (question_of w.attempt.name asked_type) s.now s.hosts None
   pub lookup : LookupSoFar (start_at s cache) (question_of w.attempt.name asked_type) sent (Waits w.lookup) cache
   pub asks_are : asks ≡ asks_of_sub_lookups done ++ sent
   pub rest : LeadsToWhole (IsAnsweredAlone s) IsWhole done w.attempt cache
@@ -79,5 +79,5 @@ pub record IsCallDoneAlone
 
 -- it waits, or it is the whole call
 abbrev pub CallSoFar : CallContext → CallRelation → List Exchange → CallProgressValue → CacheValue → Type 0
-CallSoFar s IsWhole asks (CallWaits w) cache = IsCallSentAlone s IsWhole asks w cache
-CallSoFar s IsWhole asks (CallIsDone result) cache = IsCallDoneAlone IsWhole asks result cache
+CallSoFar s IsWhole asks (Waits w) cache = IsCallSentAlone s IsWhole asks w cache
+CallSoFar s IsWhole asks (IsDone result) cache = IsCallDoneAlone IsWhole asks result cache

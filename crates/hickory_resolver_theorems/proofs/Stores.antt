@@ -10,7 +10,7 @@ use Rattle.hickory_proto_core.specs.declared.net_error.NetError.TheVariants.{Mes
 use Rattle.hickory_proto_core.specs.declared.net_error.DnsError.TheVariants.{ResponseCode, NoRecordsFound}
 use Rattle.hickory_resolver_model.specs.Bounds.{ConfigValue, greatest_ttl}
 use Rattle.hickory_resolver_model.specs.Cache.{CacheValue, Entry, is_for, without, without_earliest, least_deadline, kept_beside, insert_entry, positive_entry, negative_entry, not_after}
-use Rattle.hickory_resolver_model.specs.Hops.{LookupContext, Store, passed_of, limit_of, earlier_store, earlier_stores, made_entry, after_store, after_stores}
+use Rattle.hickory_resolver_model.specs.Hops.{LookupContext, Store, passed_of, limit_of, earlier_store, earlier_stores, entry_of_store, after_store, after_stores}
 use Rattle.hickory_resolver_model.specs.Lookup.{LookupResult}
 use Rattle.hickory_proto_core.specs.declared.recorded.Exchange.{Exchange}
 use Rattle.hickory_proto_core.specs.Records.{RecordValue}
@@ -87,11 +87,11 @@ makes-fresh config sources s arrive = (
 )
 
 -- what holds of what a store makes holds of its entry
-pub makes-some : (P : Entry → Type 0) (config : ConfigValue) (s : Store) → Makes P config s → IfSome (made_entry config s) P
+pub makes-some : (P : Entry → Type 0) (config : ConfigValue) (s : Store) → Makes P config s → IfSome (entry_of_store config s) P
 makes-some P config s makes = by s.outcome makes.0 makes.1
   where
     by : (o : OutcomeValue) → ((m : MessageValue) → o ≡ Ok m → P (not_after s.limit (positive_entry config s.query m s.now))) → ((n : NoRecordsValue) → o ≡ Err (Dns (NoRecordsFound n)) → P (not_after s.limit (negative_entry config s.query n s.now)))
-        → IfSome (made_entry config (record s { outcome = o })) P
+        → IfSome (entry_of_store config (record s { outcome = o })) P
     by (Ok m) positive negative = positive m refl
     by (Err (Dns (NoRecordsFound n))) positive negative = negative n refl
     by (Err (Dns (ResponseCode code))) positive negative = tt
@@ -103,7 +103,7 @@ makes-some P config s makes = by s.outcome makes.0 makes.1
     by (Err OutOfMemory) positive negative = tt
 
 -- and so is the entry that such a store makes
-pub store-fresh : (config : ConfigValue) (sources : List Dated) (s : Store) → StoresArrived config sources s → IfSome (made_entry config s) (IsFreshEntry config sources)
+pub store-fresh : (config : ConfigValue) (sources : List Dated) (s : Store) → StoresArrived config sources s → IfSome (entry_of_store config s) (IsFreshEntry config sources)
 store-fresh config sources s arrive = makes-some (IsFreshEntry config sources) config s (makes-fresh config sources s arrive)
 
 -- what holds of the entries before, and of every fresh one, holds of the entries after stores that arrived

@@ -18,7 +18,7 @@ use Rattle.hickory_resolver_model.specs.Bounds.{ConfigValue}
 use Rattle.hickory_resolver_model.specs.Cache.{CacheValue, current, is_for, is_current, age, aged_record, aged_message, aged_forward, aged_negative, aged_error, aged_outcome, positive_entry, negative_entry, not_after}
 use Rattle.hickory_resolver_model.specs.Lookup.{LookupResult}
 use Rattle.hickory_resolver_model.specs.SpecialUse.{special_use_result}
-use Rattle.hickory_resolver_model.specs.Verdict.{Hop, Verdict, Accepted, Alias, NoMatch, verdict}
+use Rattle.hickory_resolver_model.specs.Verdict.{Hop, Verdict, Accepted, LeadsTo, NoMatch, verdict}
 use Rattle.hickory_resolver_model.specs.Hops.{LookupContext, IsAliasHop, ChainEnd, Special, Hit, Asked, IsChainEnd, FollowsAliases, HopList, Store, IsReplyOver, PassedValue, passed_of, asks_of, result_when_asked, result_of_verdict, hit_result, result_of, alias_limit, end_limit, limit_of, is_asked, result_until, reply_of, stores_of_verdict, stores_when_asked, last_stores, earlier_store, stores_of, after_stores}
 use Rattle.hickory_resolver_theorems.specs.Cacheless.{ResolvesTo, IsConsistentWith, AreConsistentWith}
 use Rattle.hickory_resolver_theorems.specs.Cores.{folded_query, record_core, sections, forward_core, negative_core, error_core, ReplyCore, reply_core, entry_core}
@@ -29,7 +29,7 @@ use Rattle.hickory_resolver_theorems.proofs.Stores.{Makes, after_stores-all, ear
 use Rattle.hickory_resolver_theorems.proofs.Folding.{map-map, query-same}
 use Rattle.hickory_resolver_theorems.proofs.VerdictFacts.{passed}
 use Rattle.hickory_resolver_theorems.proofs.Fresh.{class-answer}
-use Rattle.hickory_resolver_theorems.proofs.Responses.{Ends, GoesOn, next_outcome, next-same}
+use Rattle.hickory_resolver_theorems.proofs.Responses.{Ends, LeadsOn, next_outcome, next-same}
 use Rattle.hickory_resolver_theorems.proofs.Meanings.{IsSomeCore, special_use_result-none, special_use_result-some, sections-clamped_message, GoesOnTo, EndsWith, hop-next, BySpecial, ByOutcome, ByAlias, means-cases, means-some, means-same, means-one}
 
 -- ---- aging changes TTLs alone
@@ -91,7 +91,7 @@ told table q x e live tells =
     record { known = there.0; found = sym (ap (λ p. outcome_in p table) e) ∙ there.1; same = next-same q q there.0 x.outcome refl there.2 }
 
 -- where a question that is not special goes on, so does its meaning
-on-means : (table : TableValue) (q next : Query) (outcome : OutcomeValue) (r : ReplyCore) (n : ℕ) → special_use_result q 0 ≡ None → Told table q outcome → next_outcome q outcome ≡ GoesOn (folded_query next) → ResolvesTo table q r n → (m : ℕ) × ResolvesTo table next r m × (n ≡ suc m)
+on-means : (table : TableValue) (q next : Query) (outcome : OutcomeValue) (r : ReplyCore) (n : ℕ) → special_use_result q 0 ≡ None → Told table q outcome → next_outcome q outcome ≡ LeadsOn (folded_query next) → ResolvesTo table q r n → (m : ℕ) × ResolvesTo table next r m × (n ≡ suc m)
 on-means table q next outcome r n plain t on means = by (means-cases table q r n means)
   where
     by : BySpecial q r ⊎ (ByOutcome table q r ⊎ ByAlias table q r n) → (m : ℕ) × ResolvesTo table next r m × (n ≡ suc m)
@@ -99,12 +99,12 @@ on-means table q next outcome r n plain t on means = by (means-cases table q r n
     by (inr (inl o)) =
         let twice : Some o.outcome ≡ Some t.known = sym o.found ∙ t.found in
         let one : o.outcome ≡ t.known = cc in
-        let clash : Ends r ≡ GoesOn (folded_query next) = sym o.ends ∙ ap (next_outcome q) one ∙ t.same ∙ on in
+        let clash : Ends r ≡ LeadsOn (folded_query next) = sym o.ends ∙ ap (next_outcome q) one ∙ t.same ∙ on in
         cc
     by (inr (inr a)) =
         let twice : Some a.outcome ≡ Some t.known = sym a.found ∙ t.found in
         let one : a.outcome ≡ t.known = cc in
-        let both : GoesOn (folded_query a.next) ≡ GoesOn (folded_query next) = sym a.on ∙ ap (next_outcome q) one ∙ t.same ∙ on in
+        let both : LeadsOn (folded_query a.next) ≡ LeadsOn (folded_query next) = sym a.on ∙ ap (next_outcome q) one ∙ t.same ∙ on in
         let questions : folded_query a.next ≡ folded_query next = cc in
         (a.rest, means-same table a.next next r a.rest questions a.means, a.length_is)
 
@@ -122,7 +122,7 @@ ends-means table q outcome r c n plain t ends means = by (means-cases table q r 
     by (inr (inr a)) =
         let twice : Some a.outcome ≡ Some t.known = sym a.found ∙ t.found in
         let one : a.outcome ≡ t.known = cc in
-        let clash : GoesOn (folded_query a.next) ≡ Ends c = sym a.on ∙ ap (next_outcome q) one ∙ t.same ∙ ends in
+        let clash : LeadsOn (folded_query a.next) ≡ Ends c = sym a.on ∙ ap (next_outcome q) one ∙ t.same ∙ ends in
         cc
 
 -- a question has some meaning with this reply
@@ -139,7 +139,7 @@ pub record LedMeaning (table : TableValue) (xs : List Exchange) (last : Hop) (r 
 -- a hop that passes on: it is plain, its outcome was not out of memory, and the next hop is plain
 pub record PassedOn (s : LookupContext) (hop : Hop) (x : Exchange) (next : Hop) : Type 0 where
   pub live : x.outcome ≡ Err OutOfMemory → ⊥
-  pub on : next_outcome hop.query x.outcome ≡ GoesOn (folded_query next.query)
+  pub on : next_outcome hop.query x.outcome ≡ LeadsOn (folded_query next.query)
   pub plain : next.preserved ≡ []
 
 passed-on : (s : LookupContext) (hop : Hop) (x : Exchange) (next : Hop) → s.preserve_intermediates ≡ false → hop.preserved ≡ [] → IsAliasHop s hop x next → PassedOn s hop x next
@@ -153,9 +153,9 @@ passed-on s hop x next off none p = by (hop-next s hop (kind_of x.outcome) off n
 
     by : GoesOnTo s hop (kind_of x.outcome) ⊎ EndsWith s hop (kind_of x.outcome) → PassedOn s hop x next
     by (inl there) =
-        let twice : Some (Alias there.next) ≡ Some (Alias next) = sym there.alias ∙ p.alias in
+        let twice : Some (LeadsTo there.next) ≡ Some (LeadsTo next) = sym there.alias ∙ p.alias in
         let same : there.next ≡ next = cc in
-        record { live = live; on = there.on ∙ ap (λ h. GoesOn (folded_query h.query)) same; plain = sym (ap (λ h. h.preserved) same) ∙ there.plain }
+        record { live = live; on = there.on ∙ ap (λ h. LeadsOn (folded_query h.query)) same; plain = sym (ap (λ h. h.preserved) same) ∙ there.plain }
     by (inr last) = absurd (last.no_alias next p.alias)
 
 led-meaning : (s : LookupContext) (table : TableValue) (caches : List CacheValue) (hop : Hop) (xs : List Exchange) (last : Hop) (r : ReplyCore) (n : ℕ) → s.preserve_intermediates ≡ false → hop.preserved ≡ [] → AreConsistentWith table xs → FollowsAliases s caches hop xs last → ResolvesTo table hop.query r n → LedMeaning table xs last r n
@@ -266,7 +266,7 @@ last-stored s table hop (Asked outcome) r n means is = by (kind_of outcome) is
     on : (m : MessageValue) (limit : ℕ) (v : Verdict) → IsOutOr (result_of_verdict s.cache.config hop.query s.now m v) r → AllByRecursion (StoresMeant table) (stores_of_verdict hop.query s.now limit v)
     on m limit (Accepted f) (inl e) = cc
     on m limit (Accepted f) (inr e) = (inr (n, subst (λ c. ResolvesTo table hop.query c n) (sym e ∙ ap Ok (sections-clamped_message s.cache.config f)) means), tt)
-    on m limit (Alias next) k = tt
+    on m limit (LeadsTo next) k = tt
     on m limit NoMatch k = tt
 
     by : (c : ResponseKind) → IsOutOr (result_when_asked s hop c) r → AllByRecursion (StoresMeant table) (stores_when_asked s hop c)

@@ -7,7 +7,7 @@ use Rattle.hickory_proto_core.specs.declared.query.Query.{Query}
 use Rattle.hickory_proto_core.specs.codes.record_type.RecordType.{RecordType}
 use Rattle.hickory_resolver_model.specs.Cache.{CacheValue}
 use Rattle.hickory_resolver_model.specs.Lookup.{LookupResult, question_of}
-use Rattle.hickory_resolver_model.specs.Calls.{SubLookup, SubLookupRelation, Plan, One, Both, Fallback, has_answers, is_out_of_memory, both_results, next_type, attempt_result, IsAttemptResult, AreSubLookups, results_of, IsAttempt, stops, CallPlan, Says, AreAttempts}
+use Rattle.hickory_resolver_model.specs.Calls.{SubLookup, SubLookupRelation, FamilyOrder, One, Both, Fallback, has_answers, is_out_of_memory, both_results, next_type, attempt_result, IsAttemptResult, AreSubLookups, results_of, IsAttempt, stops, CallPlan, Says, AreAttempts}
 use Rattle.hickory_resolver_model.specs.Attempts.{attempts}
 use Rattle.hickory_resolver_model.specs.Run.{Settings, Call, AtOnce, Attempt, IsCall}
 use Rattle.hickory_resolver_theorems.proofs.Lists.{all-front, all-back}
@@ -23,7 +23,7 @@ or_right-false true b h = cc
 or_right-false false b h = h
 
 -- an attempt goes on only after a result that is not out of memory
-goes-on : (plan : Plan) (results : List LookupResult) (r : LookupResult) (u : RecordType) → next_type plan (results ++ r ∷ []) ≡ Some u → is_out_of_memory r ≡ false
+goes-on : (plan : FamilyOrder) (results : List LookupResult) (r : LookupResult) (u : RecordType) → next_type plan (results ++ r ∷ []) ≡ Some u → is_out_of_memory r ≡ false
 goes-on (One t) [] r u h = let clash : None ≡ Some u = h in cc
 goes-on (One t) (x ∷ xs) r u h = let clash : None ≡ Some u = h in cc
 goes-on (Both t v) [] r u h = by (is_out_of_memory r) refl h
@@ -42,7 +42,7 @@ goes-on (Fallback t v) (x ∷ []) r u h = let clash : None ≡ Some u = h in cc
 goes-on (Fallback t v) (x ∷ y ∷ ys) r u h = let clash : None ≡ Some u = h in cc
 
 -- an attempt whose last sub-look-up ran out of memory did so too
-out-result : (Answers : SubLookupRelation) (with_hosts : Bool) (n : NameValue) (plan : Plan) (before : CacheValue) (ps : List SubLookup) (after : CacheValue) → AreSubLookups Answers with_hosts n plan before [] ps after → last_is_out ps ≡ true
+out-result : (Answers : SubLookupRelation) (with_hosts : Bool) (n : NameValue) (plan : FamilyOrder) (before : CacheValue) (ps : List SubLookup) (after : CacheValue) → AreSubLookups Answers with_hosts n plan before [] ps after → last_is_out ps ≡ true
     → is_out_of_memory (attempt_result plan (results_of ps)) ≡ true
 out-result Answers with_hosts n plan before [] after are out = let clash : false ≡ true = out in cc
 out-result Answers with_hosts n plan before (p ∷ []) after are out = out
@@ -66,7 +66,7 @@ module _ (A B : SubLookupRelation) (Holds : CacheValue → Type 0) (Q : SubLooku
   part-live with_hosts before q p after live (inl out) = let clash : false ≡ true = sym live ∙ out in cc
   part-live with_hosts before q p after live (inr is) = is
 
-  subs-unless : (with_hosts : Bool) (n : NameValue) (plan : Plan) (before : CacheValue) (results : List LookupResult) (ps : List SubLookup) (after : CacheValue) → Holds before → AllByRecursion Q ps → AreSubLookups A with_hosts n plan before results ps after
+  subs-unless : (with_hosts : Bool) (n : NameValue) (plan : FamilyOrder) (before : CacheValue) (results : List LookupResult) (ps : List SubLookup) (after : CacheValue) → Holds before → AllByRecursion Q ps → AreSubLookups A with_hosts n plan before results ps after
       → ((last_is_out ps ≡ true) ⊎ AreSubLookups B with_hosts n plan (over before) results ps (over after)) × Holds after
   subs-unless with_hosts n plan before results [] after holds all same = (inr (ap over same), subst Holds (sym same) holds)
   subs-unless with_hosts n plan before results (p ∷ []) after holds (own, none) (u, mid, next, is, same) = (by here.0, subst Holds (sym same) here.1)
@@ -92,7 +92,7 @@ module _ (A B : SubLookupRelation) (Holds : CacheValue → Type 0) (Q : SubLooku
       by (inl out) = inl out
       by (inr other) = inr (u, over mid, next, live, other)
 
-  attempt-unless : (with_hosts : Bool) (before : CacheValue) (n : NameValue) (plan : Plan) (parts : List SubLookup) (r : LookupResult) (after : CacheValue) → Holds before → AllByRecursion Q parts → IsAttempt A with_hosts before n plan parts r after
+  attempt-unless : (with_hosts : Bool) (before : CacheValue) (n : NameValue) (plan : FamilyOrder) (parts : List SubLookup) (r : LookupResult) (after : CacheValue) → Holds before → AllByRecursion Q parts → IsAttempt A with_hosts before n plan parts r after
       → ((is_out_of_memory r ≡ true) ⊎ IsAttempt B with_hosts (over before) n plan parts r (over after)) × Holds after
   attempt-unless with_hosts before n plan parts r after holds all attempt = (by there.0 attempt.result_is, there.1)
     where

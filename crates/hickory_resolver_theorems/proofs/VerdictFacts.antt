@@ -10,7 +10,7 @@ use Rattle.hickory_proto_core.specs.declared.query.Query.{Query}
 use Rattle.hickory_proto_core.specs.declared.recorded.Exchange.{Exchange}
 use Rattle.hickory_resolver_model.specs.Cache.{CacheValue}
 use Rattle.hickory_resolver_model.specs.AliasWalk.{Walk, standing, walk_of, walk_from}
-use Rattle.hickory_resolver_model.specs.Verdict.{Hop, Accepted, Alias, NoMatch, is_match, is_accepted, is_filtered, is_intermediate, has_class, found_message, filtered_answers, next_hop, all_records, with_ttl_at_most, verdict}
+use Rattle.hickory_resolver_model.specs.Verdict.{Hop, Accepted, LeadsTo, NoMatch, is_match, is_accepted, is_filtered, is_intermediate, has_class, found_message, filtered_answers, next_hop, all_records, with_ttl_at_most, verdict}
 use Rattle.hickory_resolver_model.specs.Hops.{LookupContext, IsAliasHop, FollowsAliases, verdict_on}
 use Rattle.hickory_resolver_theorems.proofs.Lists.{all-weaker, all-append, all-front, all-filter, all-map, all-kept}
 
@@ -21,13 +21,13 @@ pub record LeadsOn (keep : Bool) (hop : Hop) (m : MessageValue) (next : Hop) : T
   pub followed : is_empty (walk_of hop.query m.answers).places ≡ false
   pub next_is : next ≡ next_hop keep hop (walk_of hop.query m.answers) m
 
-pub alias-leads : (keep : Bool) (hop : Hop) (m : MessageValue) (next : Hop) → verdict keep hop m ≡ Alias next → LeadsOn keep hop m next
+pub alias-leads : (keep : Bool) (hop : Hop) (m : MessageValue) (next : Hop) → verdict keep hop m ≡ LeadsTo next → LeadsOn keep hop m next
 alias-leads keep hop m next h = by (is_accepted hop walk m) (is_empty walk.places) refl h
   where
     walk : Walk
     walk = walk_of hop.query m.answers
 
-    by : (a b : Bool) → is_empty walk.places ≡ b → (if a then Accepted (found_message keep hop walk m) else (if b then NoMatch else Alias (next_hop keep hop walk m))) ≡ Alias next → LeadsOn keep hop m next
+    by : (a b : Bool) → is_empty walk.places ≡ b → (if a then Accepted (found_message keep hop walk m) else (if b then NoMatch else LeadsTo (next_hop keep hop walk m))) ≡ LeadsTo next → LeadsOn keep hop m next
     by true b e k = cc
     by false true e k = cc
     by false false e k = let same : next_hop keep hop walk m ≡ next = cc in record { followed = e; next_is = sym same }
@@ -45,9 +45,9 @@ pub record Passed (s : LookupContext) (hop : Hop) (x : Exchange) (next : Hop) : 
 pub passed : (s : LookupContext) (hop : Hop) (x : Exchange) (next : Hop) → IsAliasHop s hop x next → Passed s hop x next
 passed s hop x next p = by (kind_of x.outcome) refl p.alias
   where
-    by : (c : ResponseKind) → kind_of x.outcome ≡ c → verdict_on s hop c ≡ Some (Alias next) → Passed s hop x next
+    by : (c : ResponseKind) → kind_of x.outcome ≡ c → verdict_on s hop c ≡ Some (LeadsTo next) → Passed s hop x next
     by (Answer response) e k =
-        let same : verdict s.preserve_intermediates hop response ≡ Alias next = cc in
+        let same : verdict s.preserve_intermediates hop response ≡ LeadsTo next = cc in
         record { response = response; class = e; leads = alias-leads s.preserve_intermediates hop response next same }
     by (Negative none) e k = cc
     by (Failed error) e k = cc

@@ -6,12 +6,12 @@ use Rattle.hickory_proto_core.specs.declared.query.Query.{Query}
 use Rattle.hickory_resolver_model.specs.Cache.{CacheValue}
 use Rattle.hickory_resolver_model.specs.Lookup.{LookupResult, question_of}
 use Rattle.hickory_resolver_model.specs.Attempts.{attempts}
-use Rattle.hickory_resolver_model.specs.Calls.{SubLookup, SubLookupRelation, Plan, AreSubLookups, CallPlan, Says, AreAttempts}
+use Rattle.hickory_resolver_model.specs.Calls.{SubLookup, SubLookupRelation, FamilyOrder, AreSubLookups, CallPlan, Says, AreAttempts}
 use Rattle.hickory_resolver_model.specs.Run.{Settings, RequestValue, Lookup, LookupIp, ClearLookup, Clear, StepReply, LookedUp, LookedUpIp, Cleared, Call, AtOnce, Attempt, name_call, address_call, IsCall, IsServed, Stage, IsStageBy, AreStagesBy}
 use Rattle.hickory_resolver_theorems.proofs.Lists.{all-front, all-back}
 
 module _ (A B : SubLookupRelation) (weaker : (with_hosts : Bool) (before : CacheValue) (q : Query) (p : SubLookup) (after : CacheValue) → A with_hosts before q p after → B with_hosts before q p after) where
-  subs-weaker : (with_hosts : Bool) (n : NameValue) (plan : Plan) (before : CacheValue) (results : List LookupResult) (ps : List SubLookup) (after : CacheValue) → AreSubLookups A with_hosts n plan before results ps after → AreSubLookups B with_hosts n plan before results ps after
+  subs-weaker : (with_hosts : Bool) (n : NameValue) (plan : FamilyOrder) (before : CacheValue) (results : List LookupResult) (ps : List SubLookup) (after : CacheValue) → AreSubLookups A with_hosts n plan before results ps after → AreSubLookups B with_hosts n plan before results ps after
   subs-weaker with_hosts n plan before results [] after same = same
   subs-weaker with_hosts n plan before results (p ∷ ps) after (t, mid, next, is, rest) = (t, mid, next, weaker with_hosts before _ p mid is, subs-weaker with_hosts n plan mid (results ++ p.result ∷ []) ps after rest)
 
@@ -30,7 +30,7 @@ module _ (A B : SubLookupRelation) (weaker : (with_hosts : Bool) (before : Cache
 -- way and of each part.
 module _ (A B : SubLookupRelation) (Holds : CacheValue → Type 0) (Q : SubLookup → Type 0)
     (step : (with_hosts : Bool) (before : CacheValue) (q : Query) (p : SubLookup) (after : CacheValue) → Holds before → Q p → A with_hosts before q p after → B with_hosts before q p after × Holds after) where
-  subs-along : (with_hosts : Bool) (n : NameValue) (plan : Plan) (before : CacheValue) (results : List LookupResult) (ps : List SubLookup) (after : CacheValue) → Holds before → AllByRecursion Q ps → AreSubLookups A with_hosts n plan before results ps after → AreSubLookups B with_hosts n plan before results ps after × Holds after
+  subs-along : (with_hosts : Bool) (n : NameValue) (plan : FamilyOrder) (before : CacheValue) (results : List LookupResult) (ps : List SubLookup) (after : CacheValue) → Holds before → AllByRecursion Q ps → AreSubLookups A with_hosts n plan before results ps after → AreSubLookups B with_hosts n plan before results ps after × Holds after
   subs-along with_hosts n plan before results [] after holds all same = (same, subst Holds (sym same) holds)
   subs-along with_hosts n plan before results (p ∷ ps) after holds (own, all) (t, mid, next, is, rest) =
       let here = step with_hosts before (question_of n t) p mid holds own is in

@@ -14,8 +14,8 @@ use Rattle.hickory_resolver_model.specs.Cache.{CacheValue}
 use Rattle.hickory_resolver_model.specs.Lookup.{LookupValue, LookupResult}
 use Rattle.hickory_resolver_model.specs.AliasWalk.{walk_of}
 use Rattle.hickory_resolver_model.specs.Verdict.{Hop}
-use Rattle.hickory_resolver_model.specs.Hops.{LookupContext, ChainEnd, Special, Hit, Asked, Store, IsReplyOver, made_entry, asks_of, one_cache, passed_of, stores_of}
-use Rattle.hickory_resolver_model.specs.Calls.{CallContext, start_at, Source, Static, Client, SubLookup, SubLookupRelation, IsAnsweredByHosts, IsAnsweredByClient}
+use Rattle.hickory_resolver_model.specs.Hops.{LookupContext, ChainEnd, Special, Hit, Asked, Store, IsReplyOver, entry_of_store, asks_of, one_cache, passed_of, stores_of}
+use Rattle.hickory_resolver_model.specs.Calls.{CallContext, start_at, Source, Hosts, Client, SubLookup, SubLookupRelation, IsAnsweredByHosts, IsAnsweredByClient}
 use Rattle.hickory_resolver_model.specs.Run.{Settings, call_context_at, RequestValue, StepValue, AreStagesBy, Run}
 use Rattle.hickory_resolver_theorems.specs.Statements.{LeastTtlIsZero}
 
@@ -46,7 +46,7 @@ OutlivesNoAlias s asks last deadline =
 
 abbrev pub StoreOutlivesNoAlias : LookupContext → List Exchange → ChainEnd → Store → Type 0
 StoreOutlivesNoAlias s asks last store =
-    IfSome (made_entry s.cache.config store) (λ e. OutlivesNoAlias s asks last e.valid_until)
+    IfSome (entry_of_store s.cache.config store) (λ e. OutlivesNoAlias s asks last e.valid_until)
 
 -- The stores of hops, from the last hop to the first: the last of them is made under the question of the first
 -- hop, and outlives no alias from that hop on; those before it are the stores of the hops after it. The last hop
@@ -88,19 +88,19 @@ NoAliasOutlives s caches question asks result after (inr (out, inr cut)) = Unit 
 -- ---- the look-ups of a call, and of a run
 
 -- a question of a call is answered by the table of hosts, or by the client with a look-up of which this holds
-abbrev pub IsLimitedBy : Source → CallContext → Bool → CacheValue → SubLookup → CacheValue → Type 0
-IsLimitedBy Static s with_hosts before p after = IsAnsweredByHosts s with_hosts before p after
-IsLimitedBy Client s with_hosts before p after =
+abbrev pub OutlivesNoAliasBy : Source → CallContext → Bool → CacheValue → SubLookup → CacheValue → Type 0
+OutlivesNoAliasBy Hosts s with_hosts before p after = IsAnsweredByHosts s with_hosts before p after
+OutlivesNoAliasBy Client s with_hosts before p after =
     (is : IsAnsweredByClient s with_hosts before p after)
     × NoAliasOutlives (start_at s before) (one_cache (start_at s before) p.asks) p.question p.asks p.result after
     is.reply
 
-abbrev pub LimitedSubLookup : CallContext → SubLookupRelation
-LimitedSubLookup s with_hosts before q p after = (p.question ≡ q) × IsLimitedBy p.source s with_hosts before p after
+abbrev pub SubLookupOutlivesNoAlias : CallContext → SubLookupRelation
+SubLookupOutlivesNoAlias s with_hosts before q p after = (p.question ≡ q) × OutlivesNoAliasBy p.source s with_hosts before p after
 
 -- Of a run: it holds of each look-up of the client, over the cache that the one before it left.
 abbrev pub RunOutlivesNoAlias : (s : Settings) (first : CacheValue) (requests : List RequestValue)
     (steps : List StepValue) (exchanges : List Exchange) (after : CacheValue)
     → Run s first requests steps exchanges after → Type 0
 RunOutlivesNoAlias s first requests steps exchanges after run =
-    AreStagesBy (λ now. LimitedSubLookup (call_context_at s now)) s first requests run.stages after
+    AreStagesBy (λ now. SubLookupOutlivesNoAlias (call_context_at s now)) s first requests run.stages after

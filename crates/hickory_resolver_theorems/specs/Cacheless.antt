@@ -11,7 +11,7 @@ use Rattle.hickory_proto_core.specs.declared.query.Query.{Query}
 use Rattle.hickory_proto_core.specs.declared.recorded.Exchange.{Exchange}
 use Rattle.hickory_proto_core.specs.declared.net_error.NetError.TheVariants.{OutOfMemory}
 use Rattle.hickory_resolver_model.specs.SpecialUse.{special_use_result}
-use Rattle.hickory_resolver_model.specs.Verdict.{Hop, Alias, first_hop}
+use Rattle.hickory_resolver_model.specs.Verdict.{Hop, LeadsTo, first_hop}
 use Rattle.hickory_resolver_model.specs.Hops.{LookupContext, result_when_asked, verdict_on}
 use Rattle.hickory_resolver_model.specs.Client.{empty_cache}
 use Rattle.hickory_resolver_theorems.specs.Cores.{ReplyCore, reply_core, AgreeInCore}
@@ -34,11 +34,11 @@ pub data ResolvesTo (table : TableValue) : Query → ReplyCore → ℕ → Type 
   at_last : {q : Query} {outcome : OutcomeValue} → special_use_result q 0 ≡ None
       → outcome_in q table ≡ Some outcome
       → ((next : Hop) → verdict_on cacheless_context (first_hop q) (kind_of outcome)
-      ≡ Some (Alias next) → ⊥)
+      ≡ Some (LeadsTo next) → ⊥)
       → ResolvesTo table q (reply_core (result_when_asked cacheless_context (first_hop q) (kind_of outcome))) 1
   at_alias : {q : Query} {next : Hop} {outcome : OutcomeValue} {reply : ReplyCore} {n : ℕ}
       → special_use_result q 0 ≡ None → outcome_in q table ≡ Some outcome
-      → verdict_on cacheless_context (first_hop q) (kind_of outcome) ≡ Some (Alias next)
+      → verdict_on cacheless_context (first_hop q) (kind_of outcome) ≡ Some (LeadsTo next)
       → ResolvesTo table next.query reply n → ResolvesTo table q reply (suc n)
 
 -- the table has each question that was asked, with an outcome that agrees, out of memory aside

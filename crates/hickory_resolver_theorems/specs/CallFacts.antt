@@ -14,11 +14,11 @@ use Rattle.hickory_proto_core.specs.declared.net_error.NetError.TheVariants.{Out
 use Rattle.hickory_resolver_model.specs.Bounds.{ConfigValue}
 use Rattle.hickory_resolver_model.specs.Cache.{CacheValue, Entry}
 use Rattle.hickory_resolver_model.specs.Lookup.{LookupValue, LookupResult}
-use Rattle.hickory_resolver_model.specs.Hops.{made_entry, one_cache}
-use Rattle.hickory_resolver_model.specs.Calls.{CallContext, start_at, Source, Static, Client, SubLookup, SubLookupRelation, IsAnsweredByHosts, IsAnsweredByClient, asks_of_sub_lookups}
+use Rattle.hickory_resolver_model.specs.Hops.{entry_of_store, one_cache}
+use Rattle.hickory_resolver_model.specs.Calls.{CallContext, start_at, Source, Hosts, Client, SubLookup, SubLookupRelation, IsAnsweredByHosts, IsAnsweredByClient, asks_of_sub_lookups}
 use Rattle.hickory_resolver_model.specs.Run.{Settings, call_context_at, Call, AtOnce, Attempt, IsCall, RanOutBeforeAsking, name_call, address_call}
 use Rattle.hickory_resolver_model.specs.Resolver.{ResolverValue, settings, AnswersCall}
-use Rattle.hickory_resolver_theorems.specs.Aliases.{LimitedSubLookup}
+use Rattle.hickory_resolver_theorems.specs.Aliases.{SubLookupOutlivesNoAlias}
 use Rattle.hickory_resolver_theorems.specs.Cacheless.{IsTable, AreConsistentWith}
 use Rattle.hickory_resolver_theorems.specs.Covered.{Dated, dated_exchanges}
 use Rattle.hickory_resolver_theorems.specs.Provenance.{is_source, dated_entry, stores_made}
@@ -54,11 +54,11 @@ IsFreshForType config sources e = IsFreshEntry config (sources (type_code e.quer
 -- makes an entry that does not outlive what was received for its type
 abbrev pub IsFreshlyStoredBy : (ℕ → List Dated) → Source → CallContext → Bool → CacheValue → SubLookup → CacheValue
     → Type 0
-IsFreshlyStoredBy sources Static s with_hosts before p after = IsAnsweredByHosts s with_hosts before p after
+IsFreshlyStoredBy sources Hosts s with_hosts before p after = IsAnsweredByHosts s with_hosts before p after
 IsFreshlyStoredBy sources Client s with_hosts before p after =
     (is : IsAnsweredByClient s with_hosts before p after)
     × AllByRecursion
-    (λ store. IfSome (made_entry before.config store) (IsFreshForType before.config sources))
+    (λ store. IfSome (entry_of_store before.config store) (IsFreshForType before.config sources))
     (stores_made (start_at s before) (one_cache (start_at s before) p.asks) p.question p.asks p.result after is.reply)
 
 abbrev pub FreshlyStoredSubLookup : (ℕ → List Dated) → CallContext → SubLookupRelation
@@ -111,8 +111,8 @@ IsTransparentCall s now before call parts reply after =
 
 -- ---- a call
 
--- A call of a resolver: each question of it sends eight at most; every record has a source; nothing outlives
--- what was received; a cache changes no answer; no alias outlives its CNAMEs.
+-- A call of a resolver: each question of it sends eight at most; every answer of the asked type has a source, and
+-- outlives nothing that was received; a cache changes no answer; no alias outlives its CNAMEs. Each has its own premises.
 pub record IsPromisedCall
     {H : Type 0} (step : HandleStep H) (now : ℕ) (call : Call) (before : ResolverValue H) (result : LookupResult)
     (after : ResolverValue H)
@@ -124,7 +124,7 @@ pub record IsPromisedCall
   pub fresh : IsFreshCall now before.client.cache call is.parts result after.client.cache
   pub transparent : IsTransparentCall (settings before) now before.client.cache call is.parts result
       after.client.cache
-  pub no_alias_outlives : IsCallBy (LimitedSubLookup (call_context_at (settings before) now)) (settings before)
+  pub no_alias_outlives : IsCallBy (SubLookupOutlivesNoAlias (call_context_at (settings before) now)) (settings before)
       before.client.cache call is.parts result after.client.cache
 
 -- what is given for a name is looked up, with these promises: it gives a name, or its fault

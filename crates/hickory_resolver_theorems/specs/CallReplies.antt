@@ -53,8 +53,8 @@ MeanWithinEight table s events =
 -- The reply of a call that is done, with what was received up to then, for this call or another. It is made of
 -- sub-look-ups (`IsPromisedCallEnd`), of which each sent eight questions at most. It is an answer of the call's own (a
 -- literal address), or each of its answers was given by a sub-look-up, to be used as long or longer; and where the least
--- TTL of the type that was asked is zero, none outlives what was received. A cache does not change it. That no alias
--- outlives its CNAMEs is said of each sub-look-up.
+-- TTL of the type that was asked is zero, none of that type that the client gave outlives what was received. A cache does
+-- not change it, under its premises. That no alias outlives its CNAMEs is said of each sub-look-up.
 pub record IsPromisedCallReply
     (s : Settings) (empty : CacheValue) (tables : List (List Host)) (lookups : List EventValue)
     (received : List Dated) (d : DoneCallValue)

@@ -14,14 +14,14 @@ use Rattle.hickory_proto_core.specs.codes.record_type.RecordType.{RecordType}
 use Rattle.hickory_resolver_model.specs.Attempts.{attempts}
 use Rattle.hickory_resolver_model.specs.Cache.{CacheValue}
 use Rattle.hickory_resolver_model.specs.Lookup.{LookupResult, question_of}
-use Rattle.hickory_resolver_model.specs.Hosts.{Host, IsStatic}
-use Rattle.hickory_resolver_model.specs.Calls.{CallContext, Source, Static, Client, SubLookup, SubLookupRelation, IsAnsweredByHosts, next_type, asks_of_sub_lookups}
+use Rattle.hickory_resolver_model.specs.Hosts.{Host, HostsHave}
+use Rattle.hickory_resolver_model.specs.Calls.{CallContext, Source, Hosts, Client, SubLookup, SubLookupRelation, IsAnsweredByHosts, next_type, asks_of_sub_lookups}
 use Rattle.hickory_resolver_model.specs.Resuming.{ProgressValue, Waits, IsDone}
 use Rattle.hickory_resolver_model.specs.Run.{Settings, Call, AtOnce, Attempt, after_clear}
 use Rattle.hickory_resolver_theorems.specs.CallFacts.{IsCallBy}
 use Rattle.hickory_resolver_theorems.specs.Covered.{Dated, dated_exchanges}
 use Rattle.hickory_resolver_theorems.specs.Interleaved.{DoneValue, WorldValue, world_of, EventValue, Happens, Happen, ended_by, received_by, ended_in, received_in, IsPromisedEnd}
-use Rattle.hickory_resolver_theorems.specs.ResumingCalls.{WaitingCallValue, CallProgressValue, CallWaits, CallIsDone, StartsCall, RunsOutAtStart, ResumesCall}
+use Rattle.hickory_resolver_theorems.specs.ResumingCalls.{WaitingCallValue, CallProgressValue, StartsCall, RunsOutAtStart, ResumesCall}
 
 -- ---- what there is
 
@@ -71,13 +71,13 @@ exchange_with c outcome = record { query = c.waiting.lookup.hop.query; outcome =
 
 -- the call after a step, where it waits
 abbrev pub call_pending : Call → List Exchange → CallProgressValue → List PendingCallValue
-call_pending call asks (CallWaits w) = record { call = call; asks = asks; waiting = w } ∷ []
-call_pending call asks (CallIsDone result) = []
+call_pending call asks (Waits w) = record { call = call; asks = asks; waiting = w } ∷ []
+call_pending call asks (IsDone result) = []
 
 -- and where it is done
 abbrev pub call_done : Call → ℕ → List Exchange → CallProgressValue → List DoneCallValue
-call_done call now asks (CallWaits w) = []
-call_done call now asks (CallIsDone result) = record { call = call; now = now; asks = asks; result = result } ∷ []
+call_done call now asks (Waits w) = []
+call_done call now asks (IsDone result) = record { call = call; now = now; asks = asks; result = result } ∷ []
 
 -- the calls in flight after one between these was fed: where its sub-look-up waits on, it stays at its place; else it
 -- stands at the end, if it still waits. The order says nothing more
@@ -197,7 +197,7 @@ pub record IsInterleavedLookup
     : Type 0 where
   pub hosts : List Host
   pub stood : Contains tables hosts
-  pub not_static : (with_hosts ≡ false) ⊎ IsStatic p.question now hosts None
+  pub not_static : (with_hosts ≡ false) ⊎ HostsHave p.question now hosts None
   pub lookup : DoneValue
   pub question_is : lookup.question ≡ p.question
   pub now_is : lookup.now ≡ now
@@ -207,7 +207,7 @@ pub record IsInterleavedLookup
 
 abbrev pub IsInterleavedFrom : Source → Settings → CacheValue → List (List Host) → List EventValue → ℕ → Bool
     → CacheValue → SubLookup → CacheValue → Type 0
-IsInterleavedFrom Static s empty tables lookups now with_hosts before p after =
+IsInterleavedFrom Hosts s empty tables lookups now with_hosts before p after =
     (hosts : List Host) × Contains tables hosts
     × IsAnsweredByHosts (call_context_over s now hosts) with_hosts before p after
 IsInterleavedFrom Client s empty tables lookups now with_hosts before p after =

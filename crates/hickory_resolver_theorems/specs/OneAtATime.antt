@@ -4,7 +4,7 @@ use Rattle.std.specs.Prelude.{◌≡◌, Bool, true, false, List, map, filter, f
 use Rattle.std.specs.List.{AllByRecursion}
 use Rattle.hickory_proto_core.specs.declared.recorded.Exchange.{Exchange}
 use Rattle.hickory_resolver_model.specs.Cache.{CacheValue}
-use Rattle.hickory_resolver_model.specs.Calls.{Source, Static, Client, SubLookup}
+use Rattle.hickory_resolver_model.specs.Calls.{Source, Hosts, Client, SubLookup}
 use Rattle.hickory_resolver_model.specs.Run.{Settings, RequestValue, StepValue, Run}
 use Rattle.hickory_resolver_theorems.specs.Covered.{dated_exchanges}
 use Rattle.hickory_resolver_theorems.specs.Interleaved.{DoneValue, world_of, EventValue, Started, Fed, Dropped, ClearedOfAll, ClearedOf, Blocked, Happen, ended_in, received_in}
@@ -19,7 +19,7 @@ IsAtOnce (ClearedOf q) = Unit {0}
 IsAtOnce (Blocked d) = Unit {0}
 
 abbrev pub is_client : Source → Bool
-is_client Static = false
+is_client Hosts = false
 is_client Client = true
 
 -- the parts that the client answered

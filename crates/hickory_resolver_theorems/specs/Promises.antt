@@ -9,13 +9,13 @@ use Rattle.hickory_resolver_model.specs.Cache.{CacheValue}
 use Rattle.hickory_resolver_model.specs.Lookup.{LookupResult}
 use Rattle.hickory_resolver_model.specs.Hops.{one_cache}
 use Rattle.hickory_resolver_model.specs.Client.{ClientValue, start_of, IsLookup}
-use Rattle.hickory_resolver_model.specs.Run.{Settings, first_cache, RequestValue, StepValue, IsRun}
+use Rattle.hickory_resolver_model.specs.Run.{Settings, first_cache, RequestValue, StepValue, LedRun}
 use Rattle.hickory_resolver_theorems.specs.Statements.{IsFresh, IsTransparent, Headline}
 use Rattle.hickory_resolver_theorems.specs.Provenance.{HasProvenance}
 use Rattle.hickory_resolver_theorems.specs.Aliases.{NoAliasOutlives, RunOutlivesNoAlias}
 
--- A look-up of a client: eight questions are sent at most; every record has a source; nothing outlives what was
--- received; a cache changes no answer; no alias outlives its CNAMEs.
+-- A look-up of a client: eight questions are sent at most; every answer of the asked type has a source, and outlives
+-- nothing that was received; a cache changes no answer; no alias outlives its CNAMEs. Each has its own premises.
 pub record IsPromisedLookup
     {H : Type 0} (step : HandleStep H) (options : DnsRequestOptions) (now : ℕ) (before : ClientValue H)
     (question : Query) (result : LookupResult) (after : ClientValue H)
@@ -30,10 +30,10 @@ pub record IsPromisedLookup
       is.asks result after.cache is.reply
 
 -- A run over a handle, from a new resolver: the headline, and that no alias outlives its CNAMEs.
-pub record IsPromisedRun
+pub record PromisedRun
     {H : Type 0} (step : HandleStep H) (s : Settings) (handle : H) (requests : List RequestValue)
     (steps : List StepValue) (exchanges : List Exchange) (handle_after : H) (cache_after : CacheValue)
     : Type 0 where
-  pub is : IsRun step s handle requests steps exchanges handle_after cache_after
+  pub is : LedRun step s handle requests steps exchanges handle_after cache_after
   pub headline : Headline s (first_cache s) requests steps exchanges cache_after is.run
   pub no_alias_outlives : RunOutlivesNoAlias s (first_cache s) requests steps exchanges cache_after is.run

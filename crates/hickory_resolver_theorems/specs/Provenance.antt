@@ -9,7 +9,7 @@ use Rattle.hickory_proto_core.specs.declared.query.Query.{Query}
 use Rattle.hickory_proto_core.specs.declared.recorded.Exchange.{Exchange}
 use Rattle.hickory_resolver_model.specs.Cache.{CacheValue, Entry, is_current}
 use Rattle.hickory_resolver_model.specs.Lookup.{LookupResult}
-use Rattle.hickory_resolver_model.specs.Hops.{LookupContext, Store, IsReplyOver, made_entry, passed_of, stores_of}
+use Rattle.hickory_resolver_model.specs.Hops.{LookupContext, Store, IsReplyOver, entry_of_store, passed_of, stores_of}
 use Rattle.hickory_resolver_theorems.specs.Covered.{Dated, dated_exchanges}
 use Rattle.hickory_resolver_theorems.specs.Statements.{LeastTtlIsZero, IsFreshReply, IsFreshEntry}
 
@@ -54,7 +54,7 @@ pub record IsFromSources
   pub reply : IsFreshReply s.cache.config (sources_of s question asks)
       (type_code question.query_type) s.now result
   pub stores : AllByRecursion
-      (λ store. IfSome (made_entry s.cache.config store)
+      (λ store. IfSome (entry_of_store s.cache.config store)
       (IsFreshEntry s.cache.config (sources_of s question asks))) made
   pub entries : AllByRecursion
       (λ e. Contains s.cache.entries e

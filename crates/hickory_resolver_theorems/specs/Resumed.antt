@@ -42,9 +42,9 @@ pub record IsDrivenAlike
 
 -- ---- the promises
 
--- Eight questions are sent at most; every record has a source, over what a cache may hold; nothing outlives what was
--- received; a cache changes no answer; no alias outlives its CNAMEs. What the hops before the last found in the caches
--- that they read does not count.
+-- Eight questions are sent at most; every answer of the asked type has a source, over what a cache may hold, and outlives
+-- nothing that was received; a cache changes no answer; no alias outlives its CNAMEs. Each has its own premises. What the
+-- hops before the last found in the caches that they read does not count.
 pub record IsPromisedOver
     (s : LookupContext) (caches : List CacheValue) (question : Query) (asks : List Exchange) (result : LookupResult)
     (after : CacheValue) (reply : IsReplyOver s caches question asks result after)

@@ -16,7 +16,7 @@ use Rattle.hickory_resolver_model.specs.Cache.{CacheValue, Entry}
 use Rattle.hickory_proto_core.specs.Handles.{OutcomeValue}
 use Rattle.hickory_resolver_model.specs.Lookup.{LookupValue, LookupResult}
 use Rattle.hickory_resolver_model.specs.Hops.{LookupContext}
-use Rattle.hickory_resolver_model.specs.Hosts.{IsStatic}
+use Rattle.hickory_resolver_model.specs.Hosts.{HostsHave}
 use Rattle.hickory_resolver_model.specs.Calls.{SubLookup, SubLookupRelation, CallContext, Client, IsAnsweredByHosts, is_out_of_memory, literal_at_once, literal_at_last}
 use Rattle.hickory_resolver_model.specs.Run.{Settings, call_context_at, RequestValue, LookupIp, StepValue, StepReply, LookedUp, LookedUpIp, Cleared, ends_run, IsServed, Stage, exchanges_of, Run}
 use Rattle.hickory_resolver_theorems.specs.Cacheless.{IsTable, ResolvesTo, AreConsistentWith}
@@ -81,8 +81,8 @@ abbrev pub AreWhatTheyResolveTo : TableValue → CacheValue → Type 0
 AreWhatTheyResolveTo table cache = AllByRecursion (IsWhatItResolvesTo table) cache.entries
 
 -- Of a look-up without preserved intermediate records: under every table that tells its exchanges and means
--- the entries before it, the reply is the meaning of the question, where that takes eight questions at most,
--- and the entries after it are meant.
+-- the entries before it, the reply is the meaning of the question, where that takes eight questions at most, or out of
+-- memory, and the entries after it are meant.
 abbrev pub IsTransparent : LookupContext → Query → List Exchange → LookupResult → CacheValue → Type 0
 IsTransparent s question asks result after =
     (table : TableValue) → s.preserve_intermediates ≡ false → IsTable table → AreConsistentWith table asks
@@ -118,7 +118,7 @@ IsFreshWhereGiven config sources now deadline r p =
     → IsFreshRecord config (sources code) code now deadline r
 
 -- An answer of a reply that may be used up to a deadline: a sub-look-up gave it, to be used as long or longer.
--- And it does not outlive what was received for any sub-look-up that gave it.
+-- And one of the asked type that the client gave does not outlive what was received for that sub-look-up.
 pub record IsFreshAnswer
     (config : ConfigValue) (sources : ℕ → List Dated) (now : ℕ) (parts : List SubLookup) (deadline : ℕ)
     (r : RecordValue)
@@ -174,7 +174,7 @@ pub record IsCachelessSubLookup
     : Type 0 where
   pub reply : ReplyCore
   pub length_is : ℕ
-  pub not_static : (with_hosts ≡ false) ⊎ IsStatic q s.now s.hosts None
+  pub not_static : (with_hosts ≡ false) ⊎ HostsHave q s.now s.hosts None
   pub means : ResolvesTo table q reply length_is
   pub result_is : reply_core p.result ≡ reply
 
@@ -234,12 +234,13 @@ AreAsWithoutCache s stages =
     → IsAsWithoutCache table s stage
 
 -- From a new resolver, over every run, each attempt at one name and type sends at most 8 questions; where the asked
--- type's least TTL is zero, no upstream answer record of that type outlives its received TTL cut at the maximum; and
--- where equal questions get equal outcomes, no chain needs a ninth question and `preserve_intermediates` is off, every
--- reply is the cacheless resolver's, TTLs, deadlines and headers aside.
+-- type's least TTL is zero, no upstream answer record of that type outlives the received TTL, cut at the maximum, of an
+-- equal record that was received so far; and where equal questions get equal outcomes, no chain needs a ninth question
+-- and `preserve_intermediates` is off, every reply is the cacheless resolver's or out of memory, TTLs, deadlines, headers
+-- and the case of names aside.
 --
--- A new resolver is one whose cache is empty. An attempt at one name and type is a sub-look-up. Names are compared
--- without case, in replies too. It is said of the stages of the run that is given.
+-- A new resolver is one whose cache is empty. An attempt at one name and type is a sub-look-up. It is said of the stages
+-- of the run that is given.
 abbrev pub Headline : (s : Settings) (empty : CacheValue) (requests : List RequestValue) (steps : List StepValue)
     (exchanges : List Exchange) (after : CacheValue) → Run s empty requests steps exchanges after → Type 0
 Headline s empty requests steps exchanges after run =

@@ -14,7 +14,7 @@ use Rattle.hickory_resolver_model.specs.Bounds.{BoundsValue, ConfigValue, no_bou
 use Rattle.hickory_resolver_model.specs.Cache.{CacheValue, Entry, insert_entry, store, aged_result, current}
 use Rattle.hickory_resolver_model.specs.SpecialUse.{full_name, one_record, no_records, special_use_result}
 use Rattle.hickory_resolver_model.specs.AliasWalk.{walk_of}
-use Rattle.hickory_resolver_model.specs.Verdict.{Hop, first_hop, Accepted, Alias, verdict}
+use Rattle.hickory_resolver_model.specs.Verdict.{Hop, first_hop, Accepted, LeadsTo, verdict}
 use Rattle.hickory_resolver_model.specs.Hops.{LookupContext}
 use Rattle.hickory_resolver_model.specs.Attempts.{Search, attempts}
 use Rattle.hickory_resolver_model.specs.Client.{empty_cache}
@@ -245,7 +245,7 @@ pub record AliasCases : Type 0 where
       (response (asks_a (name (codes "a"))) alias_and_address)
       ≡ Accepted (response (asks_a (name (codes "a"))) alias_and_address)
   pub alias_leads_on : verdict true (first_hop (asks_a (name (codes "a"))))
-      (response (asks_a (name (codes "a"))) alias_alone) ≡ Alias (record {
+      (response (asks_a (name (codes "a"))) alias_alone) ≡ LeadsTo (record {
         query = asks_a (name (codes "b"));
         preserved = alias_alone;
       })
@@ -255,7 +255,7 @@ pub record AliasCases : Type 0 where
     query_type = type.A;
     query_class = class.CH;
   })) (response (asks_a (name (codes "a"))) alias_alone)
-      ≡ Alias (record { query = asks_a (name (codes "b")); preserved = [] })
+      ≡ LeadsTo (record { query = asks_a (name (codes "b")); preserved = [] })
 
 pub alias_cases : AliasCases
 alias_cases = record {

@@ -25,8 +25,8 @@ use Rattle.hickory_resolver_model.specs.Lookup.{LookupValue, question_of}
 use Rattle.hickory_resolver_model.specs.SpecialUse.{full_name}
 use Rattle.hickory_resolver_model.specs.Verdict.{first_hop}
 use Rattle.hickory_resolver_model.specs.Hops.{Asked, IsReply}
-use Rattle.hickory_resolver_model.specs.Hosts.{insert_pairs, StandsFor, IsStatic, static_answer}
-use Rattle.hickory_resolver_model.specs.Calls.{Static, Client, SubLookup, IsAnsweredFor}
+use Rattle.hickory_resolver_model.specs.Hosts.{insert_pairs, StandsFor, HostsHave, static_answer}
+use Rattle.hickory_resolver_model.specs.Calls.{Hosts, Client, SubLookup, IsAnsweredFor}
 use Rattle.hickory_resolver_model.specs.Run.{Settings, call_context_at, Lookup, LookupIp, ClearLookup, Clear, LookedUp, LookedUpIp, Cleared, IsServed, StepValue, Stage, Run}
 use Rattle.hickory_resolver_model.specs.Client.{empty_cache}
 use Rattle.hickory_resolver_theorems.specs.Worked.{below, relative, name, asks_a, rr, address, response, exchange}
@@ -163,7 +163,7 @@ second_reply = inl (record {
 })
 
 no_hosts : (q : Query) (now : ℕ) → asks_for type.PTR q ≡ false → static_answer None q now [] ≡ None
-    → IsStatic q now [] None
+    → HostsHave q now [] None
 no_hosts q now other is = (None, λ ptr. (let clash : false ≡ true = sym other ∙ ptr in cc), sym is)
 
 -- ---- the name of an address in the table of hosts
@@ -209,7 +209,7 @@ abbrev pub pointer : LookupValue
 pointer = record { message = response asks_ptr (rr arpa 86400 (ptr_data a) ∷ []); valid_until = 86403 }
 
 abbrev pub by_hosts : SubLookup
-by_hosts = record { question = asks_ptr; source = Static; asks = []; result = Ok pointer }
+by_hosts = record { question = asks_ptr; source = Hosts; asks = []; result = Ok pointer }
 
 -- ---- the cases
 

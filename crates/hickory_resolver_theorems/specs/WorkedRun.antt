@@ -9,7 +9,7 @@ use Rattle.hickory_resolver_model.specs.Cache.{CacheValue}
 use Rattle.hickory_resolver_model.specs.Lookup.{LookupValue}
 use Rattle.hickory_resolver_model.specs.Verdict.{first_hop}
 use Rattle.hickory_resolver_model.specs.Hops.{LookupContext, Hit, Asked, IsReply}
-use Rattle.hickory_resolver_model.specs.Hosts.{IsStatic}
+use Rattle.hickory_resolver_model.specs.Hosts.{HostsHave}
 use Rattle.hickory_resolver_model.specs.Calls.{Client, SubLookup, IsAnsweredFor}
 use Rattle.hickory_resolver_config.specs.declared.strategies.LookupIpStrategy.TheVariants.{Ipv4Only}
 use Rattle.hickory_resolver_model.specs.Bounds.{no_bounds}
@@ -121,7 +121,7 @@ hit_reply = inl (record {
   after_is = refl;
 })
 
-pub not_static : (now : ℕ) → IsStatic (asks_a a) now [] None
+pub not_static : (now : ℕ) → HostsHave (asks_a a) now [] None
 not_static now = (None, λ asked. (let clash : false ≡ true = asked in cc), refl)
 
 -- each look-up is one attempt of one sub-look-up

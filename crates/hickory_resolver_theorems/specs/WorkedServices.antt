@@ -8,7 +8,7 @@ use Rattle.hickory_proto_core.specs.codes.record_type.RecordType.TheVariants as 
 use Rattle.hickory_resolver_model.specs.Lookup.{question_of}
 use Rattle.hickory_resolver_model.specs.SpecialUse.{full_name}
 use Rattle.hickory_resolver_model.specs.AliasWalk.{standing, walk_of}
-use Rattle.hickory_resolver_model.specs.Verdict.{first_hop, Accepted, Alias, NoMatch, verdict}
+use Rattle.hickory_resolver_model.specs.Verdict.{first_hop, Accepted, LeadsTo, NoMatch, verdict}
 use Rattle.hickory_resolver_theorems.specs.Worked.{name, rr, address, response, asks_a}
 
 abbrev pub a_name : NameValue
@@ -84,7 +84,7 @@ pub record ServiceCases : Type 0 where
       ≡ Accepted (response (asks_service service_of_a) alias_and_server)
   -- an alias that was preserved, and then the server, each as long as it was sent
   pub alias_leads_to_the_service : verdict true (first_hop (asks_service service_of_a))
-      (response (asks_service service_of_a) (alias service_of_a 300 service_of_b ∷ [])) ≡ Alias (record {
+      (response (asks_service service_of_a) (alias service_of_a 300 service_of_b ∷ [])) ≡ LeadsTo (record {
         query = asks_service service_of_b;
         preserved = alias service_of_a 300 service_of_b ∷ [];
       })
@@ -105,11 +105,11 @@ pub record ServiceCases : Type 0 where
       })
   -- without the addresses the next question is about the first server
   pub two_servers_lead_on : verdict false (first_hop (asks_a a_name)) (response (asks_a a_name) two_servers)
-      ≡ Alias (record { query = asks_a first_host; preserved = [] })
+      ≡ LeadsTo (record { query = asks_a first_host; preserved = [] })
   -- and behind an alias about the name behind it
   pub an_alias_goes_first : verdict false (first_hop (asks_a a_name))
       (response (asks_a a_name) (server a_name 50 first_host ∷ alias a_name 50 (name (codes "b")) ∷ []))
-      ≡ Alias (record { query = asks_a (name (codes "b")); preserved = [] })
+      ≡ LeadsTo (record { query = asks_a (name (codes "b")); preserved = [] })
   -- where the servers were asked for, the response is the answer as it was sent
   pub servers_that_were_asked_for : verdict false (first_hop (asks_service a_name))
       (servers_with_addresses (asks_service a_name))

@@ -70,7 +70,7 @@ pub fn nothing_outlives()
 /// A look-up that is what the hops say, over what a cache may hold, has provenance: where the least TTL of the
 /// asked type is zero, no answer of that type that it gives or stores outlives what its own exchanges brought
 /// or what the answers of the current entries of that type held.
-pub fn every_record_has_a_source()
+pub fn every_answer_has_a_source()
     ensures { (s : LookupContext) (caches : List CacheValue) (question : Query) (asks : List Exchange)
         (result : LookupResult) (after : CacheValue) → IsCache s.cache.config s.cache.capacity s.cache.entries
         → (reply : IsReplyOver s caches question asks result after)
@@ -139,8 +139,9 @@ pub fn interleaved_calls_keep_the_promises()
 {}
 
 /// What each of these calls answers, both families as one, after all its attempts: each sub-look-up sends eight questions
-/// at most; where the asked type's least TTL is zero, no answer outlives what was received, for this call or another; and
-/// where equal questions got equal outcomes, no chain needed a ninth question and intermediate records are not preserved,
+/// at most; where the asked type's least TTL is zero, no answer of that type that the client gave outlives what was
+/// received, for this call or another; and where equal questions got equal outcomes, no chain needed a ninth question and
+/// intermediate records are not preserved,
 /// it is what the call comes to without a cache, or out of memory.
 pub fn interleaved_replies_keep_the_promises()
     ensures { (s : Settings) (empty : CacheValue) (first : List Host) → ArePromisedCallReplies s empty first }

@@ -16,7 +16,7 @@ use Rattle.hickory_resolver_model.specs.Hosts.{Host}
 use Rattle.hickory_resolver_model.specs.Resolver.{ResolverValue}
 use Rattle.hickory_resolver_model.specs.Run.{RequestValue, Settings, StepValue, settings_of}
 use Rattle.hickory_resolver.specs.Listening.{Hears, HearsAll}
-use Rattle.hickory_resolver.specs.Transcripts.{IsRunFrom}
+use Rattle.hickory_resolver.specs.Transcripts.{NewRun}
 use Rattle.replay.specs.Hearing.{AddsBlock}
 use Rattle.replay_script.specs.Output.{run_text, step_text}
 use Rattle.replay.specs.ScriptRun.{IsNoTable, IsRefused, IsReplayed, IsScriptTold, IsTable, IsTableTold, IsTold}
@@ -73,7 +73,7 @@ pub told_run : {H L : Type 0} (step : HandleStep H) (config : ResolverConfigValu
     → ((before : L) (request : RequestValue) (sent : List Exchange) (made : StepValue) (after : L)
     → hears before request sent made after → AddsBlock (text before) request sent made (text after))
     → (before : L) (steps : List StepValue) (resolver : ResolverValue (RecordedValue H)) (after : L) → text before
-    ≡ [] → IsRunFrom step config options hosts upstream requests steps resolver
+    ≡ [] → NewRun step config options hosts upstream requests steps resolver
     → HearsAll hears before requests steps resolver.client.handle.exchanges after
     → IsTold step (settings_of config options hosts) upstream requests (text after)
 told_run step config options hosts upstream requests text hears adds before steps resolver after none run heard =
@@ -83,7 +83,7 @@ told_run step config options hosts upstream requests text hears adds before step
       exchanges = exchanges;
       upstream_after = resolver.client.handle.handle;
       cache_after = resolver.client.cache;
-      run = run.promised.is;
+      run = run.promised;
       told = (
         heard_remembered text hears adds requests steps exchanges before after heard,
         heard_text text hears adds requests steps exchanges before after heard

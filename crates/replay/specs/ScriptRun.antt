@@ -11,7 +11,8 @@ use Rattle.hickory_resolver.specs.hosts.hosts_error.HostsError.{HostsError}
 use Rattle.hickory_resolver.specs.hosts.hosts_error.HostsError.TheVariants as hosts_error
 use Rattle.hickory_resolver_model.specs.Cache.{CacheValue}
 use Rattle.hickory_resolver_model.specs.Hosts.{Host}
-use Rattle.hickory_resolver_model.specs.Run.{RequestValue, Settings, StepValue, IsRun, ends_run, moment_of, settings_of}
+use Rattle.hickory_resolver_theorems.specs.Promises.{PromisedRun}
+use Rattle.hickory_resolver_model.specs.Run.{RequestValue, Settings, StepValue, ends_run, moment_of, settings_of}
 use Rattle.replay_script.specs.Script.{IsFault, IsWhole, ScriptValue, script_of}
 use Rattle.replay_script.specs.declared.fault.ScriptFault.TheVariants as fault
 use Rattle.replay_script.specs.declared.fault.ScriptFault.{ScriptFault}
@@ -30,7 +31,8 @@ abbrev pub IsToldBy : List RequestValue → List StepValue → List Exchange →
 IsToldBy requests steps exchanges text =
     (is_remembered steps ≡ true) × (text ≡ run_text requests steps exchanges)
 
--- the requests are run over this upstream, and memory does not run out: the text of that run
+-- The requests are run over this upstream, and memory does not run out: the text of that run, of which all is promised
+-- that is promised of one.
 pub record IsTold
     {H : Type 0} (step : HandleStep H) (s : Settings) (upstream : H) (requests : List RequestValue) (text : List ℕ)
     : Type 0 where
@@ -38,7 +40,7 @@ pub record IsTold
   pub exchanges : List Exchange
   pub upstream_after : H
   pub cache_after : CacheValue
-  pub run : IsRun step s upstream requests steps exchanges upstream_after cache_after
+  pub run : PromisedRun step s upstream requests steps exchanges upstream_after cache_after
   pub told : IsToldBy requests steps exchanges text
 
 -- over an upstream that looks each question up among outcomes, of which the last of equal questions counts

@@ -1,23 +1,47 @@
-//! Prints what a file resolv.conf says: `resolv_conf_show FILE HOSTNAME`. Each server, each domain of the search list,
+//! Prints what a file resolv.conf says: `resolv_conf_show FILE [HOSTNAME]`. Each server, each domain of the search list,
 //! the options, and what was passed over, a line for each.
 #![tactic(auto)]
 
-use anyhow::bail;
 use hickory_resolver_config::{
     LookupIpStrategy, ResolverConfig, ResolverOpts, ServerOrderingStrategy,
 };
 use resolv_conf::{PassedOver, Reason, ResolvConf, Scope, read_resolv_conf};
+use std::process::ExitCode;
 use std::{env, fs, io};
 
-fn main(rt: HostRuntime) -> anyhow::Result<()> {
-    let mut words = env::args(&rt)?.skip(1);
-    let (Some(path), Some(hostname), None) = (words.next(), words.next(), words.next()) else {
-        bail!("usage: resolv_conf_show FILE HOSTNAME");
+// The status of wrong arguments, and of a file that cannot be read or an output that cannot be written.
+const USAGE: u8 = 2;
+
+const FAILED: u8 = 1;
+
+fn main(rt: HostRuntime) -> ExitCode {
+    match run(&rt) {
+        Ok(true) => ExitCode::SUCCESS,
+        Ok(false) => {
+            let _ = eprintln!(rt; "usage: resolv_conf_show FILE [HOSTNAME]");
+            ExitCode::from(USAGE)
+        }
+        Err(error) => {
+            let _ = eprintln!(rt; "{error}");
+            ExitCode::from(FAILED)
+        }
+    }
+}
+
+// Whether the arguments are such as are wanted.
+fn run(rt: &HostRuntime) -> anyhow::Result<bool> {
+    let mut words = env::args(rt)?.skip(1);
+    let (Some(path), hostname, None) = (words.next(), words.next(), words.next()) else {
+        return Ok(false);
     };
-    let octets = fs::read(&rt, path.as_str())?;
-    let conf = read_resolv_conf(rt.alloc(), &octets, hostname.as_bytes())?;
-    show(&rt, &conf)?;
-    Ok(())
+    let octets = fs::read(rt, path.as_str())?;
+    let hostname = match &hostname {
+        Some(name) => name.as_bytes(),
+        None => &[],
+    };
+    let conf = read_resolv_conf(rt.alloc(), &octets, hostname)?;
+    show(rt, &conf)?;
+    Ok(true)
 }
 
 fn show(rt: &impl Print, conf: &ResolvConf) -> io::Result<()> {

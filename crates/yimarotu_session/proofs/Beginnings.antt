@@ -3,8 +3,8 @@ use Rattle.std.proofs.Common.{◌≡◌, ℕ, Bool, true, false, List, Option, N
 use Rattle.std.specs.Option.{is_some}
 use mathlib.Core.Bool.{true≢false}
 use Rattle.hickory_proto_core.specs.Handles.{OutcomeValue}
-use Rattle.hickory_resolver.specs.CallProgress.{call_progress_of}
-use Rattle.hickory_resolver.specs.declared.waiting_call.CallProgress.{CallProgress}
+use Rattle.hickory_resolver.specs.Contexts.{progress_of}
+use Rattle.hickory_resolver.specs.Driving.{CallProgress}
 use Rattle.hickory_resolver_model.specs.Resolver.{ResolverValue}
 use Rattle.yimarotu_session.specs.Calls.{Begins, Does, IsLost, Stands, waits_of}
 use Rattle.yimarotu_session.specs.Sessions.{Puts, SessionValue, lookup_at}
@@ -22,14 +22,14 @@ module _ (Comes : Does) (number : ℕ) (before : SessionValue) (progress : CallP
   abbrev WhereLost : SessionError → Type 0
   WhereLost error = (error ≡ OutOfMemory) × (after.lookups ≡ before.lookups)
 
-  kept : (result : Result Bool SessionError) → Comes before.resolver (call_progress_of progress) after.resolver
+  kept : (result : Result Bool SessionError) → Comes before.resolver (progress_of progress) after.resolver
       → IfOk result WhereKept → IfErr result WhereLost
       → MatchResult result (λ waits. Stands Comes number before waits after) (λ error. IsLost Comes before error after)
   kept (Ok waits) comes ok err = record { progress = progress; comes = comes; waits_is = ok.0; lookups_are = ok.1 }
-  kept (Err error) comes ok err = record { progress = call_progress_of progress; comes = comes; error_is = err.0; lookups_stay = err.1 }
+  kept (Err error) comes ok err = record { progress = progress_of progress; comes = comes; error_is = err.0; lookups_stay = err.1 }
 
   pub begins : (result : Result Bool SessionError) → is_some (lookup_at number before.lookups) ≡ false
-      → Comes before.resolver (call_progress_of progress) after.resolver → IfOk result WhereKept → IfErr result WhereLost
+      → Comes before.resolver (progress_of progress) after.resolver → IfOk result WhereKept → IfErr result WhereLost
       → Begins Comes number before result after
   begins result free comes ok err =
       where_none (MatchResult result (λ waits. Stands Comes number before waits after) (λ error. IsLost Comes before error after))

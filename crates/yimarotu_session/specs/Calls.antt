@@ -9,10 +9,10 @@ use Rattle.hickory_proto_core.specs.codes.record_type.RecordType.{RecordType}
 use Rattle.hickory_proto_core.specs.declared.query.Query.{Query}
 use Rattle.hickory_proto_core.specs.names.name_error.NameError.{NameError}
 use Rattle.hickory_proto_core.specs.names.name_error.NameError.TheVariants as name_fault
-use Rattle.hickory_resolver.specs.CallProgress.{call_progress_of}
+use Rattle.hickory_resolver.specs.Contexts.{progress_of}
 use Rattle.hickory_resolver.specs.Starting.{ResumesAt, StartsHost, StartsName}
-use Rattle.hickory_resolver.specs.declared.waiting_call.CallProgress.{CallProgress}
-use Rattle.hickory_resolver.specs.declared.waiting_call.CallProgress.TheVariants.{Waiting, Done}
+use Rattle.hickory_resolver.specs.Driving.{CallProgress}
+use Rattle.hickory_resolver.specs.client.waiting.Progress.TheVariants.{Waiting, Done}
 use Rattle.hickory_resolver_model.specs.Lookup.{LookupResult}
 use Rattle.hickory_resolver_model.specs.Resolver.{ResolverValue, after_clear_lookup}
 use Rattle.hickory_resolver_theorems.specs.ResumingCalls.{CallProgressValue}
@@ -34,7 +34,7 @@ pub record Stands
     (Comes : Does) (number : ℕ) (before : SessionValue) (waits : Bool) (after : SessionValue)
     : Type 0 where
   pub progress : CallProgress
-  pub comes : Comes before.resolver (call_progress_of progress) after.resolver
+  pub comes : Comes before.resolver (progress_of progress) after.resolver
   pub waits_is : waits ≡ waits_of progress
   pub lookups_are : Puts number (Some progress) before.lookups after.lookups
 
@@ -62,19 +62,19 @@ BeginsHost number host now = Begins (StartsHost (IsReadAddress host) (IsReadName
 -- a look-up that waits goes on with what came back to its question; one that is done stays
 abbrev pub Resumed : OutcomeValue → ResolverValue (List OutcomeValue) → CallProgress → ResolverValue (List OutcomeValue)
     → CallProgress → Type 0
-Resumed outcome before (Waiting w) after held = ResumesAt w outcome before (call_progress_of held) after
+Resumed outcome before (Waiting w) after held = ResumesAt w outcome before (progress_of held) after
 Resumed outcome before (Done found) after held = (held ≡ Done found) × (after ≡ before)
 
 -- a look-up that waits goes on with what came back to its question
-abbrev pub GoesOn : OutcomeValue → ℕ → SessionValue → Result Bool SessionError → SessionValue → CallProgress → Type 0
-GoesOn outcome number before result after (Waiting w) =
+abbrev pub Continues : OutcomeValue → ℕ → SessionValue → Result Bool SessionError → SessionValue → CallProgress → Type 0
+Continues outcome number before result after (Waiting w) =
     MatchResult result (λ waits. Stands (ResumesAt w outcome) number before waits after) (λ error. ⊥)
-GoesOn outcome number before result after (Done found) = (result ≡ Err IsDone) × (after ≡ before)
+Continues outcome number before result after (Done found) = (result ≡ Err IsDone) × (after ≡ before)
 
 abbrev pub Feeds : OutcomeValue → ℕ → SessionValue → Result Bool SessionError → SessionValue → Type 0
 Feeds outcome number before result after =
     MatchOption (lookup_at number before.lookups) ((result ≡ Err NoLookup) × (after ≡ before))
-    (GoesOn outcome number before result after)
+    (Continues outcome number before result after)
 
 -- what a look-up came to
 abbrev pub found_of : CallProgress → Result LookupResult SessionError

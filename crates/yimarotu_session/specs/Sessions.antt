@@ -2,7 +2,7 @@
 use Rattle.std.specs.Prelude.{◌≡◌, ℕ, List, Option, nat_eq, if◌then◌else◌}
 use Rattle.std.specs.Map.{lookup}
 use Rattle.hickory_proto_core.specs.Handles.{OutcomeValue}
-use Rattle.hickory_resolver.specs.declared.waiting_call.CallProgress.{CallProgress}
+use Rattle.hickory_resolver.specs.Driving.{CallProgress}
 use Rattle.hickory_resolver_model.specs.Resolver.{ResolverValue}
 
 -- look-ups, each under its number: one waits for what comes back to its question, or is done

@@ -50,7 +50,6 @@ static int read_query(struct query *query, const uint8_t *bytes, size_t length, 
     return type == 0 || type == OPT || (type >= 128 && type < 255) ? NOTIMP : FINE;
 }
 
-/* Whether two queries ask for the same. */
 static int asks_the_same(const struct query *one, const struct query *other) {
     return one->length == other->length
         && is_same_question(one->bytes + HEADER, other->bytes + HEADER, one->length - HEADER);

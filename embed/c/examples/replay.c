@@ -18,7 +18,6 @@ static int grow(struct bytes *bytes, size_t room) {
     return 1;
 }
 
-/* What a file holds. */
 static int read_file(const char *path, struct bytes *bytes) {
     FILE *file = fopen(path, "rb");
     size_t got = 1;

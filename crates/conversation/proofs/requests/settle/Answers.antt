@@ -1,5 +1,5 @@
 use Rattle.std.proofs.Common.{◌∙◌, IfOk, ap, subst}
-use Rattle.hickory_resolver.specs.declared.waiting_call.CallProgress.TheVariants.{Done, Waiting}
+use Rattle.hickory_resolver.specs.client.waiting.Progress.TheVariants.{Done, Waiting}
 use Rattle.hickory_resolver_model.specs.Client.{ClientValue}
 use Rattle.hickory_resolver_model.specs.Resolver.{settings}
 use Rattle.conversation.specs.State.{begun_of, requests_of}

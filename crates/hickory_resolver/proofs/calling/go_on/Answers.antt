@@ -3,7 +3,7 @@ use Rattle.hickory_resolver_client.specs.Contexts.{progress_of}
 use Rattle.hickory_resolver_model.specs.Calls.{CallContext}
 use Rattle.hickory_resolver_model.specs.Resolver.{call_context_of}
 use Rattle.hickory_resolver_theorems.specs.ResumingCalls.{with_result}
-use Rattle.hickory_resolver.specs.CallSteps.{GoesFrom, Goes, Over, attempt_value}
+use Rattle.hickory_resolver.specs.CallSteps.{ContinuesFrom, Goes, Over, attempt_value}
 use Rattle.hickory_resolver.proofs.CallSteps.{keeps_on, same_context, still_kept, still_first}
 use Rattle.hickory_resolver.proofs.CallSteps.{still_next, still_over, still_waits}
 use Rattle.hickory_resolver.proofs.calling.go_on.Goals as goal
@@ -24,7 +24,7 @@ loop-progress-preserved g c =
       (λ name ready.
           let still = inv.0 name ready in
           let step = rw c.in-Goes.is at c.take_result.ensures.goes still.name still.ready.kept_is in
-          let C : CallContext → Type 0 = λ t. GoesFrom t
+          let C : CallContext → Type 0 = λ t. ContinuesFrom t
           (with_result (attempt_value c.loop-progress.attempt still.name c.args.now) c.in-Done.result)
           c.loop-progress.client.cache c.take_result.new.self c.args.now (Goes (progress_of c.in-Goes.next)) c.take_result.new.client.cache in
           still_next (call_context_of c.args.client.now c.args.hosts.now c.args.now)
@@ -54,7 +54,7 @@ returns-in-Over-clause-goes g c = λ name ready.
     let inv = rw c.in-Done.is at c.loop-progress.invariant in
     let still = inv.0 name ready in
     let step = rw c.in-Over.is at c.take_result.ensures.goes still.name still.ready.kept_is in
-    let C : CallContext → Type 0 = λ t. GoesFrom t
+    let C : CallContext → Type 0 = λ t. ContinuesFrom t
     (with_result (attempt_value c.loop-progress.attempt still.name c.args.now) c.in-Done.result)
     c.loop-progress.client.cache c.take_result.new.self c.args.now (Over c.in-Over.result) c.take_result.new.client.cache in
     still_over (call_context_of c.args.client.now c.args.hosts.now c.args.now)

@@ -1,7 +1,7 @@
 use Rattle.std.proofs.Common.{◌∙◌, Err, ap, map, subst, sym}
 use Rattle.std.proofs.lemmas.Result.{err_from_is_err_and}
 use Rattle.hickory_resolver_lookup.specs.Requests.{request_of}
-use Rattle.hickory_resolver.specs.Transcripts.{TranscriptValue, IsRunFrom}
+use Rattle.hickory_resolver.specs.Transcripts.{TranscriptValue, NewRun}
 use Rattle.hickory_resolver.proofs.FirstCaches.{no_room}
 use Rattle.hickory_resolver.proofs.ServedRuns.{is_run_from}
 use Rattle.hickory_resolver.proofs.runs.run_with_hasher.Goals as goal
@@ -14,7 +14,7 @@ returns-clause-run g c =
     let first = c.in_ok-resolver in
     let kept = c.in_ok-steps.ensures.ok in
     let P : TranscriptValue g.row.H.Denot → Type 0 =
-    λ t. IsRunFrom step a.config a.options a.hosts a.handle requests t.steps t.resolver in
+    λ t. NewRun step a.config a.options a.hosts a.handle requests t.steps t.resolver in
     subst P (sym c.new.ensures)
     (is_run_from step a.config a.options a.hosts a.handle first.resolver first.ensures.1 first.ensures.0 requests
     c.in_ok-steps.steps.items kept.0 c.keep_steps.new.resolver kept.1)

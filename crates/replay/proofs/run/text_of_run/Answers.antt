@@ -3,7 +3,7 @@ use Rattle.std.specs.Global.{Global}
 use Rattle.hickory_resolver.specs.Requests.{request_of}
 use Rattle.hickory_resolver_model.specs.Run.{settings_of}
 use Rattle.hickory_resolver.specs.Listening.{Hears, HearsAll}
-use Rattle.hickory_resolver.specs.Transcripts.{IsRunFrom}
+use Rattle.hickory_resolver.specs.Transcripts.{NewRun}
 use Rattle.replay.specs.declared.text_listener.TextListener.{TextListener}
 use Rattle.replay.specs.Hearing.{AddsBlock}
 use Rattle.replay.specs.ScriptRun.{IsTold}
@@ -15,7 +15,7 @@ returns-in-Ok-clause-ok g c =
     let run = c.in-Ok.ensures.run in
     let hears : Hears TextListener = λ before request sent made after. AddsBlock (string_bytes before.text) request
     sent made (string_bytes after.text) in
-    let is : IsRunFrom g.H.DnsHandle.step c.args.config c.args.options c.args.hosts c.args.upstream
+    let is : NewRun g.H.DnsHandle.step c.args.config c.args.options c.args.hosts c.args.upstream
     (map request_of c.args.requests.now) run.0 c.in-Ok.heard.resolver = run.1 in
     let heard : HearsAll hears (record { text = c.new-text.result }) (map request_of c.args.requests.now) run.0
     c.in-Ok.heard.resolver.client.handle.exchanges c.in-Ok.heard.listener = run.2 in

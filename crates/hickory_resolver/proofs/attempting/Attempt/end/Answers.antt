@@ -1,19 +1,19 @@
 use Rattle.std.proofs.Common.{◌≡◌, ◌∙◌, ◌∷◌, ◌++◌, rules, Bool, [], None, Option, reverse, sym, subst}
-use Rattle.hickory_resolver_model.specs.Calls.{CallContext, IsAttemptResult, Plan, next_type}
+use Rattle.hickory_resolver_model.specs.Calls.{CallContext, IsAttemptResult, FamilyOrder, next_type}
 use Rattle.hickory_resolver_model.specs.Lookup.{LookupResult}
 use Rattle.hickory_resolver_model.specs.Resolver.{call_context_of}
 use Rattle.hickory_resolver_theorems.specs.ResumingCalls.{AttemptValue, with_result}
-use Rattle.hickory_resolver.specs.CallSteps.{GoesFrom, attempt_value, results_so_far, step_of, types_of}
+use Rattle.hickory_resolver.specs.CallSteps.{ContinuesFrom, attempt_value, results_so_far, step_of, order_of}
 use Rattle.hickory_resolver.proofs.CallSteps.{goes_last, goes_next, goes_over}
 use Rattle.hickory_resolver.proofs.attempting.Attempt.end.Goals as goal
 
 pub returns-then-stops-clause-goes : goal.returns-then-stops-clause-goes
 returns-then-stops-clause-goes g c = λ name over.
     let s : CallContext = call_context_of c.args.client.now c.args.hosts.now c.args.now in
-    let P : Plan → Type 0 = λ p. next_type p (results_so_far c.take.result ++ c.args.latest ∷ []) ≡ None
+    let P : FamilyOrder → Type 0 = λ p. next_type p (results_so_far c.take.result ++ c.args.latest ∷ []) ≡ None
     → IsAttemptResult p (results_so_far c.take.result ++ c.args.latest ∷ []) c.attempt_result-reply.result in
-    let F : Option LookupResult → Type 0 = λ f. next_type (types_of c.args.self.now.sought)
-    (results_so_far f ++ c.args.latest ∷ []) ≡ None → IsAttemptResult (types_of c.args.self.now.sought)
+    let F : Option LookupResult → Type 0 = λ f. next_type (order_of c.args.self.now.sought)
+    (results_so_far f ++ c.args.latest ∷ []) ≡ None → IsAttemptResult (order_of c.args.self.now.sought)
     (results_so_far f ++ c.args.latest ∷ []) c.attempt_result-reply.result in
     goes_over s c.args.self.now c.args.latest name c.args.client.now.cache c.attempt_result-reply.result
     (subst F c.take.ensures.value (subst P c.types.ensures c.attempt_result-reply.ensures) over) _
@@ -22,13 +22,13 @@ returns-then-stops-clause-goes g c = λ name over.
 pub returns-in-Some-clause-goes : goal.returns-in-Some-clause-goes
 returns-in-Some-clause-goes g c = λ name over.
     let s : CallContext = call_context_of c.args.client.now c.args.hosts.now c.args.now in
-    let P : Plan → Type 0 = λ p. next_type p (results_so_far c.take.result ++ c.args.latest ∷ []) ≡ None
+    let P : FamilyOrder → Type 0 = λ p. next_type p (results_so_far c.take.result ++ c.args.latest ∷ []) ≡ None
     → IsAttemptResult p (results_so_far c.take.result ++ c.args.latest ∷ []) c.attempt_result-reply.result in
-    let F : Option LookupResult → Type 0 = λ f. next_type (types_of c.args.self.now.sought)
-    (results_so_far f ++ c.args.latest ∷ []) ≡ None → IsAttemptResult (types_of c.args.self.now.sought)
+    let F : Option LookupResult → Type 0 = λ f. next_type (order_of c.args.self.now.sought)
+    (results_so_far f ++ c.args.latest ∷ []) ≡ None → IsAttemptResult (order_of c.args.self.now.sought)
     (results_so_far f ++ c.args.latest ∷ []) c.attempt_result-reply.result in
     let from : AttemptValue = with_result (attempt_value c.args.self.now name c.args.now) c.args.latest in
-    let L : Bool → Type 0 = λ b. GoesFrom s (record from {
+    let L : Bool → Type 0 = λ b. ContinuesFrom s (record from {
       with_hosts = b;
       name = c.in-Some.name;
       results = [];
@@ -43,10 +43,10 @@ returns-in-Some-clause-goes g c = λ name over.
 pub returns-in-None-clause-goes : goal.returns-in-None-clause-goes
 returns-in-None-clause-goes g c = λ name over.
     let s : CallContext = call_context_of c.args.client.now c.args.hosts.now c.args.now in
-    let P : Plan → Type 0 = λ p. next_type p (results_so_far c.take.result ++ c.args.latest ∷ []) ≡ None
+    let P : FamilyOrder → Type 0 = λ p. next_type p (results_so_far c.take.result ++ c.args.latest ∷ []) ≡ None
     → IsAttemptResult p (results_so_far c.take.result ++ c.args.latest ∷ []) c.attempt_result-reply.result in
-    let F : Option LookupResult → Type 0 = λ f. next_type (types_of c.args.self.now.sought)
-    (results_so_far f ++ c.args.latest ∷ []) ≡ None → IsAttemptResult (types_of c.args.self.now.sought)
+    let F : Option LookupResult → Type 0 = λ f. next_type (order_of c.args.self.now.sought)
+    (results_so_far f ++ c.args.latest ∷ []) ≡ None → IsAttemptResult (order_of c.args.self.now.sought)
     (results_so_far f ++ c.args.latest ∷ []) c.attempt_result-reply.result in
     let none : c.args.self.now.left.items ≡ [] = search rules in
     goes_last s c.args.self.now c.args.latest name c.args.client.now.cache c.attempt_result-reply.result

@@ -6,14 +6,14 @@ use Rattle.hickory_resolver_model.specs.Attempts.{attempts}
 use Rattle.hickory_resolver_model.specs.Cache.{CacheValue}
 use Rattle.hickory_resolver_model.specs.Hosts.{Host}
 use Rattle.hickory_resolver_model.specs.Resolver.{ResolverValue, settings}
-use Rattle.hickory_resolver.specs.CallSteps.{asks_for_all, types_of}
+use Rattle.hickory_resolver.specs.CallSteps.{asks_for_all, order_of}
 use Rattle.hickory_resolver.specs.Explaining.{AreAnswered, ExplainsNamed, names_questions}
 use Rattle.hickory_resolver.proofs.resolver.Resolver.explain_names.Goals as goal
 
 pub returns-in_ok-planned-in-Ok : goal.returns-in_ok-planned-in-Ok
 returns-in_ok-planned-in-Ok g c =
     let s = c.args.self.now in
-    let plan = types_of c.args.sought in
+    let plan = order_of c.args.sought in
     let for_all = asks_for_all c.args.sought in
     let F : List Host → CacheValue → List (Query × Bool) → Type 0 = λ hosts cache qs. IfOk c.find_answerers.result (λ list. AreAnswered c.args.now hosts cache qs list.items) in
     let N : Result NameValue NameError → Type 0 = λ name. IfOk c.find_answerers.result (λ list. ExplainsNamed (settings s) s.client.cache c.args.now plan for_all name list.items) in

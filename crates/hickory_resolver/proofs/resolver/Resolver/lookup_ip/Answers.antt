@@ -1,27 +1,20 @@
-use Rattle.std.proofs.Common.{Ok, inl, sym, subst}
+use Rattle.std.proofs.Common.{sym, subst}
+use Rattle.hickory_resolver_client.specs.Contexts.{progress_of}
 use Rattle.hickory_resolver_model.specs.Lookup.{LookupResult}
 use Rattle.hickory_resolver_theorems.specs.CallFacts.{PromisesHost}
 use Rattle.hickory_resolver_theorems.proofs.PromisedCalls.{promised_host}
+use Rattle.hickory_resolver.proofs.Answering.{host_ended}
 use Rattle.hickory_resolver.proofs.resolver.Resolver.lookup_ip.Goals as goal
 
-pub returns-in-Ok : goal.returns-in-Ok
-returns-in-Ok g c =
-    promised_host g.H.DnsHandle.step (g.N.IntoName.to_ip_gives c.args.host) (g.N.IntoName.into_name_gives c.args.host)
-    c.args.now c.args.self.now _ _ c.alloc.ensures.cache
-    (c.to_ip-address.result, c.to_ip-address.ensures, Ok c.in-Ok.name, c.in-Ok.ensures, inl ((λ e. cc), c.lookup_host.ensures))
-
-pub returns-in-Err : goal.returns-in-Err
-returns-in-Err g c =
-    let said = c.literal_or_fault.ensures in
-    let R : LookupResult → Type 0 = λ r. PromisesHost g.H.DnsHandle.step (g.N.IntoName.to_ip_gives c.args.host)
-    (g.N.IntoName.into_name_gives c.args.host) c.args.now c.args.self.now r c.args.self.now in
+pub returns : goal.returns
+returns g c =
+    let spells = g.N.IntoName.to_ip_gives c.args.host in
+    let gives = g.N.IntoName.into_name_gives c.args.host in
+    let R : LookupResult → Type 0 = λ r. PromisesHost g.H.DnsHandle.step spells gives c.args.now c.args.self.now r
+    c.drive.new.self in
     subst R (sym c.as_addresses.ensures)
-    (promised_host g.H.DnsHandle.step (g.N.IntoName.to_ip_gives c.args.host)
-    (g.N.IntoName.into_name_gives c.args.host) c.args.now c.args.self.now _ _
-    c.alloc.ensures.cache (
-      said.0,
-      subst (g.N.IntoName.to_ip_gives c.args.host) (sym said.1) c.to_ip-address.ensures,
-      said.2,
-      subst (g.N.IntoName.into_name_gives c.args.host) (sym said.3) c.in-Err.ensures,
-      said.4,
-    ))
+    (promised_host g.H.DnsHandle.step spells gives c.args.now c.args.self.now c.drive.result c.drive.new.self
+    c.start_lookup_ip-progress.ensures.cache
+    (host_ended g.H.DnsHandle.step spells gives c.args.now c.args.self.now
+    (progress_of c.start_lookup_ip-progress.result) c.start_lookup_ip-progress.new.self c.drive.result
+    c.drive.new.self c.start_lookup_ip-progress.ensures.starts c.drive.ensures.call c.drive.ensures.given))

@@ -9,7 +9,7 @@ use Rattle.hickory_resolver_client.proofs.caching_core.CachingCore.settle_answer
 pub returns-then-depth-lt7-clause-settled : goal.returns-then-depth-lt7-clause-settled
 returns-then-depth-lt7-clause-settled g c =
     settle_next (context_of c.args.self.now c.args.now) c.args.hop c.args.depth c.args.response _ _ _ _ _ (ap (λ v. v.preserve_intermediates) c.self.view_is) c.hop.view_is c.in_ok-verdict.ensures.ok c.in_ok-verdict.ensures.alias_ttl (c.alias_limit-limit.ensures ∙ ap (λ config. option_map_or (alias_deadline config c.args.now) c.in_ok-verdict.field-0.alias_ttl last_moment) (c.ttl_config.ensures ∙ ap (λ v. v.cache.config) c.self.view_is))
-    c.in-Alias.next c.in-Alias.response c.in-Alias.is c.if-depth-lt7.true
+    c.in-LeadsTo.next c.in-LeadsTo.response c.in-LeadsTo.is c.if-depth-lt7.true
 
 pub returns-in-Accepted-clause-settled : goal.returns-in-Accepted-clause-settled
 returns-in-Accepted-clause-settled g c =
@@ -19,7 +19,7 @@ returns-in-Accepted-clause-settled g c =
 pub returns-else-depth-lt7-clause-settled : goal.returns-else-depth-lt7-clause-settled
 returns-else-depth-lt7-clause-settled g c =
     settle_last (context_of c.args.self.now c.args.now) c.args.hop c.args.depth c.args.response _ _ _ _ _ (ap (λ v. v.preserve_intermediates) c.self.view_is) c.hop.view_is c.in_ok-verdict.ensures.ok c.in_ok-verdict.ensures.alias_ttl (c.alias_limit-limit.ensures ∙ ap (λ config. option_map_or (alias_deadline config c.args.now) c.in_ok-verdict.field-0.alias_ttl last_moment) (c.ttl_config.ensures ∙ ap (λ v. v.cache.config) c.self.view_is))
-    c.in-Alias.next c.in-Alias.response c.in-Alias.is c.if-depth-lt7.false (omega arith) _ c.no_match-exhausted.ensures
+    c.in-LeadsTo.next c.in-LeadsTo.response c.in-LeadsTo.is c.if-depth-lt7.false (omega arith) _ c.no_match-exhausted.ensures
 
 pub returns-in-NoMatch-clause-settled : goal.returns-in-NoMatch-clause-settled
 returns-in-NoMatch-clause-settled g c =
