@@ -6,7 +6,7 @@ use Rattle.hickory_proto_core.specs.declared.dns_request.DnsRequest.{DnsRequest}
 use Rattle.hickory_proto_core.specs.declared.dns_request.DnsRequestOptions.{DnsRequestOptions}
 use Rattle.hickory_proto_core.specs.declared.recorded.Exchange.{Exchange}
 use Rattle.hickory_resolver.specs.Cache.{CacheValue, Entry, current}
-use Rattle.hickory_resolver.specs.Client.{ClientValue, IsLookup, start_of}
+use Rattle.hickory_resolver.specs.Client.{ClientValue, IsLookup, context_of}
 use Rattle.hickory_resolver.specs.Hops.{Asked, ChainEnd, FollowsAliases, GoesUpstream, Hit, IsChainEnd, IsReply, LookupContext, Special, asks_of, is_asked, one_cache}
 use Rattle.hickory_resolver.specs.Lookup.{LookupResult}
 use Rattle.hickory_resolver.specs.Verdict.{Hop, first_hop}
@@ -72,5 +72,5 @@ none_asked s q entry asks result after has (inr (out, inr cut)) =
 pub within_ttl : (options : DnsRequestOptions) (now : ℕ) (before after : ClientValue ZoneValue) (q : Query) (result : LookupResult) (entry : Entry)
     → current q now before.cache.entries ≡ Some entry → IsLookup ZoneStep options now before q result after → after.handle ≡ before.handle
 within_ttl options now before after q result entry has looked =
-    let none = none_asked (start_of before now) q entry looked.asks result after.cache has looked.reply in
+    let none = none_asked (context_of before now) q entry looked.asks result after.cache has looked.reply in
     subst (λ asks. Leads ZoneStep options before.handle asks after.handle) none looked.led

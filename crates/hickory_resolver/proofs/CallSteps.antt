@@ -9,7 +9,7 @@ use Rattle.hickory_proto_core.specs.codes.record_type.RecordType.{RecordType}
 use Rattle.hickory_proto_core.specs.declared.query.Query.{Query}
 use Rattle.hickory_proto_core.specs.declared.net_error.NetError.TheVariants.{OutOfMemory}
 use Rattle.hickory_resolver_model.specs.Cache.{CacheValue}
-use Rattle.hickory_resolver_model.specs.Calls.{CallContext, start_at, FamilyOrder, One, Both, Fallback}
+use Rattle.hickory_resolver_model.specs.Calls.{CallContext, context_over, FamilyOrder, One, Both, Fallback}
 use Rattle.hickory_resolver_model.specs.Calls.{CallPlan, Says, next_type, IsAttemptResult, IsLastReply}
 use Rattle.hickory_resolver_model.specs.Calls.{joins_results, takes_memory, stops}
 use Rattle.hickory_resolver_model.specs.Client.{ClientValue, KeepsHandle}
@@ -42,18 +42,18 @@ module _ (s : CallContext) where
       (before : CacheValue) (step : CallStepValue) (mid : CacheValue) where
     pub looked_up : LooksUpOnce s a.with_hosts a.name t before step mid → (end : CallProgressValue) (after : CacheValue)
         → ComesAfter s a step mid end after → Continues s a before end after
-    looked_up (inl (progress, step_is, not_static, starts)) end after comes =
+    looked_up (inl (progress, step_is, not_in_hosts, starts)) end after comes =
         let P : CallStepValue → Type 0 = λ x. ComesAfter s a x mid end after in
         by progress starts (subst P step_is comes)
       where
-        by : (p : ProgressValue) → Starts (start_at s before) (question_of a.name t) p mid
+        by : (p : ProgressValue) → Starts (context_over s before) (question_of a.name t) p mid
             → ContinuesAfter s a p mid end after → Continues s a before end after
         by (Waits w) starts (end_is, after_is) =
             let here : Continues s a before (Waits (record { attempt = a; lookup = w })) mid =
-            waits (record { next = next; not_static = not_static; starts = starts }) in
+            waits (record { next = next; not_in_hosts = not_in_hosts; starts = starts }) in
             subst (λ e. Continues s a before e after) (sym end_is)
             (subst (λ c. Continues s a before (Waits (record { attempt = a; lookup = w })) c) (sym after_is) here)
-        by (IsDone r) starts rest = at_once (record { next = next; not_static = not_static; starts = starts }) rest
+        by (IsDone r) starts rest = at_once (record { next = next; not_in_hosts = not_in_hosts; starts = starts }) rest
     looked_up (inr (inl (found, step_is, asked, has, mid_is))) end after comes =
         let P : CallStepValue → Type 0 = λ x. ComesAfter s a x mid end after in
         let rest : Continues s (with_result a (Ok found)) mid end after = subst P step_is comes in
@@ -70,11 +70,11 @@ module _ (s : CallContext) where
   module _ (with_hosts : Bool) (name : NameValue) (t : RecordType) (before : CacheValue) (mid : CacheValue) where
     pub looked_up_begun : (step : CallStepValue) → LooksUpOnce s with_hosts name t before step mid
         → (progress : ProgressValue) → step ≡ Goes progress → IsBegunWith name s.now progress
-    looked_up_begun step (inl (p, step_is, not_static, starts)) progress is =
+    looked_up_begun step (inl (p, step_is, not_in_hosts, starts)) progress is =
         let same : p ≡ progress = cc in
         subst (λ x. IsBegunWith name s.now x) same (by p starts)
       where
-        by : (p : ProgressValue) → Starts (start_at s before) (question_of name t) p mid → IsBegunWith name s.now p
+        by : (p : ProgressValue) → Starts (context_over s before) (question_of name t) p mid → IsBegunWith name s.now p
         by (Waits w) (upstream, w_is, same) = (
           ap (λ (v : WaitingValue). (first_question v).name) w_is,
           ap (λ (v : WaitingValue). v.now) w_is,

@@ -6,9 +6,10 @@ use Rattle.hickory_proto_core.specs.Handles.{OutcomeValue}
 use Rattle.hickory_proto_core.specs.Name.{NameValue}
 use Rattle.hickory_proto_core.specs.names.name_error.NameError.{NameError}
 use Rattle.hickory_proto_core.specs.declared.net_error.NetError.TheVariants.{OutOfMemory}
+use Rattle.hickory_proto_core.specs.Records.{data_of_address}
 use Rattle.hickory_resolver_model.specs.Resuming.{IsDone}
 use Rattle.hickory_resolver_model.specs.Attempts.{attempts}
-use Rattle.hickory_resolver_model.specs.Calls.{CallPlan, literal_at_once, literal_at_last}
+use Rattle.hickory_resolver_model.specs.Calls.{CallPlan, literal_at_once, last_resort}
 use Rattle.hickory_resolver_model.specs.Client.{ClientValue, KeepsHandle}
 use Rattle.hickory_resolver_model.specs.Hosts.{Host}
 use Rattle.hickory_resolver_model.specs.Lookup.{LookupResult}
@@ -53,7 +54,7 @@ module _ {H : Type 0} (before : ResolverValue H) where
   literal_started now address n result few is =
       started_at_once now (address_call (settings before) (Some address) (Ok n) now) (Ok (literal_at_once n address now)) result
       (ap (λ b. if b then AtOnce (Ok (literal_at_once n address now)) else Attempt n
-      (address_plan (settings before).strategy (Some (literal_at_last address now)))) few) is
+      (address_plan (settings before).strategy (Some (last_resort (data_of_address address) now)))) few) is
 
   -- the attempts at a name are started
   pub started_names : (now : ℕ) (plan : CallPlan) (n : NameValue) (hosts : List Host) (names : List NameValue)

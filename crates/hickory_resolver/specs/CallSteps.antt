@@ -10,8 +10,8 @@ use Rattle.hickory_proto_core.specs.declared.record_data.RData.{RData}
 use Rattle.hickory_proto_core.specs.declared.net_error.NetError.TheVariants.{OutOfMemory}
 use Rattle.hickory_resolver_client.specs.Contexts.{progress_of}
 use Rattle.hickory_resolver_model.specs.Cache.{CacheValue}
-use Rattle.hickory_resolver_model.specs.Calls.{CallContext, start_at, FamilyOrder, One, Both, Fallback, CallPlan, last_resort}
-use Rattle.hickory_resolver_model.specs.Hosts.{HostsHave}
+use Rattle.hickory_resolver_model.specs.Calls.{CallContext, context_over, FamilyOrder, One, Both, Fallback, CallPlan, last_resort}
+use Rattle.hickory_resolver_model.specs.Hosts.{HostsHave, NotInHosts}
 use Rattle.hickory_resolver_model.specs.Lookup.{LookupValue, LookupResult, question_of}
 use Rattle.hickory_resolver_model.specs.Hops.{PassedValue}
 use Rattle.hickory_resolver_model.specs.Resuming.{WaitingValue, ProgressValue, Waits, IsDone, Starts}
@@ -109,16 +109,12 @@ abbrev pub step_of : CallStep → CallStepValue
 step_of (step.Goes progress) = Goes (progress_of progress)
 step_of (step.Over result) = Over result
 
--- the table of hosts is not looked at, or has nothing
-abbrev pub IsNotStatic : CallContext → Bool → NameValue → RecordType → Type 0
-IsNotStatic s with_hosts name t = (with_hosts ≡ false) ⊎ HostsHave (question_of name t) s.now s.hosts None
-
 -- A type is looked up for a name: by the client, or the table of hosts has it, or memory runs out before.
 abbrev pub LooksUpOnce : CallContext → Bool → NameValue → RecordType → CacheValue → CallStepValue
     → CacheValue → Type 0
 LooksUpOnce s with_hosts name t before step after =
-    ((progress : ProgressValue) × (step ≡ Goes progress) × IsNotStatic s with_hosts name t
-    × Starts (start_at s before) (question_of name t) progress after)
+    ((progress : ProgressValue) × (step ≡ Goes progress) × NotInHosts with_hosts (question_of name t) s.now s.hosts
+    × Starts (context_over s before) (question_of name t) progress after)
     ⊎ (((found : LookupValue) × (step ≡ Goes (IsDone (Ok found))) × (with_hosts ≡ true)
     × HostsHave (question_of name t) s.now s.hosts (Some found) × (after ≡ before))
     ⊎ ((step ≡ Over (Err OutOfMemory)) × (after ≡ before)))

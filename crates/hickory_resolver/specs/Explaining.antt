@@ -1,6 +1,6 @@
 -- What a request attempts, and who answers it as things stand: the names in the order in which they are attempted, each
 -- with the types that are looked up for it.
-use Rattle.std.specs.Prelude.{◌≡◌, ◌≢◌, ◌⊎◌, ◌-◌, ℕ, Bool, true, false, List, [], ◌∷◌, ◌++◌, map, Option, None, Some, Result, Ok, Err, if◌then◌else◌}
+use Rattle.std.specs.Prelude.{◌≡◌, ◌≢◌, ◌⊎◌, ◌-◌, ℕ, Bool, true, List, [], ◌∷◌, ◌++◌, map, Option, None, Some, Result, Ok, Err, if◌then◌else◌}
 use Rattle.std.specs.List.{flat_map}
 use Rattle.std.specs.declared.net.IpAddr.{IpAddr}
 use Rattle.hickory_proto_core.specs.Name.{NameValue}
@@ -12,7 +12,7 @@ use Rattle.hickory_proto_core.specs.names.name_error.NameError.TheVariants as na
 use Rattle.hickory_resolver_model.specs.Attempts.{attempts}
 use Rattle.hickory_resolver_model.specs.Cache.{CacheValue, Entry, current}
 use Rattle.hickory_resolver_model.specs.Calls.{FamilyOrder, One, Both, Fallback}
-use Rattle.hickory_resolver_model.specs.Hosts.{Host, HostsHave}
+use Rattle.hickory_resolver_model.specs.Hosts.{Host, HostsHave, NotInHosts}
 use Rattle.hickory_resolver_model.specs.Lookup.{LookupValue, question_of}
 use Rattle.hickory_resolver_model.specs.Run.{Call, AtOnce, Attempt, RequestValue, Lookup, LookupIp, ClearLookup, Clear, Settings, name_call, address_call}
 use Rattle.hickory_resolver_model.specs.SpecialUse.{is_special_use}
@@ -54,7 +54,7 @@ answered_by_client now cache q =
 abbrev pub IsAnsweredBy : ℕ → List Host → CacheValue → Query × Bool → Answerer → Type 0
 IsAnsweredBy now hosts cache planned who =
     ((planned.1 ≡ true) × (found : LookupValue) × HostsHave planned.0 now hosts (Some found) × (who ≡ by.Hosts))
-    ⊎ (((planned.1 ≡ false) ⊎ HostsHave planned.0 now hosts None)
+    ⊎ (NotInHosts planned.1 planned.0 now hosts
     × (who ≡ answered_by_client now cache planned.0))
 
 abbrev pub AreAnswered : ℕ → List Host → CacheValue → List (Query × Bool) → List Attempted → Type 0

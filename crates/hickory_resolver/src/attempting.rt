@@ -1,5 +1,5 @@
 //! Attempts at several names, one after another, without I/O: what a call does until it waits or is done.
-ghost use Rattle.std.specs.Prelude.{◌≡◌, ◌⊎◌, ◌*◌, ℕ, length, [], ◌∷◌, ◌++◌, None, Some, false};
+ghost use Rattle.std.specs.Prelude.{◌≡◌, ◌*◌, ℕ, length, [], ◌∷◌, ◌++◌, None, Some, false};
 ghost use Rattle.std.specs.Prelude.{true, IfOk, IfSome, IsOkUnless, IsTrue, Err};
 ghost use Rattle.std.specs.Option.{option_map};
 ghost use Rattle.hickory_proto_core.specs.Name.{NameValue};
@@ -7,7 +7,7 @@ ghost use Rattle.hickory_proto_core.specs.Records.{data_of};
 ghost use Rattle.hickory_proto_core.specs.declared.net_error.NetError.TheVariants.{OutOfMemory};
 ghost use Rattle.hickory_resolver_model.specs.Calls.{IsAttemptResult, IsLastReply, Says, last_resort, next_type, stops};
 ghost use Rattle.hickory_resolver_model.specs.Client.{KeepsHandle};
-ghost use Rattle.hickory_resolver_model.specs.Hosts.{HostsHave};
+ghost use Rattle.hickory_resolver_model.specs.Hosts.{NotInHosts};
 ghost use Rattle.hickory_resolver_model.specs.Resolver.{call_context_of};
 ghost use Rattle.hickory_resolver_theorems.specs.ResumingCalls.{with_result};
 ghost use Rattle.hickory_resolver.specs.CallSteps.{order_value, first_type, kept_name_for, order_of, asks_for_all};
@@ -291,7 +291,7 @@ fn look_up<H: DnsHandle, S: BuildHasher, T: BuildHasher>(
 /// names. Of a question for PTR records that is never known, since the table first reads which address its name
 /// stands for.
 pub fn skips_hosts<T: BuildHasher>(with_hosts: bool, hosts: &Hosts<T>, question: &Query) -> bool
-    ensures none { IsTrue result → (now : ℕ) → (with_hosts ≡ false) ⊎ HostsHave question.now now hosts.now None }
+    ensures none { IsTrue result → (now : ℕ) → NotInHosts with_hosts question.now now hosts.now }
     ensures asked { result ≡ false → with_hosts ≡ true }
 {
     if !with_hosts {

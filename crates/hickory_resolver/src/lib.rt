@@ -29,7 +29,7 @@ pub mod cache {
 /// The client: a cache over an upstream, the part of it that does no I/O, and the names that it does not ask for.
 pub mod caching_client {
     pub use hickory_resolver_client::{
-        CachingClient, CachingCore, Progress, Waiting, is_special_use,
+        CachingClient, ClientState, Progress, Waiting, is_special_use,
     };
 }
 
@@ -63,7 +63,7 @@ pub mod request {
 }
 
 pub use cache::{MAX_TTL, ResponseCache, TtlBounds, TtlConfig};
-pub use caching_client::{CachingClient, CachingCore, Progress, Waiting, is_special_use};
+pub use caching_client::{CachingClient, ClientState, Progress, Waiting, is_special_use};
 pub use config::{
     ConnectionConfig, LookupIpStrategy, NameServerConfig, OpportunisticEncryption,
     OpportunisticEncryptionConfig, ProtocolConfig, ResolveHosts, ResolverConfig, ResolverOpts,

@@ -2,14 +2,14 @@
 ghost use Rattle.std.specs.Prelude.{◌≡◌, ◌≢◌, ℕ, [], IfOk, OnOk, OnErr, IsOkUnless, Err, Ok, Result};
 ghost use Rattle.std.specs.Option.{option_map};
 ghost use Rattle.hickory_proto_core.specs.Name.{NameValue};
-ghost use Rattle.hickory_proto_core.specs.Records.{data_of};
+ghost use Rattle.hickory_proto_core.specs.Records.{data_of, data_of_address};
 ghost use Rattle.hickory_proto_core.specs.codes.record_type.RecordType.TheVariants as type;
 ghost use Rattle.hickory_proto_core.specs.names.name_error.NameError.{NameError};
 ghost use Rattle.hickory_resolver_client.specs.Contexts.{progress_of};
 ghost use Rattle.hickory_resolver_config.specs.ResolverConfig.{default_options};
 ghost use Rattle.hickory_resolver_model.specs.Attempts.{attempts};
 ghost use Rattle.hickory_resolver_model.specs.Cache.{IsCache};
-ghost use Rattle.hickory_resolver_model.specs.Calls.{last_resort, literal_at_last};
+ghost use Rattle.hickory_resolver_model.specs.Calls.{last_resort};
 ghost use Rattle.hickory_resolver_model.specs.Options.{request_options_of};
 ghost use Rattle.hickory_resolver_model.specs.Resolver.{after_clear_lookup, settings};
 ghost use Rattle.hickory_resolver_model.specs.Resuming.{IsDone};
@@ -352,7 +352,7 @@ impl<H: DnsHandle, S: BuildHasher> Resolver<H, S> {
     // Starts a look-up of addresses for a name, with this address as the last resort.
     fn start_addresses(&mut self, name: Name, address: Option<IpAddr>, now: u64) -> CallProgress
         ensures { StartsAt now (Attempt name (address_plan (settings self.old).strategy
-            (option_map (λ literal. literal_at_last literal now) address))) self.old (progress_of result)
+            (option_map (λ literal. last_resort (data_of_address literal) now) address))) self.old (progress_of result)
             self.new }
     {
         let sought = Sought::Addresses(self.ip_strategy());
@@ -511,7 +511,7 @@ impl<H: DnsHandle, S: BuildHasher> fmt::Debug for Resolver<H, S> {
 // The record data of an address.
 fn record_data(address: Option<IpAddr>) -> Option<RData>
     ensures { (now : ℕ) → option_map (λ rdata. last_resort (data_of rdata) now) result
-        ≡ option_map (λ literal. literal_at_last literal now) address }
+        ≡ option_map (λ literal. last_resort (data_of_address literal) now) address }
 {
     match address {
         Some(address) => Some(RData::from(address)),

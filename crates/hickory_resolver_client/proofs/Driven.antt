@@ -5,7 +5,7 @@ use Rattle.hickory_proto_core.specs.declared.query.Query.{Query}
 use Rattle.hickory_proto_core.specs.declared.dns_request.DnsRequestOptions.{DnsRequestOptions}
 use Rattle.hickory_proto_core.specs.declared.recorded.Exchange.{Exchange}
 use Rattle.hickory_resolver_client.specs.Contexts.{Advances}
-use Rattle.hickory_resolver_model.specs.Client.{ClientValue, start_of, IsLookup, KeepsHandle}
+use Rattle.hickory_resolver_model.specs.Client.{ClientValue, context_of, IsLookup, KeepsHandle}
 use Rattle.hickory_resolver_model.specs.Hops.{LookupContext, RunsOutForAReply}
 use Rattle.hickory_resolver_model.specs.Lookup.{LookupResult}
 use Rattle.hickory_resolver_model.specs.Resuming.{WaitingValue, ProgressValue, Waits, IsDone, Starts, Resumes}
@@ -25,13 +25,13 @@ pub record IsDriven
     : Type 0 where
   pub asks : List Exchange
   pub led : Leads step options before.handle asks client.handle
-  pub far : LookupSoFar (start_of before now) question asks progress client.cache
-  pub runs_out : RunsOutSo (start_of before now) question asks progress
+  pub far : LookupSoFar (context_of before now) question asks progress client.cache
+  pub runs_out : RunsOutSo (context_of before now) question asks progress
   pub option_is : client.preserve_intermediates ≡ before.preserve_intermediates
 
 module _ {H : Type 0} (step : HandleStep H) (options : DnsRequestOptions) (now : ℕ) (before : ClientValue H) (question : Query) where
   abbrev s : LookupContext
-  s = start_of before now
+  s = context_of before now
 
   pub starts_on : (progress : ProgressValue) (after : ClientValue H) → after.handle ≡ before.handle → after.preserve_intermediates ≡ before.preserve_intermediates → Starts s question progress after.cache → IsDriven step options now before question progress after
   starts_on progress after same stays starts =
@@ -55,7 +55,7 @@ module _ {H : Type 0} (step : HandleStep H) (options : DnsRequestOptions) (now :
     abbrev x : Exchange
     x = record { query = w.hop.query; outcome = a.outcome }
 
-    same_start : start_of client w.now ≡ s
+    same_start : context_of client w.now ≡ s
     same_start = λ i. record { cache = sent.unchanged i; now = sent.now_is i; preserve_intermediates = so_far.option_is i }
 
     resumes_same : Resumes s w a.outcome progress after.cache
@@ -76,16 +76,16 @@ module _ {H : Type 0} (step : HandleStep H) (options : DnsRequestOptions) (now :
 
 -- an answer leaves fewer questions to be sent
 pub advanced_fewer : {H : Type 0} (step : HandleStep H) (options : DnsRequestOptions) (w : WaitingValue) (before : ClientValue H) (progress : ProgressValue) (after : ClientValue H) → length w.passed ≤ 7 → Advances step options w before progress after → lookup_left progress < lookup_left (Waits w)
-advanced_fewer step options w before progress after few a = fewer_lookup (start_of before w.now) w a.outcome progress after.cache few a.resumes
+advanced_fewer step options w before progress after few a = fewer_lookup (context_of before w.now) w a.outcome progress after.cache few a.resumes
 
 -- the question was sent, and the look-up that was given back went on
-pub advances : {H : Type 0} (step : HandleStep H) (options : DnsRequestOptions) (w : WaitingValue) (before : ClientValue H) (given_back : WaitingValue) (outcome : OutcomeValue) (asked : ClientValue H) (progress : ProgressValue) (after : ClientValue H) → given_back ≡ w → step before.handle (record { query = w.hop.query; options = options }) outcome asked.handle → asked ≡ record before { handle = asked.handle } → Resumes (start_of asked given_back.now) given_back outcome progress after.cache → KeepsHandle asked after → Advances step options w before progress after
+pub advances : {H : Type 0} (step : HandleStep H) (options : DnsRequestOptions) (w : WaitingValue) (before : ClientValue H) (given_back : WaitingValue) (outcome : OutcomeValue) (asked : ClientValue H) (progress : ProgressValue) (after : ClientValue H) → given_back ≡ w → step before.handle (record { query = w.hop.query; options = options }) outcome asked.handle → asked ≡ record before { handle = asked.handle } → Resumes (context_of asked given_back.now) given_back outcome progress after.cache → KeepsHandle asked after → Advances step options w before progress after
 advances step options w before given_back outcome asked progress after same sent stays resumes keeps =
-    let W : WaitingValue → Type 0 = λ v. Resumes (start_of asked v.now) v outcome progress after.cache in
+    let W : WaitingValue → Type 0 = λ v. Resumes (context_of asked v.now) v outcome progress after.cache in
     let S : LookupContext → Type 0 = λ s. Resumes s w outcome progress after.cache in
     record {
       outcome = outcome;
       sent = subst (λ h. step before.handle (record { query = w.hop.query; options = options }) outcome h) (sym keeps.handle_is) sent;
-      resumes = subst S (ap (λ c. start_of c w.now) stays) (subst W same resumes);
+      resumes = subst S (ap (λ c. context_of c w.now) stays) (subst W same resumes);
       option_stays = keeps.option_is ∙ ap (λ (c : ClientValue _). c.preserve_intermediates) stays;
     }

@@ -15,7 +15,7 @@ use Rattle.hickory_resolver_model.specs.Hops.{LookupContext, ChainEnd, Special, 
 use Rattle.hickory_resolver_model.specs.Resuming.{WaitingValue, ProgressValue, IsDone, TakesMemory, EndsAs, ComesTo, Resumes}
 use Rattle.hickory_resolver_client.specs.Special.{IsUnlessOut, IsSpecialReply}
 use Rattle.hickory_resolver_client.specs.Steps.{NeverFailsNegative, IsWorkedOn, IsSettled, IsFinished}
-use Rattle.hickory_resolver_client.specs.declared.caching_core.HopStep.TheVariants.{Next, Done}
+use Rattle.hickory_resolver_client.specs.declared.client_state.HopStep.TheVariants.{Next, Done}
 use Rattle.hickory_resolver_client.proofs.PassedStores.{after_stores-append, none_kept, error_until}
 use Rattle.hickory_resolver_client.proofs.Settling.{never_fails}
 

@@ -20,7 +20,7 @@ use Rattle.hickory_resolver_client.specs.Verdicts.{IsVerdict}
 use Rattle.hickory_resolver_client.specs.Steps.{NeverFailsNegative, SettledAs, IsWorkedOn, IsSettled}
 use Rattle.hickory_resolver_client.specs.declared.verdict.Verdict as response
 use Rattle.hickory_resolver_client.specs.declared.verdict.Verdict.TheVariants as variant
-use Rattle.hickory_resolver_client.specs.declared.caching_core.HopStep.TheVariants.{Next, Done}
+use Rattle.hickory_resolver_client.specs.declared.client_state.HopStep.TheVariants.{Next, Done}
 
 -- what came back never fails for want of records: that is a negative answer
 response_fails : (a b : Bool) (m : MessageValue) (n k : NoRecordsValue) (code : Code) → (cond a (cond b (Answer m) (Negative n)) (Failed (Dns (ResponseCode code)))) ≡ Failed (Dns (NoRecordsFound k)) → ⊥

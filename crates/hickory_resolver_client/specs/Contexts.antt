@@ -5,20 +5,20 @@ use Rattle.hickory_proto_core.specs.declared.dns_request.DnsRequestOptions.{DnsR
 use Rattle.hickory_proto_core.specs.declared.query.Query.{Query}
 use Rattle.hickory_resolver_model.specs.Cache.{CacheValue}
 use Rattle.hickory_resolver_model.specs.Hops.{LookupContext, PassedValue}
-use Rattle.hickory_resolver_model.specs.Client.{ClientValue, start_of}
+use Rattle.hickory_resolver_model.specs.Client.{ClientValue, context_of}
 use Rattle.hickory_resolver_model.specs.Resuming.{Progress, ProgressValue, Waits, IsDone, WaitingValue, Resumes}
 use Rattle.hickory_resolver_client.specs.declared.waiting.Progress as code
 use Rattle.hickory_resolver_client.specs.declared.waiting.Progress.TheVariants.{Waiting, Done}
 
 -- what a caller sees of it
-pub record CoreValue : Type 0 where
+pub record ClientStateValue : Type 0 where
   pub cache : CacheValue
   pub preserve_intermediates : Bool
 
 -- where a look-up stands with it, whose moment this is
-abbrev pub context_of : CoreValue → ℕ → LookupContext
-context_of core now =
-    record { cache = core.cache; now = now; preserve_intermediates = core.preserve_intermediates }
+abbrev pub state_context : ClientStateValue → ℕ → LookupContext
+state_context state now =
+    record { cache = state.cache; now = now; preserve_intermediates = state.preserve_intermediates }
 
 -- how far a look-up or a call of the code came
 abbrev pub progress_of : {W : Type 0} → code.Progress W → Progress W
@@ -32,7 +32,7 @@ pub record Advances
     : Type 0 where
   pub outcome : OutcomeValue
   pub sent : step before.handle (record { query = w.hop.query; options = options }) outcome after.handle
-  pub resumes : Resumes (start_of before w.now) w outcome progress after.cache
+  pub resumes : Resumes (context_of before w.now) w outcome progress after.cache
   pub option_stays : after.preserve_intermediates ≡ before.preserve_intermediates
 
 -- the first of some passed questions, where there is one

@@ -9,8 +9,8 @@ use Rattle.hickory_resolver_model.specs.Cache.{CacheValue}
 use Rattle.hickory_resolver_model.specs.Lookup.{LookupResult}
 use Rattle.hickory_resolver_model.specs.Verdict.{Hop, LeadsTo}
 use Rattle.hickory_resolver_model.specs.Hops.{IsBeginning, LookupContext, verdict_on, result_when_asked, stores_when_asked, alias_limit, result_until, is_kept, Store, after_stores, PassedValue, limit_of, earlier_stores}
-use Rattle.hickory_resolver_client.specs.declared.caching_core.HopStep as code
-use Rattle.hickory_resolver_client.specs.declared.caching_core.HopStep.TheVariants.{Next, Done}
+use Rattle.hickory_resolver_client.specs.declared.client_state.HopStep as code
+use Rattle.hickory_resolver_client.specs.declared.client_state.HopStep.TheVariants.{Next, Done}
 
 -- a failure is never for want of records
 abbrev pub NeverFailsNegative : ResponseKind → Type 0

@@ -1,13 +1,13 @@
 //! A client that asks an upstream through a cache.
 ghost use Rattle.std.specs.Prelude.{◌≡◌, ◌≤◌, length, []};
 ghost use Rattle.hickory_resolver_model.specs.Cache.{IsCache, without_query};
-ghost use Rattle.hickory_resolver_model.specs.Client.{ClientValue, start_of, KeepsHandle, empty_cache};
+ghost use Rattle.hickory_resolver_model.specs.Client.{ClientValue, context_of, KeepsHandle, empty_cache};
 ghost use Rattle.hickory_resolver_model.specs.Resuming.{Starts, Resumes};
 ghost use Rattle.hickory_resolver_theorems.specs.CallFacts.{KeepsWhatIsKnown};
 ghost use Rattle.hickory_resolver_theorems.specs.Promises.{IsPromisedLookup};
 ghost use Rattle.hickory_resolver_client.specs.Contexts.{Advances, progress_of};
 
-use crate::caching_core::CachingCore;
+use crate::client_state::ClientState;
 use crate::verdict::Hop;
 use crate::waiting::{Progress, Waiting};
 use hickory_proto_core::{DnsHandle, DnsRequest, DnsRequestOptions, NetError, Outcome, Query};
@@ -21,7 +21,7 @@ use std::marker::Model;
 /// current.
 #[derive(Drop)]
 pub struct CachingClient<H: DnsHandle, S: BuildHasher = BuildHasherDefault<FoldHasher>> {
-    core: CachingCore<S>,
+    state: ClientState<S>,
     handle: H,
 }
 
@@ -31,9 +31,9 @@ impl<H: DnsHandle, S: BuildHasher> Model for CachingClient<H, S> {
     ghost Value = { ClientValue H };
 
     ghost view = { λ c. record {
-      cache = c.core.cache;
+      cache = c.state.cache;
       handle = c.handle;
-      preserve_intermediates = c.core.preserve_intermediates;
+      preserve_intermediates = c.state.preserve_intermediates;
     } };
 }
 
@@ -71,7 +71,7 @@ impl<H: DnsHandle, S: BuildHasher> CachingClient<H, S> {
         } }
     {
         CachingClient {
-            core: CachingCore::with_cache(cache, preserve_intermediates),
+            state: ClientState::with_cache(cache, preserve_intermediates),
             handle,
         }
     }
@@ -87,7 +87,7 @@ impl<H: DnsHandle, S: BuildHasher> CachingClient<H, S> {
     pub fn cache(&self) -> &ResponseCache<S>
         ensures { result.now ≡ self.now.cache }
     {
-        self.core.cache()
+        self.state.cache()
     }
 
     /// Answers a question at a moment (seconds), hop by hop: each hop is a special name, a current entry of
@@ -113,22 +113,22 @@ impl<H: DnsHandle, S: BuildHasher> CachingClient<H, S> {
         }
     }
 
-    /// Starts a look-up, and leaves it to the caller to send its questions: see `CachingCore::start`.
+    /// Starts a look-up, and leaves it to the caller to send its questions: see `ClientState::start`.
     pub fn start(&mut self, query: Query, now: u64) -> Progress<Waiting>
-        ensures starts { Starts (start_of self.old now) query (progress_of result) self.new.cache }
+        ensures starts { Starts (context_of self.old now) query (progress_of result) self.new.cache }
         ensures stays { KeepsHandle self.old self.new }
         ensures cache { IsCache self.old.cache.config self.old.cache.capacity self.old.cache.entries }
     {
-        self.core.start(query, now)
+        self.state.start(query, now)
     }
 
-    /// Goes on with a look-up by what came back to its question: see `CachingCore::resume`.
+    /// Goes on with a look-up by what came back to its question: see `ClientState::resume`.
     pub fn resume(&mut self, waiting: Waiting, outcome: Outcome) -> Progress<Waiting>
-        ensures resumes { Resumes (start_of self.old waiting.now) waiting outcome
+        ensures resumes { Resumes (context_of self.old waiting.now) waiting outcome
             (progress_of result) self.new.cache }
         ensures stays { KeepsHandle self.old self.new }
     {
-        self.core.resume(waiting, outcome)
+        self.state.resume(waiting, outcome)
     }
 
     /// Sends the question of a look-up to the handle, with these options, and goes on with what comes back.
@@ -174,7 +174,7 @@ impl<H: DnsHandle, S: BuildHasher> CachingClient<H, S> {
         ensures cleared { self.new ≡ record self.old { cache = record self.old.cache { entries = [] } } }
         ensures keeps { KeepsWhatIsKnown self.old.cache self.new.cache }
     {
-        self.core.clear_cache();
+        self.state.clear_cache();
     }
 
     /// Drops what the cache has for a question. Takes no memory.
@@ -182,6 +182,6 @@ impl<H: DnsHandle, S: BuildHasher> CachingClient<H, S> {
         ensures cleared { self.new ≡ record self.old { cache = without_query self.old.cache query.now } }
         ensures keeps { KeepsWhatIsKnown self.old.cache self.new.cache }
     {
-        self.core.clear_cache_query(query);
+        self.state.clear_cache_query(query);
     }
 }

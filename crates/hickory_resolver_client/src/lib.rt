@@ -3,13 +3,13 @@
 
 mod alias_walk;
 pub mod caching_client;
-pub mod caching_core;
+pub mod client_state;
 mod results;
 pub mod special_use;
 mod verdict;
 pub mod waiting;
 
 pub use caching_client::CachingClient;
-pub use caching_core::CachingCore;
+pub use client_state::ClientState;
 pub use special_use::is_special_use;
 pub use waiting::{Progress, Waiting};

@@ -16,7 +16,7 @@ use Rattle.hickory_resolver_model.specs.Bounds.{day}
 use Rattle.hickory_resolver_model.specs.Cache.{CacheValue}
 use Rattle.hickory_resolver_model.specs.Lookup.{LookupValue, LookupResult, question_of, answers_for_day}
 use Rattle.hickory_resolver_model.specs.Hops.{LookupContext, RunsOutForAReply, IsReply}
-use Rattle.hickory_resolver_model.specs.Hosts.{Host, append, HostsHave}
+use Rattle.hickory_resolver_model.specs.Hosts.{Host, append, HostsHave, NotInHosts}
 
 -- where a call starts, the cache aside: the moment, whether intermediate records are preserved, and the table
 -- of hosts
@@ -25,8 +25,8 @@ pub record CallContext : Type 0 where
   pub preserve_intermediates : Bool
   pub hosts : List Host
 
-abbrev pub start_at : CallContext → CacheValue → LookupContext
-start_at s cache = record { cache = cache; now = s.now; preserve_intermediates = s.preserve_intermediates }
+abbrev pub context_over : CallContext → CacheValue → LookupContext
+context_over s cache = record { cache = cache; now = s.now; preserve_intermediates = s.preserve_intermediates }
 
 -- a question of a call is answered by the table of hosts, or by the client
 pub data Source : Type 0 where
@@ -54,8 +54,8 @@ pub record IsAnsweredByHosts
 pub record IsAnsweredByClient
     (s : CallContext) (with_hosts : Bool) (before : CacheValue) (p : SubLookup) (after : CacheValue)
     : Type 0 where
-  pub not_static : (with_hosts ≡ false) ⊎ HostsHave p.question s.now s.hosts None
-  pub reply : IsReply (start_at s before) p.question p.asks p.result after
+  pub not_in_hosts : NotInHosts with_hosts p.question s.now s.hosts
+  pub reply : IsReply (context_over s before) p.question p.asks p.result after
 
 abbrev pub IsAnsweredFrom : Source → CallContext → Bool → CacheValue → SubLookup → CacheValue → Type 0
 IsAnsweredFrom Hosts s with_hosts before p after = IsAnsweredByHosts s with_hosts before p after
@@ -75,7 +75,7 @@ IsAnsweredFor s with_hosts before q p after = (p.question ≡ q) × IsAnsweredFr
 abbrev pub IsAnsweredAlone : CallContext → SubLookupRelation
 IsAnsweredAlone s with_hosts before q p after =
     IsAnsweredFor s with_hosts before q p after
-    × (p.source ≡ Client → RunsOutForAReply (start_at s before) p.question p.asks p.result)
+    × (p.source ≡ Client → RunsOutForAReply (context_over s before) p.question p.asks p.result)
 
 -- which types are looked up for a name: one; both; or the second where the first has no answers
 pub data FamilyOrder : Type 0 where
@@ -222,10 +222,6 @@ literal_at_once owner address now =
 -- record data as the last resort: under the question for the root, owned by the name without labels
 abbrev pub last_resort : DataValue → ℕ → LookupValue
 last_resort rdata now = literal_lookup root_query no_name rdata now
-
--- the address as the last resort
-abbrev pub literal_at_last : IpAddr → ℕ → LookupValue
-literal_at_last address now = last_resort (data_of_address address) now
 
 -- the exchanges of parts, in order
 abbrev pub asks_of_sub_lookups : List SubLookup → List Exchange

@@ -15,8 +15,8 @@ pub record ClientValue (H : Type 0) : Type 0 where
   pub handle : H
   pub preserve_intermediates : Bool
 
-abbrev pub start_of : {H : Type 0} → ClientValue H → ℕ → LookupContext
-start_of client now =
+abbrev pub context_of : {H : Type 0} → ClientValue H → ℕ → LookupContext
+context_of client now =
     record { cache = client.cache; now = now; preserve_intermediates = client.preserve_intermediates }
 
 -- A look-up: the exchanges that it made led the handle, each with these options; the reply and the cache
@@ -27,8 +27,8 @@ pub record IsLookup
     : Type 0 where
   pub asks : List Exchange
   pub led : Leads step options before.handle asks after.handle
-  pub reply : IsReply (start_of before now) question asks result after.cache
-  pub runs_out : RunsOutForAReply (start_of before now) question asks result
+  pub reply : IsReply (context_of before now) question asks result after.cache
+  pub runs_out : RunsOutForAReply (context_of before now) question asks result
   pub option_stays : after.preserve_intermediates ≡ before.preserve_intermediates
 
 -- the cache alone may have changed

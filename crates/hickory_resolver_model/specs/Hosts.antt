@@ -177,3 +177,7 @@ abbrev pub HostsHave : Query → ℕ → List Host → Option LookupValue → Ty
 HostsHave q now hosts result =
     (address : Option DataValue) × (IsTrue (asks_for type.PTR q) → StandsFor (as_fqdn q.name) address)
     × (result ≡ static_answer address q now hosts)
+
+-- the hosts are not looked at, or have nothing for a question
+abbrev pub NotInHosts : Bool → Query → ℕ → List Host → Type 0
+NotInHosts with_hosts q now hosts = (with_hosts ≡ false) ⊎ HostsHave q now hosts None

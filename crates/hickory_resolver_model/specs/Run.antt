@@ -17,13 +17,14 @@ use Rattle.std.specs.declared.net.IpAddr.{IpAddr}
 use Rattle.hickory_resolver_config.specs.ResolverConfig.{ResolverConfigValue, OptionsValue}
 use Rattle.hickory_resolver_config.specs.declared.strategies.LookupIpStrategy.{LookupIpStrategy}
 use Rattle.hickory_resolver_config.specs.declared.strategies.LookupIpStrategy.TheVariants.{Ipv4Only, Ipv6Only, Ipv4AndIpv6, Ipv6AndIpv4, Ipv6thenIpv4, Ipv4thenIpv6}
+use Rattle.hickory_proto_core.specs.Records.{data_of_address}
 use Rattle.hickory_resolver_model.specs.Bounds.{BoundsValue}
 use Rattle.hickory_resolver_model.specs.Cache.{CacheValue, without_query}
 use Rattle.hickory_resolver_model.specs.Lookup.{LookupValue, LookupResult, question_of}
 use Rattle.hickory_resolver_model.specs.Hosts.{Host}
 use Rattle.hickory_resolver_model.specs.Attempts.{Search, attempts}
 use Rattle.hickory_resolver_model.specs.Options.{search_of, bounds_of, request_options_of}
-use Rattle.hickory_resolver_model.specs.Calls.{CallContext, FamilyOrder, One, Both, Fallback, SubLookup, SubLookupRelation, IsAnsweredFor, CallPlan, Says, AreAttempts, no_name, literal_at_once, literal_at_last, asks_of_sub_lookups, is_out_of_memory}
+use Rattle.hickory_resolver_model.specs.Calls.{CallContext, FamilyOrder, One, Both, Fallback, SubLookup, SubLookupRelation, IsAnsweredFor, CallPlan, Says, AreAttempts, no_name, literal_at_once, last_resort, asks_of_sub_lookups, is_out_of_memory}
 
 -- which addresses a look-up of addresses asks for
 abbrev pub family_order : LookupIpStrategy → FamilyOrder
@@ -135,7 +136,7 @@ address_call s None (Ok n) now = Attempt n (address_plan s.strategy None)
 address_call s None (Err fault) now = AtOnce (Err (net_error_of fault))
 address_call s (Some address) (Ok n) now =
     if nat_le s.search.ndots 4 then AtOnce (Ok (literal_at_once n address now))
-    else Attempt n (address_plan s.strategy (Some (literal_at_last address now)))
+    else Attempt n (address_plan s.strategy (Some (last_resort (data_of_address address) now)))
 address_call s (Some address) (Err fault) now = AtOnce (Ok (literal_at_once no_name address now))
 
 -- the reply, the sub-look-ups and the cache after a look-up, where each sub-look-up is answered by the relation `Answers`

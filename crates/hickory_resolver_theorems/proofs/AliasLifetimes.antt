@@ -16,7 +16,7 @@ use Rattle.hickory_resolver_model.specs.Lookup.{LookupValue, LookupResult}
 use Rattle.hickory_resolver_model.specs.AliasWalk.{walk_of}
 use Rattle.hickory_resolver_model.specs.Verdict.{Hop, Verdict, Accepted, LeadsTo, NoMatch, verdict}
 use Rattle.hickory_resolver_model.specs.Hops.{LookupContext, ChainEnd, Special, Hit, Asked, Store, IsReplyOver, one_cache, passed_of, asks_of, earliest, alias_deadline, alias_limit, end_limit, limit_of, result_of, result_until, reply_of, last_stores, earlier_store, earlier_stores, stores_of, stores_when_asked, stores_of_verdict}
-use Rattle.hickory_resolver_model.specs.Calls.{CallContext, start_at, Source, Hosts, Client, SubLookup, IsAnsweredFrom, IsAnsweredFor}
+use Rattle.hickory_resolver_model.specs.Calls.{CallContext, context_over, Source, Hosts, Client, SubLookup, IsAnsweredFrom, IsAnsweredFor}
 use Rattle.hickory_resolver_model.specs.Run.{Settings, call_context_at, RequestValue, StepValue, answers_at, Run}
 use Rattle.hickory_resolver_theorems.specs.Statements.{LeastTtlIsZero}
 use Rattle.hickory_resolver_theorems.specs.Aliases.{counted_in, IsWithinAlias, OutlivesNoAlias, StoreOutlivesNoAlias, StoresOutliveNoAlias, NoAliasOutlives, OutlivesNoAliasBy, SubLookupOutlivesNoAlias, RunOutlivesNoAlias}
@@ -138,7 +138,7 @@ part_limited t with_hosts before q p after (for, is) = (for, by p.source is)
   where
     by : (source : Source) → IsAnsweredFrom source t with_hosts before p after → OutlivesNoAliasBy source t with_hosts before p after
     by Hosts is = is
-    by Client is = (is, no_alias_outlives (start_at t before) (one_cache (start_at t before) p.asks) p.question p.asks p.result after is.reply)
+    by Client is = (is, no_alias_outlives (context_over t before) (one_cache (context_over t before) p.asks) p.question p.asks p.result after is.reply)
 
 pub run_limited : (s : Settings) (first : CacheValue) (requests : List RequestValue) (steps : List StepValue) (exchanges : List Exchange) (after : CacheValue) → (run : Run s first requests steps exchanges after) → RunOutlivesNoAlias s first requests steps exchanges after run
 run_limited s first requests steps exchanges after run =

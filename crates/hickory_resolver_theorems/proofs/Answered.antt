@@ -5,7 +5,7 @@ use Rattle.std.specs.declared.net.IpAddr.{IpAddr}
 use Rattle.hickory_proto_core.specs.Name.{NameValue}
 use Rattle.hickory_proto_core.specs.NameGiven.{IsReadAddress}
 use Rattle.hickory_proto_core.specs.Codes.{type_code}
-use Rattle.hickory_proto_core.specs.Records.{RecordValue}
+use Rattle.hickory_proto_core.specs.Records.{RecordValue, data_of_address}
 use Rattle.hickory_proto_core.specs.ResponseKind.{is_empty}
 use Rattle.hickory_proto_core.specs.codes.record_type.RecordType.{RecordType}
 use Rattle.hickory_proto_core.specs.names.name_error.NameError.{NameError}
@@ -14,7 +14,7 @@ use Rattle.hickory_resolver_model.specs.Bounds.{ConfigValue, greatest_ttl}
 use Rattle.hickory_resolver_model.specs.Cache.{CacheValue}
 use Rattle.hickory_resolver_model.specs.Lookup.{LookupValue, LookupResult}
 use Rattle.hickory_resolver_model.specs.Hosts.{append}
-use Rattle.hickory_resolver_model.specs.Calls.{SubLookup, SubLookupRelation, FamilyOrder, One, Both, Fallback, has_answers, is_out_of_memory, both_results, next_type, attempt_result, IsAttemptResult, AreSubLookups, results_of, IsAttempt, stops, CallPlan, IsLastReply, Says, AreAttempts, no_name, literal_at_once, literal_at_last}
+use Rattle.hickory_resolver_model.specs.Calls.{SubLookup, SubLookupRelation, FamilyOrder, One, Both, Fallback, has_answers, is_out_of_memory, both_results, next_type, attempt_result, IsAttemptResult, AreSubLookups, results_of, IsAttempt, stops, CallPlan, IsLastReply, Says, AreAttempts, no_name, literal_at_once, last_resort}
 use Rattle.hickory_resolver_model.specs.Attempts.{attempts}
 use Rattle.hickory_resolver_model.specs.Run.{Settings, RequestValue, Lookup, LookupIp, ClearLookup, Clear, StepReply, LookedUp, LookedUpIp, Cleared, address_plan, Call, AtOnce, Attempt, name_call, address_call, IsCall, IsServed, Stage}
 use Rattle.hickory_resolver_theorems.specs.Covered.{Dated, IsCovered, IsLoopback}
@@ -263,9 +263,9 @@ own-addresses s text now None (Err fault) read l own = cc
 own-addresses s text now (Some address) (Err fault) read l own = (address, read, inr (no_name, (let is : l ≡ literal_at_once no_name address now = cc in is)))
 own-addresses s text now (Some address) (Ok n) read l own = by (nat_le s.search.ndots 4) own
   where
-    by : (b : Bool) → IsOwnAnswer (cond b (AtOnce (Ok (literal_at_once n address now))) (Attempt n (address_plan s.strategy (Some (literal_at_last address now))))) l → IsLiteral (LookupIp text now) l
+    by : (b : Bool) → IsOwnAnswer (cond b (AtOnce (Ok (literal_at_once n address now))) (Attempt n (address_plan s.strategy (Some (last_resort (data_of_address address) now))))) l → IsLiteral (LookupIp text now) l
     by true e = (address, read, inr (n, (let is : l ≡ literal_at_once n address now = cc in is)))
-    by false e = (address, read, inl (let is : l ≡ literal_at_last address now = cc in is))
+    by false e = (address, read, inl (let is : l ≡ last_resort (data_of_address address) now = cc in is))
 
 told : (Answers : ℕ → SubLookupRelation) (s : Settings) (before : CacheValue) (request : RequestValue) (parts : List SubLookup) (reply : LookupResult) (after : CacheValue) → IsServed Answers s before request parts (LookedUp reply) after → IsTold (IsLiteral request) parts reply
 told Answers s before (Lookup text t now) parts reply after (inl (name, read, is)) =

@@ -1,5 +1,5 @@
 -- Calls in flight over one resolver are look-ups in flight over its client.
-use Rattle.std.proofs.Common.{◌≡◌, ◌∙◌, ◌⊎◌, ℕ, Bool, true, false, List, [], ◌∷◌, ◌++◌, Some, None, Ok, Err, refl, sym, ap, ap₂, subst, inl, inr, append_assoc}
+use Rattle.std.proofs.Common.{◌≡◌, ◌∙◌, ◌⊎◌, ℕ, Bool, true, List, [], ◌∷◌, ◌++◌, Some, Ok, Err, refl, sym, ap, ap₂, subst, inl, inr, append_assoc}
 use Rattle.std.proofs.lemmas.List.{append-nil}
 use Rattle.std.specs.List.{AllByRecursion, Contains}
 use Rattle.hickory_proto_core.specs.Name.{NameValue}
@@ -11,8 +11,8 @@ use Rattle.hickory_resolver_model.specs.Attempts.{attempts}
 use Rattle.hickory_resolver_model.specs.Cache.{CacheValue, without_query}
 use Rattle.hickory_resolver_model.specs.Lookup.{LookupResult, question_of}
 use Rattle.hickory_resolver_model.specs.Hops.{LookupContext}
-use Rattle.hickory_resolver_model.specs.Hosts.{Host, HostsHave}
-use Rattle.hickory_resolver_model.specs.Calls.{CallContext, start_at, SubLookup, SubLookupRelation, next_type, CallPlan, Says, AreAttempts, asks_of_sub_lookups}
+use Rattle.hickory_resolver_model.specs.Hosts.{Host, NotInHosts}
+use Rattle.hickory_resolver_model.specs.Calls.{CallContext, context_over, SubLookup, SubLookupRelation, next_type, CallPlan, Says, AreAttempts, asks_of_sub_lookups}
 use Rattle.hickory_resolver_model.specs.Resuming.{WaitingValue, ProgressValue, Waits, IsDone, Resumes}
 use Rattle.hickory_resolver_model.specs.Run.{Settings, Call, AtOnce, Attempt, IsCall, drop_each}
 use Rattle.hickory_resolver_theorems.proofs.SentAlone.{IsRestOfCall, LeadsToWhole}
@@ -24,7 +24,7 @@ use Rattle.hickory_resolver_theorems.proofs.Fronts.{IsFront, front-self, front-m
 use Rattle.hickory_resolver_theorems.proofs.Interleavings.{interleaved}
 use Rattle.hickory_resolver_theorems.proofs.Lists.{ContainsByRecursion, all-weaker, all-append, all-front, all-back, contains-from_recursion, contains-to_recursion, has-right}
 use Rattle.hickory_resolver_theorems.proofs.RunEvents.{happen-append, received-append, ended-append}
-use Rattle.hickory_resolver_theorems.proofs.RestOfCall.{asks-append, by_client, static, rest_stopped, attempts_of, rest_next, rest_none, more_done}
+use Rattle.hickory_resolver_theorems.proofs.RestOfCall.{asks-append, by_client, by_hosts, rest_stopped, attempts_of, rest_next, rest_none, more_done}
 
 happen-more : (preserve : Bool) (first : WorldValue) (events : List EventValue) (mid : WorldValue) (event : EventValue) (after : WorldValue) → Happen preserve first events mid → Happens preserve mid event after → Happen preserve first (events ++ event ∷ []) after
 happen-more preserve first [] mid event after e happens = (after, subst (λ w. Happens preserve w event after) e happens, refl)
@@ -99,7 +99,7 @@ module _ (s : Settings) (empty : CacheValue) (none : empty.entries ≡ []) (open
     asked_type : RecordType
     next : next_type c.waiting.attempt.plan.types c.waiting.attempt.results ≡ Some asked_type
     question_is : p.question ≡ question_of c.waiting.attempt.name asked_type
-    not_static : (c.waiting.attempt.with_hosts ≡ false) ⊎ HostsHave (question_of c.waiting.attempt.name asked_type) c.waiting.lookup.now hosts None
+    not_in_hosts : NotInHosts c.waiting.attempt.with_hosts (question_of c.waiting.attempt.name asked_type) c.waiting.lookup.now hosts
     done : List SubLookup
     asks_are : c.asks ≡ asks_of_sub_lookups done ++ p.asks
     leads : Leads tables lookups c.call c.waiting.lookup.now done c.waiting.attempt
@@ -113,7 +113,7 @@ module _ (s : Settings) (empty : CacheValue) (none : empty.entries ≡ []) (open
     asked_type = is.asked_type;
     next = is.next;
     question_is = is.question_is;
-    not_static = is.not_static;
+    not_in_hosts = is.not_in_hosts;
     done = is.done;
     asks_are = is.asks_are;
     leads = leads-later tables others lookups more c.call c.waiting.lookup.now is.done c.waiting.attempt f g is.leads;
@@ -231,23 +231,23 @@ module _ (s : Settings) (empty : CacheValue) (none : empty.entries ≡ []) (open
     abbrev ctx : CallContext
     ctx = call_context_over s now hosts
 
-    leads-found : (lookups : List EventValue) (done : List SubLookup) (a : AttemptValue) (t : RecordType) (result : LookupResult) → FindsInHosts ctx a t result → Leads tables lookups call now done a → Leads tables lookups call now (done ++ static a t result ∷ []) (with_result a result)
+    leads-found : (lookups : List EventValue) (done : List SubLookup) (a : AttemptValue) (t : RecordType) (result : LookupResult) → FindsInHosts ctx a t result → Leads tables lookups call now done a → Leads tables lookups call now (done ++ by_hosts a t result ∷ []) (with_result a result)
     leads-found lookups done a t result f leads T L h k =
-        more_done (Answers T L now) (IsCall (Answers T L now) s empty call) done a t empty empty (static a t result) f.next
+        more_done (Answers T L now) (IsCall (Answers T L now) s empty call) done a t empty empty (by_hosts a t result) f.next
         (refl, (hosts, contains-front tables T hosts stood h, record { asks_hosts = f.with_hosts; found = f.found; has = f.has; result_is = f.result_is; nothing_asked = refl; unchanged = refl }))
         (leads T L h k)
 
     -- a look-up of the client ended
-    leads-ended : (lookups more : List EventValue) (done : List SubLookup) (a : AttemptValue) (t : RecordType) (d : DoneValue) → next_type a.plan.types a.results ≡ Some t → ((a.with_hosts ≡ false) ⊎ HostsHave (question_of a.name t) now hosts None) → d.question ≡ question_of a.name t → d.now ≡ now
+    leads-ended : (lookups more : List EventValue) (done : List SubLookup) (a : AttemptValue) (t : RecordType) (d : DoneValue) → next_type a.plan.types a.results ≡ Some t → NotInHosts a.with_hosts (question_of a.name t) now hosts → d.question ≡ question_of a.name t → d.now ≡ now
         → IsFront lookups more → IsPromisedAmong preserve empty more d → Leads tables lookups call now done a → Leads tables more call now (done ++ by_client a t d.asks d.result ∷ []) (with_result a d.result)
-    leads-ended lookups more done a t d next not_static question_is now_is g among leads T L h k =
+    leads-ended lookups more done a t d next not_in_hosts question_is now_is g among leads T L h k =
         more_done (Answers T L now) (IsCall (Answers T L now) s empty call) done a t empty empty (by_client a t d.asks d.result) next (
           refl,
           (
             record {
               hosts = hosts;
               stood = contains-front tables T hosts stood h;
-              not_static = not_static;
+              not_in_hosts = not_in_hosts;
               lookup = d;
               question_is = question_is;
               now_is = now_is;
@@ -335,7 +335,7 @@ module _ (s : Settings) (empty : CacheValue) (none : empty.entries ≡ []) (open
               asked_type = t;
               next = started.next;
               question_is = refl;
-              not_static = subst (λ n. (a.with_hosts ≡ false) ⊎ HostsHave q n hosts None) (sym now_is) started.not_static;
+              not_in_hosts = subst (λ n. NotInHosts a.with_hosts q n hosts) (sym now_is) started.not_in_hosts;
               done = done;
               asks_are = sym (append-nil (asks_of_sub_lookups done));
               leads = subst (λ n. Leads tables (lookups ++ event ∷ []) call n done a) (sym now_is) (leads-later tables tables lookups (lookups ++ event ∷ []) call now done a (front-self tables) (front-more lookups (event ∷ [])) leads);
@@ -368,8 +368,8 @@ module _ (s : Settings) (empty : CacheValue) (none : empty.entries ≡ []) (open
     goes : (a : AttemptValue) (before : CacheValue) (progress : CallProgressValue) (after : CacheValue) (lookups : List EventValue) (done : List SubLookup) (ps : List PendingValue) → Happen preserve (world_of empty) lookups (record { cache = before; pending = ps }) → Leads tables lookups call now done a → Within call a → Continues ctx a before progress after
         → Gone lookups (asks_of_sub_lookups done) progress after ps
     goes a before progress after lookups done ps happened leads within (by_hosts {t = t} {result = result} found more) =
-        gone-asks lookups done (static a t result) progress after ps refl
-        (goes (with_result a result) before progress after lookups (done ++ static a t result ∷ []) ps happened (leads-found lookups done a t result found leads) within more)
+        gone-asks lookups done (by_hosts a t result) progress after ps refl
+        (goes (with_result a result) before progress after lookups (done ++ by_hosts a t result ∷ []) ps happened (leads-found lookups done a t result found leads) within more)
     goes a before progress after lookups done ps happened leads within (waits {t = t} {w = w} started) = gone-waits lookups done a t w before after ps happened leads within started
     goes a before progress after lookups done ps happened leads within (at_once {t = t} {result = result} {mid = mid} started more) =
         let q = question_of a.name t in
@@ -381,7 +381,7 @@ module _ (s : Settings) (empty : CacheValue) (none : empty.entries ≡ []) (open
         gone-after lookups event (asks_of_sub_lookups done) progress after ps refl ((refl, within-own call a t within started.next), tt)
         (gone-asks (lookups ++ event ∷ []) done (by_client a t [] result) progress after ps refl
         (goes (with_result a result) mid progress after (lookups ++ event ∷ []) (done ++ by_client a t [] result ∷ []) ps (happen-more preserve (world_of empty) lookups first event second happened happens)
-        (leads-ended lookups (lookups ++ event ∷ []) done a t d started.next started.not_static refl refl (front-more lookups (event ∷ [])) (among-now lookups event first second d happened happens refl) leads) within more))
+        (leads-ended lookups (lookups ++ event ∷ []) done a t d started.next started.not_in_hosts refl refl (front-more lookups (event ∷ [])) (among-now lookups event first second d happened happens refl) leads) within more))
     goes a before progress after lookups done ps happened leads within (stopped {result = result} is stop) =
         gone-over lookups done a result before ps happened leads (rest_stopped (Answers tables lookups now) a result empty is stop)
     goes a before progress after lookups done ps happened leads within (next_name {result = result} {name = name} {names = names} is on left more) =
@@ -555,11 +555,11 @@ module _ (s : Settings) (empty : CacheValue) (none : empty.entries ≡ []) (open
       abbrev step : CallContext
       step = call_context_over s c.waiting.lookup.now before.hosts
 
-      resumes_own : (lookup : ProgressValue) (mid : CacheValue) → Resumes (start_at step before.cache) c.waiting.lookup outcome lookup mid → Resumes (start_at (call_context_over s p.waiting.now before.hosts) before.cache) p.waiting outcome lookup mid
-      resumes_own lookup mid resumes = let P : WaitingValue → Type 0 = λ v. Resumes (start_at (call_context_over s v.now before.hosts) before.cache) v outcome lookup mid in subst P (sym k.same) resumes
+      resumes_own : (lookup : ProgressValue) (mid : CacheValue) → Resumes (context_over step before.cache) c.waiting.lookup outcome lookup mid → Resumes (context_over (call_context_over s p.waiting.now before.hosts) before.cache) p.waiting outcome lookup mid
+      resumes_own lookup mid resumes = let P : WaitingValue → Type 0 = λ v. Resumes (context_over (call_context_over s v.now before.hosts) before.cache) v outcome lookup mid in subst P (sym k.same) resumes
 
       -- its look-up waits on
-      waits-good : (lookup : WaitingValue) (mid : CacheValue) → Resumes (start_at step before.cache) c.waiting.lookup outcome (Waits lookup) mid → (progress : CallProgressValue) → ContinuesAfter step c.waiting.attempt (Waits lookup) mid progress after.cache → after.hosts ≡ before.hosts
+      waits-good : (lookup : WaitingValue) (mid : CacheValue) → Resumes (context_over step before.cache) c.waiting.lookup outcome (Waits lookup) mid → (progress : CallProgressValue) → ContinuesAfter step c.waiting.attempt (Waits lookup) mid progress after.cache → after.hosts ≡ before.hosts
           → after.calls ≡ front ++ call_pending c.call (c.asks ++ x ∷ []) progress ++ back → GoodStep now_events (received ++ dated_exchanges c.waiting.lookup.now (x ∷ [])) (call_done c.call c.waiting.lookup.now (c.asks ++ x ∷ []) progress) after
       waits-good lookup mid resumes progress (is, cache_is) hosts_is calls_is =
           let w : WaitingCallValue = record { attempt = c.waiting.attempt; lookup = lookup } in
@@ -570,7 +570,7 @@ module _ (s : Settings) (empty : CacheValue) (none : empty.entries ≡ []) (open
           let pending = around.first ++ own ∷ around.rest in
           let second : WorldValue = record { cache = mid; pending = pending } in
           let happens : Happens preserve first event second = (around.first, around.rest, around.are, resumes_own (Waits lookup) mid resumes, sym (append_assoc around.first (own ∷ []) around.rest)) in
-          let now_is : lookup.now ≡ c.waiting.lookup.now = now-stays (start_at step before.cache) c.waiting.lookup outcome lookup mid resumes in
+          let now_is : lookup.now ≡ c.waiting.lookup.now = now-stays (context_over step before.cache) c.waiting.lookup outcome lookup mid resumes in
           let later : (cs : List PendingCallValue) (ps : List PendingValue) → MatchSince events good.lookups cs ps → MatchSince now_events all cs ps = match_since-later events (now_event ∷ []) good.lookups all (front-more good.lookups (event ∷ [])) in
           let known : IsKnownCall tables all next own = record {
             same = refl;
@@ -579,7 +579,7 @@ module _ (s : Settings) (empty : CacheValue) (none : empty.entries ≡ []) (open
             asked_type = k.asked_type;
             next = k.next;
             question_is = k.question_is;
-            not_static = subst (λ n. (c.waiting.attempt.with_hosts ≡ false) ⊎ HostsHave (question_of c.waiting.attempt.name k.asked_type) n k.hosts None) (sym now_is) k.not_static;
+            not_in_hosts = subst (λ n. NotInHosts c.waiting.attempt.with_hosts (question_of c.waiting.attempt.name k.asked_type) n k.hosts) (sym now_is) k.not_in_hosts;
             done = k.done;
             asks_are = asks_now;
             leads = subst (λ n. Leads tables all c.call n k.done c.waiting.attempt) (sym now_is)
@@ -605,7 +605,7 @@ module _ (s : Settings) (empty : CacheValue) (none : empty.entries ≡ []) (open
           }
 
       -- its look-up is done
-      done-good : (result : LookupResult) (mid : CacheValue) → Resumes (start_at step before.cache) c.waiting.lookup outcome (IsDone result) mid → (progress : CallProgressValue) → ContinuesAfter step c.waiting.attempt (IsDone result) mid progress after.cache → after.hosts ≡ before.hosts
+      done-good : (result : LookupResult) (mid : CacheValue) → Resumes (context_over step before.cache) c.waiting.lookup outcome (IsDone result) mid → (progress : CallProgressValue) → ContinuesAfter step c.waiting.attempt (IsDone result) mid progress after.cache → after.hosts ≡ before.hosts
           → after.calls ≡ (front ++ back) ++ call_pending c.call (c.asks ++ x ∷ []) progress → GoodStep now_events (received ++ dated_exchanges c.waiting.lookup.now (x ∷ [])) (call_done c.call c.waiting.lookup.now (c.asks ++ x ∷ []) progress) after
       done-good result mid resumes progress more hosts_is calls_is =
           let now = c.waiting.lookup.now in
@@ -616,7 +616,7 @@ module _ (s : Settings) (empty : CacheValue) (none : empty.entries ≡ []) (open
           let pending = around.first ++ around.rest in
           let second : WorldValue = record { cache = mid; pending = pending } in
           let happens : Happens preserve first event second = (around.first, around.rest, around.are, resumes_own (IsDone result) mid resumes, ap (λ l. l ++ around.rest) (sym (append-nil around.first))) in
-          let leads = leads-ended tables k.hosts k.stood c.call now good.lookups fed k.done a k.asked_type d k.next k.not_static k.question_is (ap (λ (v : WaitingValue). v.now) k.same) (front-more good.lookups (event ∷ []))
+          let leads = leads-ended tables k.hosts k.stood c.call now good.lookups fed k.done a k.asked_type d k.next k.not_in_hosts k.question_is (ap (λ (v : WaitingValue). v.now) k.same) (front-more good.lookups (event ∷ []))
           (among-now tables k.hosts k.stood c.call now good.lookups event first second d good.happened happens refl) k.leads in
           let part = by_client a k.asked_type (asks_with p outcome) result in
           let gone = goes tables before.hosts stood c.call now (with_result a result) mid progress after.cache fed (k.done ++ part ∷ []) pending (happen-more preserve (world_of empty) good.lookups first event second good.happened happens) leads k.within more in
@@ -729,7 +729,7 @@ module _ (s : Settings) (empty : CacheValue) (none : empty.entries ≡ []) (open
           let rest = all-back (IsBegun events) front (c ∷ back) all in
           (all-front (IsBegun events) front (c ∷ back) all, rest.0, rest.1)
 
-      by : (lookup : ProgressValue) → Resumes (start_at (call_context_over s c.waiting.lookup.now before.hosts) before.cache) c.waiting.lookup outcome lookup mid → ContinuesAfter (call_context_over s c.waiting.lookup.now before.hosts) c.waiting.attempt lookup mid progress after.cache
+      by : (lookup : ProgressValue) → Resumes (context_over (call_context_over s c.waiting.lookup.now before.hosts) before.cache) c.waiting.lookup outcome lookup mid → ContinuesAfter (call_context_over s c.waiting.lookup.now before.hosts) c.waiting.attempt lookup mid progress after.cache
           → after.calls ≡ placed lookup front (call_pending c.call (c.asks ++ exchange_with c outcome ∷ []) progress) back
           → GoodStep (events ++ CallFed c outcome progress ∷ []) (received ++ dated_exchanges c.waiting.lookup.now (exchange_with c outcome ∷ [])) (call_done c.call c.waiting.lookup.now (c.asks ++ exchange_with c outcome ∷ []) progress) after
       by (Waits w) resumes more calls_is = waits-good events received before good after c outcome front back around (CallFed c outcome progress) refl begun w mid resumes progress more hosts_is calls_is

@@ -1,5 +1,5 @@
 -- What a call answers among others keeps the promises of its sub-look-ups.
-use Rattle.std.proofs.Common.{◌≡◌, ◌∙◌, ◌⊎◌, ◌≤◌, ℕ, Bool, true, false, List, [], ◌∷◌, ◌++◌, length, None, Err, refl, sym, ap, subst, arith, inl, inr, append_assoc}
+use Rattle.std.proofs.Common.{◌≡◌, ◌∙◌, ◌⊎◌, ◌≤◌, ℕ, Bool, true, List, [], ◌∷◌, ◌++◌, length, Err, refl, sym, ap, subst, arith, inl, inr, append_assoc}
 use Rattle.std.specs.List.{AllByRecursion}
 use Rattle.hickory_proto_core.specs.Codes.{type_code}
 use Rattle.hickory_proto_core.specs.Table.{TableValue}
@@ -8,7 +8,7 @@ use Rattle.hickory_proto_core.specs.declared.net_error.NetError.TheVariants.{Out
 use Rattle.hickory_resolver_model.specs.Bounds.{ConfigValue}
 use Rattle.hickory_resolver_model.specs.Cache.{CacheValue}
 use Rattle.hickory_resolver_model.specs.Lookup.{LookupResult}
-use Rattle.hickory_resolver_model.specs.Hosts.{Host, HostsHave}
+use Rattle.hickory_resolver_model.specs.Hosts.{Host, NotInHosts}
 use Rattle.hickory_resolver_model.specs.Calls.{Source, Hosts, Client, SubLookup, SubLookupRelation, is_out_of_memory}
 use Rattle.hickory_resolver_model.specs.Run.{Settings, Call, IsCall}
 use Rattle.hickory_resolver_theorems.specs.Cacheless.{ResolvesTo, IsConsistentWith}
@@ -114,7 +114,7 @@ module _ (s : Settings) (empty : CacheValue) (tables : List (List Host)) (lookup
             let cacheless : IsCachelessSubLookup table (call_context_over s now own.hosts) with_hosts q p = record {
               reply = reply_core p.result;
               length_is = n;
-              not_static = subst (λ x. (with_hosts ≡ false) ⊎ HostsHave x now own.hosts None) for own.not_static;
+              not_in_hosts = subst (λ x. NotInHosts with_hosts x now own.hosts) for own.not_in_hosts;
               means = subst (λ r. ResolvesTo table q (reply_core r) n) own.result_is asked;
               result_is = refl;
             } in

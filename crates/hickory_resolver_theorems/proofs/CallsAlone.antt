@@ -9,13 +9,13 @@ use Rattle.hickory_proto_core.specs.codes.record_type.RecordType.{RecordType}
 use Rattle.hickory_resolver_model.specs.Attempts.{attempts}
 use Rattle.hickory_resolver_model.specs.Cache.{CacheValue}
 use Rattle.hickory_resolver_model.specs.Lookup.{LookupResult, question_of}
-use Rattle.hickory_resolver_model.specs.Calls.{CallContext, start_at, Hosts, Client, SubLookup, IsAnsweredFor, IsAnsweredAlone, CallPlan, Says, AreAttempts, asks_of_sub_lookups}
+use Rattle.hickory_resolver_model.specs.Calls.{CallContext, context_over, Hosts, Client, SubLookup, IsAnsweredFor, IsAnsweredAlone, CallPlan, Says, AreAttempts, asks_of_sub_lookups}
 use Rattle.hickory_resolver_model.specs.Resuming.{WaitingValue, ProgressValue, Waits, IsDone}
 use Rattle.hickory_resolver_model.specs.Run.{Settings, Call, AtOnce, Attempt, IsCall, RanOutBeforeAsking}
 use Rattle.hickory_resolver_theorems.specs.CallFacts.{IsCallBy}
 use Rattle.hickory_resolver_theorems.specs.ResumingCalls.{AttemptValue, WaitingCallValue, CallProgressValue, with_result, at_next, FindsInHosts, StartsSub, Continues, by_hosts, waits, at_once, stopped, next_name, no_name, StartsNames, StartsCall, RunsOutAtStart, ContinuesAfter, ResumesCall}
 use Rattle.hickory_resolver_theorems.proofs.SentAlone.{LookupSoFar, IsRestOfCall, CallRelation, LeadsToWhole, IsCallSentAlone, IsCallDoneAlone, CallSoFar}
-use Rattle.hickory_resolver_theorems.proofs.RestOfCall.{asks-append, by_client, static, rest_stopped, attempts_of, rest_next, rest_none, more_done}
+use Rattle.hickory_resolver_theorems.proofs.RestOfCall.{asks-append, by_client, by_hosts, rest_stopped, attempts_of, rest_next, rest_none, more_done}
 use Rattle.hickory_resolver_theorems.proofs.Weaker.{call-weaker}
 use Rattle.hickory_resolver_theorems.proofs.LookupsAlone.{done_unasked, some_asked, lookup_started, lookup_resumed}
 
@@ -25,21 +25,21 @@ module _ (s : CallContext) where
     at_end done a result before whole rest =
         record { parts = done; asks_are = refl; whole = subst (λ ps. IsWhole ps result before) (append-nil done) (whole [] result before rest) }
 
-    found_done : (done : List SubLookup) (a : AttemptValue) (t : RecordType) (result : LookupResult) (before : CacheValue) → FindsInHosts s a t result → LeadsToWhole (IsAnsweredAlone s) IsWhole done a before → LeadsToWhole (IsAnsweredAlone s) IsWhole (done ++ static a t result ∷ []) (with_result a result) before
+    found_done : (done : List SubLookup) (a : AttemptValue) (t : RecordType) (result : LookupResult) (before : CacheValue) → FindsInHosts s a t result → LeadsToWhole (IsAnsweredAlone s) IsWhole done a before → LeadsToWhole (IsAnsweredAlone s) IsWhole (done ++ by_hosts a t result ∷ []) (with_result a result) before
     found_done done a t result before f whole =
-        more_done (IsAnsweredAlone s) IsWhole done a t before before (static a t result) f.next ((refl, record { asks_hosts = f.with_hosts; found = f.found; has = f.has; result_is = f.result_is; nothing_asked = refl; unchanged = refl }), (λ client. let clash : Hosts ≡ Client = client in cc)) whole
+        more_done (IsAnsweredAlone s) IsWhole done a t before before (by_hosts a t result) f.next ((refl, record { asks_hosts = f.with_hosts; found = f.found; has = f.has; result_is = f.result_is; nothing_asked = refl; unchanged = refl }), (λ client. let clash : Hosts ≡ Client = client in cc)) whole
 
     started_wait : (done : List SubLookup) (a : AttemptValue) (t : RecordType) (w : WaitingValue) (before after : CacheValue) → StartsSub s a t before (Waits w) after → LeadsToWhole (IsAnsweredAlone s) IsWhole done a before → IsCallSentAlone s IsWhole (asks_of_sub_lookups done) (record { attempt = a; lookup = w }) after
     started_wait done a t w before after started whole =
-        let lookup = lookup_started (start_at s before) (question_of a.name t) (Waits w) after started.starts in
+        let lookup = lookup_started (context_over s before) (question_of a.name t) (Waits w) after started.starts in
         let P : CacheValue → Type 0 = λ c. IsCallSentAlone s IsWhole (asks_of_sub_lookups done) (record { attempt = a; lookup = w }) c in
-        let Q : CacheValue → Type 0 = λ c. LookupSoFar (start_at s before) (question_of a.name t) [] (Waits w) c in
+        let Q : CacheValue → Type 0 = λ c. LookupSoFar (context_over s before) (question_of a.name t) [] (Waits w) c in
         subst P (sym lookup.unchanged) (record {
           done = done;
           sent = [];
           asked_type = t;
           next = started.next;
-          not_static = started.not_static;
+          not_in_hosts = started.not_in_hosts;
           lookup = subst Q lookup.unchanged lookup;
           asks_are = sym (append-nil (asks_of_sub_lookups done));
           rest = whole;
@@ -47,7 +47,7 @@ module _ (s : CallContext) where
 
     started_done : (done : List SubLookup) (a : AttemptValue) (t : RecordType) (result : LookupResult) (before mid : CacheValue) → StartsSub s a t before (IsDone result) mid → LeadsToWhole (IsAnsweredAlone s) IsWhole done a before → LeadsToWhole (IsAnsweredAlone s) IsWhole (done ++ by_client a t [] result ∷ []) (with_result a result) mid
     started_done done a t result before mid started whole =
-        more_done (IsAnsweredAlone s) IsWhole done a t before mid (by_client a t [] result) started.next ((refl, record { not_static = started.not_static; reply = lookup_started (start_at s before) (question_of a.name t) (IsDone result) mid started.starts }), (λ client none out. done_unasked (start_at s before) (question_of a.name t) result mid started.starts)) whole
+        more_done (IsAnsweredAlone s) IsWhole done a t before mid (by_client a t [] result) started.next ((refl, record { not_in_hosts = started.not_in_hosts; reply = lookup_started (context_over s before) (question_of a.name t) (IsDone result) mid started.starts }), (λ client none out. done_unasked (context_over s before) (question_of a.name t) result mid started.starts)) whole
 
     asks_stay : (done : List SubLookup) (p : SubLookup) (progress : CallProgressValue) (after : CacheValue) → p.asks ≡ [] → CallSoFar s IsWhole (asks_of_sub_lookups (done ++ p ∷ [])) progress after → CallSoFar s IsWhole (asks_of_sub_lookups done) progress after
     asks_stay done p progress after none far =
@@ -55,8 +55,8 @@ module _ (s : CallContext) where
 
     pub goes_on : (a : AttemptValue) (before : CacheValue) (progress : CallProgressValue) (after : CacheValue) (done : List SubLookup) → LeadsToWhole (IsAnsweredAlone s) IsWhole done a before → Continues s a before progress after → CallSoFar s IsWhole (asks_of_sub_lookups done) progress after
     goes_on a before progress after done whole (by_hosts {t = t} {result = result} found more) =
-        asks_stay done (static a t result) progress after refl
-        (goes_on (with_result a result) before progress after (done ++ static a t result ∷ []) (found_done done a t result before found whole) more)
+        asks_stay done (by_hosts a t result) progress after refl
+        (goes_on (with_result a result) before progress after (done ++ by_hosts a t result ∷ []) (found_done done a t result before found whole) more)
     goes_on a before progress after done whole (waits {t = t} {w = w} started) = started_wait done a t w before after started whole
     goes_on a before progress after done whole (at_once {t = t} {result = result} {mid = mid} started more) =
         asks_stay done (by_client a t [] result) progress after refl
@@ -113,16 +113,16 @@ module _ (s : CallContext) where
     asks_now : asks_of_sub_lookups far.done ++ sent ≡ asks ++ came ∷ []
     asks_now = sym (append_assoc (asks_of_sub_lookups far.done) far.sent (came ∷ [])) ∙ ap (λ xs. xs ++ came ∷ []) (sym far.asks_are)
 
-    resumed_by : (lookup : ProgressValue) (mid : CacheValue) → LookupSoFar (start_at s cache) question sent lookup mid → (progress : CallProgressValue) (after : CacheValue) → ContinuesAfter s w.attempt lookup mid progress after → CallSoFar s IsWhole (asks ++ came ∷ []) progress after
+    resumed_by : (lookup : ProgressValue) (mid : CacheValue) → LookupSoFar (context_over s cache) question sent lookup mid → (progress : CallProgressValue) (after : CacheValue) → ContinuesAfter s w.attempt lookup mid progress after → CallSoFar s IsWhole (asks ++ came ∷ []) progress after
     resumed_by (Waits lookup) mid still progress after (is, e) =
         let P : CacheValue → Type 0 = λ c. CallSoFar s IsWhole (asks ++ came ∷ []) progress c in
-        let Q : CacheValue → Type 0 = λ c. LookupSoFar (start_at s cache) question sent (Waits lookup) c in
+        let Q : CacheValue → Type 0 = λ c. LookupSoFar (context_over s cache) question sent (Waits lookup) c in
         subst P (sym (e ∙ still.unchanged)) (subst (λ p. CallSoFar s IsWhole (asks ++ came ∷ []) p cache) (sym is) (record {
           done = far.done;
           sent = sent;
           asked_type = far.asked_type;
           next = far.next;
-          not_static = far.not_static;
+          not_in_hosts = far.not_in_hosts;
           lookup = subst Q still.unchanged still;
           asks_are = sym asks_now;
           rest = far.rest;
@@ -131,8 +131,8 @@ module _ (s : CallContext) where
         let p = by_client w.attempt far.asked_type sent result in
         subst (λ xs. CallSoFar s IsWhole xs progress after) (asks-append far.done p ∙ asks_now)
         (goes_on IsWhole (with_result w.attempt result) mid progress after (far.done ++ p ∷ [])
-        (more_done (IsAnsweredAlone s) IsWhole far.done w.attempt far.asked_type cache mid p far.next ((refl, record { not_static = far.not_static; reply = reply }), (λ client none out. absurd (some_asked far.sent came none))) far.rest) more)
+        (more_done (IsAnsweredAlone s) IsWhole far.done w.attempt far.asked_type cache mid p far.next ((refl, record { not_in_hosts = far.not_in_hosts; reply = reply }), (λ client none out. absurd (some_asked far.sent came none))) far.rest) more)
 
     pub resumed : (progress : CallProgressValue) (after : CacheValue) → ResumesCall s w outcome cache progress after → CallSoFar s IsWhole (asks ++ came ∷ []) progress after
     resumed progress after (lookup, mid, resumes, more) =
-        resumed_by lookup mid (lookup_resumed (start_at s cache) question far.sent w.lookup cache far.lookup outcome mid lookup resumes) progress after more
+        resumed_by lookup mid (lookup_resumed (context_over s cache) question far.sent w.lookup cache far.lookup outcome mid lookup resumes) progress after more

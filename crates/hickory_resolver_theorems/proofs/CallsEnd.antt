@@ -6,7 +6,7 @@ use Rattle.hickory_resolver_model.specs.Cache.{CacheValue}
 use Rattle.hickory_resolver_model.specs.Lookup.{LookupResult}
 use Rattle.hickory_resolver_model.specs.Verdict.{Hop}
 use Rattle.hickory_resolver_model.specs.Hops.{LookupContext, PassedValue, passed_by}
-use Rattle.hickory_resolver_model.specs.Calls.{CallContext, start_at}
+use Rattle.hickory_resolver_model.specs.Calls.{CallContext, context_over}
 use Rattle.hickory_resolver_model.specs.Resuming.{WaitingValue, ProgressValue, Waits, IsDone, ComesTo, Resumes}
 use Rattle.hickory_resolver_theorems.specs.ResumingCalls.{AttemptValue, WaitingCallValue, CallProgressValue, with_result, at_next, Continues, by_hosts, waits, at_once, stopped, next_name, no_name, ContinuesAfter, ResumesCall}
 
@@ -64,4 +64,4 @@ module _ (s : CallContext) (w : WaitingCallValue) (few : length w.lookup.passed 
 -- each outcome leaves fewer
 pub fewer_resumed : (s : CallContext) (w : WaitingCallValue) → length w.lookup.passed ≤ 7 → length w.attempt.results ≤ 1 → (cache : CacheValue) (outcome : OutcomeValue) (progress : CallProgressValue) (after : CacheValue) → ResumesCall s w outcome cache progress after → call_left progress < call_left (Waits w)
 fewer_resumed s w few open_turn cache outcome progress after (lookup, mid, resumes, more) =
-    fewer_by s w few open_turn lookup mid progress after (fewer_lookup (start_at s cache) w.lookup outcome lookup mid few resumes) more
+    fewer_by s w few open_turn lookup mid progress after (fewer_lookup (context_over s cache) w.lookup outcome lookup mid few resumes) more

@@ -1,6 +1,6 @@
 -- A call that blocks, and for which memory does not run out, can be driven: it is started, and what comes back to each of
 -- its questions is fed to it at once.
-use Rattle.std.proofs.Common.{◌≡◌, ◌∙◌, ◌⊎◌, Bool, true, false, List, [], ◌∷◌, ◌++◌, Some, None, refl, sym, ap, subst, inl, inr, append_assoc}
+use Rattle.std.proofs.Common.{◌≡◌, ◌∙◌, ◌⊎◌, Bool, true, false, List, [], ◌∷◌, ◌++◌, Some, refl, sym, ap, subst, inl, inr, append_assoc}
 use Rattle.std.proofs.lemmas.List.{append-nil}
 use Rattle.hickory_proto_core.specs.Name.{NameValue}
 use Rattle.hickory_proto_core.specs.declared.query.Query.{Query}
@@ -10,8 +10,8 @@ use Rattle.hickory_resolver_model.specs.Attempts.{attempts}
 use Rattle.hickory_resolver_model.specs.Cache.{CacheValue}
 use Rattle.hickory_resolver_model.specs.Lookup.{LookupResult, question_of}
 use Rattle.hickory_resolver_model.specs.Hops.{IsWhole, one_cache}
-use Rattle.hickory_resolver_model.specs.Hosts.{HostsHave}
-use Rattle.hickory_resolver_model.specs.Calls.{CallContext, start_at, Source, Hosts, Client, SubLookup, SubLookupRelation, IsAnsweredByHosts, IsAnsweredFrom, IsAnsweredFor, is_out_of_memory, next_type, IsAttemptResult, AreSubLookups, results_of, IsAttempt, stops, CallPlan, Says, AreAttempts, asks_of_sub_lookups}
+use Rattle.hickory_resolver_model.specs.Hosts.{HostsHave, NotInHosts}
+use Rattle.hickory_resolver_model.specs.Calls.{CallContext, context_over, Source, Hosts, Client, SubLookup, SubLookupRelation, IsAnsweredByHosts, IsAnsweredFrom, IsAnsweredFor, is_out_of_memory, next_type, IsAttemptResult, AreSubLookups, results_of, IsAttempt, stops, CallPlan, Says, AreAttempts, asks_of_sub_lookups}
 use Rattle.hickory_resolver_model.specs.Resuming.{WaitingValue, ProgressValue, Waits, IsDone, Starts, Resumes}
 use Rattle.hickory_resolver_model.specs.Run.{Settings, Call, AtOnce, Attempt, IsCall}
 use Rattle.hickory_resolver_theorems.specs.Resumed.{IsDriven, IsStartedAndDriven}
@@ -24,7 +24,7 @@ use Rattle.hickory_resolver_theorems.proofs.UnlessOut.{call-unless}
 -- a question is answered by the table of hosts, or by a look-up of the client that ends with all its stores
 abbrev pub IsWholeFrom : Source → CallContext → Bool → CacheValue → SubLookup → CacheValue → Type 0
 IsWholeFrom Hosts t with_hosts before p after = IsAnsweredByHosts t with_hosts before p after
-IsWholeFrom Client t with_hosts before p after = ((with_hosts ≡ false) ⊎ HostsHave p.question t.now t.hosts None) × IsWhole (start_at t before) (one_cache (start_at t before) p.asks) p.question p.asks p.result after
+IsWholeFrom Client t with_hosts before p after = NotInHosts with_hosts p.question t.now t.hosts × IsWhole (context_over t before) (one_cache (context_over t before) p.asks) p.question p.asks p.result after
 
 abbrev pub WholeSubLookup : CallContext → SubLookupRelation
 WholeSubLookup t with_hosts before q p after = (p.question ≡ q) × IsWholeFrom p.source t with_hosts before p after
@@ -41,7 +41,7 @@ module _ (t : CallContext) where
       by : (source : Source) → IsAnsweredFrom source t with_hosts before p after → (IsWholeFrom source t with_hosts before p after → WholeSubLookup t with_hosts before q p after) → (is_out_of_memory p.result ≡ true) ⊎ WholeSubLookup t with_hosts before q p after
       by Hosts part k = inr (k part)
       by Client part k = elim part.reply [
-        | inl whole ↦ inr (k (part.not_static, whole))
+        | inl whole ↦ inr (k (part.not_in_hosts, whole))
         | inr out ↦ inl (ap is_out_of_memory out.0)
       ]
 
@@ -59,7 +59,7 @@ module _ (t : CallContext) where
     driven : IsCallDriven t progress cache asks result after
 
   -- a look-up that waits is driven to its end, and the call from there
-  sub-driven : (a : AttemptValue) (first : CacheValue) (w : WaitingValue) (cache : CacheValue) (xs ys : List Exchange) (r : LookupResult) (mid : CacheValue) (result : LookupResult) (after : CacheValue) → w.now ≡ t.now → IsDriven (start_at t first) (Waits w) cache xs r mid → GoesOnDriven (with_result a r) mid ys result after
+  sub-driven : (a : AttemptValue) (first : CacheValue) (w : WaitingValue) (cache : CacheValue) (xs ys : List Exchange) (r : LookupResult) (mid : CacheValue) (result : LookupResult) (after : CacheValue) → w.now ≡ t.now → IsDriven (context_over t first) (Waits w) cache xs r mid → GoesOnDriven (with_result a r) mid ys result after
       → IsCallDriven t (Waits (record { attempt = a; lookup = w })) cache (xs ++ ys) result after
   sub-driven a first w cache [] ys r mid result after now_is (done, same) more = let clash : Waits w ≡ IsDone r = done in cc
   sub-driven a first w cache (x ∷ xs) ys r mid result after now_is (asked, next, m, resumes, rest) more = by next xs resumes rest (λ v. sub-driven a first v m xs ys r mid result after)
@@ -67,11 +67,11 @@ module _ (t : CallContext) where
       Driven : List Exchange → Type 0
       Driven zs = IsCallDriven t (Waits (record { attempt = a; lookup = w })) cache (x ∷ zs ++ ys) result after
 
-      by : (lookup : ProgressValue) (zs : List Exchange) → Resumes (start_at t cache) w x.outcome lookup m → IsDriven (start_at t first) lookup m zs r mid
-          → ((v : WaitingValue) → v.now ≡ t.now → IsDriven (start_at t first) (Waits v) m zs r mid → GoesOnDriven (with_result a r) mid ys result after → IsCallDriven t (Waits (record { attempt = a; lookup = v })) m (zs ++ ys) result after)
+      by : (lookup : ProgressValue) (zs : List Exchange) → Resumes (context_over t cache) w x.outcome lookup m → IsDriven (context_over t first) lookup m zs r mid
+          → ((v : WaitingValue) → v.now ≡ t.now → IsDriven (context_over t first) (Waits v) m zs r mid → GoesOnDriven (with_result a r) mid ys result after → IsCallDriven t (Waits (record { attempt = a; lookup = v })) m (zs ++ ys) result after)
           → Driven zs
       by (Waits v) zs resumes rest on =
-          (now_is, asked, Waits (record { attempt = a; lookup = v }), m, (Waits v, m, resumes, (refl, refl)), on v (now-stays (start_at t cache) w x.outcome v m resumes) rest more)
+          (now_is, asked, Waits (record { attempt = a; lookup = v }), m, (Waits v, m, resumes, (refl, refl)), on v (now-stays (context_over t cache) w x.outcome v m resumes) rest more)
       by (IsDone early) [] resumes (done, same) on =
           let one : early ≡ r = cc in
           let ended : GoesOnDriven (with_result a early) m ys result after = subst (λ c. GoesOnDriven (with_result a early) c ys result after) same (subst (λ e. GoesOnDriven (with_result a e) mid ys result after) (sym one) more) in
@@ -79,24 +79,24 @@ module _ (t : CallContext) where
       by (IsDone early) (z ∷ zs) resumes never on = absurd never
 
   -- a look-up of the client is started and driven
-  client-driven : (a : AttemptValue) (u : RecordType) (before : CacheValue) (xs ys : List Exchange) (r : LookupResult) (mid : CacheValue) (result : LookupResult) (after : CacheValue) → next_type a.plan.types a.results ≡ Some u → (a.with_hosts ≡ false) ⊎ HostsHave (question_of a.name u) t.now t.hosts None
-      → IsWhole (start_at t before) (one_cache (start_at t before) xs) (question_of a.name u) xs r mid → GoesOnDriven (with_result a r) mid ys result after → GoesOnDriven a before (xs ++ ys) result after
-  client-driven a u before xs ys r mid result after next not_static whole more = by d.progress xs d.starts d.driven
+  client-driven : (a : AttemptValue) (u : RecordType) (before : CacheValue) (xs ys : List Exchange) (r : LookupResult) (mid : CacheValue) (result : LookupResult) (after : CacheValue) → next_type a.plan.types a.results ≡ Some u → NotInHosts a.with_hosts (question_of a.name u) t.now t.hosts
+      → IsWhole (context_over t before) (one_cache (context_over t before) xs) (question_of a.name u) xs r mid → GoesOnDriven (with_result a r) mid ys result after → GoesOnDriven a before (xs ++ ys) result after
+  client-driven a u before xs ys r mid result after next not_in_hosts whole more = by d.progress xs d.starts d.driven
     where
-      d : IsStartedAndDriven (start_at t before) (question_of a.name u) xs r mid
-      d = whole_driven (start_at t before) (question_of a.name u) xs r mid whole
+      d : IsStartedAndDriven (context_over t before) (question_of a.name u) xs r mid
+      d = whole_driven (context_over t before) (question_of a.name u) xs r mid whole
 
-      by : (lookup : ProgressValue) (zs : List Exchange) → Starts (start_at t before) (question_of a.name u) lookup d.cache → IsDriven (start_at t before) lookup d.cache zs r mid → GoesOnDriven a before (zs ++ ys) result after
+      by : (lookup : ProgressValue) (zs : List Exchange) → Starts (context_over t before) (question_of a.name u) lookup d.cache → IsDriven (context_over t before) lookup d.cache zs r mid → GoesOnDriven a before (zs ++ ys) result after
       by (Waits w) zs starts driven = record {
         progress = Waits (record { attempt = a; lookup = w });
         cache = d.cache;
-        goes = waits (record { next = next; not_static = not_static; starts = starts });
+        goes = waits (record { next = next; not_in_hosts = not_in_hosts; starts = starts });
         driven = sub-driven a before w d.cache zs ys r mid result after (ap (λ (v : WaitingValue). v.now) starts.1) driven more;
       }
       by (IsDone early) [] starts (done, same) =
           let one : early ≡ r = cc in
           let ended : GoesOnDriven (with_result a early) d.cache ys result after = subst (λ c. GoesOnDriven (with_result a early) c ys result after) same (subst (λ e. GoesOnDriven (with_result a e) mid ys result after) (sym one) more) in
-          record { progress = ended.progress; cache = ended.cache; goes = at_once (record { next = next; not_static = not_static; starts = starts }) ended.goes; driven = ended.driven }
+          record { progress = ended.progress; cache = ended.cache; goes = at_once (record { next = next; not_in_hosts = not_in_hosts; starts = starts }) ended.goes; driven = ended.driven }
       by (IsDone early) (z ∷ zs) starts never = absurd never
 
   hosts-driven : (a : AttemptValue) (u : RecordType) (before : CacheValue) (p : SubLookup) (ys : List Exchange) (mid : CacheValue) (result : LookupResult) (after : CacheValue) → next_type a.plan.types a.results ≡ Some u → p.question ≡ question_of a.name u → IsAnsweredByHosts t a.with_hosts before p mid
@@ -113,9 +113,9 @@ module _ (t : CallContext) where
     where
       by : (source : Source) → IsWholeFrom source t a.with_hosts before p mid → GoesOnDriven a before (p.asks ++ ys) result after
       by Hosts part = hosts-driven a u before p ys mid result after next for part more
-      by Client (not_static, whole) =
-          client-driven a u before p.asks ys p.result mid result after next (subst (λ q. (a.with_hosts ≡ false) ⊎ HostsHave q t.now t.hosts None) for not_static)
-          (subst (λ q. IsWhole (start_at t before) (one_cache (start_at t before) p.asks) q p.asks p.result mid) for whole) more
+      by Client (not_in_hosts, whole) =
+          client-driven a u before p.asks ys p.result mid result after next (subst (λ q. NotInHosts a.with_hosts q t.now t.hosts) for not_in_hosts)
+          (subst (λ q. IsWhole (context_over t before) (one_cache (context_over t before) p.asks) q p.asks p.result mid) for whole) more
 
   -- the parts of an attempt, and what is left behind them
   subs-driven : (a : AttemptValue) (before : CacheValue) (ps : List SubLookup) (mid : CacheValue) (ys : List Exchange) (result : LookupResult) (after : CacheValue) → AreSubLookups (WholeSubLookup t) a.with_hosts a.name a.plan.types before a.results ps mid

@@ -1,5 +1,5 @@
 -- Every reply of a run is the cacheless resolver's; and so the headline holds of every run.
-use Rattle.std.proofs.Common.{◌≡◌, ◌⊎◌, ℕ, Bool, true, false, not, List, [], ◌∷◌, ◌++◌, None, Result, Ok, Err, refl, sym, ap, subst, inl, inr}
+use Rattle.std.proofs.Common.{◌≡◌, ◌⊎◌, ℕ, Bool, true, false, not, List, [], ◌∷◌, ◌++◌, Result, Ok, Err, refl, sym, ap, subst, inl, inr}
 use Rattle.std.specs.List.{AllByRecursion}
 use Rattle.hickory_proto_core.specs.Name.{NameValue}
 use Rattle.hickory_proto_core.specs.Table.{TableValue}
@@ -10,9 +10,9 @@ use Rattle.hickory_proto_core.specs.declared.recorded.Exchange.{Exchange}
 use Rattle.hickory_proto_core.specs.declared.net_error.NetError.TheVariants.{OutOfMemory}
 use Rattle.hickory_resolver_model.specs.Cache.{CacheValue, is_for, without_query}
 use Rattle.hickory_resolver_model.specs.Lookup.{LookupResult, question_of}
-use Rattle.hickory_resolver_model.specs.Hosts.{HostsHave}
+use Rattle.hickory_resolver_model.specs.Hosts.{NotInHosts}
 use Rattle.hickory_resolver_model.specs.Hops.{one_cache}
-use Rattle.hickory_resolver_model.specs.Calls.{CallContext, Source, Hosts, Client, SubLookup, IsAnsweredFrom, IsAnsweredFor, start_at, is_out_of_memory, asks_of_sub_lookups}
+use Rattle.hickory_resolver_model.specs.Calls.{CallContext, Source, Hosts, Client, SubLookup, IsAnsweredFrom, IsAnsweredFor, context_over, is_out_of_memory, asks_of_sub_lookups}
 use Rattle.hickory_resolver_model.specs.Attempts.{attempts}
 use Rattle.hickory_resolver_model.specs.Run.{Settings, call_context_at, RequestValue, Lookup, LookupIp, ClearLookup, Clear, StepReply, LookedUp, LookedUpIp, Cleared, ends_run, drop_each, after_clear, Call, name_call, address_call, IsCall, IsServed, StepValue, Stage, IsStage, AreStages, exchanges_of, Run}
 use Rattle.hickory_resolver_theorems.specs.Cacheless.{IsTable, ResolvesTo, IsConsistentWith, AreConsistentWith}
@@ -44,7 +44,7 @@ part-alike table t with_hosts c before q p after seen meant has tells (for, is) 
     )
     by Client e part =
         let meaning = has e in
-        let there = transparent (start_at t before) (one_cache (start_at t before) p.asks) p.question p.asks p.result after part.reply table seen.off seen.apart tells meant meaning.0 meaning.1 meaning.2 meaning.3 in
+        let there = transparent (context_over t before) (one_cache (context_over t before) p.asks) p.question p.asks p.result after part.reply table seen.off seen.apart tells meant meaning.0 meaning.1 meaning.2 meaning.3 in
         (on there.0, there.1)
       where
         on : ((p.result ≡ Err OutOfMemory) ⊎ (reply_core p.result ≡ (has e).0)) → (is_out_of_memory p.result ≡ true) ⊎ CachelessSubLookup table t with_hosts c q p c
@@ -56,7 +56,7 @@ part-alike table t with_hosts c before q p after seen meant has tells (for, is) 
                 record {
                   reply = (has e).0;
                   length_is = (has e).1;
-                  not_static = subst (λ x. (with_hosts ≡ false) ⊎ HostsHave x t.now t.hosts None) for part.not_static;
+                  not_in_hosts = subst (λ x. NotInHosts with_hosts x t.now t.hosts) for part.not_in_hosts;
                   means = subst (λ x. ResolvesTo table x (has e).0 (has e).1) for (has e).2;
                   result_is = same;
                 },

@@ -8,7 +8,7 @@ use Rattle.hickory_proto_core.specs.declared.recorded.Exchange.{Exchange}
 use Rattle.hickory_resolver_model.specs.Attempts.{attempts}
 use Rattle.hickory_resolver_model.specs.Cache.{CacheValue}
 use Rattle.hickory_resolver_model.specs.Lookup.{LookupResult}
-use Rattle.hickory_resolver_model.specs.Calls.{CallContext, Source, Hosts, Client, SubLookup, IsAnsweredFrom, IsAnsweredFor, FamilyOrder, IsAttemptResult, AreSubLookups, results_of, stops, CallPlan, Says, AreAttempts, asks_of_sub_lookups, start_at}
+use Rattle.hickory_resolver_model.specs.Calls.{CallContext, Source, Hosts, Client, SubLookup, IsAnsweredFrom, IsAnsweredFor, FamilyOrder, IsAttemptResult, AreSubLookups, results_of, stops, CallPlan, Says, AreAttempts, asks_of_sub_lookups, context_over}
 use Rattle.hickory_resolver_model.specs.Run.{Settings, call_context_at, RequestValue, Lookup, LookupIp, ClearLookup, Clear, StepReply, LookedUp, LookedUpIp, Cleared, Call, AtOnce, Attempt, name_call, address_call, IsCall, IsServed}
 use Rattle.hickory_resolver_theorems.specs.Keeping.{IsServedOver}
 use Rattle.hickory_resolver_theorems.proofs.Kept.{kept_reply}
@@ -54,7 +54,7 @@ module _ (t : CallContext) where
         nothing_asked = subst (λ xs. RecordedAs xs kept) is.nothing_asked r;
         unchanged = is.unchanged;
       }
-      by Client is = record { not_static = is.not_static; reply = kept_reply (start_at t before) p.question p.asks kept p.result after is.reply r }
+      by Client is = record { not_in_hosts = is.not_in_hosts; reply = kept_reply (context_over t before) p.question p.asks kept p.result after is.reply r }
 
   -- ---- the sub-look-ups of an attempt
 

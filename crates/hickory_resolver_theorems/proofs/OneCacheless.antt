@@ -23,7 +23,7 @@ use Rattle.hickory_proto_core.specs.names.name_error.NameError.{NameError}
 use Rattle.hickory_proto_core.specs.declared.net_error.NetError.TheVariants.{OutOfMemory}
 use Rattle.hickory_resolver_model.specs.Cache.{CacheValue}
 use Rattle.hickory_resolver_model.specs.Lookup.{LookupValue, LookupResult, question_of}
-use Rattle.hickory_resolver_model.specs.Hosts.{Host, as_fqdn, family, is_host, has_address, pointers, pointer_lookup, StandsFor, static_answer, HostsHave}
+use Rattle.hickory_resolver_model.specs.Hosts.{Host, as_fqdn, family, is_host, has_address, pointers, pointer_lookup, StandsFor, static_answer, HostsHave, NotInHosts}
 use Rattle.hickory_resolver_model.specs.Calls.{CallContext, SubLookup, FamilyOrder, One, Both, Fallback, has_answers, is_out_of_memory, both_results, next_type, attempt_result, IsAttemptResult, AreSubLookups, results_of, IsAttempt, IsAnsweredByHosts, stops, CallPlan, IsLastReply, Says, AreAttempts}
 use Rattle.hickory_resolver_model.specs.Attempts.{attempts}
 use Rattle.hickory_resolver_model.specs.Run.{Settings, call_context_at, RequestValue, Lookup, LookupIp, ClearLookup, Clear, LookedUp, LookedUpIp, Call, AtOnce, Attempt, name_call, address_call, IsCall}
@@ -82,8 +82,8 @@ same-stands n None (Some d) h (net, is, e) = absurd (h net is)
 same-stands n (Some c) None (net, is, e) k = absurd (k net is)
 same-stands n (Some c) (Some d) (net, is, e) (other, too, f) = ap Some (e ∙ ap (λ x. data_of_address x.addr) (same-net n net other is too) ∙ sym f)
 
-same-static : (q : Query) (now : ℕ) (hosts : List Host) (a b : Option LookupValue) → HostsHave q now hosts a → HostsHave q now hosts b → a ≡ b
-same-static q now hosts a b (x, h, e) (y, k, f) = e ∙ by (asks_for type.PTR q) refl ∙ sym f
+same-hosts : (q : Query) (now : ℕ) (hosts : List Host) (a b : Option LookupValue) → HostsHave q now hosts a → HostsHave q now hosts b → a ≡ b
+same-hosts q now hosts a b (x, h, e) (y, k, f) = e ∙ by (asks_for type.PTR q) refl ∙ sym f
   where
     n : NameValue
     n = as_fqdn q.name
@@ -159,9 +159,9 @@ found-meets a b l k e (inl ok) (inr out) = inr (inl (ap is_out_of_memory out))
 found-meets a b l k e (inl ok) (inl too) = inr (inr (ap reply_core (ok ∙ ap Ok e ∙ sym too)))
 
 -- where the table is looked at and has something, nothing else is asked
-never : (t : CallContext) (with_hosts : Bool) (q : Query) (found : LookupValue) → with_hosts ≡ true → HostsHave q t.now t.hosts (Some found) → (with_hosts ≡ false) ⊎ HostsHave q t.now t.hosts None → ⊥
+never : (t : CallContext) (with_hosts : Bool) (q : Query) (found : LookupValue) → with_hosts ≡ true → HostsHave q t.now t.hosts (Some found) → NotInHosts with_hosts q t.now t.hosts → ⊥
 never t with_hosts q found asks has (inl not_looked) = absurd (let clash : true ≡ false = sym asks ∙ not_looked in cc)
-never t with_hosts q found asks has (inr none) = absurd (let clash : Some found ≡ None = same-static q t.now t.hosts (Some found) None has none in cc)
+never t with_hosts q found asks has (inr none) = absurd (let clash : Some found ≡ None = same-hosts q t.now t.hosts (Some found) None has none in cc)
 
 part-once : (table : TableValue) (t : CallContext) (with_hosts : Bool) (q : Query) (c d e f : CacheValue) (p u : SubLookup) → CachelessSubLookup table t with_hosts c q p d → CachelessSubLookup table t with_hosts e q u f → Meet p.result u.result
 part-once table t with_hosts q c d e f p u (for, is) (for_too, is_too) = by is is_too
@@ -170,9 +170,9 @@ part-once table t with_hosts q c d e f p u (for, is) (for_too, is_too) = by is i
     has-at x same found has = subst (λ y. HostsHave y t.now t.hosts (Some found)) same has
 
     by : IsAnsweredByHosts t with_hosts c p d ⊎ (IsCachelessSubLookup table t with_hosts q p × (d ≡ c)) → IsAnsweredByHosts t with_hosts e u f ⊎ (IsCachelessSubLookup table t with_hosts q u × (f ≡ e)) → Meet p.result u.result
-    by (inl s) (inl v) = found-meets p.result u.result s.found v.found (let both : Some s.found ≡ Some v.found = same-static q t.now t.hosts (Some s.found) (Some v.found) (has-at p for s.found s.has) (has-at u for_too v.found v.has) in let one : s.found ≡ v.found = cc in one) s.result_is v.result_is
-    by (inl s) (inr (v, same)) = absurd (never t with_hosts q s.found s.asks_hosts (has-at p for s.found s.has) v.not_static)
-    by (inr (s, same)) (inl v) = absurd (never t with_hosts q v.found v.asks_hosts (has-at u for_too v.found v.has) s.not_static)
+    by (inl s) (inl v) = found-meets p.result u.result s.found v.found (let both : Some s.found ≡ Some v.found = same-hosts q t.now t.hosts (Some s.found) (Some v.found) (has-at p for s.found s.has) (has-at u for_too v.found v.has) in let one : s.found ≡ v.found = cc in one) s.result_is v.result_is
+    by (inl s) (inr (v, same)) = absurd (never t with_hosts q s.found s.asks_hosts (has-at p for s.found s.has) v.not_in_hosts)
+    by (inr (s, same)) (inl v) = absurd (never t with_hosts q v.found v.asks_hosts (has-at u for_too v.found v.has) s.not_in_hosts)
     by (inr (s, same)) (inr (v, other)) = inr (inr (s.result_is ∙ means-one table q s.reply v.reply s.length_is v.length_is s.means v.means ∙ sym v.result_is))
 
 -- ---- an attempt

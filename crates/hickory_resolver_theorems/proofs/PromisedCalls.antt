@@ -17,7 +17,7 @@ use Rattle.hickory_resolver_model.specs.Cache.{CacheValue, Entry, IsCache, Outli
 use Rattle.hickory_resolver_model.specs.Lookup.{LookupResult}
 use Rattle.hickory_resolver_model.specs.Verdict.{Hop, Verdict, Accepted, LeadsTo, NoMatch, first_hop, verdict}
 use Rattle.hickory_resolver_model.specs.Hops.{LookupContext, ChainEnd, Special, Hit, Asked, HopList, Store, IsReply, one_cache, passed_of, end_limit, alias_limit, entry_of_store, stores_of_verdict, stores_when_asked, last_stores, earlier_store, earlier_stores, stores_of, result_of, after_stores}
-use Rattle.hickory_resolver_model.specs.Calls.{CallContext, start_at, Source, Hosts, Client, SubLookup, SubLookupRelation, IsAnsweredFrom, IsAnsweredFor, is_out_of_memory, asks_of_sub_lookups}
+use Rattle.hickory_resolver_model.specs.Calls.{CallContext, context_over, Source, Hosts, Client, SubLookup, SubLookupRelation, IsAnsweredFrom, IsAnsweredFor, is_out_of_memory, asks_of_sub_lookups}
 use Rattle.hickory_resolver_model.specs.Attempts.{attempts}
 use Rattle.hickory_resolver_model.specs.Run.{Settings, call_context_at, Call, IsCall, after_clear, name_call, address_call}
 use Rattle.hickory_resolver_model.specs.Resolver.{ResolverValue, settings, AnswersCall, AnswersName, AnswersHost}
@@ -185,7 +185,7 @@ module _ (now : ℕ) (first : CacheValue) (cache : IsCache first.config first.ca
       )
       by Client e part =
           let code = type_code p.question.query_type in
-          let there = part-sourced (start_at t before) p after moment bounds (subst (λ c. AllByRecursion (IsKnown c) before.entries) (sym bounds) known)
+          let there = part-sourced (context_over t before) p after moment bounds (subst (λ c. AllByRecursion (IsKnown c) before.entries) (sym bounds) known)
           (subst (λ n. AllByRecursion (λ x. (code : ℕ) → ContainsByRecursion (sources code) (record { moment = n; exchange = x })) p.asks) (sym moment) asked) part.reply in (
             (
               (part, there.stores),
@@ -193,7 +193,7 @@ module _ (now : ℕ) (first : CacheValue) (cache : IsCache first.config first.ca
                   (subst (λ c. IsFreshReply c (sources code) code t.now p.result) bounds (there.fresh (subst (λ c. LeastTtlIsZero c code) (sym bounds) zero))),
             ),
             (
-              reply-config (start_at t before) (one_cache (start_at t before) p.asks) p.question p.asks p.result after part.reply ∙ bounds,
+              reply-config (context_over t before) (one_cache (context_over t before) p.asks) p.question p.asks p.result after part.reply ∙ bounds,
               subst (λ c. AllByRecursion (IsKnown c) after.entries) bounds there.known,
             ),
           )
@@ -267,7 +267,7 @@ part-few t with_hosts before q p after (for, is) = by p.source is
   where
     by : (source : Source) → IsAnsweredFrom source t with_hosts before p after → length p.asks ≤ 8
     by Hosts part = omega (arith, ap length part.nothing_asked)
-    by Client part = few (start_at t before) (one_cache (start_at t before) p.asks) p.question p.asks p.result after part.reply
+    by Client part = few (context_over t before) (one_cache (context_over t before) p.asks) p.question p.asks p.result after part.reply
 
 pub few_call : (s : Settings) (now : ℕ) (before : CacheValue) (call : Call) (parts : List SubLookup) (reply : LookupResult) (after : CacheValue) → IsCallBy (IsAnsweredFor (call_context_at s now)) s before call parts reply after → AllByRecursion (λ p. length p.asks ≤ 8) parts
 few_call s now before call parts reply after is = chain-all (IsAnsweredFor (call_context_at s now)) (λ p. length p.asks ≤ 8) (part-few (call_context_at s now)) before parts after (chain-by (IsAnsweredFor (call_context_at s now)) s before call parts reply after is)

@@ -6,7 +6,7 @@ use Rattle.hickory_proto_core.specs.declared.dns_request.DnsRequestOptions.{DnsR
 use Rattle.hickory_proto_core.specs.declared.recorded.Exchange.{Exchange}
 use Rattle.hickory_resolver_model.specs.Cache.{CacheValue, IsCache}
 use Rattle.hickory_resolver_model.specs.Lookup.{LookupResult}
-use Rattle.hickory_resolver_model.specs.Client.{ClientValue, start_of, IsLookup}
+use Rattle.hickory_resolver_model.specs.Client.{ClientValue, context_of, IsLookup}
 use Rattle.hickory_resolver_model.specs.Hops.{LookupContext, IsReplyOver, one_cache}
 use Rattle.hickory_resolver_model.specs.Run.{Settings, first_cache, RequestValue, StepValue, LedRun}
 use Rattle.hickory_resolver_theorems.specs.Promises.{IsPromisedLookup, PromisedRun}
@@ -21,7 +21,7 @@ use Rattle.hickory_resolver_theorems.proofs.AliasLifetimes.{no_alias_outlives, r
 pub promised_lookup : {H : Type 0} (step : HandleStep H) (options : DnsRequestOptions) (now : ℕ) (before : ClientValue H) (question : Query) (result : LookupResult) (after : ClientValue H) → IsCache before.cache.config before.cache.capacity before.cache.entries → IsLookup step options now before question result after
     → IsPromisedLookup step options now before question result after
 promised_lookup step options now before question result after cache is =
-    let s = start_of before now in
+    let s = context_of before now in
     let caches = one_cache s is.asks in
     record {
       is = is;

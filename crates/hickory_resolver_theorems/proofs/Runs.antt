@@ -13,7 +13,7 @@ use Rattle.hickory_resolver_model.specs.Bounds.{ConfigValue, greatest_ttl}
 use Rattle.hickory_resolver_model.specs.Cache.{CacheValue, is_for, without_query}
 use Rattle.hickory_resolver_model.specs.Lookup.{LookupResult, question_of}
 use Rattle.hickory_resolver_model.specs.Hops.{LookupContext, IsReplyOver, one_cache, passed_of, stores_of}
-use Rattle.hickory_resolver_model.specs.Calls.{CallContext, Source, Hosts, Client, SubLookup, IsAnsweredFrom, IsAnsweredFor, start_at, asks_of_sub_lookups}
+use Rattle.hickory_resolver_model.specs.Calls.{CallContext, Source, Hosts, Client, SubLookup, IsAnsweredFrom, IsAnsweredFor, context_over, asks_of_sub_lookups}
 use Rattle.hickory_resolver_model.specs.Run.{Settings, call_context_at, RequestValue, Lookup, LookupIp, ClearLookup, Clear, moment_of, StepReply, LookedUp, LookedUpIp, Cleared, drop_each, after_clear, IsServed, StepValue, Stage, IsStage, AreStages, Run}
 use Rattle.hickory_resolver_model.specs.Attempts.{attempts}
 use Rattle.hickory_resolver_theorems.specs.Covered.{Dated, dated_exchanges, IsCovered, IsLoopback}
@@ -61,12 +61,12 @@ good-part t with_hosts q before sources p after entries (for, is) = by p.source 
       config = ap (λ c. c.config) part.unchanged;
     }
     by Client e part =
-        let known = fresh (start_at t before) (one_cache (start_at t before) p.asks) p.question p.asks p.result after part.reply sources entries in
+        let known = fresh (context_over t before) (one_cache (context_over t before) p.asks) p.question p.asks p.result after part.reply sources entries in
         record {
-          few = few (start_at t before) (one_cache (start_at t before) p.asks) p.question p.asks p.result after part.reply;
+          few = few (context_over t before) (one_cache (context_over t before) p.asks) p.question p.asks p.result after part.reply;
           fresh = λ client zero. known.0 zero;
           entries = known.1;
-          config = reply-config (start_at t before) (one_cache (start_at t before) p.asks) p.question p.asks p.result after part.reply;
+          config = reply-config (context_over t before) (one_cache (context_over t before) p.asks) p.question p.asks p.result after part.reply;
         }
 
 -- ---- the parts of a call

@@ -1,6 +1,6 @@
 -- Look-ups and calls that do no I/O, over a cache that nobody else changes: how far they came, by the exchanges that
 -- were made. It is what a program keeps that sends each question itself and waits for what comes back.
-use Rattle.std.specs.Prelude.{◌≡◌, ◌⊎◌, ◌≤◌, true, false, List, [], ◌++◌, length, Some, None}
+use Rattle.std.specs.Prelude.{◌≡◌, ◌⊎◌, ◌≤◌, true, false, List, [], ◌++◌, length, Some}
 use Rattle.hickory_proto_core.specs.declared.query.Query.{Query}
 use Rattle.hickory_proto_core.specs.declared.recorded.Exchange.{Exchange}
 use Rattle.hickory_proto_core.specs.codes.record_type.RecordType.{RecordType}
@@ -8,8 +8,8 @@ use Rattle.hickory_resolver_model.specs.Cache.{CacheValue}
 use Rattle.hickory_resolver_model.specs.Lookup.{LookupResult, question_of}
 use Rattle.hickory_resolver_model.specs.Verdict.{first_hop}
 use Rattle.hickory_resolver_model.specs.Hops.{LookupContext, GoesUpstream, FollowsAliases, IsReply, one_cache, passed_of}
-use Rattle.hickory_resolver_model.specs.Hosts.{HostsHave}
-use Rattle.hickory_resolver_model.specs.Calls.{CallContext, start_at, SubLookup, SubLookupRelation, IsAnsweredAlone, next_type, IsAttemptResult, AreSubLookups, results_of, stops, AreAttempts, asks_of_sub_lookups}
+use Rattle.hickory_resolver_model.specs.Hosts.{NotInHosts}
+use Rattle.hickory_resolver_model.specs.Calls.{CallContext, context_over, SubLookup, SubLookupRelation, IsAnsweredAlone, next_type, IsAttemptResult, AreSubLookups, results_of, stops, AreAttempts, asks_of_sub_lookups}
 use Rattle.hickory_resolver_model.specs.Resuming.{WaitingValue, ProgressValue, Waits, IsDone}
 use Rattle.hickory_resolver_theorems.specs.ResumingCalls.{AttemptValue, WaitingCallValue, CallProgressValue}
 
@@ -64,8 +64,8 @@ pub record IsCallSentAlone
   pub sent : List Exchange
   pub asked_type : RecordType
   pub next : next_type w.attempt.plan.types w.attempt.results ≡ Some asked_type
-  pub not_static : (w.attempt.with_hosts ≡ false) ⊎ HostsHave (question_of w.attempt.name asked_type) s.now s.hosts None
-  pub lookup : LookupSoFar (start_at s cache) (question_of w.attempt.name asked_type) sent (Waits w.lookup) cache
+  pub not_in_hosts : NotInHosts w.attempt.with_hosts (question_of w.attempt.name asked_type) s.now s.hosts
+  pub lookup : LookupSoFar (context_over s cache) (question_of w.attempt.name asked_type) sent (Waits w.lookup) cache
   pub asks_are : asks ≡ asks_of_sub_lookups done ++ sent
   pub rest : LeadsToWhole (IsAnsweredAlone s) IsWhole done w.attempt cache
 

@@ -15,7 +15,7 @@ use Rattle.hickory_resolver_model.specs.Lookup.{LookupValue, LookupResult}
 use Rattle.hickory_resolver_model.specs.AliasWalk.{walk_of}
 use Rattle.hickory_resolver_model.specs.Verdict.{Hop}
 use Rattle.hickory_resolver_model.specs.Hops.{LookupContext, ChainEnd, Special, Hit, Asked, Store, IsReplyOver, entry_of_store, asks_of, one_cache, passed_of, stores_of}
-use Rattle.hickory_resolver_model.specs.Calls.{CallContext, start_at, Source, Hosts, Client, SubLookup, SubLookupRelation, IsAnsweredByHosts, IsAnsweredByClient}
+use Rattle.hickory_resolver_model.specs.Calls.{CallContext, context_over, Source, Hosts, Client, SubLookup, SubLookupRelation, IsAnsweredByHosts, IsAnsweredByClient}
 use Rattle.hickory_resolver_model.specs.Run.{Settings, call_context_at, RequestValue, StepValue, AreStagesBy, Run}
 use Rattle.hickory_resolver_theorems.specs.Statements.{LeastTtlIsZero}
 
@@ -92,7 +92,7 @@ abbrev pub OutlivesNoAliasBy : Source → CallContext → Bool → CacheValue �
 OutlivesNoAliasBy Hosts s with_hosts before p after = IsAnsweredByHosts s with_hosts before p after
 OutlivesNoAliasBy Client s with_hosts before p after =
     (is : IsAnsweredByClient s with_hosts before p after)
-    × NoAliasOutlives (start_at s before) (one_cache (start_at s before) p.asks) p.question p.asks p.result after
+    × NoAliasOutlives (context_over s before) (one_cache (context_over s before) p.asks) p.question p.asks p.result after
     is.reply
 
 abbrev pub SubLookupOutlivesNoAlias : CallContext → SubLookupRelation

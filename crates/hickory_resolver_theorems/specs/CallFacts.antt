@@ -15,7 +15,7 @@ use Rattle.hickory_resolver_model.specs.Bounds.{ConfigValue}
 use Rattle.hickory_resolver_model.specs.Cache.{CacheValue, Entry}
 use Rattle.hickory_resolver_model.specs.Lookup.{LookupValue, LookupResult}
 use Rattle.hickory_resolver_model.specs.Hops.{entry_of_store, one_cache}
-use Rattle.hickory_resolver_model.specs.Calls.{CallContext, start_at, Source, Hosts, Client, SubLookup, SubLookupRelation, IsAnsweredByHosts, IsAnsweredByClient, asks_of_sub_lookups}
+use Rattle.hickory_resolver_model.specs.Calls.{CallContext, context_over, Source, Hosts, Client, SubLookup, SubLookupRelation, IsAnsweredByHosts, IsAnsweredByClient, asks_of_sub_lookups}
 use Rattle.hickory_resolver_model.specs.Run.{Settings, call_context_at, Call, AtOnce, Attempt, IsCall, RanOutBeforeAsking, name_call, address_call}
 use Rattle.hickory_resolver_model.specs.Resolver.{ResolverValue, settings, AnswersCall}
 use Rattle.hickory_resolver_theorems.specs.Aliases.{SubLookupOutlivesNoAlias}
@@ -59,7 +59,7 @@ IsFreshlyStoredBy sources Client s with_hosts before p after =
     (is : IsAnsweredByClient s with_hosts before p after)
     × AllByRecursion
     (λ store. IfSome (entry_of_store before.config store) (IsFreshForType before.config sources))
-    (stores_made (start_at s before) (one_cache (start_at s before) p.asks) p.question p.asks p.result after is.reply)
+    (stores_made (context_over s before) (one_cache (context_over s before) p.asks) p.question p.asks p.result after is.reply)
 
 abbrev pub FreshlyStoredSubLookup : (ℕ → List Dated) → CallContext → SubLookupRelation
 FreshlyStoredSubLookup sources s with_hosts before q p after =

@@ -3,7 +3,7 @@
 -- table of hosts is replaced. A call that blocks is one with no other event between its own. To the client, calls in
 -- flight are look-ups in flight: a call that is done is made of sub-look-ups that each keep their promises. Of the
 -- settings all but the table of hosts stays.
-use Rattle.std.specs.Prelude.{◌≡◌, ◌⊎◌, ℕ, Bool, false, List, [], ◌∷◌, ◌++◌, Result, Some, None}
+use Rattle.std.specs.Prelude.{◌≡◌, ◌⊎◌, ℕ, Bool, List, [], ◌∷◌, ◌++◌, Result, Some}
 use Rattle.std.specs.List.{AllByRecursion, Contains}
 use Rattle.hickory_proto_core.specs.Name.{NameValue}
 use Rattle.hickory_proto_core.specs.Handles.{OutcomeValue}
@@ -14,7 +14,7 @@ use Rattle.hickory_proto_core.specs.codes.record_type.RecordType.{RecordType}
 use Rattle.hickory_resolver_model.specs.Attempts.{attempts}
 use Rattle.hickory_resolver_model.specs.Cache.{CacheValue}
 use Rattle.hickory_resolver_model.specs.Lookup.{LookupResult, question_of}
-use Rattle.hickory_resolver_model.specs.Hosts.{Host, HostsHave}
+use Rattle.hickory_resolver_model.specs.Hosts.{Host, NotInHosts}
 use Rattle.hickory_resolver_model.specs.Calls.{CallContext, Source, Hosts, Client, SubLookup, SubLookupRelation, IsAnsweredByHosts, next_type, asks_of_sub_lookups}
 use Rattle.hickory_resolver_model.specs.Resuming.{ProgressValue, Waits, IsDone}
 use Rattle.hickory_resolver_model.specs.Run.{Settings, Call, AtOnce, Attempt, after_clear}
@@ -197,7 +197,7 @@ pub record IsInterleavedLookup
     : Type 0 where
   pub hosts : List Host
   pub stood : Contains tables hosts
-  pub not_static : (with_hosts ≡ false) ⊎ HostsHave p.question now hosts None
+  pub not_in_hosts : NotInHosts with_hosts p.question now hosts
   pub lookup : DoneValue
   pub question_is : lookup.question ≡ p.question
   pub now_is : lookup.now ≡ now

@@ -8,7 +8,7 @@ use Rattle.hickory_proto_core.specs.declared.recorded.Exchange.{Exchange}
 use Rattle.hickory_resolver_model.specs.Cache.{CacheValue}
 use Rattle.hickory_resolver_model.specs.Lookup.{LookupResult}
 use Rattle.hickory_resolver_model.specs.Hops.{one_cache}
-use Rattle.hickory_resolver_model.specs.Client.{ClientValue, start_of, IsLookup}
+use Rattle.hickory_resolver_model.specs.Client.{ClientValue, context_of, IsLookup}
 use Rattle.hickory_resolver_model.specs.Run.{Settings, first_cache, RequestValue, StepValue, LedRun}
 use Rattle.hickory_resolver_theorems.specs.Statements.{IsFresh, IsTransparent, Headline}
 use Rattle.hickory_resolver_theorems.specs.Provenance.{HasProvenance}
@@ -22,11 +22,11 @@ pub record IsPromisedLookup
     : Type 0 where
   pub is : IsLookup step options now before question result after
   pub few : length is.asks ≤ 8
-  pub provenance : HasProvenance (start_of before now) (one_cache (start_of before now) is.asks) question is.asks
+  pub provenance : HasProvenance (context_of before now) (one_cache (context_of before now) is.asks) question is.asks
       result after.cache is.reply
-  pub fresh : IsFresh (start_of before now) question is.asks result after.cache
-  pub transparent : IsTransparent (start_of before now) question is.asks result after.cache
-  pub no_alias_outlives : NoAliasOutlives (start_of before now) (one_cache (start_of before now) is.asks) question
+  pub fresh : IsFresh (context_of before now) question is.asks result after.cache
+  pub transparent : IsTransparent (context_of before now) question is.asks result after.cache
+  pub no_alias_outlives : NoAliasOutlives (context_of before now) (one_cache (context_of before now) is.asks) question
       is.asks result after.cache is.reply
 
 -- A run over a handle, from a new resolver: the headline, and that no alias outlives its CNAMEs.

@@ -1,7 +1,7 @@
 -- A call of the resolver that does no I/O. It attempts its names one after another, each for the types of its plan, one
 -- after another. Each of these sub-look-ups is answered by the table of hosts, or it is started and goes on with what
 -- came back. In between, others may have stored, cleared or evicted. The moment of a call is that of its start.
-use Rattle.std.specs.Prelude.{◌≡◌, ◌⊎◌, Bool, true, false, List, [], ◌∷◌, ◌++◌, Some, None, Ok, Err}
+use Rattle.std.specs.Prelude.{◌≡◌, ◌⊎◌, Bool, true, false, List, [], ◌∷◌, ◌++◌, Some, Ok, Err}
 use Rattle.hickory_proto_core.specs.Name.{NameValue}
 use Rattle.hickory_proto_core.specs.Handles.{OutcomeValue}
 use Rattle.hickory_proto_core.specs.codes.record_type.RecordType.{RecordType}
@@ -9,8 +9,8 @@ use Rattle.hickory_proto_core.specs.declared.recorded.Exchange.{Exchange}
 use Rattle.hickory_proto_core.specs.declared.net_error.NetError.TheVariants.{OutOfMemory}
 use Rattle.hickory_resolver_model.specs.Attempts.{attempts}
 use Rattle.hickory_resolver_model.specs.Cache.{CacheValue}
-use Rattle.hickory_resolver_model.specs.Calls.{CallContext, start_at, SubLookup, IsAnsweredFor, CallPlan, Says, next_type, IsAttemptResult, IsLastReply, stops, asks_of_sub_lookups, is_out_of_memory}
-use Rattle.hickory_resolver_model.specs.Hosts.{HostsHave}
+use Rattle.hickory_resolver_model.specs.Calls.{CallContext, context_over, SubLookup, IsAnsweredFor, CallPlan, Says, next_type, IsAttemptResult, IsLastReply, stops, asks_of_sub_lookups, is_out_of_memory}
+use Rattle.hickory_resolver_model.specs.Hosts.{HostsHave, NotInHosts}
 use Rattle.hickory_resolver_model.specs.Lookup.{LookupValue, LookupResult, question_of}
 use Rattle.hickory_resolver_model.specs.Resuming.{Progress, WaitingValue, ProgressValue, Waits, IsDone, Starts, Resumes}
 use Rattle.hickory_resolver_model.specs.Run.{Settings, Call, AtOnce, Attempt, IsCall}
@@ -53,8 +53,8 @@ pub record StartsSub
     (after : CacheValue)
     : Type 0 where
   pub next : next_type a.plan.types a.results ≡ Some t
-  pub not_static : (a.with_hosts ≡ false) ⊎ HostsHave (question_of a.name t) s.now s.hosts None
-  pub starts : Starts (start_at s before) (question_of a.name t) progress after
+  pub not_in_hosts : NotInHosts a.with_hosts (question_of a.name t) s.now s.hosts
+  pub starts : Starts (context_over s before) (question_of a.name t) progress after
 
 -- How a call goes on over the cache that stands: one sub-look-up after another is done at once, and one attempt after
 -- another, until one of them waits or the call is done.
@@ -108,7 +108,7 @@ ContinuesAfter s a (IsDone result) before progress after = Continues s (with_res
 abbrev pub ResumesCall : CallContext → WaitingCallValue → OutcomeValue → CacheValue → CallProgressValue → CacheValue
     → Type 0
 ResumesCall s w outcome before progress after =
-    (lookup : ProgressValue) × (mid : CacheValue) × Resumes (start_at s before) w.lookup outcome lookup mid
+    (lookup : ProgressValue) × (mid : CacheValue) × Resumes (context_over s before) w.lookup outcome lookup mid
     × ContinuesAfter s w.attempt lookup mid progress after
 
 -- ---- a call that blocks

@@ -1,11 +1,11 @@
 -- The facts that stand on the client's look-up and on the run, each by its name.
-use Rattle.std.specs.Prelude.{◌≡◌, ◌⊎◌, ◌≤◌, ℕ, ◌+◌, Bool, true, false, List, [], ◌∷◌, ◌++◌, length, Some, None, Ok, Err}
+use Rattle.std.specs.Prelude.{◌≡◌, ◌⊎◌, ◌≤◌, ℕ, ◌+◌, Bool, true, false, List, [], ◌∷◌, ◌++◌, length, Some, Ok, Err}
 use Rattle.std.specs.List.{AllByRecursion, Contains}
 use Rattle.std.specs.declared.net.IpAddr.{IpAddr}
 use Rattle.hickory_proto_core.specs.Codes.{type_code}
 use Rattle.hickory_proto_core.specs.Name.{NameValue}
 use Rattle.hickory_proto_core.specs.NameGiven.{IsReadAddress}
-use Rattle.hickory_proto_core.specs.Records.{RecordValue}
+use Rattle.hickory_proto_core.specs.Records.{RecordValue, data_of_address}
 use Rattle.hickory_proto_core.specs.ResponseKind.{record_type_code}
 use Rattle.hickory_proto_core.specs.Table.{TableValue}
 use Rattle.hickory_proto_core.specs.declared.query.Query.{Query}
@@ -16,8 +16,8 @@ use Rattle.hickory_resolver_model.specs.Cache.{CacheValue, Entry}
 use Rattle.hickory_proto_core.specs.Handles.{OutcomeValue}
 use Rattle.hickory_resolver_model.specs.Lookup.{LookupValue, LookupResult}
 use Rattle.hickory_resolver_model.specs.Hops.{LookupContext}
-use Rattle.hickory_resolver_model.specs.Hosts.{HostsHave}
-use Rattle.hickory_resolver_model.specs.Calls.{SubLookup, SubLookupRelation, CallContext, Client, IsAnsweredByHosts, is_out_of_memory, literal_at_once, literal_at_last}
+use Rattle.hickory_resolver_model.specs.Hosts.{NotInHosts}
+use Rattle.hickory_resolver_model.specs.Calls.{SubLookup, SubLookupRelation, CallContext, Client, IsAnsweredByHosts, is_out_of_memory, literal_at_once, last_resort}
 use Rattle.hickory_resolver_model.specs.Run.{Settings, call_context_at, RequestValue, LookupIp, StepValue, StepReply, LookedUp, LookedUpIp, Cleared, ends_run, IsServed, Stage, exchanges_of, Run}
 use Rattle.hickory_resolver_theorems.specs.Cacheless.{IsTable, ResolvesTo, AreConsistentWith}
 use Rattle.hickory_resolver_theorems.specs.Cores.{ReplyCore, reply_core, entry_core}
@@ -142,7 +142,7 @@ HasFreshAnswers IsOwn config sources now parts (Err e) = Unit {0}
 abbrev pub IsLiteral : RequestValue → LookupValue → Type 0
 IsLiteral (LookupIp text now) l =
     (address : IpAddr) × IsReadAddress text (Some address)
-    × ((l ≡ literal_at_last address now) ⊎ ((owner : NameValue) × (l ≡ literal_at_once owner address now)))
+    × ((l ≡ last_resort (data_of_address address) now) ⊎ ((owner : NameValue) × (l ≡ literal_at_once owner address now)))
 IsLiteral other l = ⊥
 
 -- what a step answers: the literal address, or answers of its sub-look-ups
@@ -174,7 +174,7 @@ pub record IsCachelessSubLookup
     : Type 0 where
   pub reply : ReplyCore
   pub length_is : ℕ
-  pub not_static : (with_hosts ≡ false) ⊎ HostsHave q s.now s.hosts None
+  pub not_in_hosts : NotInHosts with_hosts q s.now s.hosts
   pub means : ResolvesTo table q reply length_is
   pub result_is : reply_core p.result ≡ reply
 

@@ -30,7 +30,7 @@ use Rattle.hickory_resolver_model.specs.Calls.{Hosts, Client, SubLookup, IsAnswe
 use Rattle.hickory_resolver_model.specs.Run.{Settings, call_context_at, Lookup, LookupIp, ClearLookup, Clear, LookedUp, LookedUpIp, Cleared, IsServed, StepValue, Stage, Run}
 use Rattle.hickory_resolver_model.specs.Client.{empty_cache}
 use Rattle.hickory_resolver_theorems.specs.Worked.{below, relative, name, asks_a, rr, address, response, exchange}
-use Rattle.hickory_resolver_theorems.specs.WorkedRun.{a, spells_a, settings, requests, found, after_run, start, asked, asked_reply, not_static}
+use Rattle.hickory_resolver_theorems.specs.WorkedRun.{a, spells_a, settings, requests, found, after_run, start, asked, asked_reply, not_in_hosts}
 
 -- ---- a clear, and a run that memory cuts short
 
@@ -264,7 +264,7 @@ request_cases = record {
           type.A,
           empty_cache 8,
           refl,
-          (refl, record { not_static = inr (no_hosts (asks_a a_below_b) 0 refl refl); reply = timed_out_reply }),
+          (refl, record { not_in_hosts = inr (no_hosts (asks_a a_below_b) 0 refl refl); reply = timed_out_reply }),
           refl,
         );
         result_is = inl (refl, refl);
@@ -278,7 +278,7 @@ request_cases = record {
           after_run,
           refl,
           record {
-            are = (type.A, after_run, refl, (refl, record { not_static = inl refl; reply = asked_reply }), refl);
+            are = (type.A, after_run, refl, (refl, record { not_in_hosts = inl refl; reply = asked_reply }), refl);
             result_is = inl (refl, refl);
           },
           inl (refl, refl, refl, refl),
@@ -300,12 +300,12 @@ request_cases = record {
           type.A,
           after_run,
           refl,
-          (refl, record { not_static = inr (not_static 0); reply = asked_reply }),
+          (refl, record { not_in_hosts = inr (not_in_hosts 0); reply = asked_reply }),
           (
             type.AAAA,
             after_both,
             refl,
-            (refl, record { not_static = inr (no_hosts asks_aaaa 0 refl refl); reply = second_reply }),
+            (refl, record { not_in_hosts = inr (no_hosts asks_aaaa 0 refl refl); reply = second_reply }),
             refl,
           ),
         );

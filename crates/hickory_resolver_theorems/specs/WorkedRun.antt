@@ -121,8 +121,8 @@ hit_reply = inl (record {
   after_is = refl;
 })
 
-pub not_static : (now : ℕ) → HostsHave (asks_a a) now [] None
-not_static now = (None, λ asked. (let clash : false ≡ true = asked in cc), refl)
+pub not_in_hosts : (now : ℕ) → HostsHave (asks_a a) now [] None
+not_in_hosts now = (None, λ asked. (let clash : false ≡ true = asked in cc), refl)
 
 -- each look-up is one attempt of one sub-look-up
 first_served : IsServed (λ now. IsAnsweredFor (call_context_at settings now)) settings (empty_cache 8)
@@ -145,7 +145,7 @@ first_served =
             (
               refl,
               record {
-                not_static = inr (not_static 0);
+                not_in_hosts = inr (not_in_hosts 0);
                 reply = asked_reply;
               },
             ),
@@ -177,7 +177,7 @@ second_served =
             (
               refl,
               record {
-                not_static = inr (not_static 4);
+                not_in_hosts = inr (not_in_hosts 4);
                 reply = hit_reply;
               },
             ),

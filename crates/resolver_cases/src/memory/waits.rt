@@ -5,7 +5,7 @@ use crate::memory::marks::done;
 use crate::memory::sample::{Said, outcome_of, query};
 use crate::memory::shown::{say_waits, show_made};
 use hickory_proto_core::{NetError, Outcome, Query, RecordType, ScriptHandle};
-use hickory_resolver::{CachingClient, CachingCore, Progress, ResponseCache, Waiting};
+use hickory_resolver::{CachingClient, ClientState, Progress, ResponseCache, Waiting};
 use std::alloc::Global;
 
 // The names of which it is shown whether they have an entry.
@@ -14,7 +14,7 @@ const LABELS: [&str; 3] = ["a", "c", "x"];
 /// A client whose own handle is not asked, or the part of one that has no handle.
 #[derive(Drop)]
 enum Client {
-    Core(CachingCore),
+    Core(ClientState),
     Whole(CachingClient<ScriptHandle>),
 }
 
@@ -46,23 +46,23 @@ impl Client {
 /// `a.`, and the others over an empty one.
 pub fn make(rt: &impl Print, alloc: Global, case: &str) -> Result<bool, NetError> {
     match case {
-        "CachingCore::start of a hit" | "CachingClient::start of a hit" => {
+        "ClientState::start of a hit" | "CachingClient::start of a hit" => {
             done(with_client(rt, alloc, case, &["a"], "a"))
         }
-        "CachingCore::start of a special name" | "CachingClient::start of a special name" => {
+        "ClientState::start of a special name" | "CachingClient::start of a special name" => {
             done(with_client(rt, alloc, case, &["a"], "localhost"))
         }
-        "no memory: CachingCore::start of a question to ask"
+        "no memory: ClientState::start of a question to ask"
         | "no memory: CachingClient::start of a question to ask" => {
             done(with_client(rt, alloc, case, &["a"], "c"))
         }
-        "CachingCore::resume with an alias"
+        "ClientState::resume with an alias"
         | "CachingClient::resume with an alias"
-        | "CachingCore::resume behind an alias"
+        | "ClientState::resume behind an alias"
         | "CachingClient::resume behind an alias" => {
             done(with_client(rt, alloc, case, &[], "c"))
         }
-        "CachingCore::resume with a negative answer"
+        "ClientState::resume with a negative answer"
         | "CachingClient::resume with a negative answer" => {
             done(with_client(rt, alloc, case, &[], "x"))
         }
@@ -78,8 +78,8 @@ fn with_client(
     label: &str,
 ) -> Result<(), NetError> {
     let cache = cache_of(alloc, kept)?;
-    let mut client = if case.contains("CachingCore") {
-        Client::Core(CachingCore::with_cache(cache, false))
+    let mut client = if case.contains("ClientState") {
+        Client::Core(ClientState::with_cache(cache, false))
     } else {
         let handle = ScriptHandle::new(Vec::new(alloc));
         Client::Whole(CachingClient::with_cache(cache, handle, false))

@@ -1,8 +1,8 @@
-use Rattle.std.proofs.Common.{◌≡◌, ◌⊎◌, false, Some, None, refl, subst, inl, inr}
+use Rattle.std.proofs.Common.{◌≡◌, false, Some, None, refl, subst, inl, inr}
 use Rattle.hickory_proto_core.specs.declared.query.Query.{Query}
 use Rattle.hickory_resolver_client.specs.Contexts.{progress_of}
-use Rattle.hickory_resolver_model.specs.Client.{start_of}
-use Rattle.hickory_resolver_model.specs.Hosts.{HostsHave}
+use Rattle.hickory_resolver_model.specs.Client.{context_of}
+use Rattle.hickory_resolver_model.specs.Hosts.{HostsHave, NotInHosts}
 use Rattle.hickory_resolver_model.specs.Lookup.{question_of}
 use Rattle.hickory_resolver_model.specs.Resuming.{Starts}
 use Rattle.hickory_resolver.proofs.attempting.look_up.Goals as goal
@@ -15,8 +15,8 @@ returns-then-skips_hosts-clause-looks_up g c =
       query_type = c.query-question.ensures.query_type i;
       query_class = c.query-question.ensures.query_class i;
     } in
-    let P : Query → Type 0 = λ q. (c.args.with_hosts ≡ false) ⊎ HostsHave q c.args.now c.args.hosts.now None in
-    let Q : Query → Type 0 = λ q. Starts (start_of c.args.client.now c.args.now) q (progress_of c.start.result)
+    let P : Query → Type 0 = λ q. NotInHosts c.args.with_hosts q c.args.now c.args.hosts.now in
+    let Q : Query → Type 0 = λ q. Starts (context_of c.args.client.now c.args.now) q (progress_of c.start.result)
     c.start.new.self.cache in
     inl (
       progress_of c.start.result,
@@ -51,7 +51,7 @@ returns-in-Ok-None-clause-looks_up g c =
       query_class = c.query-question.ensures.query_class i;
     } in
     let P : Query → Type 0 = λ q. HostsHave q c.args.now c.args.hosts.now None in
-    let Q : Query → Type 0 = λ q. Starts (start_of c.args.client.now c.args.now) q
+    let Q : Query → Type 0 = λ q. Starts (context_of c.args.client.now c.args.now) q
     (progress_of c.start-in-Ok-None.result) c.start-in-Ok-None.new.self.cache in
     inl (
       progress_of c.start-in-Ok-None.result,

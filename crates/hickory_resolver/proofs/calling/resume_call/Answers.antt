@@ -1,7 +1,7 @@
 use Rattle.std.proofs.Common.{ℕ, refl, sym, subst}
 use Rattle.hickory_resolver_client.specs.Contexts.{progress_of}
 use Rattle.hickory_resolver_model.specs.Calls.{CallContext}
-use Rattle.hickory_resolver_model.specs.Client.{start_of}
+use Rattle.hickory_resolver_model.specs.Client.{context_of}
 use Rattle.hickory_resolver_model.specs.Resolver.{call_context_of}
 use Rattle.hickory_resolver_theorems.specs.ResumingCalls.{ContinuesAfter}
 use Rattle.hickory_resolver.specs.CallSteps.{IsReady, attempt_value, first_question}
@@ -21,7 +21,7 @@ returns-clause-resumes g c =
     (progress_of c.go_on.result) c.go_on.new.client.cache in
     let ready = subst N (sym c.now-now.ensures) (record {
       kept_is = c.waiting.invariant;
-      begun = resumed_begun (start_of c.args.client.now moment) c.waiting.inside.lookup refl c.args.outcome p mid.cache
+      begun = resumed_begun (context_of c.args.client.now moment) c.waiting.inside.lookup refl c.args.outcome p mid.cache
           c.resume-progress.ensures.resumes;
     }) in
     rw (← c.waiting.view_is) (
