@@ -14,7 +14,7 @@ const LABELS: [&str; 3] = ["a", "c", "x"];
 /// A client whose own handle is not asked, or the part of one that has no handle.
 #[derive(Drop)]
 enum Client {
-    Core(ClientState),
+    State(ClientState),
     Whole(CachingClient<ScriptHandle>),
 }
 
@@ -22,21 +22,21 @@ impl Client {
     // Starts a look-up at the moment 0.
     fn start(&mut self, query: Query) -> Progress<Waiting> {
         match self {
-            Client::Core(core) => core.start(query, 0),
+            Client::State(state) => state.start(query, 0),
             Client::Whole(client) => client.start(query, 0),
         }
     }
 
     fn resume(&mut self, waiting: Waiting, outcome: Outcome) -> Progress<Waiting> {
         match self {
-            Client::Core(core) => core.resume(waiting, outcome),
+            Client::State(state) => state.resume(waiting, outcome),
             Client::Whole(client) => client.resume(waiting, outcome),
         }
     }
 
     fn cache(&self) -> &ResponseCache {
         match self {
-            Client::Core(core) => core.cache(),
+            Client::State(state) => state.cache(),
             Client::Whole(client) => client.cache(),
         }
     }
@@ -79,7 +79,7 @@ fn with_client(
 ) -> Result<(), NetError> {
     let cache = cache_of(alloc, kept)?;
     let mut client = if case.contains("ClientState") {
-        Client::Core(ClientState::with_cache(cache, false))
+        Client::State(ClientState::with_cache(cache, false))
     } else {
         let handle = ScriptHandle::new(Vec::new(alloc));
         Client::Whole(CachingClient::with_cache(cache, handle, false))
