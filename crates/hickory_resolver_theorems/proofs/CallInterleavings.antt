@@ -24,7 +24,7 @@ use Rattle.hickory_resolver_theorems.proofs.Fronts.{IsFront, front-self, front-m
 use Rattle.hickory_resolver_theorems.proofs.Interleavings.{interleaved}
 use Rattle.hickory_resolver_theorems.proofs.Lists.{ContainsByRecursion, all-weaker, all-append, all-front, all-back, contains-from_recursion, contains-to_recursion, has-right}
 use Rattle.hickory_resolver_theorems.proofs.RunEvents.{happen-append, received-append, ended-append}
-use Rattle.hickory_resolver_theorems.proofs.RestOfCall.{asks-append, by_client, by_hosts, rest_stopped, attempts_of, rest_next, rest_none, more_done}
+use Rattle.hickory_resolver_theorems.proofs.RestOfCall.{asks-append, by_client, hosts_part, rest_stopped, attempts_of, rest_next, rest_none, more_done}
 
 happen-more : (preserve : Bool) (first : WorldValue) (events : List EventValue) (mid : WorldValue) (event : EventValue) (after : WorldValue) → Happen preserve first events mid → Happens preserve mid event after → Happen preserve first (events ++ event ∷ []) after
 happen-more preserve first [] mid event after e happens = (after, subst (λ w. Happens preserve w event after) e happens, refl)
@@ -231,9 +231,9 @@ module _ (s : Settings) (empty : CacheValue) (none : empty.entries ≡ []) (open
     abbrev ctx : CallContext
     ctx = call_context_over s now hosts
 
-    leads-found : (lookups : List EventValue) (done : List SubLookup) (a : AttemptValue) (t : RecordType) (result : LookupResult) → FindsInHosts ctx a t result → Leads tables lookups call now done a → Leads tables lookups call now (done ++ by_hosts a t result ∷ []) (with_result a result)
+    leads-found : (lookups : List EventValue) (done : List SubLookup) (a : AttemptValue) (t : RecordType) (result : LookupResult) → FindsInHosts ctx a t result → Leads tables lookups call now done a → Leads tables lookups call now (done ++ hosts_part a t result ∷ []) (with_result a result)
     leads-found lookups done a t result f leads T L h k =
-        more_done (Answers T L now) (IsCall (Answers T L now) s empty call) done a t empty empty (by_hosts a t result) f.next
+        more_done (Answers T L now) (IsCall (Answers T L now) s empty call) done a t empty empty (hosts_part a t result) f.next
         (refl, (hosts, contains-front tables T hosts stood h, record { asks_hosts = f.with_hosts; found = f.found; has = f.has; result_is = f.result_is; nothing_asked = refl; unchanged = refl }))
         (leads T L h k)
 
@@ -368,8 +368,8 @@ module _ (s : Settings) (empty : CacheValue) (none : empty.entries ≡ []) (open
     goes : (a : AttemptValue) (before : CacheValue) (progress : CallProgressValue) (after : CacheValue) (lookups : List EventValue) (done : List SubLookup) (ps : List PendingValue) → Happen preserve (world_of empty) lookups (record { cache = before; pending = ps }) → Leads tables lookups call now done a → Within call a → Continues ctx a before progress after
         → Gone lookups (asks_of_sub_lookups done) progress after ps
     goes a before progress after lookups done ps happened leads within (by_hosts {t = t} {result = result} found more) =
-        gone-asks lookups done (by_hosts a t result) progress after ps refl
-        (goes (with_result a result) before progress after lookups (done ++ by_hosts a t result ∷ []) ps happened (leads-found lookups done a t result found leads) within more)
+        gone-asks lookups done (hosts_part a t result) progress after ps refl
+        (goes (with_result a result) before progress after lookups (done ++ hosts_part a t result ∷ []) ps happened (leads-found lookups done a t result found leads) within more)
     goes a before progress after lookups done ps happened leads within (waits {t = t} {w = w} started) = gone-waits lookups done a t w before after ps happened leads within started
     goes a before progress after lookups done ps happened leads within (at_once {t = t} {result = result} {mid = mid} started more) =
         let q = question_of a.name t in

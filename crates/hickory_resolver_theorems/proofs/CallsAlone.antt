@@ -15,7 +15,7 @@ use Rattle.hickory_resolver_model.specs.Run.{Settings, Call, AtOnce, Attempt, Is
 use Rattle.hickory_resolver_theorems.specs.CallFacts.{IsCallBy}
 use Rattle.hickory_resolver_theorems.specs.ResumingCalls.{AttemptValue, WaitingCallValue, CallProgressValue, with_result, at_next, FindsInHosts, StartsSub, Continues, by_hosts, waits, at_once, stopped, next_name, no_name, StartsNames, StartsCall, RunsOutAtStart, ContinuesAfter, ResumesCall}
 use Rattle.hickory_resolver_theorems.proofs.SentAlone.{LookupSoFar, IsRestOfCall, CallRelation, LeadsToWhole, IsCallSentAlone, IsCallDoneAlone, CallSoFar}
-use Rattle.hickory_resolver_theorems.proofs.RestOfCall.{asks-append, by_client, by_hosts, rest_stopped, attempts_of, rest_next, rest_none, more_done}
+use Rattle.hickory_resolver_theorems.proofs.RestOfCall.{asks-append, by_client, hosts_part, rest_stopped, attempts_of, rest_next, rest_none, more_done}
 use Rattle.hickory_resolver_theorems.proofs.Weaker.{call-weaker}
 use Rattle.hickory_resolver_theorems.proofs.LookupsAlone.{done_unasked, some_asked, lookup_started, lookup_resumed}
 
@@ -25,9 +25,9 @@ module _ (s : CallContext) where
     at_end done a result before whole rest =
         record { parts = done; asks_are = refl; whole = subst (λ ps. IsWhole ps result before) (append-nil done) (whole [] result before rest) }
 
-    found_done : (done : List SubLookup) (a : AttemptValue) (t : RecordType) (result : LookupResult) (before : CacheValue) → FindsInHosts s a t result → LeadsToWhole (IsAnsweredAlone s) IsWhole done a before → LeadsToWhole (IsAnsweredAlone s) IsWhole (done ++ by_hosts a t result ∷ []) (with_result a result) before
+    found_done : (done : List SubLookup) (a : AttemptValue) (t : RecordType) (result : LookupResult) (before : CacheValue) → FindsInHosts s a t result → LeadsToWhole (IsAnsweredAlone s) IsWhole done a before → LeadsToWhole (IsAnsweredAlone s) IsWhole (done ++ hosts_part a t result ∷ []) (with_result a result) before
     found_done done a t result before f whole =
-        more_done (IsAnsweredAlone s) IsWhole done a t before before (by_hosts a t result) f.next ((refl, record { asks_hosts = f.with_hosts; found = f.found; has = f.has; result_is = f.result_is; nothing_asked = refl; unchanged = refl }), (λ client. let clash : Hosts ≡ Client = client in cc)) whole
+        more_done (IsAnsweredAlone s) IsWhole done a t before before (hosts_part a t result) f.next ((refl, record { asks_hosts = f.with_hosts; found = f.found; has = f.has; result_is = f.result_is; nothing_asked = refl; unchanged = refl }), (λ client. let clash : Hosts ≡ Client = client in cc)) whole
 
     started_wait : (done : List SubLookup) (a : AttemptValue) (t : RecordType) (w : WaitingValue) (before after : CacheValue) → StartsSub s a t before (Waits w) after → LeadsToWhole (IsAnsweredAlone s) IsWhole done a before → IsCallSentAlone s IsWhole (asks_of_sub_lookups done) (record { attempt = a; lookup = w }) after
     started_wait done a t w before after started whole =
@@ -55,8 +55,8 @@ module _ (s : CallContext) where
 
     pub goes_on : (a : AttemptValue) (before : CacheValue) (progress : CallProgressValue) (after : CacheValue) (done : List SubLookup) → LeadsToWhole (IsAnsweredAlone s) IsWhole done a before → Continues s a before progress after → CallSoFar s IsWhole (asks_of_sub_lookups done) progress after
     goes_on a before progress after done whole (by_hosts {t = t} {result = result} found more) =
-        asks_stay done (by_hosts a t result) progress after refl
-        (goes_on (with_result a result) before progress after (done ++ by_hosts a t result ∷ []) (found_done done a t result before found whole) more)
+        asks_stay done (hosts_part a t result) progress after refl
+        (goes_on (with_result a result) before progress after (done ++ hosts_part a t result ∷ []) (found_done done a t result before found whole) more)
     goes_on a before progress after done whole (waits {t = t} {w = w} started) = started_wait done a t w before after started whole
     goes_on a before progress after done whole (at_once {t = t} {result = result} {mid = mid} started more) =
         asks_stay done (by_client a t [] result) progress after refl

@@ -18,8 +18,8 @@ asks-append (q ∷ qs) p = ap (λ xs. q.asks ++ xs) (asks-append qs p) ∙ sym (
 abbrev pub by_client : (a : AttemptValue) (t : RecordType) (asks : List Exchange) (result : LookupResult) → SubLookup
 by_client a t asks result = record { question = question_of a.name t; source = Client; asks = asks; result = result }
 
-abbrev pub by_hosts : (a : AttemptValue) (t : RecordType) (result : LookupResult) → SubLookup
-by_hosts a t result = record { question = question_of a.name t; source = Hosts; asks = []; result = result }
+abbrev pub hosts_part : (a : AttemptValue) (t : RecordType) (result : LookupResult) → SubLookup
+hosts_part a t result = record { question = question_of a.name t; source = Hosts; asks = []; result = result }
 
 module _ (Answers : SubLookupRelation) where
   pub rest_after : (a : AttemptValue) (t : RecordType) (before mid : CacheValue) (p : SubLookup) → next_type a.plan.types a.results ≡ Some t → Answers a.with_hosts before (question_of a.name t) p mid → (parts : List SubLookup) (result : LookupResult) (after : CacheValue) → IsRestOfCall Answers (with_result a p.result) mid parts result after → IsRestOfCall Answers a before (p ∷ parts) result after
