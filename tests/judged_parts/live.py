@@ -7,7 +7,9 @@ import time
 import dns.message
 import dns.query
 
-from judged_parts.resolvers import SETTINGS, SLACK, TOP, ZONE, Notes, Upstream, free_ports, running
+from judged_parts.noting import ZONE, Notes, Upstream, free_ports
+from judged_parts.products import SETTINGS, TOP
+from judged_parts.resolvers import SLACK, running
 from live_parts.servers import ADDRESS
 
 SECONDS_TO_START = 60

@@ -1,8 +1,8 @@
 """A second reckoning of a trace, by docs/TRACES.md: what is stale, raised, denied for too long, or not received. It goes
-over all receptions for each telling, and knows nothing of the program that it is compared with. Aliases that ran out are
-not reckoned, nor are traces of more than a day."""
+over all receptions of a record for each telling, and knows nothing of the program that it is compared with. Aliases that
+ran out are not reckoned, nor are traces of more than a day."""
 import re
-from collections import Counter, namedtuple
+from collections import Counter, defaultdict, namedtuple
 
 Event = namedtuple("Event", "line moment verb code question truncated records")
 Record = namedtuple("Record", "section owner ttl dns_class type data")
@@ -37,12 +37,13 @@ def begun(number, fields):
     return Event(number, moment, verb, code, tuple(rest[:3]), "tc" in rest[3:], [])
 
 
-def deadline(moment, record):
-    return moment + 1000 * record.ttl
+def deadline(moment, ttl):
+    return moment + 1000 * ttl
 
 
-def is_same(a, b):
-    return (a.owner, a.dns_class, a.type, a.data) == (b.owner, b.dns_class, b.type, b.data)
+def same(record):
+    """What records have in common that are the same."""
+    return record.owner, record.dns_class, record.type, record.data
 
 
 def last_name(event):
@@ -63,39 +64,41 @@ def denial_of(event):
     soa = zones.get("soa")
     ttl = min(soa.ttl, int(soa.data.split()[-1])) if soa else 0
     denied = None if event.code == "nxdomain" else event.question[1]
-    return Denial(last_name(event), event.question[2], denied, event.moment + 1000 * ttl)
+    return Denial(last_name(event), event.question[2], denied, deadline(event.moment, ttl))
 
 
-def covers(a, b):
-    if a.dns_class != b.dns_class:
-        return False
-    if a.type is None:
-        return a.name == "." or b.name == a.name or b.name.endswith("." + a.name)
-    return (a.name, a.type) == (b.name, b.type)
+def covering(denial, denied):
+    """What covers a denial: of its name and type, and of whole names that it is, or is below."""
+    yield from denied[denial.name, denial.dns_class, denial.type]
+    labels = denial.name.rstrip(".").split(".")
+    for count in range(len(labels) + 1):
+        above = ".".join(labels[count:]) + "."
+        if denial.type is not None or count > 0:
+            yield from denied[above, denial.dns_class, None]
 
 
 def of_record(event, record, received, slack):
-    """Every class of a record that is told, out of all pairs of a moment and a record that were received."""
-    same = [(moment, other) for moment, other in received if is_same(record, other)]
-    if not same:
+    """Every class of a record that is told, by the moments and TTLs with which it was received."""
+    times = received[same(record)]
+    if not times:
         return ["unseen"]
-    reach = deadline(event.moment, record)
-    is_stale = all(deadline(moment, other) + 1000 * slack + AT_ONCE < reach for moment, other in same)
-    is_raised = all(other.ttl + slack < record.ttl for _, other in same)
+    reach = deadline(event.moment, record.ttl)
+    is_stale = all(deadline(moment, ttl) + 1000 * slack + AT_ONCE < reach for moment, ttl in times)
+    is_raised = all(ttl + slack < record.ttl for _, ttl in times)
     return ["stale by"] * is_stale + ["raised"] * is_raised
 
 
 def of_denial(denial, denied, slack):
-    same = [other for other in denied if covers(other, denial)]
-    if not same:
+    deadlines = list(covering(denial, denied))
+    if not deadlines:
         return ["unseen"]
-    is_late = all(other.deadline + 1000 * slack + AT_ONCE < denial.deadline for other in same)
+    is_late = all(other + 1000 * slack + AT_ONCE < denial.deadline for other in deadlines)
     return ["negative outlives by"] * is_late
 
 
 def reckon(text, slack):
     """How often each class is found in each line."""
-    opened, received, denied, found = Counter(), [], [], Counter()
+    opened, received, denied, found = Counter(), defaultdict(list), defaultdict(list), Counter()
     for event in events(text):
         if event.verb == "asked":
             opened[event.question] += 1
@@ -105,8 +108,10 @@ def reckon(text, slack):
                 continue
             opened[event.question] -= 1
             if event.code in ("noerror", "nxdomain"):
-                received += [(event.moment, record) for record in event.records]
-                denied += [denial] if (denial := denial_of(event)) else []
+                for record in event.records:
+                    received[same(record)].append((event.moment, record.ttl))
+                if denial := denial_of(event):
+                    denied[denial.name, denial.dns_class, denial.type].append(denial.deadline)
         elif event.code in ("noerror", "nxdomain"):
             classes = [name for record in event.records for name in of_record(event, record, received, slack)]
             denial = denial_of(event)
