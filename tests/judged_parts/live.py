@@ -7,12 +7,13 @@ import time
 import dns.message
 import dns.query
 
-from judged_parts.resolvers import SETTINGS, SLACK, TOP, ZONE, Notes, Upstream, running
-from live_parts.servers import ADDRESS, free_port
+from judged_parts.noting import ZONE, Notes, Upstream, free_ports
+from judged_parts.products import SETTINGS, TOP
+from judged_parts.resolvers import SLACK, running
+from live_parts.servers import ADDRESS
 
-NAME = f"host0-1.{ZONE}"
-SECONDS_TO_START = 30
-SECONDS_TO_TELL = 30
+SECONDS_TO_START = 60
+TRIES_TO_FIND = 20
 
 
 def line_within(stream, seconds):
@@ -37,7 +38,7 @@ def pipeline(program, port, upstream_port):
     words = [sys.executable, TOP / "tools/pcap2trace", "-", "--resolver", ADDRESS, "--port", str(port),
              "--upstream-port", str(upstream_port)]
     trace = subprocess.Popen(words, stdin=capture.stdout, stdout=subprocess.PIPE)
-    words = [program, "-", "--cold", "--slack", SLACK]
+    words = [program, "-", "--slack", str(SLACK)]
     judge = subprocess.Popen(words, stdin=trace.stdout, stdout=subprocess.PIPE, text=True)
     # Only the next program reads from each.
     capture.stdout.close()
@@ -45,25 +46,42 @@ def pipeline(program, port, upstream_port):
     return capture, trace, judge
 
 
+def ask_past_its_end(number, port):
+    """Asks twice for a name of its own, once more when it has run out."""
+    query = dns.message.make_query(f"host{number}-1.{ZONE}", "A")
+    for _ in range(2):
+        dns.query.udp(query, ADDRESS, timeout=30, port=port)
+        time.sleep(1.5)
+
+
+def first_finding(judge, port):
+    """The first line of the judge. tshark says that it captures a little before it does, and what it missed is no
+    finding: so one name after another is asked for, until there is one."""
+    for number in range(TRIES_TO_FIND):
+        ask_past_its_end(number, port)
+        if line := line_within(judge.stdout, 1):
+            return line
+    return ""
+
+
 def cases(told, program, folder):
     with told.guard("a capture that goes on"):
-        upstream, port = Upstream(Notes()), free_port()
+        port, upstream_port = free_ports(2)
+        upstream = Upstream(Notes(), upstream_port)
         programs = ()
         try:
-            words = SETTINGS["dnsmasq, --min-cache-ttl=10"](port, upstream.port, folder)
+            words = SETTINGS["dnsmasq, --min-cache-ttl=10"](port, upstream_port, folder)
             with running(words, port, folder, "live.log"):
-                programs = capture, _, judge = pipeline(program, port, upstream.port)
+                programs = capture, _, judge = pipeline(program, port, upstream_port)
                 told.tell("tshark captures on loopback", started(capture), "it cannot")
-                time.sleep(2)  # it says so a little before it does
-                for _ in range(2):
-                    dns.query.udp(dns.message.make_query(NAME, "A"), ADDRESS, timeout=5, port=port)
-                    time.sleep(1.5)
-                line = line_within(judge.stdout, SECONDS_TO_TELL)
-                told.tell("a finding while the capture goes on", " stale by " in line and NAME in line
+                line = first_finding(judge, port)
+                told.tell("a finding while the capture goes on", " stale by " in line and "host" in line
                           and capture.poll() is None, line)
                 capture.terminate()
-                text, _ = judge.communicate(timeout=60)
-                told.tell("and the counts at its end", judge.returncode == 1 and "\nstale 1\n" in text, text)
+                text, _ = judge.communicate(timeout=120)
+                text = line + text
+                told.tell("and the counts at its end", judge.returncode == 1 and "\ntold " in text and
+                          f"\nstale {text.count(' stale by ')}\n" in text, text)
         finally:
             upstream.end()
             for process in programs:

@@ -1,0 +1,141 @@
+"""A second reckoning of a trace, by docs/TRACES.md: what is stale, raised, denied for too long, or not received. It goes
+over all receptions of a record for each telling, and knows nothing of the program that it is compared with. Aliases that
+ran out are not reckoned, nor are traces of more than a day."""
+import re
+from collections import Counter, defaultdict, namedtuple
+
+Event = namedtuple("Event", "line moment verb code question truncated records")
+Record = namedtuple("Record", "section owner ttl dns_class type data")
+Denial = namedtuple("Denial", "name dns_class type deadline")
+AT_ONCE = 50
+# Not a finding of the judge's that is reckoned here.
+NOT_RECKONED = ("alias outlives", "served stale for")
+
+
+def events(text):
+    """All is compared without case: in these traces only names have letters."""
+    event = None
+    for number, line in enumerate(text.splitlines(), 1):
+        fields = line.lower().split()
+        if not fields or fields[0].startswith("#"):
+            continue
+        if fields[0] == "at":
+            if event:
+                yield event
+            event = begun(number, fields)
+        else:
+            section, owner, ttl, dns_class, record_type, *data = fields
+            event.records.append(Record(section, owner, int(ttl), dns_class, record_type, " ".join(data)))
+    if event:
+        yield event
+
+
+def begun(number, fields):
+    seconds, _, thousandths = fields[1].partition(".")
+    moment = int(seconds) * 1000 + int(thousandths.ljust(3, "0"))
+    verb, code, rest = (fields[2], None, fields[3:]) if fields[2] == "asked" else (fields[2], fields[3], fields[4:])
+    return Event(number, moment, verb, code, tuple(rest[:3]), "tc" in rest[3:], [])
+
+
+def deadline(moment, ttl):
+    return moment + 1000 * ttl
+
+
+def same(record):
+    """What records have in common that are the same."""
+    return record.owner, record.dns_class, record.type, record.data
+
+
+def last_name(event):
+    name = event.question[0]
+    for record in event.records:
+        if (record.section, record.owner, record.dns_class, record.type) == ("answer", name, event.question[2], "cname"):
+            name = record.data
+    return name
+
+
+def denial_of(event):
+    """What a response denies, and until when; a whole name has no type."""
+    answers = [record.type for record in event.records if record.section == "answer"]
+    zones = {record.type: record for record in reversed(event.records) if record.section == "authority"}
+    is_referral = "ns" in zones and "soa" not in zones
+    if event.truncated or event.code == "noerror" and (event.question[1] in answers or is_referral):
+        return None
+    soa = zones.get("soa")
+    ttl = min(soa.ttl, int(soa.data.split()[-1])) if soa else 0
+    denied = None if event.code == "nxdomain" else event.question[1]
+    return Denial(last_name(event), event.question[2], denied, deadline(event.moment, ttl))
+
+
+def covering(denial, denied):
+    """What covers a denial: of its name and type, and of whole names that it is, or is below."""
+    yield from denied[denial.name, denial.dns_class, denial.type]
+    labels = denial.name.rstrip(".").split(".")
+    for count in range(len(labels) + 1):
+        above = ".".join(labels[count:]) + "."
+        if denial.type is not None or count > 0:
+            yield from denied[above, denial.dns_class, None]
+
+
+def of_record(event, record, received, slack):
+    """Every class of a record that is told, by the moments and TTLs with which it was received."""
+    times = received[same(record)]
+    if not times:
+        return ["unseen"]
+    reach = deadline(event.moment, record.ttl)
+    is_stale = all(deadline(moment, ttl) + 1000 * slack + AT_ONCE < reach for moment, ttl in times)
+    is_raised = all(ttl + slack < record.ttl for _, ttl in times)
+    return ["stale by"] * is_stale + ["raised"] * is_raised
+
+
+def of_denial(denial, denied, slack):
+    deadlines = list(covering(denial, denied))
+    if not deadlines:
+        return ["unseen"]
+    is_late = all(other + 1000 * slack + AT_ONCE < denial.deadline for other in deadlines)
+    return ["negative outlives by"] * is_late
+
+
+def reckon(text, slack):
+    """How often each class is found in each line."""
+    opened, received, denied, found = Counter(), defaultdict(list), defaultdict(list), Counter()
+    for event in events(text):
+        if event.verb == "asked":
+            opened[event.question] += 1
+        elif event.verb == "received":
+            if opened[event.question] == 0:
+                found[event.line, "not asked"] += 1
+                continue
+            opened[event.question] -= 1
+            if event.code in ("noerror", "nxdomain"):
+                for record in event.records:
+                    received[same(record)].append((event.moment, record.ttl))
+                if denial := denial_of(event):
+                    denied[denial.name, denial.dns_class, denial.type].append(denial.deadline)
+        elif event.code in ("noerror", "nxdomain"):
+            classes = [name for record in event.records for name in of_record(event, record, received, slack)]
+            denial = denial_of(event)
+            found.update((event.line, name) for name in classes + (of_denial(denial, denied, slack) if denial else []))
+    return found
+
+
+def found_by_judge(text):
+    """The same, out of the lines that the judge wrote."""
+    lines = re.findall(r"^line (\d+) at [0-9.]+ ([a-z ]+?)(?: [0-9.]+)?: ", text, re.MULTILINE)
+    return Counter((int(line), name) for line, name in lines if name not in NOT_RECKONED)
+
+
+def difference(trace, found):
+    wanted = reckon(trace.text, trace.slack)
+    return f"reckoned alone: {dict(wanted - found)}, judged alone: {dict(found - wanted)}, slack {trace.slack}\n{trace.text}"
+
+
+def excerpt(trace, text, most=2):
+    """The events that concern the names of the first findings."""
+    lines = re.findall(r"^line (\d+) ", text, re.MULTILINE)
+    all_events = list(events(trace))
+    wanted = {event.question[0] for event in all_events if str(event.line) in lines[:most]}
+    ranges = [range(event.line, event.line + 1 + len(event.records)) for event in all_events
+              if event.question[0] in wanted or any(record.owner in wanted for record in event.records)]
+    numbers = {number for numbers in ranges for number in numbers}
+    return "\n".join(f"{n:5} {line}" for n, line in enumerate(trace.splitlines(), 1) if n in numbers)
