@@ -18,125 +18,119 @@ const BATCHES: u64 = 2_000;
 // How many look-ups a batch of hits has.
 const HITS: u32 = 100;
 
+// Who sends the questions of a look-up.
+#[derive(Clone, Copy, Drop)]
+enum Sender {
+    // The client.
+    Client,
+    // The caller, who feeds the client what came back.
+    Caller,
+    // The caller, with no client.
+    Alone,
+}
+
 /// Times look-ups, and prints a row for each.
 pub fn print_times<R: Clock + Print>(
     alloc: Global,
     watch: &mut Stopwatch<'_, R>,
 ) -> anyhow::Result<()> {
     let rows = ["look-up by three aliases", "bare: its four responses"];
-    print_sent(alloc, watch, rows, 3, 1)?;
+    print_pair(alloc, watch, rows, Sender::Alone, [3, 1, 1])?;
     let rows = [
         "look-up of 1,000 answers, a record",
         "bare: its response, a record",
     ];
-    print_sent(alloc, watch, rows, 0, 1_000)?;
+    print_pair(alloc, watch, rows, Sender::Alone, [0, 1_000, 1])?;
     let rows = ["a look-up that is a hit", "the same, by `start`"];
-    print_fed(alloc, watch, rows, 0, HITS)?;
+    print_pair(alloc, watch, rows, Sender::Caller, [0, 1, HITS])?;
     let rows = ["a look-up of one question", "the same, by `resume`"];
-    print_fed(alloc, watch, rows, 0, 1)?;
+    print_pair(alloc, watch, rows, Sender::Caller, [0, 1, 1])?;
     let rows = ["by three aliases", "the same, by `resume`"];
-    print_fed(alloc, watch, rows, 3, 1)
+    print_pair(alloc, watch, rows, Sender::Caller, [3, 1, 1])
 }
 
-// A look-up that sends its questions, and its responses alone. The figures are for an address.
-fn print_sent<R: Clock + Print>(
+// So many look-ups a batch by so many aliases to so many addresses: sent by the client, and otherwise. More than one a
+// batch are hits. The figures are for an address.
+fn print_pair<R: Clock + Print>(
     alloc: Global,
     watch: &mut Stopwatch<'_, R>,
-    rows: [&str; 2],
-    aliases: u64,
+    [look_up, other]: [&str; 2],
+    sender: Sender,
+    [aliases, addresses, lookups]: [u32; 3],
+) -> anyhow::Result<()> {
+    let aliases = u64::from(aliases);
+    let client = CachingClient::new(alloc, 100, handle_of(alloc, aliases, addresses)?, true);
+    let mut subject = LookUps {
+        sender: Sender::Client,
+        client,
+        upstream: handle_of(alloc, aliases, addresses)?,
+        requests: list(alloc, aliases.saturating_add(1))?,
+        are_hits: lookups > 1,
+    };
+    print_both(
+        watch,
+        [look_up, other],
+        &mut subject,
+        sender,
+        addresses,
+        lookups,
+    )
+}
+
+fn print_both<R: Clock + Print>(
+    watch: &mut Stopwatch<'_, R>,
+    [look_up, other]: [&str; 2],
+    subject: &mut LookUps,
+    sender: Sender,
     addresses: u32,
-) -> anyhow::Result<()>
-    requires { 0 < addresses }
-{
-    let [look_up, bare] = rows;
-    let operations = BATCHES * u64::from(addresses);
-    let mut subject = look_ups_of(alloc, aliases, addresses, 1)?;
-    watch.print_best(look_up, &mut subject, BATCHES, operations)?;
-    drop(subject);
-    let requests = list(alloc, aliases.saturating_add(1))?;
-    let handle = handle_of(alloc, aliases, addresses)?;
-    watch.print_best(bare, &mut Sends { handle, requests }, BATCHES, operations)
-}
-
-// So many look-ups a batch in both ways.
-fn print_fed<R: Clock + Print>(
-    alloc: Global,
-    watch: &mut Stopwatch<'_, R>,
-    rows: [&str; 2],
-    aliases: u64,
     lookups: u32,
-) -> anyhow::Result<()>
-    requires { 0 < lookups }
-{
-    let [look_up, fed] = rows;
-    let operations = BATCHES * u64::from(lookups);
-    let mut subject = look_ups_of(alloc, aliases, 1, lookups)?;
-    watch.print_best(look_up, &mut subject, BATCHES, operations)?;
-    let upstream = handle_of(alloc, aliases, 1)?;
-    watch.print_best(fed, &mut Fed { subject, upstream }, BATCHES, operations)
+) -> anyhow::Result<()> {
+    let units = (BATCHES * u64::from(addresses) * u64::from(lookups)).max(1);
+    watch.print_best(look_up, subject, BATCHES, lookups as usize, units)?;
+    subject.sender = sender;
+    watch.print_best(other, subject, BATCHES, lookups as usize, units)
 }
 
-// Look-ups of the first host. More than one a batch are hits: a batch of one begins with an empty cache.
+// Look-ups of the first host. Where they are no hits, a batch begins with an empty cache.
 #[derive(Drop)]
 struct LookUps {
+    sender: Sender,
     client: CachingClient<TableHandle>,
-    first: Query,
-    lookups: u32,
-}
-
-fn look_ups_of(
-    alloc: Global,
-    aliases: u64,
-    addresses: u32,
-    lookups: u32,
-) -> Result<LookUps, NetError> {
-    let first = Query::of(alloc, 0)?;
-    let handle = handle_of(alloc, aliases, addresses)?;
-    let client = CachingClient::new(alloc, 100, handle, true);
-    Ok(LookUps {
-        client,
-        first,
-        lookups,
-    })
+    upstream: TableHandle,
+    requests: Vec<DnsRequest>,
+    are_hits: bool,
 }
 
 impl Subject for LookUps {
     fn prepare(&mut self) -> Result<(), NetError> {
-        if self.lookups == 1 {
+        if !self.are_hits {
             self.client.clear_cache();
         }
         Ok(())
     }
 
-    fn run(&mut self) -> Result<u64, NetError> {
-        let mut answers: u64 = 0;
-        for _ in 0..self.lookups {
-            let query = self.first.clone()?;
-            let found = self.client.lookup(query, DnsRequestOptions::default(), 0)?;
-            answers = answers.wrapping_add(found.answers().len() as u64);
+    fn operate(&mut self, _i: usize) -> Result<u64, NetError> {
+        if let Sender::Alone = self.sender {
+            return self.send_each();
         }
-        Ok(answers)
+        let Some(first) = self.requests.first() else {
+            return Ok(0);
+        };
+        let query = first.query.clone()?;
+        let found = match self.sender {
+            Sender::Client => self.client.lookup(query, DnsRequestOptions::default(), 0),
+            _ => look_up(&mut self.client, &mut self.upstream, query),
+        };
+        Ok(found?.answers().len() as u64)
     }
 }
 
-// The same look-ups, whose questions are sent to an upstream beside the client.
-#[derive(Drop)]
-struct Fed {
-    subject: LookUps,
-    upstream: TableHandle,
-}
-
-impl Subject for Fed {
-    fn prepare(&mut self) -> Result<(), NetError> {
-        self.subject.prepare()
-    }
-
-    fn run(&mut self) -> Result<u64, NetError> {
+impl LookUps {
+    fn send_each(&mut self) -> Result<u64, NetError> {
         let mut answers: u64 = 0;
-        for _ in 0..self.subject.lookups {
-            let query = self.subject.first.clone()?;
-            let found = look_up(&mut self.subject.client, &mut self.upstream, query)?;
-            answers = answers.wrapping_add(found.answers().len() as u64);
+        for request in &self.requests {
+            let response = self.upstream.send(request)?;
+            answers = answers.wrapping_add(response.message().answers.len() as u64);
         }
         Ok(answers)
     }
@@ -161,24 +155,6 @@ fn look_up(
         }
     }
     Err(NetError::NoOutcome)
-}
-
-// The same responses, with no client.
-#[derive(Drop)]
-struct Sends {
-    handle: TableHandle,
-    requests: Vec<DnsRequest>,
-}
-
-impl Subject for Sends {
-    fn run(&mut self) -> Result<u64, NetError> {
-        let mut answers: u64 = 0;
-        for request in &self.requests {
-            let response = self.handle.send(request)?;
-            answers = answers.wrapping_add(response.message().answers.len() as u64);
-        }
-        Ok(answers)
-    }
 }
 
 // Asks a host.

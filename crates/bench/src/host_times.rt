@@ -17,103 +17,108 @@ pub fn print_times<R: Clock + Print>(
     alloc: Global,
     watch: &mut Stopwatch<'_, R>,
 ) -> anyhow::Result<()> {
-    print_read(alloc, watch, "read 1 address a name, a line", 1)?;
-    print_read(alloc, watch, "read 1,000 addresses a name, a line", 1_000)?;
     print_read(alloc, watch, "read 10,000 addresses a name, a line", 10_000)?;
-    let mut reads = Reads::new(alloc, 1)?;
-    reads.run()?;
-    let mut look_ups = LookUps {
-        reads,
-        record_type: RecordType::A,
-        asked: Vec::new(alloc),
-        next: 0,
-    };
-    watch.print_best("static look-up of A", &mut look_ups, BATCHES, OPERATIONS)?;
-    look_ups.record_type = RecordType::PTR;
-    watch.print_best("static look-up of PTR", &mut look_ups, BATCHES, OPERATIONS)
+    print_read(alloc, watch, "read 1,000 addresses a name, a line", 1_000)?;
+    let mut table = print_read(alloc, watch, "read 1 address a name, a line", 1)?;
+    table.asked_type = Some(RecordType::A);
+    watch.print_best(
+        "static look-up of A",
+        &mut table,
+        BATCHES,
+        BATCH,
+        OPERATIONS,
+    )?;
+    table.asked_type = Some(RecordType::PTR);
+    watch.print_best(
+        "static look-up of PTR",
+        &mut table,
+        BATCHES,
+        BATCH,
+        OPERATIONS,
+    )
 }
 
+// Reads a file whose names have so many addresses each. Gives the table that was read last.
 fn print_read<R: Clock + Print>(
     alloc: Global,
     watch: &mut Stopwatch<'_, R>,
     what: &str,
     addresses: u64,
-) -> anyhow::Result<()>
+) -> anyhow::Result<Table>
     requires { 0 < addresses }
 {
-    let mut reads = Reads::new(alloc, addresses)?;
-    watch.print_best(what, &mut reads, 1, LINES)
+    let mut table = Table {
+        alloc,
+        file: file_of(alloc, addresses)?,
+        hosts: Hosts::default(alloc),
+        asked_type: None,
+        asked: Vec::new(alloc),
+        next: 0,
+    };
+    watch.print_best(what, &mut table, 1, 1, LINES)?;
+    Ok(table)
 }
 
-// A file that is read into an empty table.
+fn file_of(alloc: Global, addresses: u64) -> anyhow::Result<String>
+    requires { 0 < addresses }
+{
+    let mut file = String::new(alloc);
+    for number in 0..LINES {
+        let name = String::of(alloc, number / addresses)?;
+        write!(file, "{} {name}\n", address(number))?;
+    }
+    Ok(file)
+}
+
+// A file that is read into an empty table; or a type that is looked up in it, for as many names as the file has lines.
 #[derive(Drop)]
-struct Reads {
+struct Table {
     alloc: Global,
     file: String,
     hosts: Hosts,
-}
-
-impl Reads {
-    // Each name of the file has so many addresses.
-    fn new(alloc: Global, addresses: u64) -> anyhow::Result<Reads>
-        requires { 0 < addresses }
-    {
-        let mut file = String::new(alloc);
-        for number in 0..LINES {
-            let name = String::of(alloc, number / addresses)?;
-            write!(file, "{} {name}\n", address(number))?;
-        }
-        Ok(Reads {
-            alloc,
-            file,
-            hosts: Hosts::default(alloc),
-        })
-    }
-}
-
-impl Subject for Reads {
-    fn prepare(&mut self) -> Result<(), NetError> {
-        self.hosts = Hosts::default(self.alloc);
-        Ok(())
-    }
-
-    fn run(&mut self) -> Result<u64, NetError> {
-        match self.hosts.read_hosts_bytes(self.file.as_bytes(), 0) {
-            Ok(()) => Ok(self.file.len() as u64),
-            Err(_) => Err(NetError::OutOfMemory),
-        }
-    }
-}
-
-// Look-ups of a type in a table of as many names as a file has lines.
-#[derive(Drop)]
-struct LookUps {
-    reads: Reads,
-    record_type: RecordType,
+    asked_type: Option<RecordType>,
     asked: Vec<Query>,
     next: u64,
 }
 
-impl Subject for LookUps {
+impl Subject for Table {
     fn prepare(&mut self) -> Result<(), NetError> {
+        match self.asked_type {
+            Some(record_type) => self.ask(record_type),
+            None => {
+                self.hosts = Hosts::default(self.alloc);
+                Ok(())
+            }
+        }
+    }
+
+    fn operate(&mut self, i: usize) -> Result<u64, NetError> {
+        if self.asked_type.is_none() {
+            return match self.hosts.read_hosts_bytes(self.file.as_bytes(), 0) {
+                Ok(()) => Ok(self.file.len() as u64),
+                Err(_) => Err(NetError::OutOfMemory),
+            };
+        }
+        let Some(query) = self.asked.get(i) else {
+            return Ok(0);
+        };
+        match self.hosts.lookup_static_host(query, 1)? {
+            Some(found) => Ok(found.answers().len() as u64),
+            None => Ok(0),
+        }
+    }
+}
+
+impl Table {
+    // Asks the questions of the next batch.
+    fn ask(&mut self, record_type: RecordType) -> Result<(), NetError> {
         self.asked.clear();
         for _ in 0..BATCH {
-            let number = place(self.next, LINES);
-            let name = asked_name(self.reads.alloc, self.record_type, number)?;
-            self.asked.push(Query::query(name, self.record_type))?;
+            let name = asked_name(self.alloc, record_type, place(self.next, LINES))?;
+            self.asked.push(Query::query(name, record_type))?;
             self.next = self.next.wrapping_add(1);
         }
         Ok(())
-    }
-
-    fn run(&mut self) -> Result<u64, NetError> {
-        let mut found: u64 = 0;
-        for query in &self.asked {
-            if let Some(lookup) = self.reads.hosts.lookup_static_host(query, 1)? {
-                found = found.wrapping_add(lookup.answers().len() as u64);
-            }
-        }
-        Ok(found)
     }
 }
 

@@ -25,22 +25,14 @@ pub fn print_times<R: Clock + Print>(
         alloc,
         domains: list(alloc, LENGTH)?,
     };
-    watch.print_best(
-        "a name below 2,000 domains, a domain",
-        searches,
-        TIMES,
-        TIMES * LENGTH,
-    )?;
+    let what = "a name below 2,000 domains, a domain";
+    watch.print_best(what, searches, TIMES, 1, TIMES * LENGTH)?;
     let referrals = &mut Referrals {
         client: CachingClient::new(alloc, 1, referral_handle(alloc)?, true),
         query: Query::of(alloc, 0)?,
     };
-    watch.print_best(
-        "2,000 records of one server, a record",
-        referrals,
-        TIMES,
-        TIMES * LENGTH,
-    )
+    let what = "2,000 records of one server, a record";
+    watch.print_best(what, referrals, TIMES, 2, TIMES * LENGTH)
 }
 
 // The names that are attempted for a short name.
@@ -51,7 +43,7 @@ struct Searches {
 }
 
 impl Subject for Searches {
-    fn run(&mut self) -> Result<u64, NetError> {
+    fn operate(&mut self, _i: usize) -> Result<u64, NetError> {
         let name = Name::from_ascii(self.alloc, "www")?;
         let names = attempts(self.alloc, name, 1, None, &self.domains)?;
         Ok(names.len() as u64)
@@ -71,14 +63,12 @@ impl Subject for Referrals {
         Ok(())
     }
 
-    fn run(&mut self) -> Result<u64, NetError> {
-        let mut servers: u64 = 0;
-        for now in [0, 1] {
-            let query = self.query.clone()?;
-            let found = self.client.lookup(query, DnsRequestOptions::default(), now);
-            servers = servers.wrapping_add(servers_of(found)?);
-        }
-        Ok(servers)
+    fn operate(&mut self, i: usize) -> Result<u64, NetError> {
+        let query = self.query.clone()?;
+        servers_of(
+            self.client
+                .lookup(query, DnsRequestOptions::default(), i as u64),
+        )
     }
 }
 

@@ -2,20 +2,16 @@
 //! argument. Without one it prints nothing.
 #![tactic(auto)]
 
-mod bare;
-mod cache;
+mod by_size;
 mod client;
 mod host_times;
 mod hostile_times;
 mod measure;
 mod name_times;
-mod rows;
 mod samples;
 mod script_times;
-mod visits;
 
 use measure::Stopwatch;
-use rows::print_head;
 use std::alloc::Global;
 use std::env;
 use std::rt::Clock;
@@ -30,9 +26,7 @@ fn main(rt: HostRuntime) -> anyhow::Result<()> {
 // What was computed is printed too, so that no operation is left out when the program is built.
 fn print_times<R: Clock + Print>(rt: &R, alloc: Global) -> anyhow::Result<()> {
     let mut watch = Stopwatch { rt, seen: 0 };
-    print_head(rt)?;
-    cache::print_times(rt, alloc, &mut watch)?;
-    bare::print_times(rt, alloc, &mut watch)?;
+    by_size::print_times(rt, alloc, &mut watch)?;
     name_times::print_times(alloc, &mut watch)?;
     client::print_times(alloc, &mut watch)?;
     host_times::print_times(alloc, &mut watch)?;

@@ -1,7 +1,6 @@
 //! The time that an operation takes.
 ghost use Rattle.std.specs.Prelude.{◌<◌};
 
-use crate::rows::print_figure;
 use hickory_proto_core::NetError;
 use std::rt::Clock;
 use std::time::Instant;
@@ -15,8 +14,8 @@ pub trait Subject {
         Ok(())
     }
 
-    /// A batch of operations. Gives a number that depends on what they gave.
-    fn run(&mut self) -> Result<u64, NetError>;
+    /// The `i`th operation of a batch. Gives a number that depends on what it came to.
+    fn operate(&mut self, i: usize) -> Result<u64, NetError>;
 }
 
 /// Times subjects by a clock, and keeps a sum of what they computed.
@@ -27,50 +26,56 @@ pub struct Stopwatch<'a, R> {
 }
 
 impl<'a, R: Clock + Print> Stopwatch<'a, R> {
-    /// Prints the nanoseconds of an operation, as `best` has them.
+    /// Prints the nanoseconds of a unit, as `best` has them.
     pub fn print_best<S: Subject>(
         &mut self,
         what: &str,
         subject: &mut S,
         batches: u64,
-        operations: u64,
+        batch: usize,
+        units: u64,
     ) -> anyhow::Result<()>
-        requires { 0 < operations }
+        requires { 0 < units }
     {
-        let best = self.best(subject, batches, operations)?;
-        print_figure(self.rt, what, best)?;
+        let best = self.best(subject, batches, batch, units)?;
+        println!(self.rt; "{what:<36}{best:>10}")?;
         Ok(())
     }
 }
 
 impl<'a, R: Clock> Stopwatch<'a, R> {
-    /// Nanoseconds an operation in the best of five rounds, each of so many batches and operations.
+    /// Nanoseconds a unit in the best of five rounds, each of so many batches of so many operations, which are so
+    /// many units together.
     pub fn best<S: Subject>(
         &mut self,
         subject: &mut S,
         batches: u64,
-        operations: u64,
+        batch: usize,
+        units: u64,
     ) -> anyhow::Result<u64>
-        requires { 0 < operations }
+        requires { 0 < units }
     {
         let mut best = u64::MAX;
         for _ in 0..ROUNDS {
             let mut round: u64 = 0;
             for _ in 0..batches {
                 subject.prepare()?;
-                round = round.saturating_add(self.batch(subject)?);
+                round = round.saturating_add(self.batch(subject, batch)?);
             }
             best = best.min(round);
         }
-        Ok(best / operations)
+        Ok(best / units)
     }
 
     // Nanoseconds of a batch.
-    fn batch<S: Subject>(&mut self, subject: &mut S) -> anyhow::Result<u64> {
+    fn batch<S: Subject>(&mut self, subject: &mut S, batch: usize) -> anyhow::Result<u64> {
+        let mut seen = self.seen;
         let start = Instant::now(self.rt)?;
-        let seen = subject.run()?;
+        for i in 0..batch {
+            seen = seen.wrapping_add(subject.operate(i)?);
+        }
         let elapsed = start.elapsed(self.rt)?;
-        self.seen = self.seen.wrapping_add(seen);
+        self.seen = seen;
         Ok(u64::try_from(elapsed.as_nanos()).unwrap_or(u64::MAX))
     }
 }

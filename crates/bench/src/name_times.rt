@@ -6,72 +6,65 @@ use std::alloc::Global;
 use std::hash::{BuildHasher, BuildHasherDefault, FoldHasher};
 use std::rt::Clock;
 
+// What is done with a name.
+#[derive(Clone, Copy, Drop)]
+enum Operation {
+    Read,
+    Hash,
+    Compare,
+}
+
 /// Times what is done with names, and prints a line for each.
 pub fn print_times<R: Clock + Print>(
     alloc: Global,
     watch: &mut Stopwatch<'_, R>,
 ) -> anyhow::Result<()> {
-    let texts = list(alloc, BATCH)?;
-    let reads = &mut Reads { alloc, texts };
-    watch.print_best("read a name's text", reads, BATCHES, OPERATIONS)?;
-    let names: Vec<Name> = list(alloc, BATCH)?;
-    let hashes = &mut Hashes { names: &names };
-    watch.print_best("hash a name", hashes, BATCHES, OPERATIONS)?;
-    let others = list(alloc, BATCH)?;
-    let pairs = &mut Compares { names, others };
-    watch.print_best("compare two equal names", pairs, BATCHES, OPERATIONS)
+    let mut names = Names {
+        alloc,
+        operation: Operation::Read,
+        texts: list(alloc, BATCH as u64)?,
+        names: list(alloc, BATCH as u64)?,
+        others: list(alloc, BATCH as u64)?,
+    };
+    watch.print_best("read a name's text", &mut names, BATCHES, BATCH, OPERATIONS)?;
+    names.operation = Operation::Hash;
+    watch.print_best("hash a name", &mut names, BATCHES, BATCH, OPERATIONS)?;
+    names.operation = Operation::Compare;
+    watch.print_best(
+        "compare two equal names",
+        &mut names,
+        BATCHES,
+        BATCH,
+        OPERATIONS,
+    )
 }
 
-// Texts that are read.
+// The same names as texts and twice as names.
 #[derive(Drop)]
-struct Reads {
+struct Names {
     alloc: Global,
+    operation: Operation,
     texts: Vec<String>,
-}
-
-impl Subject for Reads {
-    fn run(&mut self) -> Result<u64, NetError> {
-        let mut labels: u64 = 0;
-        for text in &self.texts {
-            let name = Name::from_ascii(self.alloc, text.as_str())?;
-            labels = labels.wrapping_add(u64::from(name.num_labels()));
-        }
-        Ok(labels)
-    }
-}
-
-// Names that are compared with their equals.
-#[derive(Drop)]
-struct Compares {
     names: Vec<Name>,
     others: Vec<Name>,
 }
 
-impl Subject for Compares {
-    fn run(&mut self) -> Result<u64, NetError> {
-        let mut equal: u64 = 0;
-        for (name, other) in self.names.iter().zip(&self.others) {
-            if name == other {
-                equal = equal.wrapping_add(1);
+impl Subject for Names {
+    fn operate(&mut self, i: usize) -> Result<u64, NetError> {
+        let (Some(text), Some(name), Some(other)) = (
+            self.texts.get(i),
+            self.names.get(i),
+            self.others.get(i),
+        ) else {
+            return Ok(0);
+        };
+        match self.operation {
+            Operation::Read => {
+                let name = Name::from_ascii(self.alloc, text.as_str())?;
+                Ok(u64::from(name.num_labels()))
             }
+            Operation::Hash => Ok(BuildHasherDefault::<FoldHasher>::new().hash_one(name)),
+            Operation::Compare => Ok(u64::from(name == other)),
         }
-        Ok(equal)
-    }
-}
-
-// Hashes of names.
-#[derive(Drop)]
-struct Hashes<'a> {
-    names: &'a [Name],
-}
-
-impl Subject for Hashes<'_> {
-    fn run(&mut self) -> Result<u64, NetError> {
-        let hasher = BuildHasherDefault::<FoldHasher>::new();
-        let mut sum: u64 = 0;
-        for name in self.names {
-            sum = sum.wrapping_add(hasher.hash_one(name));
-        }
-        Ok(sum)
     }
 }

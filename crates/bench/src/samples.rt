@@ -7,13 +7,13 @@ use std::net::Ipv4Addr;
 
 /// How many operations a batch has: few, so that what they are given is still in the processor's caches, as it is
 /// where it has just come in.
-pub const BATCH: u64 = 100;
+pub const BATCH: usize = 100;
 
 /// How many batches a round has.
 pub const BATCHES: u64 = 1_000;
 
 /// How many operations a round has.
-pub const OPERATIONS: u64 = BATCH * BATCHES;
+pub const OPERATIONS: u64 = 100_000;
 
 /// The seconds of a day.
 pub const DAY: u64 = 86_400;
@@ -64,12 +64,6 @@ impl Numbered for Query {
     fn of(alloc: Global, number: u64) -> Result<Query, NetError> {
         Ok(Query::query(Name::of(alloc, number)?, RecordType::A))
     }
-}
-
-/// A response to a question with one address, whose TTL follows from the number: from a minute to a day, in no order.
-pub fn answer(alloc: Global, query: &Query, number: u64) -> Result<Message, NetError> {
-    let ttl = 60 + place(number, 86_340) as u32;
-    response(alloc, query, ttl, &address(), 1)
 }
 
 /// A response to a question with so many answers of these data. A caller reads a name once: the names of the

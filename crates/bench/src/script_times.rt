@@ -18,10 +18,22 @@ pub fn print_times<R: Clock + Print>(
 ) -> anyhow::Result<()> {
     let script = script_of(alloc, "", 8_000)?;
     let requests = &mut Requests { alloc, script };
-    watch.print_best("a request of 1,000,000 in a script", requests, 1, REQUESTS)?;
+    watch.print_best(
+        "a request of 1,000,000 in a script",
+        requests,
+        1,
+        1,
+        REQUESTS,
+    )?;
     let script = script_of(alloc, "upstream table\n", 1_000)?;
     let requests = &mut Requests { alloc, script };
-    watch.print_best("a request of 1,000,000 over a table", requests, 1, REQUESTS)
+    watch.print_best(
+        "a request of 1,000,000 over a table",
+        requests,
+        1,
+        1,
+        REQUESTS,
+    )
 }
 
 // These lines, a reply for each of so many names, with an address for a day, and requests for the names in turn.
@@ -51,7 +63,7 @@ struct Requests {
 }
 
 impl Subject for Requests {
-    fn run(&mut self) -> Result<u64, NetError> {
+    fn operate(&mut self, _i: usize) -> Result<u64, NetError> {
         match replay_text(self.alloc, self.script.as_bytes(), &[]) {
             Ok(text) => Ok(text.len() as u64),
             Err(_) => Err(NetError::OutOfMemory),
