@@ -85,7 +85,10 @@ fn print_both<R: Clock + Print>(
     addresses: u32,
     lookups: u32,
 ) -> anyhow::Result<()> {
-    let units = (BATCHES * u64::from(addresses) * u64::from(lookups)).max(1);
+    let units = BATCHES
+        .saturating_mul(u64::from(addresses))
+        .saturating_mul(u64::from(lookups));
+    let units = units.max(1);
     watch.print_best(look_up, subject, BATCHES, lookups as usize, units)?;
     subject.sender = sender;
     watch.print_best(other, subject, BATCHES, lookups as usize, units)
