@@ -126,15 +126,23 @@ def found_by_judge(text):
 
 
 def difference(trace, found):
+    """What the two find in each line, where they differ, and the events that the first such lines are about."""
     wanted = reckon(trace.text, trace.slack)
-    return f"reckoned alone: {dict(wanted - found)}, judged alone: {dict(found - wanted)}, slack {trace.slack}\n{trace.text}"
+    alone, other = wanted - found, found - wanted
+    lines = sorted({line for line, _ in [*alone, *other]})
+    return (f"reckoned alone: {sum(alone.values())}, judged alone: {sum(other.values())}, in lines {lines[:20]}, "
+            f"slack {trace.slack}\n{excerpt(trace.text, lines)}")
 
 
-def excerpt(trace, text, most=2):
-    """The events that concern the names of the first findings."""
-    lines = re.findall(r"^line (\d+) ", text, re.MULTILINE)
+def lines_of(text):
+    """The lines that the judge found something in."""
+    return [int(line) for line in re.findall(r"^line (\d+) ", text, re.MULTILINE)]
+
+
+def excerpt(trace, lines, most=2):
+    """The events that concern the names of the first of these lines."""
     all_events = list(events(trace))
-    wanted = {event.question[0] for event in all_events if str(event.line) in lines[:most]}
+    wanted = {event.question[0] for event in all_events if event.line in lines[:most]}
     ranges = [range(event.line, event.line + 1 + len(event.records)) for event in all_events
               if event.question[0] in wanted or any(record.owner in wanted for record in event.records)]
     numbers = {number for numbers in ranges for number in numbers}

@@ -49,9 +49,10 @@ def running(words, port, folder, log):
         while True:
             try:
                 # It is ready once it has told what only its upstream says.
-                dns.query.udp(dns.message.make_query(f"ready.{ZONE}", "A"), ADDRESS, timeout=2, port=port)
+                query = dns.message.make_query(f"ready.{ZONE}", "A")
+                dns.query.udp(query, ADDRESS, timeout=2, port=port, ignore_unexpected=True)
                 break
-            except (dns.exception.Timeout, OSError):
+            except (dns.exception.DNSException, OSError):
                 if process.poll() is not None or time.monotonic() > until:
                     raise NotStarted(f"{words[0]} did not start: {(folder / log).read_text(errors='replace')[-500:]}")
                 time.sleep(0.05)
@@ -143,7 +144,8 @@ def cases_of(told, setting, trace, result, wanted):
     found = reckoning.found_by_judge(text)
     told.tell(f"{setting}: a second reckoning finds the same", found == reckoning.reckon(trace.text, trace.slack),
               reckoning.difference(trace, found))
-    why = f"{text}\n{reckoning.excerpt(trace.text, text)}"
+    table = text[text.find("told "):]
+    why = f"{table}\n{reckoning.excerpt(trace.text, reckoning.lines_of(text))}"
     if setting in SERVES_STALE:
         told.tell(f"{setting}: stale", counts.get("stale", 0) > 0 and status == 1, why)
     elif setting == OWN:

@@ -6,7 +6,7 @@ use std::env::Args;
 use std::io::Write;
 use std::process::ExitCode;
 use std::rt::{Env, Files};
-use std::{env, fs, io};
+use std::{env, fs, io, mem};
 use trace_lines::{Settings, report};
 
 fn main(rt: HostRuntime) -> ExitCode {
@@ -54,8 +54,19 @@ fn run<R: AllocGlobal + Files, W: Write>(
         }
     }
     writeln!(writer)?;
+    read_hosts(rt, &mut settings)?;
     let bytes = fs::read(rt, word.as_str())?;
     judge(rt, settings, &bytes, writer)
+}
+
+// Takes the records of the files of hosts that are named.
+fn read_hosts<R: AllocGlobal + Files>(rt: &R, settings: &mut Settings) -> io::Result<()> {
+    let paths = mem::replace(&mut settings.hosts, Vec::new(rt.alloc()));
+    for path in paths {
+        let text = fs::read_to_string(rt, path.as_str())?;
+        settings.add_hosts(rt.alloc(), text.as_str())?;
+    }
+    Ok(())
 }
 
 fn judge<R: AllocGlobal, W: Write>(

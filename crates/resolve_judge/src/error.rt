@@ -26,7 +26,8 @@ impl fmt::Display for JudgeError {
     fn fmt<W: fmt::Write>(&self, f: &mut fmt::Formatter<W>) -> fmt::Result {
         match self {
             JudgeError::Usage => f.write_str(
-                "usage: resolve_judge TRACE [--slack SECONDS] [--cold] [--serve-stale SECONDS] [--local ZONE]..",
+                "usage: resolve_judge TRACE [--slack SECONDS] [--cold] [--serve-stale SECONDS] [--local ZONE].. \
+                 [--dns64 PREFIX].. [--hosts FILE]..",
             ),
             JudgeError::PathNotUtf8 => f.write_str("cannot open a path that is not UTF-8"),
             JudgeError::Unreadable(path) => write!(f, "cannot read {path}"),

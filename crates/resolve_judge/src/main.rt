@@ -6,10 +6,10 @@ mod error;
 
 use arguments::read_arguments;
 use error::JudgeError;
-use std::fs;
 use std::io::BufReader;
 use std::process::ExitCode;
-use trace_lines::{TraceError, report};
+use std::{fs, mem};
+use trace_lines::{Settings, TraceError, report};
 
 // The status where anything was found.
 const FOUND: u8 = 1;
@@ -29,7 +29,8 @@ fn main(rt: HostRuntime) -> ExitCode {
 // Whether anything was found.
 fn run(rt: &HostRuntime) -> Result<bool, JudgeError> {
     let alloc = rt.alloc();
-    let (trace, settings) = read_arguments(rt)?;
+    let (trace, mut settings) = read_arguments(rt)?;
+    read_hosts(rt, &mut settings)?;
     if trace.as_str() == "-" {
         return Ok(report(alloc, settings, &mut rt.reader(), &mut rt.stdout())?);
     }
@@ -40,4 +41,18 @@ fn run(rt: &HostRuntime) -> Result<bool, JudgeError> {
         return Err(JudgeError::Trace(TraceError::Memory));
     };
     Ok(report(alloc, settings, &mut reader, &mut rt.stdout())?)
+}
+
+// Takes the records of the files of hosts that are named.
+fn read_hosts(rt: &HostRuntime, settings: &mut Settings) -> Result<(), JudgeError> {
+    let paths = mem::replace(&mut settings.hosts, Vec::new(rt.alloc()));
+    for path in paths {
+        let Ok(text) = fs::read_to_string(rt, path.as_str()) else {
+            return Err(JudgeError::Unreadable(path));
+        };
+        if settings.add_hosts(rt.alloc(), text.as_str()).is_err() {
+            return Err(JudgeError::Trace(TraceError::Memory));
+        }
+    }
+    Ok(())
 }

@@ -9,3 +9,5 @@ pub mod Leads
 pub mod Knowing
 pub mod Standing
 pub mod Sections
+pub mod MadeFound
+pub mod Made

@@ -135,6 +135,8 @@ stands-kept options past judge now before kept is =
     let later : oldest options.slack (latest past) ≤ from = oldest-later options.slack (latest past) (milliseconds_of now) in record {
       slack_is = ap (λ o. o.slack) kept.options_are;
       local_is = ap (λ o. o.local) kept.options_are;
+      own_is = ap (λ o. o.own) kept.options_are;
+      dns64_is = ap (λ o. o.dns64) kept.options_are;
       start_is = ap (λ o. unwrap_or o now) kept.start_is;
       seen_are = λ told until ttl. seen-stands from judge.seen (receptions past)
           (sees-later (oldest options.slack (latest past)) from judge.seen (receptions past) later kept.seen_are) told until ttl

@@ -1,5 +1,5 @@
 -- What is found in what a resolver tells: of each record, and of a denial, every class that holds.
-use Rattle.std.specs.Prelude.{◌+◌, ◌-◌, ℕ, Bool, true, false, not, ◌&&◌, ◌==◌, nat_le, nat_lt, List, [], ◌∷◌, ◌++◌, Option, None, Some, if◌then◌else◌}
+use Rattle.std.specs.Prelude.{◌+◌, ◌-◌, ℕ, Bool, true, false, not, ◌&&◌, ◌||◌, ◌==◌, nat_le, nat_lt, List, [], ◌∷◌, ◌++◌, Option, None, Some, if◌then◌else◌}
 use Rattle.std.specs.List.{list_any}
 use Rattle.hickory_proto_core.specs.Name.{NameValue, is_zone_of}
 use Rattle.hickory_proto_core.specs.Records.{RecordValue}
@@ -8,6 +8,7 @@ use Rattle.hickory_proto_core.specs.declared.query.Query.{Query}
 use Rattle.trace_judge.specs.Aliases.{is_alias_outlived}
 use Rattle.trace_judge.specs.Asks.{was_asked_after, was_asked_since}
 use Rattle.trace_judge.specs.Denials.{denied_by, last_denial, last_name, negative_ttl, was_denial_allowed, was_denied}
+use Rattle.trace_judge.specs.Making.{is_denial_made, is_made}
 use Rattle.trace_judge.specs.Receptions.{had_ttl, last_deadline, reach, was_allowed, was_received}
 use Rattle.trace_judge.specs.Trace.{is_outcome, milliseconds_of}
 use Rattle.trace_judge.specs.declared.classes.Class.{Class}
@@ -82,11 +83,11 @@ received_findings now place told f =
 abbrev pub is_local : EvidenceValue → NameValue → Bool
 is_local e name = list_any (λ zone. is_zone_of zone name) e.local
 
--- It is the resolver's own; or it is never received, a day or more after the trace began; or else it is unseen: it may
--- have been received before the trace began.
-abbrev pub unknown_findings : EvidenceValue → Moment → Place → NameValue → List Finding
-unknown_findings e now place name =
-    if is_local e name then when true place Synthesized else
+-- It is the resolver's own, or may be made of what was received; or it is never received, a day or more after the trace
+-- began; or else it is unseen: it may have been received before the trace began.
+abbrev pub unknown_findings : EvidenceValue → Moment → Place → NameValue → Bool → List Finding
+unknown_findings e now place name made =
+    if is_local e name || made then when true place Synthesized else
     (when (not (is_first_day e.start now)) place NeverReceived ++ when (is_first_day e.start now) place Unseen)
 
 -- ---- every class of a record
@@ -109,7 +110,7 @@ is_pseudo r = record_type_code r == 41
 -- by what is known of it
 abbrev pub known_findings : EvidenceValue → Moment → Place → RecordValue → Facts → List Finding
 known_findings e now place told f =
-    if f.received then received_findings now place told f else unknown_findings e now place told.name
+    if f.received then received_findings now place told f else unknown_findings e now place told.name (is_made e now told)
 
 abbrev pub record_findings : EvidenceValue → Moment → Query → Place → RecordValue → List Finding
 record_findings e now q place told =
@@ -138,21 +139,22 @@ denial_facts_of e now reply denied =
       deadline = last_denial e.denied class name denied;
     }
 
--- denied by what was received, and told so that it lasts longer than every reception that denies it allows
-abbrev pub is_negative_outlived : DenialFacts → Bool
-is_negative_outlived f = f.denied && not f.allowed
-
 abbrev pub denial_overrun : Moment → ReplyValue → DenialFacts → ℕ
 denial_overrun now reply f = denial_reach now reply - f.deadline
 
-abbrev pub known_denial_findings : EvidenceValue → Moment → ReplyValue → DenialFacts → List Finding
-known_denial_findings e now reply f =
-    if f.denied
-    then when (is_negative_outlived f) place.Response (NegativeOutlives (denial_overrun now reply f))
-    else unknown_findings e now place.Response (last_name reply.query reply.answers)
+-- one that outlives what denied it may be made of something else that was received
+abbrev pub outlived_class : Moment → ReplyValue → Bool → DenialFacts → Class
+outlived_class now reply made f = if made then Synthesized else NegativeOutlives (denial_overrun now reply f)
+
+abbrev pub known_denial_findings : EvidenceValue → Moment → ReplyValue → Bool → DenialFacts → List Finding
+known_denial_findings e now reply made f =
+    if f.denied then when true place.Response (outlived_class now reply made f)
+    else unknown_findings e now place.Response (last_name reply.query reply.answers) made
 
 abbrev pub denied_findings : EvidenceValue → Moment → ReplyValue → Denied → List Finding
-denied_findings e now reply denied = known_denial_findings e now reply (denial_facts_of e now reply denied)
+denied_findings e now reply denied =
+    let f = denial_facts_of e now reply denied in
+    if f.allowed then [] else known_denial_findings e now reply (is_denial_made e now reply denied) f
 
 abbrev pub denial_findings : EvidenceValue → Moment → ReplyValue → Option Denied → List Finding
 denial_findings e now reply None = []

@@ -1,16 +1,17 @@
 -- What a judge keeps of a trace, by questions, so that it finds at once what it needs.
-use Rattle.std.specs.Prelude.{◌≡◌, ◌≤◌, ◌+◌, ℕ, suc, zero, Bool, false, true, not, ◌&&◌, ◌||◌, ◌==◌, nat_le, List, [], ◌∷◌, ◌++◌, filter, fold, length, max, Option, None, Some, unwrap_or, if◌then◌else◌}
+use Rattle.std.specs.Prelude.{◌≡◌, ◌≤◌, ◌+◌, ℕ, suc, zero, Bool, false, true, not, ◌&&◌, ◌||◌, ◌==◌, nat_le, List, [], ◌∷◌, ◌++◌, filter, fold, length, map, max, Option, None, Some, unwrap_or, if◌then◌else◌}
 use Rattle.std.specs.List.{list_any}
 use Rattle.std.specs.Option.{option_map_or}
 use Rattle.std.specs.Map.{lookup}
 use Rattle.hickory_proto_core.specs.Query.{query_eq}
 use Rattle.hickory_proto_core.specs.Records.{RecordValue}
 use Rattle.hickory_proto_core.specs.declared.query.Query.{Query}
-use Rattle.hickory_proto_core.specs.Codes.{class_code}
+use Rattle.hickory_proto_core.specs.Codes.{class_code, type_code}
 use Rattle.hickory_proto_core.specs.Name.{NameValue, name_eq, trimmed_name}
 use Rattle.hickory_proto_core.specs.codes.dns_class.DNSClass.{DNSClass}
 use Rattle.hickory_proto_core.specs.codes.record_type.RecordType.{RecordType}
 use Rattle.hickory_proto_core.specs.codes.record_type.RecordType.TheVariants as type
+use Rattle.synthesis.specs.declared.dns64.Prefix.{Prefix}
 use Rattle.trace_judge.specs.Asks.{is_ask_from}
 use Rattle.trace_judge.specs.Denials.{alias_target, covers_until, denial_deadline}
 use Rattle.trace_judge.specs.Evidence.{EvidenceValue}
@@ -55,6 +56,14 @@ is_lasting before rs = list_any (λ r. nat_le before (deadline r)) rs
 -- what was received for a question
 abbrev pub seen_at : List (Query × List Reception) → Query → List Reception
 seen_at seen q = unwrap_or (lookup (query_eq q) seen) []
+
+-- a question is for a type, by its code
+abbrev pub is_for : DNSClass → ℕ → Query → Bool
+is_for class code q = (class_code q.query_class == class_code class) && (type_code q.query_type == code)
+
+-- the questions for a type that something was received for
+abbrev pub questions_of : DNSClass → ℕ → List (Query × List Reception) → List Query
+questions_of class code seen = filter (is_for class code) (map (λ e. e.0) seen)
 
 -- a reception was put in
 abbrev pub Adds : Reception → List (Query × List Reception) → List (Query × List Reception) → Type 0
@@ -190,11 +199,14 @@ leads_in_by until seen class to hops from r =
 -- ---- all of it
 
 -- What a telling is judged by: the slack in seconds, the moment before which all is forgotten, the resolver's own
--- zones, the first moment of the trace, and what was received, asked, answered and denied.
+-- zones and records, the prefixes in which it makes addresses, the first moment of the trace, and what was received,
+-- asked, answered and denied.
 pub record IndexValue : Type 0 where
   pub slack : ℕ
   pub oldest : ℕ
   pub local : List NameValue
+  pub own : List RecordValue
+  pub dns64 : List Prefix
   pub start : Moment
   pub seen : List (Query × List Reception)
   pub asked : List (Query × ℕ)
@@ -212,6 +224,8 @@ tried_in i moment q key =
 pub record Stands (e : EvidenceValue) (i : IndexValue) : Type 0 where
   pub slack_is : i.slack ≡ e.slack
   pub local_is : i.local ≡ e.local
+  pub own_is : i.own ≡ e.own
+  pub dns64_is : i.dns64 ≡ e.dns64
   pub start_is : i.start ≡ e.start
   pub seen_are : (told : RecordValue) (until ttl : ℕ)
       → reaches told until ttl e.received ≡ reaches told (max until i.oldest) ttl (seen_at i.seen (question_of told))

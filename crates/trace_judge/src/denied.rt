@@ -100,15 +100,16 @@ fn whole_of(
     Ok(latest)
 }
 
-fn label_count(name: &Name) -> usize
+/// How many labels a name has.
+pub fn label_count(name: &Name) -> usize
     ensures value { result ≡ length name.now.labels }
     ensures bound { result < 2 ^ 63 }
 {
     name.labels().len()
 }
 
-// The last labels of a name, so many of them.
-fn trimmed(name: &Name, count: usize) -> Result<Name, AllocError>
+/// The last labels of a name, so many of them.
+pub fn trimmed(name: &Name, count: usize) -> Result<Name, AllocError>
     ensures { IfOk result (λ n. n ≡ trimmed_name count name.now) }
 {
     match name.trim_to(count) {

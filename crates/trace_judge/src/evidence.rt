@@ -4,18 +4,25 @@ use crate::denied::Denials;
 use crate::event::Moment;
 use crate::latest::LatestMoments;
 use crate::sightings::Sightings;
-use hickory_proto_core::Name;
+use hickory_proto_core::{Name, Record};
+use std::alloc::Global;
 use std::marker::Model;
+use synthesis::Prefix;
 
 /// What a telling is judged by.
 #[derive(Drop)]
 pub struct Evidence<'a> {
+    pub alloc: Global,
     /// How many seconds are allowed for rounding.
     pub slack: u32,
     /// The moment, in milliseconds, before which all is forgotten.
     pub oldest: u64,
     /// The zones that the resolver answers for by itself.
     pub local: &'a [Name],
+    /// The records that it has of its own.
+    pub own: &'a [Record],
+    /// The prefixes in which it makes IPv6 addresses of IPv4 addresses.
+    pub dns64: &'a [Prefix],
     /// The first moment of the trace.
     pub start: Moment,
     /// What was received.
@@ -37,6 +44,8 @@ impl<'a> Model for Evidence<'a> {
       slack = e.slack;
       oldest = e.oldest;
       local = e.local.now;
+      own = e.own.now;
+      dns64 = e.dns64.now;
       start = e.start;
       seen = e.seen.now;
       asked = e.asked.now;

@@ -123,9 +123,12 @@ impl Judge {
             Said::Received(_) => find(!counts, Place::Response, Class::Unasked, &mut found)?,
             Said::Told(reply) => {
                 let evidence = Evidence {
+                    alloc: self.alloc,
                     slack: self.options.slack,
                     oldest,
                     local: &self.options.local,
+                    own: &self.options.own,
+                    dns64: &self.options.dns64,
                     start: self.start.unwrap_or(now),
                     seen: &self.seen,
                     asked: &self.asked,

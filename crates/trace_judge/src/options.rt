@@ -1,7 +1,8 @@
 //! What the judge allows.
 
-use hickory_proto_core::Name;
+use hickory_proto_core::{Name, Record};
 use std::marker::Model;
+use synthesis::Prefix;
 
 /// What the judge allows.
 #[derive(Debug, Drop)]
@@ -10,6 +11,10 @@ pub struct Options {
     pub slack: u32,
     /// The zones that the resolver answers for by itself: what it tells of them need not have been received.
     pub local: Vec<Name>,
+    /// The records that the resolver has of its own, of a file of hosts: it tells them with any TTL.
+    pub own: Vec<Record>,
+    /// The prefixes in which it makes IPv6 addresses of IPv4 addresses.
+    pub dns64: Vec<Prefix>,
 }
 
 impl Model for Options {
@@ -17,5 +22,10 @@ impl Model for Options {
 
     ghost Value = { OptionsValue };
 
-    ghost view = { λ o. record { slack = o.slack; local = o.local.items } };
+    ghost view = { λ o. record {
+      slack = o.slack;
+      local = o.local.items;
+      own = o.own.items;
+      dns64 = o.dns64.items;
+    } };
 }

@@ -4,7 +4,7 @@ ghost use Rattle.std.specs.List.{list_any};
 ghost use Rattle.hickory_proto_core.specs.Name.{is_zone_of};
 ghost use Rattle.trace_judge.specs.Denials.{denied_by};
 ghost use Rattle.trace_judge.specs.Evidence.{EvidenceValue};
-ghost use Rattle.trace_judge.specs.Findings.{age_past, denial_findings, denial_overrun, denied_findings, is_behind_outlived, is_first_day, is_in_answer, is_local, is_negative_outlived, is_pseudo, is_raised, is_served_stale, is_stale, known_denial_findings, known_findings, overrun, received_findings, record_findings, reply_findings, section_findings, told_findings, unknown_findings, when};
+ghost use Rattle.trace_judge.specs.Findings.{age_past, denial_findings, denial_overrun, denied_findings, is_behind_outlived, is_first_day, is_in_answer, is_local, is_pseudo, is_raised, is_served_stale, is_stale, known_denial_findings, known_findings, outlived_class, overrun, received_findings, record_findings, reply_findings, section_findings, told_findings, unknown_findings, when};
 ghost use Rattle.trace_judge.specs.Index.{Stands};
 
 use crate::aliases::is_alias_outlived;
@@ -13,6 +13,7 @@ use crate::denials::{Denied, denied_by, last_name};
 use crate::event::{Moment, Reply, is_outcome};
 use crate::evidence::Evidence;
 use crate::facts::{DenialFacts, Facts, denial_facts_of, denial_reach, facts_of};
+use crate::making::{is_denial_made, is_made};
 use crate::receptions::reach;
 use hickory_proto_core::{Name, Query, Record};
 use std::alloc::AllocError;
@@ -117,7 +118,8 @@ fn judge_known(
     if facts.received {
         judge_received(now, place, told, facts, found)
     } else {
-        judge_unknown(evidence, now, place, &told.name, found)
+        let made = is_made(evidence, now, told)?;
+        judge_unknown(evidence, now, place, &told.name, made, found)
     }
 }
 
@@ -143,18 +145,20 @@ fn judge_received(
     find(is_raised(facts), place, Class::Raised, found)
 }
 
-// The classes of what was not received, of a record or a denial with this name.
+// The classes of what was not received, of a record or a denial with this name, and whether the resolver may make it by
+// itself.
 fn judge_unknown(
     evidence: &Evidence,
     now: Moment,
     place: Place,
     name: &Name,
+    made: bool,
     found: &mut Vec<Finding>,
 ) -> Result<(), AllocError>
     ensures { (e : EvidenceValue) → Stands e evidence.now
-        → OnOk result (found.new.items ≡ found.old.items ++ unknown_findings e now place name.now) }
+        → OnOk result (found.new.items ≡ found.old.items ++ unknown_findings e now place name.now made) }
 {
-    if is_local(evidence, name) {
+    if is_local(evidence, name) || made {
         return find(true, place, Class::Synthesized, found);
     }
     let first = is_first_day(evidence.start, now);
@@ -285,39 +289,47 @@ fn judge_denied(
         → OnOk result (found.new.items ≡ found.old.items ++ denied_findings e now reply.now denied) }
 {
     let facts = denial_facts_of(evidence, now, reply, denied)?;
-    judge_known_denial(evidence, now, reply, facts, found)
+    if facts.allowed {
+        return Ok(());
+    }
+    let made = is_denial_made(evidence, now, reply, denied)?;
+    judge_known_denial(evidence, now, reply, made, facts, found)
 }
 
-// The classes of a denial by what is known of it.
+// The classes of a denial that is not allowed by what was received of it.
 fn judge_known_denial(
     evidence: &Evidence,
     now: Moment,
     reply: &Reply,
+    made: bool,
     facts: DenialFacts,
     found: &mut Vec<Finding>,
 ) -> Result<(), AllocError>
     ensures { (e : EvidenceValue) → Stands e evidence.now
-        → OnOk result (found.new.items ≡ found.old.items ++ known_denial_findings e now reply.now facts) }
+        → OnOk result (found.new.items ≡ found.old.items ++ known_denial_findings e now reply.now made facts) }
 {
-    let place = Place::Response;
     if facts.denied {
-        let overrun = denial_overrun(now, reply, facts);
         find(
-            is_negative_outlived(facts),
-            place,
-            Class::NegativeOutlives(overrun),
+            true,
+            Place::Response,
+            outlived_class(now, reply, made, facts),
             found,
         )
     } else {
         let name = last_name(&reply.query, &reply.answers);
-        judge_unknown(evidence, now, place, name, found)
+        judge_unknown(evidence, now, Place::Response, name, made, found)
     }
 }
 
-fn is_negative_outlived(facts: DenialFacts) -> bool
-    ensures { result ≡ is_negative_outlived facts }
+// The class of a denial that outlives what denied it.
+fn outlived_class(now: Moment, reply: &Reply, made: bool, facts: DenialFacts) -> Class
+    ensures { result ≡ outlived_class now reply.now made facts }
 {
-    facts.denied && !facts.allowed
+    if made {
+        Class::Synthesized
+    } else {
+        Class::NegativeOutlives(denial_overrun(now, reply, facts))
+    }
 }
 
 fn denial_overrun(now: Moment, reply: &Reply, facts: DenialFacts) -> u64

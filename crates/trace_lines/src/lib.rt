@@ -2,6 +2,7 @@
 #![tactic(auto)]
 
 pub mod error;
+pub mod hosts;
 pub mod moments;
 pub mod opening;
 pub mod printing;

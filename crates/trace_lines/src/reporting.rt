@@ -38,6 +38,7 @@ pub fn report<R: BufRead, W: Write>(
     let Settings {
         options,
         strictness,
+        ..
     } = settings;
     let mut session = Session {
         strictness,
