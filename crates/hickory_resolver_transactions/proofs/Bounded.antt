@@ -9,10 +9,10 @@ use Rattle.std.proofs.lemmas.List.Sums.{sum_by-cons, length-filter, count_by-le-
 use Rattle.hickory_resolver_servers.specs.Server.{ServerState}
 use Rattle.hickory_resolver_tries.specs.declared.outcome.ReplyOutcome.{ReplyOutcome}
 use Rattle.hickory_resolver_tries.specs.declared.outcome.ReplyOutcome.TheVariants as came_to
-use Rattle.hickory_resolver_transactions.specs.Candidates.{candidate_of, is_udp, is_again, is_queued, is_waiting, is_tried, waits_as, waits_on, is_due, way_of, way_of_try, way_in, first_way, sent_with, counted, uncounted, try_made, requeued, freed_one, freed_progress, has_failed_by}
-use Rattle.hickory_resolver_transactions.specs.Laws.{TransactionEvent, round_begins, is_sent, reply_came, opt_refused, letters_differ, channel_failed, no_channel, channel_free, time_passed, after_event, after_events, HasRoom, IsWithinSends, IsBounded, StaysBounded}
+use Rattle.hickory_resolver_transactions.specs.Candidates.{candidate_of, is_udp, is_again, is_queued, is_waiting, is_blocked, is_tried, waits_as, waits_on, is_due, way_of, way_of_try, way_in, first_way, sent_with, counted, uncounted, try_made, requeued, freed_one, freed_progress, has_failed_by}
+use Rattle.hickory_resolver_transactions.specs.Laws.{TransactionEvent, round_begins, is_sent, has_no_room, reply_came, opt_refused, letters_differ, channel_failed, no_channel, channel_free, time_passed, after_event, after_events, HasRoom, IsWithinSends, IsBounded, StaysBounded}
 use Rattle.hickory_resolver_transactions.specs.Table.{sends_by, has_room, may_change_to_tcp, may_begin_tcp, again_if, after_reply, after_refused_opt, after_other_letters, after_deadline, after_closed_stream, stays_believed, then_in, then_of_reply, then_of_refused_opt, then_of_other_letters}
-use Rattle.hickory_resolver_transactions.specs.Transaction.{TransactionState, begun_with, candidates_of, replaced, replacing, putting, noting, noted_of_closed, with_late, kept_in, keeping, acted, acted_late, picked, candidate_at, late_at, late_replied, came, opt_was_refused, other_letters_came, failed_at, failed_in, failed, blocked_in, blocked, freed, expired_in, late_expired, expired, wants_round, is_idle, may_go_on, with_round, is_queued_at, first_queued, may_send, chosen, sent}
+use Rattle.hickory_resolver_transactions.specs.Transaction.{TransactionState, begun_with, candidates_of, replaced, replacing, putting, noting, noted_of_closed, with_late, kept_in, keeping, acted, acted_late, picked, candidate_at, late_at, late_replied, came, opt_was_refused, other_letters_came, failed_at, failed_in, failed, blocked_in, blocked, freed, expired_in, late_expired, expired, wants_round, is_idle, may_go_on, with_round, is_queued_at, first_queued, may_send, chosen, sent, unsent}
 use Rattle.hickory_resolver_transactions.specs.declared.candidate.Candidate.{Candidate}
 use Rattle.hickory_resolver_transactions.specs.declared.candidate.LateTry.{LateTry}
 use Rattle.hickory_resolver_transactions.specs.declared.candidate.Made.{Made}
@@ -380,13 +380,33 @@ freed-waits c = by c.progress
     by progress.Tried = refl
     by progress.Gone = refl
 
+find-passes : {X : Type 0} (test : X → Bool) (xs : List X) (x : X) → find test xs ≡ Some x → test x ≡ true
+find-passes test [] x e = absurd cc
+find-passes {X} test (y ∷ ys) x e = by (test y) refl (λ h. find-passes test ys x h) e
+  where
+    by : (passes : Bool) → test y ≡ passes → (find test ys ≡ Some x → test x ≡ true)
+        → cond passes (Some y) (find test ys) ≡ Some x → test x ≡ true
+    by true is more h = let same : y ≡ x = cc in subst (λ (z : X). test z ≡ true) same is
+    by false is more h = more h
+
+blocked-rests : (p : Progress) → is_blocked p ≡ true → is_waiting p ≡ false
+blocked-rests progress.Queued e = refl
+blocked-rests (progress.Again way) e = refl
+blocked-rests (progress.Blocked way due) e = refl
+blocked-rests (progress.Waiting t) e = absurd cc
+blocked-rests progress.Tried e = refl
+blocked-rests progress.Gone e = refl
+
 bounded-freed : (s : TransactionState) → IsBounded s → IsBounded (freed s)
-bounded-freed s b = record {
-  sends = all-changed freed_one freed-within freed-waits s.candidates b.sends;
-  waiting = omega (arith, b.waiting, waiting-changed freed_one freed-within freed-waits s.candidates);
-  late = b.late;
-  rounds = b.rounds;
-}
+bounded-freed s b = by (picked is_blocked s) refl
+  where
+    by : (found : Option Candidate) → picked is_blocked s ≡ found
+        → IsBounded (option_map_or (λ c. replacing (freed_one c) s) found s)
+    by None e = b
+    by (Some c) e =
+        let rests = blocked-rests c.progress (find-passes (λ (x : Candidate). is_blocked x.progress) s.candidates c e) in
+        bounded-replacing s b (freed_one c) (freed-within c (all-find (λ x. is_blocked x.progress) s.candidates c b.sends e))
+        (freed-waits c ∙ rests)
 
 requeued-within : (c : Candidate) → IsWithinSends c → IsWithinSends (requeued c)
 requeued-within c w = by (is_tried c.progress)
@@ -462,15 +482,6 @@ bounded-expired s b now = by (picked (is_due now) s) refl
     by (Some c) e = bounded-expired_in s b c (all-find (λ x. is_due now x.progress) s.candidates c b.sends e) c.progress
 
 -- ---- what is sent is one of those that have room
-
-find-passes : {X : Type 0} (test : X → Bool) (xs : List X) (x : X) → find test xs ≡ Some x → test x ≡ true
-find-passes test [] x e = absurd cc
-find-passes {X} test (y ∷ ys) x e = by (test y) refl (λ h. find-passes test ys x h) e
-  where
-    by : (passes : Bool) → test y ≡ passes → (find test ys ≡ Some x → test x ≡ true)
-        → cond passes (Some y) (find test ys) ≡ Some x → test x ≡ true
-    by true is more h = let same : y ≡ x = cc in subst (λ (z : X). test z ≡ true) same is
-    by false is more h = more h
 
 -- asked again, or not asked yet
 abbrev IsToSend : Progress → Type 0
@@ -572,6 +583,18 @@ bounded-sent s b made = by (may_send s) refl (chosen s) refl
         let t = try_made made (way_of c) s.settings in
         bounded-sending s b (sent_with made s.settings c) (within-sent c (way_of c).transport t k.within (room-to_send c k)) room
 
+bounded-unsent : (s : TransactionState) → IsBounded s → (due : ℕ) → IsBounded (unsent due s)
+bounded-unsent s b due = by (may_send s) refl (chosen s) refl
+  where
+    by : (may : Bool) → may_send s ≡ may → (found : Option Candidate) → chosen s ≡ found
+        → IsBounded (option_map_or (λ c. putting (progress.Blocked (way_of c) due) c s) found s)
+    by may is None e = b
+    by false is (Some c) e =
+        let none = ap (λ (m : Bool). cond m (option_or (picked is_again s) (first_queued s)) None) (sym is) ∙ e in absurd cc
+    by true is (Some c) e =
+        let k = from-chosen s b c is e in
+        bounded-putting s b (progress.Blocked (way_of c) due) c k.within (room-to_send c k) refl
+
 -- ---- from the beginning on
 
 within-first : (n : ℕ) (servers : List ServerState)
@@ -602,6 +625,7 @@ waiting-first n (x ∷ xs) =
 bounded-event : (s : TransactionState) → IsBounded s → (event : TransactionEvent) → IsBounded (after_event s event)
 bounded-event s b (round_begins order) = bounded-round s b order
 bounded-event s b (is_sent made) = bounded-sent s b made
+bounded-event s b (has_no_room due) = bounded-unsent s b due
 bounded-event s b (reply_came channel id outcome reply) = bounded-came s b channel id outcome reply
 bounded-event s b (opt_refused channel id) = bounded-opt s b channel id
 bounded-event s b (letters_differ channel id) = bounded-letters s b channel id

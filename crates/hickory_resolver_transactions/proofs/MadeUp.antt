@@ -7,11 +7,11 @@ use Rattle.std.proofs.lemmas.List.Elements.{Contains-append_left, Contains-push}
 use Rattle.hickory_resolver_servers.specs.Server.{ServerState}
 use Rattle.hickory_resolver_tries.specs.declared.outcome.ReplyOutcome.{ReplyOutcome}
 use Rattle.hickory_resolver_tries.specs.declared.outcome.ReplyOutcome.TheVariants as came_as
-use Rattle.hickory_resolver_transactions.specs.Candidates.{is_tried, waits_as, waits_on, is_due, has_failed_by, requeued, sent_with}
-use Rattle.hickory_resolver_transactions.specs.Laws.{TransactionEvent, round_begins, is_sent, reply_came, opt_refused, letters_differ, channel_failed, no_channel, channel_free, time_passed, after_event, after_events, reply_in, replies_in, IsOfReplies, IsToldOf, NothingIsMadeUp}
+use Rattle.hickory_resolver_transactions.specs.Candidates.{is_tried, is_blocked, waits_as, waits_on, is_due, way_of, has_failed_by, freed_one, requeued, sent_with}
+use Rattle.hickory_resolver_transactions.specs.Laws.{TransactionEvent, round_begins, is_sent, has_no_room, reply_came, opt_refused, letters_differ, channel_failed, no_channel, channel_free, time_passed, after_event, after_events, reply_in, replies_in, IsOfReplies, IsToldOf, NothingIsMadeUp}
 use Rattle.hickory_resolver_transactions.specs.Outcomes.{better, rank_of}
 use Rattle.hickory_resolver_transactions.specs.Table.{has_room, may_change_to_tcp, may_begin_tcp, again_if, after_reply, after_refused_opt, after_other_letters, after_deadline, after_closed_stream, stays_believed, then_in, then_of_reply, then_of_refused_opt, then_of_other_letters}
-use Rattle.hickory_resolver_transactions.specs.Transaction.{TransactionState, begun_with, replacing, putting, noting, noted_of_closed, with_late, kept_in, keeping, acted, acted_late, picked, candidate_at, late_at, late_came_to, late_replied, came_to, came, opt_was_refused, other_letters_came, failed_at, failed_in, failed, blocked_in, blocked, freed, expired_in, late_expired, expired, is_idle, may_go_on, wants_round, with_round, chosen, sent, told, outcome_of}
+use Rattle.hickory_resolver_transactions.specs.Transaction.{TransactionState, begun_with, replacing, putting, noting, noted_of_closed, with_late, kept_in, keeping, acted, acted_late, picked, candidate_at, late_at, late_came_to, late_replied, came_to, came, opt_was_refused, other_letters_came, failed_at, failed_in, failed, blocked_in, blocked, freed, expired_in, late_expired, expired, is_idle, may_go_on, wants_round, with_round, chosen, sent, unsent, told, outcome_of}
 use Rattle.hickory_resolver_transactions.specs.declared.candidate.Candidate.{Candidate}
 use Rattle.hickory_resolver_transactions.specs.declared.candidate.LateTry.{LateTry}
 use Rattle.hickory_resolver_transactions.specs.declared.candidate.Made.{Made}
@@ -210,6 +210,13 @@ module _ (rs : List ℕ) where
         by None = h
         by (Some c) = sourced-blocked_in c c.progress
 
+    sourced-freed : IsSourced rs (freed s)
+    sourced-freed = by (picked is_blocked s)
+      where
+        by : (found : Option Candidate) → IsSourced rs (option_map_or (λ c. replacing (freed_one c) s) found s)
+        by None = h
+        by (Some c) = h
+
     sourced-round : (order : List ℕ) → IsSourced rs (with_round order s)
     sourced-round order = by (wants_round s)
       where
@@ -226,6 +233,14 @@ module _ (rs : List ℕ) where
       where
         by : (found : Option Candidate)
             → IsSourced rs (option_map_or (λ c. replacing (sent_with made s.settings c) s) found s)
+        by None = h
+        by (Some c) = h
+
+    sourced-unsent : (due : ℕ) → IsSourced rs (unsent due s)
+    sourced-unsent due = by (chosen s)
+      where
+        by : (found : Option Candidate)
+            → IsSourced rs (option_map_or (λ c. putting (progress.Blocked (way_of c) due) c s) found s)
         by None = h
         by (Some c) = h
 
@@ -276,13 +291,14 @@ sourced-event : (rs : List ℕ) (s : TransactionState) (event : TransactionEvent
     → IsSourced (rs ++ reply_in event) (after_event s event)
 sourced-event rs s (round_begins order) h = sourced-round (rs ++ []) s (sourced-more rs [] s h) order
 sourced-event rs s (is_sent made) h = sourced-sent (rs ++ []) s (sourced-more rs [] s h) made
+sourced-event rs s (has_no_room due) h = sourced-unsent (rs ++ []) s (sourced-more rs [] s h) due
 sourced-event rs s (reply_came channel id outcome reply) h =
     sourced-came (rs ++ reply ∷ []) s (sourced-more rs (reply ∷ []) s h) channel id outcome reply (Contains-push rs reply)
 sourced-event rs s (opt_refused channel id) h = sourced-opt (rs ++ []) s (sourced-more rs [] s h) channel id
 sourced-event rs s (letters_differ channel id) h = sourced-letters (rs ++ []) s (sourced-more rs [] s h) channel id
 sourced-event rs s (channel_failed channel) h = sourced-failed (rs ++ []) s (sourced-more rs [] s h) channel
 sourced-event rs s (no_channel channel) h = sourced-blocked (rs ++ []) s (sourced-more rs [] s h) channel
-sourced-event rs s channel_free h = sourced-more rs [] s h
+sourced-event rs s channel_free h = sourced-freed (rs ++ []) s (sourced-more rs [] s h)
 sourced-event rs s (time_passed now) h = sourced-expired (rs ++ []) s (sourced-more rs [] s h) now
 
 sourced-events : (rs : List ℕ) (s : TransactionState) (events : List TransactionEvent) → IsSourced rs s

@@ -40,6 +40,10 @@ abbrev pub is_waiting : Progress → Bool
 is_waiting (Waiting t) = true
 is_waiting other = false
 
+abbrev pub is_blocked : Progress → Bool
+is_blocked (Blocked way due) = true
+is_blocked other = false
+
 abbrev pub is_tried : Progress → Bool
 is_tried Tried = true
 is_tried other = false

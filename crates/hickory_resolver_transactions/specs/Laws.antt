@@ -6,7 +6,7 @@ use Rattle.hickory_resolver_servers.specs.Server.{ServerState}
 use Rattle.hickory_resolver_tries.specs.declared.outcome.ReplyOutcome.{ReplyOutcome}
 use Rattle.hickory_resolver_transactions.specs.Candidates.{is_waiting}
 use Rattle.hickory_resolver_transactions.specs.Table.{sends_by}
-use Rattle.hickory_resolver_transactions.specs.Transaction.{TransactionState, begun_with, came, opt_was_refused, other_letters_came, failed, blocked, freed, expired, with_round, sent, outcome_of, wants_round, wanted, next_deadline}
+use Rattle.hickory_resolver_transactions.specs.Transaction.{TransactionState, begun_with, came, opt_was_refused, other_letters_came, failed, blocked, freed, expired, with_round, sent, unsent, outcome_of, wants_round, wanted, next_deadline}
 use Rattle.hickory_resolver_transactions.specs.declared.candidate.Candidate.{Candidate}
 use Rattle.hickory_resolver_transactions.specs.declared.candidate.Made.{Made}
 use Rattle.hickory_resolver_transactions.specs.declared.candidate.Progress.{Progress}
@@ -21,6 +21,7 @@ use Rattle.hickory_resolver_transactions.specs.declared.settings.Settings.{Setti
 pub data TransactionEvent : Type 0 where
   round_begins : List ℕ → TransactionEvent
   is_sent : Made → TransactionEvent
+  has_no_room : ℕ → TransactionEvent
   reply_came : ℕ → ℕ → ReplyOutcome → ℕ → TransactionEvent
   opt_refused : ℕ → ℕ → TransactionEvent
   letters_differ : ℕ → ℕ → TransactionEvent
@@ -32,6 +33,7 @@ pub data TransactionEvent : Type 0 where
 abbrev pub after_event : TransactionState → TransactionEvent → TransactionState
 after_event s (round_begins order) = with_round order s
 after_event s (is_sent made) = sent made s
+after_event s (has_no_room due) = unsent due s
 after_event s (reply_came channel id outcome reply) = came channel id outcome reply s
 after_event s (opt_refused channel id) = opt_was_refused channel id s
 after_event s (letters_differ channel id) = other_letters_came channel id s

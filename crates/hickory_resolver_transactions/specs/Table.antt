@@ -1,6 +1,6 @@
 -- What is done with a server once something came of its try. In a round a server is sent two messages at most by one
 -- transport.
-use Rattle.std.specs.Prelude.{ℕ, Bool, true, false, ◌&&◌, ◌==◌, nat_lt, if◌then◌else◌}
+use Rattle.std.specs.Prelude.{ℕ, Bool, true, false, not, ◌&&◌, ◌||◌, ◌==◌, nat_lt, Option, None, Some, if◌then◌else◌}
 use Rattle.hickory_resolver_tries.specs.declared.outcome.ReplyOutcome.{ReplyOutcome}
 use Rattle.hickory_resolver_tries.specs.declared.outcome.ReplyOutcome.TheVariants as came
 use Rattle.hickory_resolver_transactions.specs.Candidates.{is_udp}
@@ -85,3 +85,8 @@ then_of_refused_opt c = then_in (after_refused_opt c) c.progress
 
 abbrev pub then_of_other_letters : Candidate → Then
 then_of_other_letters c = then_in (after_other_letters c) c.progress
+
+-- The try, where it tells something of the server that its channel fails: what waits on a stream is first sent anew.
+abbrev pub failed_try_in : Candidate → Progress → Option Try
+failed_try_in c (Waiting t) = if is_udp t.transport || not (has_room Tcp c) then Some t else None
+failed_try_in c other = None

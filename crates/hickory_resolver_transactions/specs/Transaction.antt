@@ -5,9 +5,9 @@ use Rattle.std.specs.List.{list_any, fold, filter_map, enumerate_from}
 use Rattle.std.specs.Option.{is_some, is_none, option_map, option_map_or, option_or, option_and_then}
 use Rattle.hickory_resolver_servers.specs.Server.{ServerState}
 use Rattle.hickory_resolver_tries.specs.declared.outcome.ReplyOutcome.{ReplyOutcome}
-use Rattle.hickory_resolver_transactions.specs.Candidates.{candidate_of, is_again, is_queued, is_waiting, is_tried, is_busy, is_try, waits_as, waits_on, due_of, is_due, way_of, way_of_try, sent_with, uncounted, requeued, freed_one, late_due, has_failed_by}
+use Rattle.hickory_resolver_transactions.specs.Candidates.{candidate_of, is_again, is_queued, is_waiting, is_blocked, is_tried, is_busy, is_try, waits_as, waits_on, due_of, is_due, way_of, way_of_try, try_made, sent_with, uncounted, requeued, freed_one, late_due, has_failed_by}
 use Rattle.hickory_resolver_transactions.specs.Outcomes.{better}
-use Rattle.hickory_resolver_transactions.specs.Table.{after_reply, after_deadline, after_closed_stream, then_of_reply, then_of_refused_opt, then_of_other_letters, stays_believed}
+use Rattle.hickory_resolver_transactions.specs.Table.{after_reply, after_deadline, after_closed_stream, then_of_reply, then_of_refused_opt, then_of_other_letters, stays_believed, failed_try_in}
 use Rattle.hickory_resolver_transactions.specs.declared.candidate.Candidate.{Candidate}
 use Rattle.hickory_resolver_transactions.specs.declared.candidate.LateTry.{LateTry}
 use Rattle.hickory_resolver_transactions.specs.declared.candidate.Made.{Made}
@@ -18,7 +18,7 @@ use Rattle.hickory_resolver_transactions.specs.declared.candidate.Transport.TheV
 use Rattle.hickory_resolver_transactions.specs.declared.candidate.Try.{Try}
 use Rattle.hickory_resolver_transactions.specs.declared.choices.TheConstants.{LATE_TRIES}
 use Rattle.hickory_resolver_transactions.specs.declared.outcome.Outcome.{Outcome}
-use Rattle.hickory_resolver_transactions.specs.declared.outcome.Outcome.TheVariants.{Reply, Unreachable, Timeout}
+use Rattle.hickory_resolver_transactions.specs.declared.outcome.Outcome.TheVariants.{Reply, Cut, Code, Unreachable, Timeout}
 use Rattle.hickory_resolver_transactions.specs.declared.settings.Settings.{Settings}
 use Rattle.hickory_resolver_transactions.specs.declared.table.Then.{Then}
 use Rattle.hickory_resolver_transactions.specs.declared.table.Then.TheVariants.{Ends, Leaves, Rests, Again, Nothing}
@@ -160,9 +160,9 @@ blocked_in c other s = s
 abbrev pub blocked : ℕ → TransactionState → TransactionState
 blocked channel s = option_map_or (λ c. blocked_in c c.progress s) (picked (waits_on channel) s) s
 
--- a channel was closed: what waits for one is sent
+-- a channel was closed: the first that waits for one is sent
 abbrev pub freed : TransactionState → TransactionState
-freed s = record s { candidates = map {A = Candidate} freed_one s.candidates }
+freed s = option_map_or (λ c. replacing (freed_one c) s) (picked is_blocked s) s
 
 -- The time of one try has passed: of the first server whose has; else that of channels that failed before.
 abbrev pub expired_in : Candidate → Progress → TransactionState → TransactionState
@@ -228,9 +228,17 @@ chosen s = if may_send s then next_of s else None
 abbrev pub wanted : TransactionState → Option Wanted
 wanted s = option_map (λ c. record { place = c.place; way = way_of c }) (chosen s)
 
+-- the try that goes as what is wanted, made so
+abbrev pub try_to_send : Made → TransactionState → Option Try
+try_to_send made s = option_map (λ c. try_made made (way_of c) s.settings) (chosen s)
+
 -- what was wanted is sent
 abbrev pub sent : Made → TransactionState → TransactionState
 sent made s = option_map_or (λ c. replacing (sent_with made s.settings c) s) (chosen s) s
+
+-- there is no channel for what was wanted: it waits for one, up to this moment
+abbrev pub unsent : ℕ → TransactionState → TransactionState
+unsent due s = option_map_or (λ c. putting (progress.Blocked (way_of c) due) c s) (chosen s) s
 
 -- ---- what it comes to, and up to when it waits
 
@@ -241,6 +249,17 @@ told None false noted = None
 
 abbrev pub outcome_of : TransactionState → Option Outcome
 outcome_of s = told s.ended (is_idle s && not (may_go_on s)) s.noted
+
+-- the reply that it ended with, and before that the one of the best so far
+abbrev pub reply_of : Outcome → Option ℕ
+reply_of (Reply reply) = Some reply
+reply_of (Cut reply) = Some reply
+reply_of (Code reply) = Some reply
+reply_of Unreachable = None
+reply_of Timeout = None
+
+abbrev pub named : TransactionState → Option ℕ
+named s = option_or s.ended (option_and_then reply_of s.noted)
 
 abbrev pub earlier : Option ℕ → ℕ → Option ℕ
 earlier None due = Some due
@@ -266,3 +285,11 @@ try_at channel id s =
 abbrev pub uses : ℕ → TransactionState → Bool
 uses channel s =
     list_any (λ c. waits_on channel c.progress) s.candidates || list_any (λ l. l.tried.channel == channel) s.late
+
+-- the try of which `expired` says that its time has passed, if it is one that waits
+abbrev pub due_try : ℕ → TransactionState → Option Try
+due_try now s = option_and_then (λ c. try_in c.progress) (picked (is_due now) s)
+
+-- the try that waits on this channel, where it tells something of the server that the channel fails
+abbrev pub failed_try : ℕ → TransactionState → Option Try
+failed_try channel s = option_and_then (λ c. failed_try_in c c.progress) (picked (waits_on channel) s)

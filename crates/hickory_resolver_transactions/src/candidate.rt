@@ -1,6 +1,6 @@
 //! A server in a transaction, and the tries at it.
 ghost use Rattle.std.specs.Prelude.{◌≡◌, ◌+◌, is_some, Option, None, Some};
-ghost use Rattle.hickory_resolver_transactions.specs.Candidates.{candidate_of, is_udp, is_again, is_queued, is_waiting, is_tried, is_busy, is_try, waits_as, waits_on, due_of, is_due, first_way, way_of, way_of_try, counted, uncounted, try_made, sent_with, requeued, freed_one, late_due, has_failed_by};
+ghost use Rattle.hickory_resolver_transactions.specs.Candidates.{candidate_of, is_udp, is_again, is_queued, is_waiting, is_blocked, is_tried, is_busy, is_try, waits_as, waits_on, due_of, is_due, first_way, way_of, way_of_try, counted, uncounted, try_made, sent_with, requeued, freed_one, late_due, has_failed_by};
 
 use crate::settings::Settings;
 use hickory_resolver_servers::Server;
@@ -133,7 +133,7 @@ impl Try {
 
 impl Made {
     // The try that goes this way.
-    fn make(&self, way: Way, settings: &Settings) -> Try
+    pub(crate) fn make(&self, way: Way, settings: &Settings) -> Try
         ensures { result ≡ try_made self.now way settings.now }
     {
         let varies = settings.varies_letters && way.transport.is_udp();
@@ -195,6 +195,15 @@ impl Progress {
     {
         match self {
             Progress::Waiting(_) => true,
+            _ => false,
+        }
+    }
+
+    pub(crate) fn is_blocked(&self) -> bool
+        ensures { result ≡ is_blocked self.now }
+    {
+        match self {
+            Progress::Blocked(_, _) => true,
             _ => false,
         }
     }

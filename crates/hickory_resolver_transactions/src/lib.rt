@@ -3,12 +3,18 @@
 //! under which the caller keeps them.
 #![tactic(auto)]
 
+mod acting;
 pub mod candidate;
+mod changed;
 pub mod choices;
+mod deadlines;
+mod events;
 pub mod laws;
 pub mod outcome;
+mod picked;
 pub mod settings;
 pub mod table;
+mod told;
 pub mod transaction;
 
 pub use candidate::{Candidate, LateTry, Made, Progress, Transport, Try, Way};

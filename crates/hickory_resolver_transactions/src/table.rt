@@ -1,6 +1,6 @@
 //! What is done with a server once something came of its try.
 ghost use Rattle.std.specs.Prelude.{◌≡◌, ◌&&◌, ◌==◌, if◌then◌else◌};
-ghost use Rattle.hickory_resolver_transactions.specs.Table.{sends_by, has_room, may_change_to_tcp, may_begin_tcp, again_if, after_reply, after_refused_opt, after_other_letters, after_deadline, after_closed_stream, stays_believed, then_of_reply, then_of_refused_opt, then_of_other_letters};
+ghost use Rattle.hickory_resolver_transactions.specs.Table.{sends_by, has_room, may_change_to_tcp, may_begin_tcp, again_if, after_reply, after_refused_opt, after_other_letters, after_deadline, after_closed_stream, stays_believed, then_of_reply, then_of_refused_opt, then_of_other_letters, failed_try_in};
 
 use crate::candidate::{Candidate, Progress, Transport, Try, Way};
 use crate::choices::SENDS_BY_TRANSPORT;
@@ -177,5 +177,26 @@ pub(crate) fn then_of_other_letters(candidate: &Candidate) -> Then
     match candidate.progress {
         Progress::Waiting(tried) => after_other_letters(candidate, &tried),
         _ => Then::Nothing,
+    }
+}
+
+// Its try, where it tells something of the server that the channel of that fails: what waits on a stream is first sent
+// anew.
+pub(crate) fn failed_try(candidate: &Candidate) -> Option<Try>
+    ensures { result ≡ failed_try_in candidate.now candidate.now.progress }
+{
+    match candidate.progress {
+        Progress::Waiting(tried) => failed_try_of(candidate, &tried),
+        _ => None,
+    }
+}
+
+fn failed_try_of(candidate: &Candidate, tried: &Try) -> Option<Try>
+    ensures { result ≡ failed_try_in candidate.now (Progress.Waiting tried.now) }
+{
+    if tried.transport.is_udp() || !has_room(Transport::Tcp, candidate) {
+        Some(*tried)
+    } else {
+        None
     }
 }

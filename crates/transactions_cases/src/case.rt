@@ -130,6 +130,10 @@ impl Case {
             self.transaction.blocked(number(numbers, 0)?);
             return Ok(true);
         }
+        if line.starts_with("full ") {
+            self.transaction.unsent(number(numbers, 0)?);
+            return Ok(true);
+        }
         if line.starts_with("expired ") {
             self.transaction.expired(number(numbers, 0)?)?;
             return Ok(true);

@@ -1,0 +1,5 @@
+use Rattle.hickory_resolver_channels.proofs.Limits.{stays_within_limits}
+use Rattle.hickory_resolver_channels.proofs.laws.stays_within_limits.Goals as goal
+
+pub returns : goal.returns
+returns c = stays_within_limits

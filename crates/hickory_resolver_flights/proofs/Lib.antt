@@ -1,0 +1,2 @@
+pub mod MadeUp
+pub mod Sent

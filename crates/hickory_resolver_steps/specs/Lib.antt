@@ -1,0 +1,4 @@
+pub mod Ending
+pub mod Lists
+pub mod Steps
+pub mod Telling
