@@ -130,6 +130,23 @@ typedef struct yimarotu_opened {
 yimarotu_opened yimarotu_open(yimarotu_session *session, const uint8_t *settings, size_t settings_length,
                               const uint8_t *hosts, size_t hosts_length, uint64_t moment);
 
+/* The same, and behind the settings, in place of which it counts, what a file resolv.conf says on a host of this name: its
+ * search list behind theirs, `ndots`, `no-aaaa`, and whether questions have an EDNS record: not without `edns0`. Whom to
+ * ask, and how, is the program's affair. A file of no octets says as much as one without lines; none is refused. */
+yimarotu_opened yimarotu_open_with(yimarotu_session *session, const uint8_t *conf, size_t conf_length,
+                                   const uint8_t *hostname, size_t hostname_length, const uint8_t *settings,
+                                   size_t settings_length, const uint8_t *hosts, size_t hosts_length, uint64_t moment);
+
+typedef struct yimarotu_servers {
+    uint8_t status;
+    size_t length; /* of the text: where it was written, and where the room is too small for it; else 0 */
+} yimarotu_servers;
+
+/* Writes the servers that a file resolv.conf names at the front of the room, each address on a line of its own, with `%`
+ * and its scope behind it where it is link-local and has one; 127.0.0.1 where no line names one. What is behind the text
+ * stays, and where the status is not YIMAROTU_OK all of the room does. */
+yimarotu_servers yimarotu_read_servers(const uint8_t *conf, size_t conf_length, uint8_t *room, size_t room_length);
+
 /* Closes the session, with all its look-ups, and gives its memory back. Of a session that is closed nothing changes. */
 void yimarotu_close(yimarotu_session *session);
 

@@ -4,5 +4,6 @@ pub mod NameWords
 pub mod Numbers
 pub mod Options
 pub mod SaidLemmas
+pub mod ServerLists
 pub mod ServerWords
 pub mod WordLists

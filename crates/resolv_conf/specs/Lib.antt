@@ -5,5 +5,6 @@ pub mod OptionWord
 pub mod ResolvConf
 pub mod Said
 pub mod Script
+pub mod ServerLines
 pub mod Servers
 pub mod Text

@@ -10,6 +10,7 @@ mod passed_over;
 mod reading;
 mod script;
 mod server;
+mod server_text;
 mod settings;
 mod text;
 
@@ -17,3 +18,4 @@ pub use configuration::{ResolvConf, read_resolv_conf};
 pub use passed_over::{PassedOver, Reason};
 pub use script::script_lines;
 pub use server::Scope;
+pub use server_text::server_lines;

@@ -8,4 +8,5 @@ pub mod Messages
 pub mod Openings
 pub mod Replays
 pub mod Rooms
+pub mod Servers
 pub mod Statuses

@@ -1,10 +1,9 @@
 -- How sessions are opened.
-use Rattle.std.specs.Prelude.{◌≡◌, ◌⊎◌, ℕ, List, Option, None, Some, Result, Ok, Err, MatchOption}
+use Rattle.std.specs.Prelude.{◌≡◌, ◌⊎◌, ℕ, Option, None, Some, Result, Ok, Err, MatchOption}
 use Rattle.yimarotu_c.specs.Statuses.{number_of}
 use Rattle.yimarotu_c.specs.declared.sessions.YimarotuOpened.{YimarotuOpened}
 use Rattle.yimarotu_c.specs.declared.status.Status.{Status}
 use Rattle.yimarotu_c.specs.declared.status.Status.TheVariants as status
-use Rattle.yimarotu_session.specs.Opening.{IsOpened}
 use Rattle.yimarotu_session.specs.Sessions.{SessionValue}
 use Rattle.yimarotu_session.specs.declared.opening.OpenError.{OpenError}
 use Rattle.yimarotu_session.specs.declared.opening.OpenError.TheVariants.{Script, NotSettings, Hosts, OutOfMemory}
@@ -29,12 +28,13 @@ abbrev pub IsTold : Result SessionValue OpenError → YimarotuOpened → Option 
 IsTold (Ok session) ended after = IsKept session ended after
 IsTold (Err error) ended after = (ended ≡ open_error error) × (after ≡ None)
 
--- a session is opened where there is none
-abbrev pub OpensClosed : List ℕ → List ℕ → ℕ → YimarotuOpened → Option SessionValue → Type 0
-OpensClosed settings hosts moment ended after =
-    (opened : Result SessionValue OpenError) × IsOpened settings hosts moment opened × IsTold opened ended after
+-- a session is opened so where there is none
+abbrev pub OpensClosed : (Result SessionValue OpenError → Type 0) → YimarotuOpened → Option SessionValue → Type 0
+OpensClosed IsOpened ended after =
+    (opened : Result SessionValue OpenError) × IsOpened opened × IsTold opened ended after
 
-abbrev pub Opens : List ℕ → List ℕ → ℕ → Option SessionValue → YimarotuOpened → Option SessionValue → Type 0
-Opens settings hosts moment before ended after =
-    MatchOption before (OpensClosed settings hosts moment ended after)
+abbrev pub Opens : (Result SessionValue OpenError → Type 0) → Option SessionValue → YimarotuOpened
+    → Option SessionValue → Type 0
+Opens IsOpened before ended after =
+    MatchOption before (OpensClosed IsOpened ended after)
     (λ session. (ended ≡ open_end status.IsOpen 0) × (after ≡ before))

@@ -1,4 +1,4 @@
-//! The resolver for C, and for what speaks C: messages, sessions and replays of scripts.
+//! The resolver for C, and for what speaks C: messages, sessions, servers of a resolv.conf, and replays of scripts.
 #![tactic(auto)]
 
 pub mod answering;
@@ -10,5 +10,6 @@ mod parts;
 pub mod replaying;
 pub mod rewriting;
 mod room;
+pub mod servers;
 pub mod sessions;
 pub mod status;

@@ -1,7 +1,10 @@
 //! Sessions as C holds them: they are opened and closed.
 ghost use Rattle.std.specs.Prelude.{◌≡◌, None, Option, Some};
 ghost use Rattle.std.specs.Option.{is_some, option_map};
+ghost use Rattle.resolv_conf.specs.ResolvConf.{resolv_conf};
 ghost use Rattle.yimarotu_c.specs.Openings.{IsKept, Opens, open_end, open_error};
+ghost use Rattle.yimarotu_session.specs.FileSettings.{IsOpenedWith};
+ghost use Rattle.yimarotu_session.specs.Opening.{IsOpened};
 
 use crate::inside::Inside;
 use crate::parts::Parts;
@@ -38,12 +41,36 @@ pub extern "C" fn yimarotu_open(
     hosts: &[u8],
     moment: u64,
 ) -> YimarotuOpened
-    ensures { Opens settings.now hosts.now moment session.old.inside.value result session.new.inside.value }
+    ensures { Opens (IsOpened settings.now hosts.now moment) session.old.inside.value result session.new.inside.value }
 {
     if session.is_open {
         return ended(Status::IsOpen, 0);
     }
     match Session::open(alloc, settings, hosts, moment) {
+        Ok(inside) => keep(alloc, session, inside),
+        Err(error) => refused(error),
+    }
+}
+
+/// Opens a session with these settings, and behind them what a file resolv.conf says on a host of this name, over what a
+/// file of hosts says, read at this moment (seconds).
+#[unsafe(no_mangle)]
+pub extern "C" fn yimarotu_open_with(
+    alloc: Global,
+    session: &mut YimarotuSession,
+    conf: &[u8],
+    hostname: &[u8],
+    settings: &[u8],
+    hosts: &[u8],
+    moment: u64,
+) -> YimarotuOpened
+    ensures { Opens (IsOpenedWith (resolv_conf conf.now hostname.now) settings.now hosts.now moment)
+        session.old.inside.value result session.new.inside.value }
+{
+    if session.is_open {
+        return ended(Status::IsOpen, 0);
+    }
+    match Session::open_with(alloc, conf, hostname, settings, hosts, moment) {
         Ok(inside) => keep(alloc, session, inside),
         Err(error) => refused(error),
     }

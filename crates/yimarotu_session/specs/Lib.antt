@@ -1,4 +1,5 @@
 pub mod Calls
+pub mod FileSettings
 pub mod Messages
 pub mod Opening
 pub mod Sessions

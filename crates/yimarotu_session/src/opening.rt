@@ -42,7 +42,8 @@ pub(crate) fn read_resolver(
     }
 }
 
-fn read_over(
+// The resolver of these settings over what a file of hosts says, read at this moment (seconds).
+pub(crate) fn read_over(
     alloc: Global,
     script: Script,
     hosts: &[u8],
@@ -58,7 +59,7 @@ fn read_over(
 }
 
 // What the lines of a script set, where they do nothing else.
-fn read_settings(alloc: Global, settings: &[u8]) -> Result<Script, OpenError>
+pub(crate) fn read_settings(alloc: Global, settings: &[u8]) -> Result<Script, OpenError>
     ensures { IsSettingsRead settings.now result }
 {
     match read_script(alloc, settings) {

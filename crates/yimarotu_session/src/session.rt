@@ -1,10 +1,13 @@
 //! A resolver, and look-ups that wait or are done, each under a number.
 ghost use Rattle.std.specs.Prelude.{◌≡◌, [], Err, IfErr, IfOk, Ok, Some};
 ghost use Rattle.hickory_resolver_model.specs.Options.{request_options_of};
+ghost use Rattle.resolv_conf.specs.ResolvConf.{resolv_conf};
 ghost use Rattle.yimarotu_session.specs.Calls.{BeginsHost, BeginsName, Cancels, ClearsName, Feeds, cleared, found_at, question_at, waits_of};
+ghost use Rattle.yimarotu_session.specs.FileSettings.{IsOpenedWith};
 ghost use Rattle.yimarotu_session.specs.Opening.{IsOpened};
 ghost use Rattle.yimarotu_session.specs.Sessions.{Puts};
 
+use crate::file_settings::read_resolver_with;
 use crate::going_on::{go_on, waits};
 use crate::numbered::{forget, put};
 use crate::opening::{OpenError, read_resolver};
@@ -43,6 +46,28 @@ impl Session {
         ensures { IsOpened settings.now hosts.now now result }
     {
         match read_resolver(alloc, settings, hosts, now) {
+            Ok(resolver) => Ok(Session {
+                resolver,
+                lookups: HashMap::new(alloc),
+            }),
+            Err(error) => Err(error),
+        }
+    }
+
+    /// The same, where a file resolv.conf on a host of this name is said behind the settings: what it says counts in
+    /// place of them, but its search list comes behind theirs. Of the file count `search` and `domain`, and of its
+    /// options `ndots`, `edns0` and `no-aaaa`: the servers, and how they are asked, are the program's.
+    pub fn open_with(
+        alloc: Global,
+        conf: &[u8],
+        hostname: &[u8],
+        settings: &[u8],
+        hosts: &[u8],
+        now: u64,
+    ) -> Result<Session, OpenError>
+        ensures { IsOpenedWith (resolv_conf conf.now hostname.now) settings.now hosts.now now result }
+    {
+        match read_resolver_with(alloc, conf, hostname, settings, hosts, now) {
             Ok(resolver) => Ok(Session {
                 resolver,
                 lookups: HashMap::new(alloc),

@@ -114,6 +114,19 @@ static end open_it(void) {
     return opened.status == YIMAROTU_OK && session.is_open ? WHOLE : WRONG;
 }
 
+static end open_with(void) {
+    yimarotu_opened opened = yimarotu_open_with(&session, BYTES("search a.example b.example\noptions ndots:2 no-aaaa\n"),
+                                                BYTES("host.example.com"), BYTES("option cache_size 9\n"), BYTES(""), 100);
+    if (opened.status == YIMAROTU_NO_MEMORY) return session.is_open || opened.line ? WRONG : NO_MEMORY;
+    return opened.status == YIMAROTU_OK && session.is_open ? WHOLE : WRONG;
+}
+
+static end read_servers(void) {
+    static const char servers[] = "192.0.2.53\nfe80::1%eth0\n";
+    yimarotu_servers s = yimarotu_read_servers(BYTES("nameserver 192.0.2.53\nnameserver fe80::1%eth0\n"), room, ROOM);
+    return written(s.status, s.length, servers, sizeof servers - 1, 0);
+}
+
 static end start_1(void) { return came(yimarotu_start(&session, 1, BYTES("www.example.com."), A, 100), 1, true); }
 
 static end question_1(void) {
@@ -201,6 +214,9 @@ static const call CALLS[] = {
     {"yimarotu_cancel", cancel_5, 0, NULL, true},
     {"yimarotu_clear", clear, 0, NULL, true},
     {"yimarotu_close", close_it, 0, NULL, true},
+    {"yimarotu_open_with", open_with, 0, NULL, false},
+    {"yimarotu_close, by a resolv.conf", close_it, 0, NULL, true},
+    {"yimarotu_read_servers", read_servers, 0, NULL, false},
 };
 enum { COUNT = sizeof CALLS / sizeof CALLS[0] };
 
