@@ -10,7 +10,7 @@ use Rattle.conversation.specs.Hearing.{IsHeard, IsServedOut}
 use Rattle.conversation.specs.Lines.{mark_in, mark_of}
 use Rattle.conversation.specs.Said as said
 use Rattle.conversation.specs.Said.{SaidValue, said_by, said_in}
-use Rattle.conversation.specs.State.{ConversationValue, Puts, Stage, counted}
+use Rattle.conversation.specs.State.{ConversationValue, Puts, Phase, counted}
 use Rattle.conversation.specs.Telling.{IsActedUpon, IsRefused, RanOut}
 use Rattle.conversation.specs.declared.fault.ConversationFault.TheVariants as fault
 use Rattle.conversation.specs.declared.heard.Heard.{Heard}
@@ -79,13 +79,13 @@ byte_said c text refusal result says bad same is =
 pub line_heard : (before mid after : ConversationValue) (text : List ℕ) (heard : Heard) → mid ≡ counted before → IsActedUpon mid (mark_of text) (said_by text) (Ok heard) after → IsHeard before text (Ok heard) after
 line_heard before mid after text heard is told = subst (λ c. IsActedUpon c (mark_of text) (said_by text) (Ok heard) after) is told
 
-pub line_out : (before mid left after : ConversationValue) (text mark : List ℕ) (e : AllocError) → mid ≡ counted before → mark ≡ mark_of text → IsActedUpon mid (mark_of text) (said_by text) (Err e) left → after.lines ≡ left.lines → after.stage ≡ left.stage
+pub line_out : (before mid left after : ConversationValue) (text mark : List ℕ) (e : AllocError) → mid ≡ counted before → mark ≡ mark_of text → IsActedUpon mid (mark_of text) (said_by text) (Err e) left → after.lines ≡ left.lines → after.phase ≡ left.phase
     → Puts mark None left.requests after.requests → IsHeard before text (Err e) after
-line_out before mid left after text mark e is mark_is ran lines stage forgotten =
-    let Left : ConversationValue → Stage → Type 0 = λ c. IsServedOut c (mark_of text) (said_by text) in
+line_out before mid left after text mark e is mark_is ran lines phase forgotten =
+    let Left : ConversationValue → Phase → Type 0 = λ c. IsServedOut c (mark_of text) (said_by text) in
     let ran : RanOut (mark_of text) (Left (counted before)) (counted before) left = subst (λ c. RanOut (mark_of text) (Left c) c left) is ran in
     record {
       lines_are = lines ∙ ran.lines_are;
-      stage_is = subst (λ x. (x ≡ (counted before).stage) ⊎ Left (counted before) x) (sym stage) ran.stage_is;
+      phase_is = subst (λ x. (x ≡ (counted before).phase) ⊎ Left (counted before) x) (sym phase) ran.phase_is;
       requests_are = puts_again (mark_of text) ran.requests_are.0 None (counted before).requests left.requests after.requests ran.requests_are.1 (subst (λ m. Puts m None left.requests after.requests) mark_is forgotten);
     }

@@ -1,4 +1,5 @@
 pub mod Choices
+pub mod FileLines
 pub mod Held
 pub mod Answered
 pub mod Settings

@@ -19,7 +19,7 @@ use Rattle.conversation.specs.Faults.{RefusalValue, is_memory, of_line, unknown}
 use Rattle.conversation.specs.Hearing.{IsFedOut, IsFedWith, IsOutcomeOf, IsServedOut}
 use Rattle.conversation.specs.Lines.{IsScriptLine}
 use Rattle.conversation.specs.Said as said
-use Rattle.conversation.specs.State.{BegunValue, ConversationValue, InFlightValue, Puts, Requests, Stage, request_at}
+use Rattle.conversation.specs.State.{BegunValue, ConversationValue, InFlightValue, Puts, Requests, Phase, request_at}
 use Rattle.conversation.specs.Telling.{HasReply, IsActedUpon, IsAnswered, IsFailureOf, IsFed, IsForRequest, IsGiven, IsRefused, OfRequest, PutsSome, nothing_left}
 use Rattle.conversation.specs.Texts.{cancelled_text}
 use Rattle.conversation.specs.declared.fault.ConversationFault.TheVariants as fault
@@ -49,10 +49,10 @@ not_in_flight c mark Kind = by (request_at mark c.requests)
 -- ---- a request is cancelled
 
 pub cancel_told : (before after : ConversationValue) (mark : List ℕ) (heard : Heard) → string_bytes heard.explained ≡ [] → string_bytes heard.text ≡ cancelled_text mark → string_bytes heard.journal ≡ [] → heard.is_last ≡ false
-    → after.lines ≡ before.lines → after.stage ≡ before.stage → Puts mark None before.requests after.requests → IsAnswered before mark (λ answer. answer ≡ cancelled before mark) nothing_left (Ok heard) after
-cancel_told before after mark heard explained text journal last lines stage puts =
+    → after.lines ≡ before.lines → after.phase ≡ before.phase → Puts mark None before.requests after.requests → IsAnswered before mark (λ answer. answer ≡ cancelled before mark) nothing_left (Ok heard) after
+cancel_told before after mark heard explained text journal last lines phase puts =
     answered_by before after mark (λ answer. answer ≡ cancelled before mark) nothing_left heard (cancelled before mark) refl explained text journal last
-    (record { lines_are = lines; stage_is = stage; requests_are = puts })
+    (record { lines_are = lines; phase_is = phase; requests_are = puts })
 
 pub cancels_held : (before after : ConversationValue) (mark : List ℕ) (given : List (List ℕ)) (result : Result Heard AllocError) → is_some (request_at mark before.requests) ≡ true → is_empty given ≡ true
     → IsAnswered before mark (λ answer. answer ≡ cancelled before mark) nothing_left result after → IsActedUpon before mark (said.Cancel given) result after
@@ -100,7 +100,7 @@ pub for_request : (before after : ConversationValue) (mark : List ℕ) (Kind Oth
     → IsForRequest before mark Kind Comes result after → IsForRequest before mark Other More result after
 for_request before after mark Kind Other Comes More result turn leave =
     answered_as before after mark (OfRequest before mark Kind) (OfRequest before mark Other) (IsFedWith before mark Comes) (IsFedWith before mark More) result
-    (λ answer kind r found. turn r found answer (kind r found)) (λ stage (r, outcome, found, comes, out). (r, outcome, found, leave r outcome comes, out))
+    (λ answer kind r found. turn r found answer (kind r found)) (λ phase (r, outcome, found, comes, out). (r, outcome, found, leave r outcome comes, out))
 
 -- a fault is told of a request
 pub refused_request : (c : ConversationValue) (mark : List ℕ) (refusal wanted : RefusalValue) (Kind : InFlightValue → Answer → Type 0) (Comes : InFlightValue → OutcomeValue → Type 0) (result : Result Heard AllocError) → IsRefused c mark refusal result → refusal ≡ wanted
@@ -111,13 +111,13 @@ refused_request c mark refusal wanted Kind Comes result is same kind =
 -- ---- `done`
 
 pub reply_ended : (before after : ConversationValue) (mark : List ℕ) (given : List (List ℕ)) (has_reply : Bool) (result : Result Heard AllocError) → HasReply before.requests mark has_reply → has_reply ≡ true → is_empty given ≡ true
-    → IsForRequest before mark (λ r. FeedsReply mark before.stage r) (IsOutcomeOf (said.Done [])) result after → IsActedUpon before mark (said.Done given) result after
+    → IsForRequest before mark (λ r. FeedsReply mark before.phase r) (IsOutcomeOf (said.Done [])) result after → IsActedUpon before mark (said.Done given) result after
 reply_ended before after mark (x ∷ xs) has_reply result has open_now none = absurd (let h = none in cc)
 reply_ended before after mark [] has_reply result has open_now none =
-    answered_as before after mark (OfRequest before mark (λ r. FeedsReply mark before.stage r)) (AnswersSaid before mark (said.Done [])) (IsFedWith before mark (IsOutcomeOf (said.Done []))) (IsServedOut before mark (said.Done [])) result
+    answered_as before after mark (OfRequest before mark (λ r. FeedsReply mark before.phase r)) (AnswersSaid before mark (said.Done [])) (IsFedWith before mark (IsOutcomeOf (said.Done []))) (IsServedOut before mark (said.Done [])) result
     (λ answer kind. in_flight before mark (λ r. AnswersDone before mark r []) answer (reply_held mark before.requests has_reply has)
-    (λ r found. match_true (is_some r.reply) (FeedsReply mark before.stage r answer) (answer ≡ refused before mark (of_line (fault.Script script.NoReply))) (reply_of mark before.requests has_reply r has found ∙ open_now) (kind r found)))
-    (λ stage left. inr left)
+    (λ r found. match_true (is_some r.reply) (FeedsReply mark before.phase r answer) (answer ≡ refused before mark (of_line (fault.Script script.NoReply))) (reply_of mark before.requests has_reply r has found ∙ open_now) (kind r found)))
+    (λ phase left. inr left)
 
 pub done_none : (c : ConversationValue) (mark : List ℕ) (given : List (List ℕ)) (has_reply : Bool) → HasReply c.requests mark has_reply → has_reply ≡ false
     → AnswersSaid c mark (said.Done given) (refused c mark (of_line (fault.Script script.NoReply)))
@@ -132,82 +132,82 @@ done_more c mark given has_reply has open_now some =
     let answer = refused c mark (of_line (fault.Script script.FieldCount)) in
     in_flight c mark (λ r. AnswersDone c mark r given) answer (reply_held mark c.requests has_reply has)
     (λ r found. match_true (is_some r.reply) (EndsReply c mark r given answer) (answer ≡ refused c mark (of_line (fault.Script script.NoReply))) (reply_of mark c.requests has_reply r has found ∙ open_now)
-    (match_false (is_empty given) (FeedsReply mark c.stage r answer) (answer ≡ answer) some refl))
+    (match_false (is_empty given) (FeedsReply mark c.phase r answer) (answer ≡ answer) some refl))
 
 -- ---- a request goes on
 
 -- what is told over a resolver is told of the conversation
-pub fed : (before after : ConversationValue) (mark : List ℕ) (begun : BegunValue) (w : WaitingCallValue) (outcome : OutcomeValue) (result : Result Heard AllocError) (stage left : Stage) → before.stage ≡ stage → after.lines ≡ before.lines → after.stage ≡ left
-    → IsGiven mark (Feeds mark stage begun w outcome) (IsFedOut stage w outcome) result left before.requests after.requests → IsFed before mark begun w outcome result after
-fed before after mark begun w outcome (Ok heard) stage left was lines is (answer, feeds, says, stands, puts) =
-    (answer, subst (λ x. Feeds mark x begun w outcome answer) (sym was) feeds, says, record { lines_are = lines; stage_is = is ∙ stands; requests_are = puts })
-fed before after mark begun w outcome (Err e) stage left was lines is (out, some) =
-    (lines, inr (subst (λ x. IsFedOut x w outcome after.stage) (sym was) (subst (λ x. IsFedOut stage w outcome x) (sym is) out)), some)
+pub fed : (before after : ConversationValue) (mark : List ℕ) (begun : BegunValue) (w : WaitingCallValue) (outcome : OutcomeValue) (result : Result Heard AllocError) (phase left : Phase) → before.phase ≡ phase → after.lines ≡ before.lines → after.phase ≡ left
+    → IsGiven mark (Feeds mark phase begun w outcome) (IsFedOut phase w outcome) result left before.requests after.requests → IsFed before mark begun w outcome result after
+fed before after mark begun w outcome (Ok heard) phase left was lines is (answer, feeds, says, stands, puts) =
+    (answer, subst (λ x. Feeds mark x begun w outcome answer) (sym was) feeds, says, record { lines_are = lines; phase_is = is ∙ stands; requests_are = puts })
+fed before after mark begun w outcome (Err e) phase left was lines is (out, some) =
+    (lines, inr (subst (λ x. IsFedOut x w outcome after.phase) (sym was) (subst (λ x. IsFedOut phase w outcome x) (sym is) out)), some)
 
 pub not_fed : (c : ConversationValue) (mark : List ℕ) (begun : BegunValue) (w : WaitingCallValue) (outcome : OutcomeValue) (e : AllocError) → IsFed c mark begun w outcome (Err e) c
 not_fed c mark begun w outcome e = (refl, inl refl, some_stays mark c.requests)
 
 -- a request that was taken out goes on, and nothing else changed before
 fed_for : (before mid after : ConversationValue) (mark : List ℕ) (r : InFlightValue) (begun : BegunValue) (outcome : OutcomeValue) (Kind : InFlightValue → Answer → Type 0) (Comes : InFlightValue → OutcomeValue → Type 0) (result : Result Heard AllocError)
-    → request_at mark before.requests ≡ Some r → mid.lines ≡ before.lines → mid.stage ≡ before.stage → Puts mark None before.requests mid.requests → Comes r outcome
-    → ((answer : Answer) → Feeds mark before.stage begun r.waiting outcome answer → Kind r answer)
+    → request_at mark before.requests ≡ Some r → mid.lines ≡ before.lines → mid.phase ≡ before.phase → Puts mark None before.requests mid.requests → Comes r outcome
+    → ((answer : Answer) → Feeds mark before.phase begun r.waiting outcome answer → Kind r answer)
     → IsFed mid mark begun r.waiting outcome result after → IsForRequest before mark Kind Comes result after
-fed_for before mid after mark r begun outcome Kind Comes (Ok heard) found lines stage taken comes turn (answer, feeds, says, stands) = (
+fed_for before mid after mark r begun outcome Kind Comes (Ok heard) found lines phase taken comes turn (answer, feeds, says, stands) = (
   answer,
-  λ q is. let same : r ≡ q = let h : Some r ≡ Some q = sym found ∙ is in cc in subst (λ x. Kind x answer) same (turn answer (subst (λ x. Feeds mark x begun r.waiting outcome answer) stage feeds)),
+  λ q is. let same : r ≡ q = let h : Some r ≡ Some q = sym found ∙ is in cc in subst (λ x. Kind x answer) same (turn answer (subst (λ x. Feeds mark x begun r.waiting outcome answer) phase feeds)),
   says,
   record {
     lines_are = stands.lines_are ∙ lines;
-    stage_is = stands.stage_is;
+    phase_is = stands.phase_is;
     requests_are = puts_again mark None answer.held before.requests mid.requests after.requests taken stands.requests_are;
   },
 )
-fed_for before mid after mark r begun outcome Kind Comes (Err e) found lines stage taken comes turn (same, left, some) = record {
+fed_for before mid after mark r begun outcome Kind Comes (Err e) found lines phase taken comes turn (same, left, some) = record {
   lines_are = same ∙ lines;
-  stage_is = by left;
+  phase_is = by left;
   requests_are = some_again mark None before.requests mid.requests after.requests taken some;
 }
   where
-    by : (after.stage ≡ mid.stage) ⊎ IsFedOut mid.stage r.waiting outcome after.stage → (after.stage ≡ before.stage) ⊎ IsFedWith before mark Comes after.stage
-    by (inl is) = inl (is ∙ stage)
-    by (inr out) = inr (r, outcome, found, comes, subst (λ x. IsFedOut x r.waiting outcome after.stage) stage out)
+    by : (after.phase ≡ mid.phase) ⊎ IsFedOut mid.phase r.waiting outcome after.phase → (after.phase ≡ before.phase) ⊎ IsFedWith before mark Comes after.phase
+    by (inl is) = inl (is ∙ phase)
+    by (inr out) = inr (r, outcome, found, comes, subst (λ x. IsFedOut x r.waiting outcome after.phase) phase out)
 
 -- the open reply is fed
 pub reply_fed : (before mid after : ConversationValue) (mark : List ℕ) (r : InFlightValue) (reply : OpenReply) (outcome : OutcomeValue) (result : Result Heard AllocError)
-    → Some r ≡ request_at mark before.requests → r.reply ≡ Some reply → outcome ≡ Ok reply.message → mid.lines ≡ before.lines → mid.stage ≡ before.stage → Puts mark None before.requests mid.requests
-    → IsFed mid mark r.begun r.waiting outcome result after → IsForRequest before mark (λ r. FeedsReply mark before.stage r) (IsOutcomeOf (said.Done [])) result after
-reply_fed before mid after mark r reply outcome result found is shown lines stage taken =
-    fed_for before mid after mark r r.begun outcome (λ r. FeedsReply mark before.stage r) (IsOutcomeOf (said.Done [])) result (sym found) lines stage taken (reply, is, shown)
-    (λ answer feeds. (reply, is, subst (λ o. Feeds mark before.stage r.begun r.waiting o answer) shown feeds))
+    → Some r ≡ request_at mark before.requests → r.reply ≡ Some reply → outcome ≡ Ok reply.message → mid.lines ≡ before.lines → mid.phase ≡ before.phase → Puts mark None before.requests mid.requests
+    → IsFed mid mark r.begun r.waiting outcome result after → IsForRequest before mark (λ r. FeedsReply mark before.phase r) (IsOutcomeOf (said.Done [])) result after
+reply_fed before mid after mark r reply outcome result found is shown lines phase taken =
+    fed_for before mid after mark r r.begun outcome (λ r. FeedsReply mark before.phase r) (IsOutcomeOf (said.Done [])) result (sym found) lines phase taken (reply, is, shown)
+    (λ answer feeds. (reply, is, subst (λ o. Feeds mark before.phase r.begun r.waiting o answer) shown feeds))
 
 abbrev pub failed : NetError → OutcomeValue
 failed error = Err error
 
 -- a failure is fed
 pub failure_fed : (before mid after : ConversationValue) (mark : List ℕ) (given : List (List ℕ)) (r : InFlightValue) (begun : BegunValue) (outcome wanted : OutcomeValue) (result : Result Heard AllocError)
-    → Some r ≡ request_at mark before.requests → begun ≡ with_line r.begun given → outcome ≡ wanted → mid.lines ≡ before.lines → mid.stage ≡ before.stage → Puts mark None before.requests mid.requests
-    → IsFed mid mark begun r.waiting outcome result after → IsForRequest before mark (λ r. Feeds mark before.stage (with_line r.begun given) r.waiting wanted) (λ r o. o ≡ wanted) result after
-failure_fed before mid after mark given r begun outcome wanted result found is shown lines stage taken =
-    fed_for before mid after mark r begun outcome (λ r. Feeds mark before.stage (with_line r.begun given) r.waiting wanted) (λ r o. o ≡ wanted) result (sym found) lines stage taken shown
-    (λ answer feeds. subst (λ o. Feeds mark before.stage (with_line r.begun given) r.waiting o answer) shown (subst (λ b. Feeds mark before.stage b r.waiting outcome answer) is feeds))
+    → Some r ≡ request_at mark before.requests → begun ≡ with_line r.begun given → outcome ≡ wanted → mid.lines ≡ before.lines → mid.phase ≡ before.phase → Puts mark None before.requests mid.requests
+    → IsFed mid mark begun r.waiting outcome result after → IsForRequest before mark (λ r. Feeds mark before.phase (with_line r.begun given) r.waiting wanted) (λ r o. o ≡ wanted) result after
+failure_fed before mid after mark given r begun outcome wanted result found is shown lines phase taken =
+    fed_for before mid after mark r begun outcome (λ r. Feeds mark before.phase (with_line r.begun given) r.waiting wanted) (λ r o. o ≡ wanted) result (sym found) lines phase taken shown
+    (λ answer feeds. subst (λ o. Feeds mark before.phase (with_line r.begun given) r.waiting o answer) shown (subst (λ b. Feeds mark before.phase b r.waiting outcome answer) is feeds))
 
 -- ---- a reply
 
 -- a request is changed, and nothing is said
 pub changed_told : (before after : ConversationValue) (mark : List ℕ) (change : InFlightValue → InFlightValue) (Kind : InFlightValue → Answer → Type 0) (Comes : InFlightValue → OutcomeValue → Type 0) (heard : Heard) (r : InFlightValue)
-    → request_at mark before.requests ≡ Some r → Puts mark (Some (change r)) before.requests after.requests → after.lines ≡ before.lines → after.stage ≡ before.stage → Kind r (keeps before mark (change r))
+    → request_at mark before.requests ≡ Some r → Puts mark (Some (change r)) before.requests after.requests → after.lines ≡ before.lines → after.phase ≡ before.phase → Kind r (keeps before mark (change r))
     → string_bytes heard.explained ≡ [] → string_bytes heard.text ≡ [] → string_bytes heard.journal ≡ [] → heard.is_last ≡ false → IsForRequest before mark Kind Comes (Ok heard) after
-changed_told before after mark change Kind Comes heard r found puts lines stage kind explained text journal last = (
+changed_told before after mark change Kind Comes heard r found puts lines phase kind explained text journal last = (
   keeps before mark (change r),
   λ q is. let same : r ≡ q = let h : Some r ≡ Some q = sym found ∙ is in cc in subst (λ x. Kind x (keeps before mark (change r))) same kind,
   record { explained_is = explained; text_is = text; journal_is = journal; last_is = last },
-  record { lines_are = lines; stage_is = stage; requests_are = puts },
+  record { lines_are = lines; phase_is = phase; requests_are = puts },
 )
 
 pub changed_out : (before after : ConversationValue) (mark : List ℕ) (Kind : InFlightValue → Answer → Type 0) (Comes : InFlightValue → OutcomeValue → Type 0) (result : Result Heard AllocError) → IsErr result
-    → after.lines ≡ before.lines → after.stage ≡ before.stage → PutsSome mark before.requests after.requests → IsForRequest before mark Kind Comes result after
-changed_out before after mark Kind Comes result out lines stage some =
-    answered_out before after mark (OfRequest before mark Kind) (IsFedWith before mark Comes) result out (record { lines_are = lines; stage_is = inl stage; requests_are = some })
+    → after.lines ≡ before.lines → after.phase ≡ before.phase → PutsSome mark before.requests after.requests → IsForRequest before mark Kind Comes result after
+changed_out before after mark Kind Comes result out lines phase some =
+    answered_out before after mark (OfRequest before mark Kind) (IsFedWith before mark Comes) result out (record { lines_are = lines; phase_is = inl phase; requests_are = some })
 
 -- ---- a line of an outcome
 
@@ -217,7 +217,7 @@ outcome_read before after mark begins given has_reply said_here result has early
     answered_as before after mark (OfRequest before mark (λ r. Takes before mark r given (Ok said_here))) (AnswersSaid before mark (said.Outcome begins given)) (IsFedWith before mark (IsFailureOf said_here)) (IsServedOut before mark (said.Outcome begins given)) result
     (λ answer kind. in_flight before mark (λ r. AnswersOutcome before mark r begins given) answer (reply_held mark before.requests has_reply has)
     (λ r found. match_false (begins && is_some r.reply) (answer ≡ refused before mark (of_line fault.ReplyNotDone)) (AnswersLine before mark r given answer) (not_early r found) (Ok said_here, read r found, kind r found)))
-    (λ stage (r, outcome, found, (failure, fails, shown), out). inr (r, outcome, found, (failure, not_early r found, subst (λ l. IsScriptLine (is_some r.reply) given (Ok l)) fails (read r found), shown), out))
+    (λ phase (r, outcome, found, (failure, fails, shown), out). inr (r, outcome, found, (failure, not_early r found, subst (λ l. IsScriptLine (is_some r.reply) given (Ok l)) fails (read r found), shown), out))
   where
     not_early : (r : InFlightValue) → request_at mark before.requests ≡ Some r → (begins && is_some r.reply) ≡ false
     not_early r found = ap (λ b. begins && b) (reply_of mark before.requests has_reply r has found) ∙ early

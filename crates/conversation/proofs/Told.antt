@@ -19,7 +19,7 @@ use Rattle.conversation.specs.Answers.{Answer, Came, Clears, ComesTo, Feeds, Loo
 use Rattle.conversation.specs.Explaining.{IsStartExplained, alias_text}
 use Rattle.conversation.specs.Hearing.{IsBegunOver, IsFedOut}
 use Rattle.conversation.specs.State.{BegunValue, Puts, Requests, Serving, requests_of}
-use Rattle.conversation.specs.Telling.{IsBlock, IsClearBlock, IsGiven, IsQuestion, IsTold, PutsSome, stage_by}
+use Rattle.conversation.specs.Telling.{IsBlock, IsClearBlock, IsGiven, IsQuestion, IsTold, PutsSome, phase_by}
 use Rattle.replay_script.specs.Output.{request_text}
 use Rattle.conversation.specs.Texts.{clear_text, send_text}
 use Rattle.conversation.specs.declared.heard.Heard.{Heard}
@@ -37,7 +37,7 @@ told_waits mark s begun w cache (Ok heard) es fs options by told puts same = (
     text = send_text mark w.lookup.hop.query s.request_options;
     journal = [];
     is_last = false;
-    stage = Serving s cache;
+    phase = Serving s cache;
     held = Some (asking begun w);
   },
   refl,
@@ -57,19 +57,19 @@ kept_asking mark key begun now w before after key_is now_is puts =
 pub told_done : (mark : List ℕ) (s : Settings) (begun : BegunValue) (found : LookupResult) (cache : CacheValue) (result : Result Heard AllocError) (before after : Requests)
     → IfOk result (IsBlock mark begun cache found) → Puts mark None before after → IsTold mark (Tells mark [] s begun (Looks (IsDone found)) cache) result before after
 told_done mark s begun found cache (Ok heard) before after block puts =
-    (record { explained = _; text = _; journal = _; is_last = false; stage = Serving s cache; held = None }, (block.remembered, refl), record { explained_is = block.explained_is; text_is = block.text_is; journal_is = block.journal_is; last_is = block.last_is }, puts)
+    (record { explained = _; text = _; journal = _; is_last = false; phase = Serving s cache; held = None }, (block.remembered, refl), record { explained_is = block.explained_is; text_is = block.text_is; journal_is = block.journal_is; last_is = block.last_is }, puts)
 told_done mark s begun found cache (Err e) before after block puts = (None, puts)
 
 pub told_cleared : (mark : List ℕ) (s : Settings) (begun : BegunValue) (cache : CacheValue) (result : Result Heard AllocError) (before after : Requests)
     → IfOk result (IsClearBlock mark begun) → Puts mark None before after → IsTold mark (Tells mark [] s begun Clears cache) result before after
 told_cleared mark s begun cache (Ok heard) before after block puts =
-    (record { explained = _; text = _; journal = _; is_last = false; stage = Serving s cache; held = None }, refl, record { explained_is = block.explained_is; text_is = block.text_is; journal_is = block.journal_is; last_is = block.last_is }, puts)
+    (record { explained = _; text = _; journal = _; is_last = false; phase = Serving s cache; held = None }, refl, record { explained_is = block.explained_is; text_is = block.text_is; journal_is = block.journal_is; last_is = block.last_is }, puts)
 told_cleared mark s begun cache (Err e) before after block puts = (None, puts)
 
-tells_stage : (mark : List ℕ) (start : List ℕ) (s : Settings) (begun : BegunValue) (came : Came) (cache : CacheValue) (answer : Answer) → Tells mark start s begun came cache answer → answer.stage ≡ Serving s cache
-tells_stage mark start s begun (Looks (Waits w)) cache answer is = ap (λ a. a.stage) is
-tells_stage mark start s begun (Looks (IsDone found)) cache answer is = ap (λ a. a.stage) is.1
-tells_stage mark start s begun Clears cache answer is = ap (λ a. a.stage) is
+pub tells_phase : (mark : List ℕ) (start : List ℕ) (s : Settings) (begun : BegunValue) (came : Came) (cache : CacheValue) (answer : Answer) → Tells mark start s begun came cache answer → answer.phase ≡ Serving s cache
+tells_phase mark start s begun (Looks (Waits w)) cache answer is = ap (λ a. a.phase) is
+tells_phase mark start s begun (Looks (IsDone found)) cache answer is = ap (λ a. a.phase) is.1
+tells_phase mark start s begun Clears cache answer is = ap (λ a. a.phase) is
 
 -- ---- over a resolver
 
@@ -89,7 +89,7 @@ behind mark start s begun Clears cache answer is =
       text = clear_text mark begun.request;
       journal = begun.told ++ request_text begun.request;
       is_last = false;
-      stage = Serving s cache;
+      phase = Serving s cache;
       held = None;
     }) (append-nil start)
 
@@ -98,7 +98,7 @@ pub begun_told : {H : Type 0} (mark start : List ℕ) (explains : Bool) (request
     → IsStartExplained mark explains (settings r) r.client.cache request start
     → heard ≡ record told { explained = heard.explained } → string_bytes heard.explained ≡ start ++ string_bytes told.explained
     → IsTold mark (Tells mark [] (settings left) (just_begun request explains) came left.client.cache) (Ok told) before after
-    → IsGiven mark (Serves mark explains request (settings r) r.client.cache) (IsBegunOver (settings r) r.client.cache request) (Ok heard) (stage_by left) before after
+    → IsGiven mark (Serves mark explains request (settings r) r.client.cache) (IsBegunOver (settings r) r.client.cache request) (Ok heard) (phase_by left) before after
 begun_told mark start explains request came r left told heard before after comes same starts others explained_is (answer, tells, says, puts) =
     let kept = same_settings r left same in
     let begun = just_begun request explains in
@@ -112,7 +112,7 @@ begun_told mark start explains request came r left told heard before after comes
         journal_is = ap (λ h. string_bytes h.journal) others ∙ says.journal_is;
         last_is = ap (λ h. h.is_last) others ∙ says.last_is;
       },
-      sym (tells_stage mark [] (settings left) begun came left.client.cache answer tells),
+      sym (tells_phase mark [] (settings left) begun came left.client.cache answer tells),
       puts,
     )
 
@@ -120,7 +120,7 @@ begun_told mark start explains request came r left told heard before after comes
 pub begun_out : {H : Type 0} (mark : List ℕ) (explains : Bool) (request : RequestValue) (came : Came) (r left : ResolverValue H) (result : Result Heard AllocError) (before after : Requests)
     → ComesTo (settings r) request r.client.cache came left.client.cache → KeepsAllButCache r left → IsErr result
     → PutsSome mark before after
-    → IsGiven mark (Serves mark explains request (settings r) r.client.cache) (IsBegunOver (settings r) r.client.cache request) result (stage_by left) before after
+    → IsGiven mark (Serves mark explains request (settings r) r.client.cache) (IsBegunOver (settings r) r.client.cache request) result (phase_by left) before after
 begun_out mark explains request came r left (Ok heard) before after comes same out some = absurd (let h = out in cc)
 begun_out mark explains request came r left (Err e) before after comes same out some =
     (inr (came, left.client.cache, comes, ap (λ s. Serving s left.client.cache) (same_settings r left same)), some)
@@ -131,17 +131,17 @@ some_told mark Kind (Ok heard) before after (answer, kind, says, puts) = (answer
 some_told mark Kind (Err e) before after some = some
 
 pub begun_none : {H : Type 0} (mark : List ℕ) (explains : Bool) (request : RequestValue) (r left : ResolverValue H) (result : Result Heard AllocError) (requests : Requests) → IsErr result → left ≡ r
-    → IsGiven mark (Serves mark explains request (settings r) r.client.cache) (IsBegunOver (settings r) r.client.cache request) result (stage_by left) requests requests
+    → IsGiven mark (Serves mark explains request (settings r) r.client.cache) (IsBegunOver (settings r) r.client.cache request) result (phase_by left) requests requests
 begun_none mark explains request r left (Ok heard) requests out same = absurd (let h = out in cc)
-begun_none mark explains request r left (Err e) requests out same = (inl (ap stage_by same), some_stays mark requests)
+begun_none mark explains request r left (Err e) requests out same = (inl (ap phase_by same), some_stays mark requests)
 
 pub fed_told : {H : Type 0} (mark : List ℕ) (begun : BegunValue) (w : WaitingCallValue) (outcome : OutcomeValue) (progress : CallProgressValue) (r left : ResolverValue H) (result : Result Heard AllocError) (before after : Requests)
     → ResumesAt w outcome r progress left → IsTold mark (Tells mark [] (settings left) begun (Looks progress) left.client.cache) result before after
-    → IsGiven mark (Feeds mark (stage_by r) begun w outcome) (IsFedOut (stage_by r) w outcome) result (stage_by left) before after
+    → IsGiven mark (Feeds mark (phase_by r) begun w outcome) (IsFedOut (phase_by r) w outcome) result (phase_by left) before after
 fed_told mark begun w outcome progress r left (Ok heard) before after resumed (answer, tells, says, puts) =
     let kept = same_settings r left resumed.others_stay in
     let told : Tells mark [] (settings r) begun (Looks progress) left.client.cache answer = subst (λ s. Tells mark [] s begun (Looks progress) left.client.cache answer) kept tells in
-    (answer, (progress, left.client.cache, resumed.resumes, told), says, sym (tells_stage mark [] (settings left) begun (Looks progress) left.client.cache answer tells), puts)
+    (answer, (progress, left.client.cache, resumed.resumes, told), says, sym (tells_phase mark [] (settings left) begun (Looks progress) left.client.cache answer tells), puts)
 fed_told mark begun w outcome progress r left (Err e) before after resumed some =
     ((progress, left.client.cache, resumed.resumes, ap (λ s. Serving s left.client.cache) (same_settings r left resumed.others_stay)), some)
 

@@ -34,11 +34,14 @@ use Rattle.replay_script.specs.declared.reply_line.ReplyHead.{ReplyHead}
 use Rattle.replay_script.specs.declared.script.OpenReply.{OpenReply}
 use Rattle.conversation.specs.Explaining.{IsStartExplained, alias_text, stored_text}
 use Rattle.conversation.specs.Faults.{RefusalValue, hosts_fault, of_line, unknown}
+use Rattle.conversation.specs.FileSettings.{FileSettingsValue, IsWhole, file_settings, lines_text}
+use Rattle.conversation.specs.Files.{FilesValue, with_text}
 use Rattle.conversation.specs.Lines.{IsAsked, IsScriptLine}
 use Rattle.conversation.specs.Said as said
 use Rattle.conversation.specs.Said.{SaidValue}
-use Rattle.conversation.specs.State.{BegunValue, ConversationValue, InFlightValue, Setting, Serving, Stage, request_at}
+use Rattle.conversation.specs.State.{BegunValue, ConversationValue, InFlightValue, Setting, Serving, Phase, request_at}
 use Rattle.conversation.specs.Texts.{cancelled_text, clear_text, fault_text, fields_text, looked_up_text, send_text}
+use Rattle.conversation.specs.declared.files.FileKind.{FileKind}
 use Rattle.conversation.specs.declared.fault.ConversationFault.{ConversationFault}
 use Rattle.conversation.specs.declared.fault.ConversationFault.TheVariants as fault
 
@@ -50,7 +53,7 @@ pub record Answer : Type 0 where
   pub text : List ℕ
   pub journal : List ℕ
   pub is_last : Bool
-  pub stage : Stage
+  pub phase : Phase
   pub held : Option InFlightValue
 
 -- nothing is said, and nothing changes
@@ -60,7 +63,7 @@ nothing c mark = record {
   text = [];
   journal = [];
   is_last = false;
-  stage = c.stage;
+  phase = c.phase;
   held = request_at mark c.requests;
 }
 
@@ -70,29 +73,30 @@ refused c mark refusal = record (nothing c mark) { text = fault_text mark c.line
 
 -- ---- settings
 
--- the lines of the hosts with one more
-abbrev pub with_hosts : List ℕ → List (List ℕ) → List ℕ
-with_hosts hosts given = hosts ++ codes "\n" ++ fields_text given
+-- a line of a file, on a line of its own
+abbrev pub file_line : List (List ℕ) → List ℕ
+file_line given = codes "\n" ++ fields_text given
 
-abbrev pub adds_hosts : ConversationValue → List ℕ → Stage → List (List ℕ) → Answer
-adds_hosts c mark (Setting configuration hosts) given =
-    record (nothing c mark) { stage = Setting configuration (with_hosts hosts given) }
-adds_hosts c mark (Serving s cache) given = refused c mark (of_line fault.SettingAfterRequest)
+-- the file has one line more
+abbrev pub adds_line : ConversationValue → List ℕ → Phase → FileKind → List (List ℕ) → Answer
+adds_line c mark (Setting configuration files) kind given =
+    record (nothing c mark) { phase = Setting configuration (with_text kind (file_line given) files) }
+adds_line c mark (Serving s cache) kind given = refused c mark (of_line fault.SettingAfterRequest)
 
 -- a setting is kept, and the journal has its line
-abbrev pub sets : ConversationValue → List ℕ → ConfigurationValue → List ℕ → List (List ℕ)
+abbrev pub sets : ConversationValue → List ℕ → ConfigurationValue → FilesValue → List (List ℕ)
     → Result Line RefusalValue → Answer
-sets c mark configuration hosts given (Ok (line.Configuration setting)) = record (nothing c mark) {
+sets c mark configuration files given (Ok (line.Configuration setting)) = record (nothing c mark) {
   journal = fields_text given;
-  stage = Setting (with_setting setting configuration) hosts;
+  phase = Setting (with_setting setting configuration) files;
 }
-sets c mark configuration hosts given (Err refusal) = refused c mark refusal
-sets c mark configuration hosts given (Ok other) = refused c mark (unknown given)
+sets c mark configuration files given (Err refusal) = refused c mark refusal
+sets c mark configuration files given (Ok other) = refused c mark (unknown given)
 
-abbrev pub AnswersSetting : ConversationValue → List ℕ → Stage → List (List ℕ) → Answer → Type 0
-AnswersSetting c mark (Setting configuration hosts) given answer =
+abbrev pub AnswersSetting : ConversationValue → List ℕ → Phase → List (List ℕ) → Answer → Type 0
+AnswersSetting c mark (Setting configuration files) given answer =
     (said : Result Line RefusalValue) × IsScriptLine false given said
-    × (answer ≡ sets c mark configuration hosts given said)
+    × (answer ≡ sets c mark configuration files given said)
 AnswersSetting c mark (Serving s cache) given answer = answer ≡ refused c mark (of_line fault.SettingAfterRequest)
 
 -- ---- the first request
@@ -109,16 +113,29 @@ AreHosts configuration (Ok done) table result =
     let s = settings_of (config_of configuration) configuration.options table in result ≡ Ok (s, first_cache s)
 AreHosts configuration (Err error) table result = result ≡ Err (hosts_fault error)
 
-abbrev pub IsFirst : ConfigurationValue → List ℕ → ℕ → Result (Settings × CacheValue) ConversationFault → Type 0
-IsFirst configuration hosts now result =
+abbrev pub IsMade : ConfigurationValue → List ℕ → ℕ → Result (Settings × CacheValue) ConversationFault → Type 0
+IsMade configuration hosts now result =
     MatchOption (bounds_fault (bounds_of configuration.options))
     ((read : Result (Unit {0}) HostsError) × (table : List Host) × IsBytesRead now hosts [] read table
     × AreHosts configuration read table result)
     (λ reversed. result ≡ Err (fault.Script script.ReversedBounds))
 
-abbrev pub IsOpened : Stage → ℕ → Result (Settings × CacheValue) ConversationFault → Type 0
-IsOpened (Setting configuration hosts) now result = IsFirst configuration hosts now result
+-- it is made of what was set, and behind it of what a file resolv.conf sets
+abbrev pub IsMadeWith : FileSettingsValue → ConfigurationValue → List ℕ → ℕ
+    → Result (Settings × CacheValue) ConversationFault → Type 0
+IsMadeWith said configuration hosts now result =
+    (whole : Result ConfigurationValue ConversationFault) × IsWhole said configuration whole
+    × MatchResult whole (λ c. IsMade c hosts now result) (λ f. result ≡ Err f)
+
+abbrev pub IsOpened : Phase → ℕ → Result (Settings × CacheValue) ConversationFault → Type 0
+IsOpened (Setting configuration files) now result =
+    IsMadeWith (file_settings files.resolv) configuration files.hosts now result
 IsOpened (Serving s cache) now result = result ≡ Ok (s, cache)
+
+-- what the journal gets with the first request: the lines that the file sets
+abbrev pub lines_told : Phase → List ℕ
+lines_told (Setting configuration files) = lines_text (file_settings files.resolv).lines
+lines_told (Serving s cache) = []
 
 -- ---- requests
 
@@ -161,7 +178,7 @@ Tells mark start s begun (Looks (Waits w)) cache answer = answer ≡ record {
   text = send_text mark w.lookup.hop.query s.request_options;
   journal = [];
   is_last = false;
-  stage = Serving s cache;
+  phase = Serving s cache;
   held = Some (asking begun w);
 }
 Tells mark start s begun (Looks (IsDone result)) cache answer =
@@ -170,7 +187,7 @@ Tells mark start s begun (Looks (IsDone result)) cache answer =
       text = looked_up_text mark begun result;
       journal = begun.told ++ request_text begun.request;
       is_last = false;
-      stage = Serving s cache;
+      phase = Serving s cache;
       held = None;
     })
 Tells mark start s begun Clears cache answer = answer ≡ record {
@@ -178,7 +195,7 @@ Tells mark start s begun Clears cache answer = answer ≡ record {
   text = clear_text mark begun.request;
   journal = begun.told ++ request_text begun.request;
   is_last = false;
-  stage = Serving s cache;
+  phase = Serving s cache;
   held = None;
 }
 
@@ -192,10 +209,18 @@ Serves mark explains request s cache answer =
     × (start : List ℕ) × IsStartExplained mark explains s cache request start
     × Tells mark start s (just_begun request explains) came after answer
 
+-- before its own lines the journal gets these
+abbrev pub telling : List ℕ → Answer → Answer
+telling told answer = record answer { journal = told ++ answer.journal }
+
+abbrev pub BeginsOver : List ℕ → Bool → RequestValue → List ℕ → Settings → CacheValue → Answer → Type 0
+BeginsOver mark explains request told s cache answer =
+    (served : Answer) × Serves mark explains request s cache served × (answer ≡ telling told served)
+
 abbrev pub Begins : ConversationValue → List ℕ → Bool → RequestValue → Answer → Type 0
 Begins c mark explains request answer =
-    (opened : Result (Settings × CacheValue) ConversationFault) × IsOpened c.stage (moment_of request) opened
-    × MatchResult opened (λ over. Serves mark explains request over.0 over.1 answer)
+    (opened : Result (Settings × CacheValue) ConversationFault) × IsOpened c.phase (moment_of request) opened
+    × MatchResult opened (λ over. BeginsOver mark explains request (lines_told c.phase) over.0 over.1 answer)
     (λ f. answer ≡ refused c mark (of_line f))
 
 -- a mark that is in use is refused; else the request is read
@@ -214,21 +239,21 @@ abbrev pub with_line : BegunValue → List (List ℕ) → BegunValue
 with_line begun given = record begun { told = begun.told ++ fields_text given }
 
 -- the request goes on with what came back to its question
-abbrev pub Feeds : List ℕ → Stage → BegunValue → WaitingCallValue → OutcomeValue → Answer → Type 0
-Feeds mark (Setting configuration hosts) begun w outcome answer = ⊥
+abbrev pub Feeds : List ℕ → Phase → BegunValue → WaitingCallValue → OutcomeValue → Answer → Type 0
+Feeds mark (Setting configuration files) begun w outcome answer = ⊥
 Feeds mark (Serving s cache) begun w outcome answer =
     (progress : CallProgressValue) × (after : CacheValue)
     × ResumesCall (call_context_at s w.lookup.now) w outcome cache progress after
     × Tells mark [] s begun (Looks progress) after answer
 
 -- the open reply is whole, and fed
-abbrev pub FeedsReply : List ℕ → Stage → InFlightValue → Answer → Type 0
-FeedsReply mark stage r answer =
-    (reply : OpenReply) × (r.reply ≡ Some reply) × Feeds mark stage r.begun r.waiting (Ok reply.message) answer
+abbrev pub FeedsReply : List ℕ → Phase → InFlightValue → Answer → Type 0
+FeedsReply mark phase r answer =
+    (reply : OpenReply) × (r.reply ≡ Some reply) × Feeds mark phase r.begun r.waiting (Ok reply.message) answer
 
 abbrev pub EndsReply : ConversationValue → List ℕ → InFlightValue → List (List ℕ) → Answer → Type 0
 EndsReply c mark r behind answer =
-    MatchBool (is_empty behind) (FeedsReply mark c.stage r answer)
+    MatchBool (is_empty behind) (FeedsReply mark c.phase r answer)
     (answer ≡ refused c mark (of_line (fault.Script script.FieldCount)))
 
 abbrev pub AnswersDone : ConversationValue → List ℕ → InFlightValue → List (List ℕ) → Answer → Type 0
@@ -269,7 +294,7 @@ adds c mark r given section found =
 -- the question fails
 abbrev pub Fails : ConversationValue → List ℕ → InFlightValue → List (List ℕ) → FailureKind → Answer → Type 0
 Fails c mark r given kind answer =
-    Feeds mark c.stage (with_line r.begun given) r.waiting (Err (error_of kind)) answer
+    Feeds mark c.phase (with_line r.begun given) r.waiting (Err (error_of kind)) answer
 
 abbrev pub Takes : ConversationValue → List ℕ → InFlightValue → List (List ℕ) → Result Line RefusalValue → Answer
     → Type 0
@@ -301,8 +326,8 @@ AnswersInFlight c mark Kind answer =
 abbrev pub AnswersSaid : ConversationValue → List ℕ → SaidValue → Answer → Type 0
 AnswersSaid c mark said.Nothing answer = answer ≡ nothing c mark
 AnswersSaid c mark said.End answer = answer ≡ record (nothing c mark) { is_last = true }
-AnswersSaid c mark (said.Hosts given) answer = answer ≡ adds_hosts c mark c.stage given
-AnswersSaid c mark (said.Setting given) answer = AnswersSetting c mark c.stage given answer
+AnswersSaid c mark (said.File kind given) answer = answer ≡ adds_line c mark c.phase kind given
+AnswersSaid c mark (said.Setting given) answer = AnswersSetting c mark c.phase given answer
 AnswersSaid c mark (said.Request explains given) answer = AnswersRequest c mark explains given answer
 AnswersSaid c mark (said.Outcome begins given) answer =
     AnswersInFlight c mark (λ r. AnswersOutcome c mark r begins given) answer

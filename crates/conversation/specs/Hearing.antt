@@ -12,10 +12,11 @@ use Rattle.replay_script.specs.declared.fail_line.Failure.{Failure}
 use Rattle.replay_script.specs.declared.line.Line.TheVariants as line
 use Rattle.replay_script.specs.declared.script.OpenReply.{OpenReply}
 use Rattle.conversation.specs.Answers.{Answer, AnswersSaid, Came, ComesTo, IsOpened}
+use Rattle.conversation.specs.Files.{only_hosts}
 use Rattle.conversation.specs.Lines.{IsAsked, IsScriptLine, mark_of}
 use Rattle.conversation.specs.Said as said
 use Rattle.conversation.specs.Said.{SaidValue, said_by}
-use Rattle.conversation.specs.State.{ConversationValue, InFlightValue, Puts, Setting, Serving, Stage, counted, request_at}
+use Rattle.conversation.specs.State.{ConversationValue, InFlightValue, Puts, Setting, Serving, Phase, counted, request_at}
 use Rattle.conversation.specs.declared.heard.Heard.{Heard}
 
 -- what a line is answered in a conversation that counted it
@@ -32,25 +33,25 @@ pub record Says (answer : Answer) (heard : Heard) : Type 0 where
 -- and this stands: the requests under all other marks stay
 pub record Stands (mark : List ℕ) (answer : Answer) (before after : ConversationValue) : Type 0 where
   pub lines_are : after.lines ≡ before.lines
-  pub stage_is : after.stage ≡ answer.stage
+  pub phase_is : after.phase ≡ answer.phase
   pub requests_are : Puts mark answer.held before.requests after.requests
 
 -- ---- out of memory
 
 -- a request was begun, at the first one over a new resolver, and what was stored for it so far stands
-abbrev pub IsBegunOver : Settings → CacheValue → RequestValue → Stage → Type 0
+abbrev pub IsBegunOver : Settings → CacheValue → RequestValue → Phase → Type 0
 IsBegunOver s cache request after =
     (after ≡ Serving s cache)
     ⊎ ((came : Came) × (left : CacheValue) × ComesTo s request cache came left × (after ≡ Serving s left))
 
-abbrev pub IsBegunOut : Stage → RequestValue → Stage → Type 0
+abbrev pub IsBegunOut : Phase → RequestValue → Phase → Type 0
 IsBegunOut before request after =
     (s : Settings) × (cache : CacheValue) × IsOpened before (moment_of request) (Ok (s, cache))
     × IsBegunOver s cache request after
 
 -- a request went on with what came back to its question, and what was stored for it stands
-abbrev pub IsFedOut : Stage → WaitingCallValue → OutcomeValue → Stage → Type 0
-IsFedOut (Setting configuration hosts) w outcome after = ⊥
+abbrev pub IsFedOut : Phase → WaitingCallValue → OutcomeValue → Phase → Type 0
+IsFedOut (Setting configuration files) w outcome after = ⊥
 IsFedOut (Serving s cache) w outcome after =
     (progress : CallProgressValue) × (left : CacheValue)
     × ResumesCall (call_context_at s w.lookup.now) w outcome cache progress left × (after ≡ Serving s left)
@@ -69,23 +70,23 @@ IsOutcomeOf (said.Outcome begins given) r outcome =
 IsOutcomeOf other r outcome = ⊥
 
 -- an outcome of this kind came back to the question of the mark's request, and what was stored for it stands
-abbrev pub IsFedWith : ConversationValue → List ℕ → (InFlightValue → OutcomeValue → Type 0) → Stage → Type 0
+abbrev pub IsFedWith : ConversationValue → List ℕ → (InFlightValue → OutcomeValue → Type 0) → Phase → Type 0
 IsFedWith c mark Comes after =
     (r : InFlightValue) × (outcome : OutcomeValue) × (request_at mark c.requests ≡ Some r) × Comes r outcome
-    × IsFedOut c.stage r.waiting outcome after
+    × IsFedOut c.phase r.waiting outcome after
 
 -- What memory that ran out leaves of the resolver, where it is not as it was: the request that the line asks was begun,
 -- under a mark that was free; or the request of the mark went on with the outcome that the line brings.
-abbrev pub IsServedOut : ConversationValue → List ℕ → SaidValue → Stage → Type 0
+abbrev pub IsServedOut : ConversationValue → List ℕ → SaidValue → Phase → Type 0
 IsServedOut c mark said after =
     ((request : RequestValue) × IsRequestOf said request × (request_at mark c.requests ≡ None)
-    × IsBegunOut c.stage request after)
+    × IsBegunOut c.phase request after)
     ⊎ IsFedWith c mark (IsOutcomeOf said) after
 
 -- memory ran out: the request of the mark is forgotten
 pub record RunsOut (mark : List ℕ) (said : SaidValue) (before after : ConversationValue) : Type 0 where
   pub lines_are : after.lines ≡ before.lines
-  pub stage_is : (after.stage ≡ before.stage) ⊎ IsServedOut before mark said after.stage
+  pub phase_is : (after.phase ≡ before.phase) ⊎ IsServedOut before mark said after.phase
   pub requests_are : Puts mark None before.requests after.requests
 
 -- ---- hearing
@@ -100,4 +101,4 @@ IsHeard before text result after =
 
 -- a conversation in which nothing was said, over what a file of hosts says
 abbrev pub silent : List ℕ → ConversationValue
-silent hosts = record { lines = 0; stage = Setting (configured []) hosts; requests = [] }
+silent hosts = record { lines = 0; phase = Setting (configured []) (only_hosts hosts); requests = [] }

@@ -1,6 +1,8 @@
 pub mod Answers
 pub mod Explaining
 pub mod Faults
+pub mod FileSettings
+pub mod Files
 pub mod Hearing
 pub mod Lines
 pub mod Said

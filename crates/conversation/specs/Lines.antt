@@ -18,6 +18,7 @@ use Rattle.replay_script.specs.declared.line.Line.{Line}
 use Rattle.replay_script.specs.declared.line.Line.TheVariants as line
 use Rattle.conversation.specs.Faults.{RefusalValue, of_field, of_line, refusal_of, unknown}
 use Rattle.conversation.specs.declared.fault.ConversationFault.TheVariants as fault
+use Rattle.conversation.specs.declared.files.FileKind.TheVariants.{Hosts, ResolvConf}
 use Rattle.conversation.specs.declared.words.Word.{Word}
 use Rattle.conversation.specs.declared.words.Word.TheVariants as word
 
@@ -27,18 +28,19 @@ use Rattle.conversation.specs.declared.words.Word.TheVariants as word
 abbrev pub word_named : List ℕ → Word
 word_named text =
     if is_text (codes "end") text then word.End else (
-    if is_text (codes "hosts") text then word.Hosts else (
+    if is_text (codes "hosts") text then word.File Hosts else (
+    if is_text (codes "resolv") text then word.File ResolvConf else (
     if is_text (codes "option") text then word.Setting else (
     if is_text (codes "domain") text then word.Setting else (
     if is_text (codes "search") text then word.Setting else (
-    if is_text (codes "-") text then word.Unused else word.Mark)))))
+    if is_text (codes "-") text then word.Unused else word.Mark))))))
 
 -- ---- marks
 
 -- the mark that a first word is, and `-` where it is none
 abbrev pub mark_by : Word → List ℕ → List ℕ
 mark_by word.End text = codes "-"
-mark_by word.Hosts text = codes "-"
+mark_by (word.File kind) text = codes "-"
 mark_by word.Setting text = codes "-"
 mark_by word.Unused text = codes "-"
 mark_by word.Mark text = text

@@ -9,19 +9,20 @@ use Rattle.replay_script.specs.declared.fault.ScriptFault.TheVariants as script
 use Rattle.conversation.specs.Faults.{RefusalValue, of_line, unknown}
 use Rattle.conversation.specs.Lines.{word_named}
 use Rattle.conversation.specs.declared.fault.ConversationFault.TheVariants as fault
+use Rattle.conversation.specs.declared.files.FileKind.{FileKind}
 use Rattle.conversation.specs.declared.said.Said.{Said}
 use Rattle.conversation.specs.declared.said.Said.TheVariants as said
 use Rattle.conversation.specs.declared.words.Word.{Word}
 use Rattle.conversation.specs.declared.words.Word.TheVariants as word
 
--- A blank line or a comment; `end`; one line of a file of hosts; a setting; a request, with whether it is explained; a
+-- A blank line or a comment; `end`; one line of a file; a setting; a request, with whether it is explained; a
 -- line of an outcome, with whether it is the first one; `done`; `cancel`; or none of these. The fields are those behind
--- the word `hosts`, all of a setting, those from `at` on, from the verb of an outcome on, and behind the verbs `done` and
+-- the word that names the file, all of a setting, those from `at` on, from the verb of an outcome on, and behind the verbs `done` and
 -- `cancel`.
 pub data SaidValue : Type 0 where
   Nothing : SaidValue
   End : SaidValue
-  Hosts : List (List ℕ) → SaidValue
+  File : FileKind → List (List ℕ) → SaidValue
   Setting : List (List ℕ) → SaidValue
   Request : Bool → List (List ℕ) → SaidValue
   Outcome : Bool → List (List ℕ) → SaidValue
@@ -61,7 +62,7 @@ said_at_end behind = if is_empty behind then End else Refused (of_line (fault.Sc
 -- by the first word, the fields behind it, and all of them
 abbrev pub said_by_word : Word → List (List ℕ) → List (List ℕ) → SaidValue
 said_by_word word.End behind given = said_at_end behind
-said_by_word word.Hosts behind given = Hosts behind
+said_by_word (word.File kind) behind given = File kind behind
 said_by_word word.Setting behind given = Setting given
 said_by_word word.Unused behind given = Refused (unknown given)
 said_by_word word.Mark behind given = said_behind_mark behind
@@ -81,7 +82,7 @@ said_by text =
 abbrev pub said_value : Said → SaidValue
 said_value said.Nothing = Nothing
 said_value said.End = End
-said_value (said.Hosts given) = Hosts (texts given.now)
+said_value (said.File kind given) = File kind (texts given.now)
 said_value (said.Setting given) = Setting (texts given.now)
 said_value (said.Request explains given) = Request explains (texts given.now)
 said_value (said.Outcome begins given) = Outcome begins (texts given.now)

@@ -12,6 +12,7 @@ use Rattle.hickory_resolver.specs.Requests.{request_of}
 use Rattle.hickory_resolver_theorems.specs.ResumingCalls.{WaitingCallValue}
 use Rattle.replay_script.specs.Configuration.{ConfigurationValue}
 use Rattle.replay_script.specs.declared.script.OpenReply.{OpenReply}
+use Rattle.conversation.specs.Files.{FilesValue}
 use Rattle.conversation.specs.declared.in_flight.Begun.{Begun}
 use Rattle.conversation.specs.declared.in_flight.InFlight.{InFlight}
 use Rattle.conversation.specs.declared.state.State.{State}
@@ -34,16 +35,16 @@ pub record InFlightValue : Type 0 where
 abbrev pub Requests : Type 0
 Requests = List (List ℕ × InFlightValue)
 
--- what is set so far, with the lines of the hosts; or, from the first request on, the settings of the resolver, with
+-- what is set so far, with the files that were said; or, from the first request on, the settings of the resolver, with
 -- its table of hosts, and its cache
-pub data Stage : Type 0 where
-  Setting : ConfigurationValue → List ℕ → Stage
-  Serving : Settings → CacheValue → Stage
+pub data Phase : Type 0 where
+  Setting : ConfigurationValue → FilesValue → Phase
+  Serving : Settings → CacheValue → Phase
 
 -- how many lines were heard, what is set, and the requests in flight
 pub record ConversationValue : Type 0 where
   pub lines : ℕ
-  pub stage : Stage
+  pub phase : Phase
   pub requests : Requests
 
 -- ---- requests in flight
@@ -82,13 +83,13 @@ in_flight_of r = record { begun = begun_of r.begun; waiting = r.waiting; reply =
 abbrev pub requests_of : List (String Global × InFlight) → Requests
 requests_of entries = map (λ e. (string_bytes e.0, in_flight_of e.1)) entries
 
-abbrev pub stage_of : ConfigurationValue → List ℕ → Option (ResolverValue (List OutcomeValue)) → Stage
-stage_of configuration hosts None = Setting configuration hosts
-stage_of configuration hosts (Some resolver) = Serving (settings resolver) resolver.client.cache
+abbrev pub phase_of : ConfigurationValue → FilesValue → Option (ResolverValue (List OutcomeValue)) → Phase
+phase_of configuration files None = Setting configuration files
+phase_of configuration files (Some resolver) = Serving (settings resolver) resolver.client.cache
 
 abbrev pub conversation_of : State → ConversationValue
 conversation_of s = record {
   lines = s.lines;
-  stage = stage_of s.configuration s.hosts.items s.resolver;
+  phase = phase_of s.configuration s.files s.resolver;
   requests = requests_of s.requests.entries;
 }

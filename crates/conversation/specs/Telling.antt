@@ -1,6 +1,7 @@
 -- What the parts of the code say of each other: what is told of a request, and what stands.
-use Rattle.std.specs.Prelude.{◌≡◌, ◌⊎◌, Bool, false, List, [], ℕ, ◌++◌, string_bytes, Option, Some, Result, Ok, Err}
+use Rattle.std.specs.Prelude.{◌≡◌, ◌⊎◌, Bool, false, List, [], ℕ, ◌++◌, String, string_bytes, Option, Some, Result, Ok, Err}
 use Rattle.std.specs.Option.{is_some, option_map}
+use Rattle.std.specs.Global.{Global}
 use Rattle.std.specs.declared.alloc.AllocError.{AllocError}
 use Rattle.hickory_proto_core.specs.Handles.{OutcomeValue}
 use Rattle.hickory_proto_core.specs.declared.dns_request.DnsRequestOptions.{DnsRequestOptions}
@@ -9,7 +10,7 @@ use Rattle.hickory_resolver_model.specs.Calls.{is_out_of_memory}
 use Rattle.hickory_resolver_model.specs.Lookup.{LookupResult}
 use Rattle.hickory_resolver_model.specs.Resolver.{ResolverValue, new_resolver, settings}
 use Rattle.hickory_resolver_model.specs.Hosts.{Host}
-use Rattle.hickory_resolver_model.specs.Run.{RequestValue, Settings, first_cache, settings_of}
+use Rattle.hickory_resolver_model.specs.Run.{RequestValue, Settings}
 use Rattle.hickory_resolver_model.specs.Cache.{CacheValue}
 use Rattle.hickory_resolver_theorems.specs.ResumingCalls.{WaitingCallValue}
 use Rattle.hickory_resolver.specs.Requests.{request_of}
@@ -20,17 +21,21 @@ use Rattle.replay_script.specs.declared.fail_line.Failure.{Failure}
 use Rattle.replay_script.specs.declared.line.Line.{Line}
 use Rattle.replay_script.specs.declared.line.Line.TheVariants as line
 use Rattle.replay_script.specs.declared.script.OpenReply.{OpenReply}
-use Rattle.replay_script.specs.Configuration.{ConfigurationValue}
+use Rattle.replay_script.specs.Configuration.{ConfigurationValue, with_setting}
+use Rattle.replay_script.specs.declared.setting.Setting.{Setting as OneSetting}
 use Rattle.conversation.specs.Answers as answers
-use Rattle.conversation.specs.Answers.{Answer, AnswersSaid, Feeds, IsOpened, Serves, config_of, refused, with_line}
+use Rattle.conversation.specs.Answers.{Answer, AnswersSaid, Feeds, IsOpened, Serves, config_of, lines_told, refused, telling, with_line}
 use Rattle.conversation.specs.Explaining.{alias_text, stored_text}
 use Rattle.conversation.specs.Faults.{RefusalValue, is_memory, of_line, out_of_memory}
+use Rattle.conversation.specs.FileSettings.{AreSet, IsSettingRead}
+use Rattle.conversation.specs.Files.{FilesValue}
 use Rattle.conversation.specs.Hearing.{IsBegunOver, IsFedOut, IsFedWith, IsServedOut, Says, Stands}
 use Rattle.conversation.specs.Said.{SaidValue}
-use Rattle.conversation.specs.State.{BegunValue, ConversationValue, InFlightValue, Puts, Requests, Serving, Setting, Stage, request_at}
+use Rattle.conversation.specs.State.{BegunValue, ConversationValue, InFlightValue, Puts, Requests, Serving, Setting, Phase, request_at}
 use Rattle.conversation.specs.Texts.{clear_text, fields_text, looked_up_text, send_text}
 use Rattle.conversation.specs.declared.heard.Heard.{Heard}
 use Rattle.conversation.specs.declared.fault.ConversationFault.{ConversationFault}
+use Rattle.conversation.specs.declared.opening.Opened.{Opened}
 use Rattle.conversation.specs.declared.requests.Came.{Came}
 use Rattle.conversation.specs.declared.requests.Came.TheVariants as came
 
@@ -74,13 +79,13 @@ IsTold mark Kind (Ok heard) before after =
 IsTold mark Kind (Err error) before after = PutsSome mark before after
 
 -- memory ran out under way: the resolver is as it was, or this is left of it
-pub record RanOut (mark : List ℕ) (Left : Stage → Type 0) (before after : ConversationValue) : Type 0 where
+pub record RanOut (mark : List ℕ) (Left : Phase → Type 0) (before after : ConversationValue) : Type 0 where
   pub lines_are : after.lines ≡ before.lines
-  pub stage_is : (after.stage ≡ before.stage) ⊎ Left after.stage
+  pub phase_is : (after.phase ≡ before.phase) ⊎ Left after.phase
   pub requests_are : PutsSome mark before.requests after.requests
 
 -- an answer of this kind is given; or memory ran out
-abbrev pub IsAnswered : ConversationValue → List ℕ → (Answer → Type 0) → (Stage → Type 0) → Result Heard AllocError
+abbrev pub IsAnswered : ConversationValue → List ℕ → (Answer → Type 0) → (Phase → Type 0) → Result Heard AllocError
     → ConversationValue → Type 0
 IsAnswered before mark Kind Left (Ok heard) after =
     (answer : Answer) × Kind answer × Says answer heard × Stands mark answer before after
@@ -92,8 +97,8 @@ IsActedUpon before mark said result after =
     IsAnswered before mark (AnswersSaid before mark said) (IsServedOut before mark said) result after
 
 -- nothing is left
-abbrev pub nothing_left : Stage → Type 0
-nothing_left stage = ⊥
+abbrev pub nothing_left : Phase → Type 0
+nothing_left phase = ⊥
 
 -- a fault that is not one of memory is told
 abbrev pub IsRefused : ConversationValue → List ℕ → RefusalValue → Result Heard AllocError → Type 0
@@ -105,9 +110,9 @@ abbrev pub IsAskedOr : (Result RequestValue RefusalValue → Type 0) → Result 
 IsAskedOr Asks (Ok request) = Asks (Ok (request_of request))
 IsAskedOr Asks (Err refusal) = Asks (Err refusal) ⊎ (refusal ≡ of_line out_of_memory)
 
--- before the first request this is set, with these lines of hosts
-abbrev pub set_so : ConversationValue → ConfigurationValue → List ℕ → ConversationValue
-set_so c configuration hosts = record c { stage = Setting configuration hosts }
+-- before the first request this is set, with these files
+abbrev pub set_so : ConversationValue → ConfigurationValue → FilesValue → ConversationValue
+set_so c configuration files = record c { phase = Setting configuration files }
 
 -- a setting is told to the journal
 pub record IsSettingTold (given : List (List ℕ)) (heard : Heard) : Type 0 where
@@ -145,10 +150,10 @@ no_outcome r outcome = ⊥
 abbrev pub IsFed : ConversationValue → List ℕ → BegunValue → WaitingCallValue → OutcomeValue
     → Result Heard AllocError → ConversationValue → Type 0
 IsFed before mark begun w outcome (Ok heard) after =
-    (answer : Answer) × Feeds mark before.stage begun w outcome answer × Says answer heard
+    (answer : Answer) × Feeds mark before.phase begun w outcome answer × Says answer heard
     × Stands mark answer before after
 IsFed before mark begun w outcome (Err error) after =
-    (after.lines ≡ before.lines) × ((after.stage ≡ before.stage) ⊎ IsFedOut before.stage w outcome after.stage)
+    (after.lines ≡ before.lines) × ((after.phase ≡ before.phase) ⊎ IsFedOut before.phase w outcome after.phase)
     × PutsSome mark before.requests after.requests
 
 -- the request with one more line of what came back, and with this reply
@@ -164,44 +169,65 @@ IsChanged mark change (Err error) before after = PutsSome mark before after
 
 -- ---- a resolver
 
-abbrev pub stage_by : {H : Type 0} → ResolverValue H → Stage
-stage_by resolver = Serving (settings resolver) resolver.client.cache
+abbrev pub phase_by : {H : Type 0} → ResolverValue H → Phase
+phase_by resolver = Serving (settings resolver) resolver.client.cache
 
 -- a new one, of what is configured, over this table of hosts
 abbrev pub resolver_over : ConfigurationValue → List Host → ResolverValue (List OutcomeValue)
 resolver_over configuration hosts =
     record (new_resolver (config_of configuration) configuration.options []) { hosts = hosts }
 
-abbrev pub stage_over : ConfigurationValue → List Host → Stage
-stage_over configuration hosts =
-    let s = settings_of (config_of configuration) configuration.options hosts in Serving s (first_cache s)
+-- a resolver is made so; or a fault is told, or memory ran out
+abbrev pub IsMadeSo : (Result (Settings × CacheValue) ConversationFault → Type 0)
+    → Result (ResolverValue (List OutcomeValue)) ConversationFault → Type 0
+IsMadeSo Comes (Ok r) = Comes (Ok (settings r, r.client.cache))
+IsMadeSo Comes (Err f) = Comes (Err f) ⊎ (f ≡ out_of_memory)
+
+-- the same, and these lines are told
+abbrev pub IsOpenedSo : (Result (Settings × CacheValue) ConversationFault → Type 0) → List ℕ
+    → Result Opened ConversationFault → Type 0
+IsOpenedSo Comes told (Ok o) =
+    Comes (Ok (settings o.resolver, o.resolver.client.cache)) × (string_bytes o.told ≡ told)
+IsOpenedSo Comes told (Err f) = Comes (Err f) ⊎ (f ≡ out_of_memory)
 
 -- an answer of this kind is told of the request of a mark, and stands; or memory ran out, and this is left
-abbrev pub IsGiven : List ℕ → (Answer → Type 0) → (Stage → Type 0) → Result Heard AllocError → Stage → Requests
+abbrev pub IsGiven : List ℕ → (Answer → Type 0) → (Phase → Type 0) → Result Heard AllocError → Phase → Requests
     → Requests → Type 0
-IsGiven mark Kind Left (Ok heard) stage before after =
-    (answer : Answer) × Kind answer × Says answer heard × (stage ≡ answer.stage)
+IsGiven mark Kind Left (Ok heard) phase before after =
+    (answer : Answer) × Kind answer × Says answer heard × (phase ≡ answer.phase)
     × Puts mark answer.held before after
-IsGiven mark Kind Left (Err error) stage before after = Left stage × PutsSome mark before after
+IsGiven mark Kind Left (Err error) phase before after = Left phase × PutsSome mark before after
 
 -- ---- the first request
 
--- the resolver is there: it was, or is made; or a fault, and nothing changed
-abbrev pub IsOpening : ConversationValue → ℕ → Result (Unit {0}) ConversationFault → ConversationValue → Type 0
-IsOpening before now (Ok done) after =
-    (s : Settings) × (cache : CacheValue) × IsOpened before.stage now (Ok (s, cache))
-    × (after ≡ record before { stage = Serving s cache })
-IsOpening before now (Err fault) after =
-    (IsOpened before.stage now (Err fault) ⊎ (fault ≡ out_of_memory)) × (after ≡ before)
+-- a line sets what it sets; or its fault is told, or memory ran out
+abbrev pub IsLineSet : List ℕ → ConfigurationValue → Result (Unit {0}) ConversationFault → ConfigurationValue → Type 0
+IsLineSet text before (Ok done) after =
+    (one : OneSetting) × IsSettingRead text (Ok one) × (after ≡ with_setting one before)
+IsLineSet text before (Err f) after = IsSettingRead text (Err f) ⊎ (f ≡ out_of_memory)
 
--- a request is begun over the resolver that is there
-abbrev pub IsServing : ConversationValue → List ℕ → Bool → RequestValue → Result Heard AllocError → ConversationValue
+abbrev pub AreSetOr : List (List ℕ) → ConfigurationValue → Result (Unit {0}) ConversationFault → ConfigurationValue
     → Type 0
-IsServing before mark explains request (Ok heard) after =
-    (s : Settings) × (cache : CacheValue) × (before.stage ≡ Serving s cache) × (answer : Answer)
-    × Serves mark explains request s cache answer × Says answer heard × Stands mark answer before after
-IsServing before mark explains request (Err error) after =
+AreSetOr texts before (Ok done) after = AreSet texts before (Ok after)
+AreSetOr texts before (Err f) after = AreSet texts before (Err f) ⊎ (f ≡ out_of_memory)
+
+-- the resolver is there: it was, or is made, and what the journal gets of a file is told; or a fault, and nothing changed
+abbrev pub IsOpening : ConversationValue → ℕ → Result (String Global) ConversationFault → ConversationValue → Type 0
+IsOpening before now (Ok told) after =
+    (s : Settings) × (cache : CacheValue) × IsOpened before.phase now (Ok (s, cache))
+    × (string_bytes told ≡ lines_told before.phase) × (after ≡ record before { phase = Serving s cache })
+IsOpening before now (Err fault) after =
+    (IsOpened before.phase now (Err fault) ⊎ (fault ≡ out_of_memory)) × (after ≡ before)
+
+-- a request is begun over the resolver that is there, and the journal gets this first
+abbrev pub IsServing : ConversationValue → List ℕ → Bool → RequestValue → List ℕ → Result Heard AllocError
+    → ConversationValue → Type 0
+IsServing before mark explains request told (Ok heard) after =
+    (s : Settings) × (cache : CacheValue) × (before.phase ≡ Serving s cache) × (served : Answer)
+    × Serves mark explains request s cache served × Says (telling told served) heard
+    × Stands mark (telling told served) before after
+IsServing before mark explains request told (Err error) after =
     (after.lines ≡ before.lines) × PutsSome mark before.requests after.requests
-    × ((after.stage ≡ before.stage)
-    ⊎ ((s : Settings) × (cache : CacheValue) × (before.stage ≡ Serving s cache)
-    × IsBegunOver s cache request after.stage))
+    × ((after.phase ≡ before.phase)
+    ⊎ ((s : Settings) × (cache : CacheValue) × (before.phase ≡ Serving s cache)
+    × IsBegunOver s cache request after.phase))

@@ -5,8 +5,11 @@
 pub mod conversation;
 mod explaining;
 pub mod fault;
+mod file_settings;
+pub mod files;
 pub mod heard;
 mod in_flight;
+mod opening;
 mod reading;
 mod requests;
 mod said;

@@ -10,7 +10,7 @@ ghost use Rattle.replay_script.specs.Words.{texts};
 ghost use Rattle.conversation.specs.Answers.{ComesTo, Feeds, Looks, Serves, Tells, asking};
 ghost use Rattle.conversation.specs.Hearing.{IsBegunOver, IsFedOut};
 ghost use Rattle.conversation.specs.State.{Puts, begun_of, in_flight_of, request_at, requests_of};
-ghost use Rattle.conversation.specs.Telling.{IsBlock, IsChanged, IsClearBlock, IsGiven, IsQuestion, IsTold, came_of, stage_by, with_reply};
+ghost use Rattle.conversation.specs.Telling.{IsBlock, IsChanged, IsClearBlock, IsGiven, IsQuestion, IsTold, came_of, phase_by, with_reply};
 
 use crate::explaining::{explained_start, push_alias, push_stored};
 use crate::heard::Heard;
@@ -43,7 +43,7 @@ pub fn begin(
     ensures { IsGiven mark.now
         (Serves mark.now explains (request_of request) (settings resolver.old) resolver.old.client.cache)
         (IsBegunOver (settings resolver.old) resolver.old.client.cache (request_of request))
-        result (stage_by resolver.new) (requests_of requests.old.entries) (requests_of requests.new.entries) }
+        result (phase_by resolver.new) (requests_of requests.old.entries) (requests_of requests.new.entries) }
 {
     let mut start = explained_start(alloc, resolver, mark, &request, explains)?;
     let came = ask(resolver, &request)?;
@@ -115,9 +115,9 @@ pub fn go_on(
     outcome: Outcome,
 ) -> Result<Heard, AllocError>
     ensures { IsGiven mark.now
-        (Feeds mark.now (stage_by resolver.old) (begun_of begun) waiting outcome)
-        (IsFedOut (stage_by resolver.old) waiting outcome)
-        result (stage_by resolver.new) (requests_of requests.old.entries) (requests_of requests.new.entries) }
+        (Feeds mark.now (phase_by resolver.old) (begun_of begun) waiting outcome)
+        (IsFedOut (phase_by resolver.old) waiting outcome)
+        result (phase_by resolver.new) (requests_of requests.old.entries) (requests_of requests.new.entries) }
 {
     let progress = resolver.resume(waiting, outcome);
     settle(alloc, resolver, requests, mark, begun, progress)

@@ -5,6 +5,7 @@ ghost use Rattle.conversation.specs.Lines.{word_named};
 ghost use Rattle.conversation.specs.Said.{said_at_end, said_behind_mark, said_by_verb, said_by_word, said_explained, said_explained_by, said_in, said_value};
 
 use crate::fault::{ConversationFault, Refusal};
+use crate::files::FileKind;
 use crate::words::Word;
 use replay_script::ScriptFault;
 
@@ -16,8 +17,11 @@ pub enum Said<'a> {
     Nothing,
     /// The conversation is over.
     End,
-    /// One line of a file of hosts: the fields behind `hosts`.
-    Hosts(&'a [&'a str]),
+    /// One line of a file: the fields behind the word that names it.
+    File {
+        kind: FileKind,
+        fields: &'a [&'a str],
+    },
     /// A setting: all its fields.
     Setting(&'a [&'a str]),
     /// A request: the fields from `at` on, and whether it asks how it comes about.
@@ -56,7 +60,10 @@ fn by_word<'a>(word: &str, behind: &'a [&'a str], fields: &'a [&'a str]) -> Said
 {
     match Word::of(word) {
         Word::End => at_end(behind),
-        Word::Hosts => Said::Hosts(behind),
+        Word::File(kind) => Said::File {
+            kind,
+            fields: behind,
+        },
         Word::Setting => Said::Setting(fields),
         Word::Unused => Said::Refused(Refusal::unknown(fields)),
         Word::Mark => behind_mark(behind),

@@ -1,9 +1,7 @@
 //! What stands between two lines, and what a line does with it.
-ghost use Rattle.std.specs.Prelude.{◌≡◌, ◌&&◌, false, [], Err, IfOk, IsOk, None, Ok, OnErr, OnOk};
+ghost use Rattle.std.specs.Prelude.{◌≡◌, ◌&&◌, ◌++◌, false, [], Err, IfOk, Ok, OnErr, OnOk, string_bytes};
 ghost use Rattle.std.specs.Option.{is_some, option_map};
 ghost use Rattle.hickory_resolver.specs.Requests.{request_of};
-ghost use Rattle.hickory_resolver_model.specs.Bounds.{bounds_fault};
-ghost use Rattle.hickory_resolver_model.specs.Options.{bounds_of};
 ghost use Rattle.replay_script.specs.Configuration.{with_setting};
 ghost use Rattle.replay_script.specs.FailLine.{error_of};
 ghost use Rattle.replay_script.specs.Words.{texts};
@@ -14,24 +12,25 @@ ghost use Rattle.conversation.specs.Faults.{of_line};
 ghost use Rattle.conversation.specs.Said as said;
 ghost use Rattle.conversation.specs.Said.{said_by, said_value};
 ghost use Rattle.conversation.specs.State.{begun_of, conversation_of, request_at, requests_of};
-ghost use Rattle.conversation.specs.Telling.{HasReply, IsActedUpon, IsAnswered, IsFailureOf, IsFed, IsForRequest, IsOpening, IsRefused, IsServing, IsSettingTold, no_outcome, nothing_left, resolver_over, set_so, stage_over};
+ghost use Rattle.conversation.specs.Telling.{HasReply, IsActedUpon, IsAnswered, IsFailureOf, IsFed, IsForRequest, IsOpening, IsRefused, IsServing, IsSettingTold, no_outcome, nothing_left, phase_by, set_so};
 
 use crate::fault::{ConversationFault, Refusal};
+use crate::files::{FileKind, Files};
 use crate::heard::Heard;
 use crate::in_flight::{Begun, InFlight, outcome_of};
+use crate::opening::{Opened, open};
 use crate::reading::{mark_in, mark_of, read_request, read_script_line};
 use crate::requests::{add_record, begin, forget, go_on, open_reply, take};
 use crate::said::Said;
 use crate::writing::{push_fields, told_cancel, told_fault, told_last, told_nothing, told_setting};
 use hickory_proto_core::{Outcome, Record, ScriptHandle};
-use hickory_resolver::{Hosts, Request, Resolver, ResolverConfig, WaitingCall};
+use hickory_resolver::{Request, Resolver, WaitingCall};
 use replay_script::{
     Configuration, FailureKind, Line, OpenReply, ReplyHead, ScriptFault, Section, Setting,
     is_skipped, read_text, split,
 };
 use std::alloc::{AllocError, Global};
 use std::collections::HashMap;
-use std::mem;
 
 /// What is set before the first request; then the resolver, and the requests in flight.
 #[derive(Drop)]
@@ -40,7 +39,7 @@ pub struct State {
     /// How many lines were heard.
     pub lines: u64,
     pub configuration: Configuration,
-    pub hosts: Vec<u8>,
+    pub files: Files,
     pub resolver: Option<Resolver<ScriptHandle>>,
     pub requests: HashMap<String, InFlight>,
 }
@@ -54,7 +53,7 @@ impl State {
             alloc,
             lines: 0,
             configuration: Configuration::default(alloc),
-            hosts,
+            files: Files::new(hosts),
             resolver: None,
             requests: HashMap::new(alloc),
         }
@@ -99,7 +98,7 @@ impl State {
         match said {
             Said::Nothing => Ok(told_nothing(self.alloc)),
             Said::End => Ok(told_last(self.alloc)),
-            Said::Hosts(fields) => self.add_hosts(mark, fields),
+            Said::File { kind, fields } => self.add_file_line(mark, kind, fields),
             Said::Setting(fields) => self.add_setting(mark, fields),
             Said::Request { explains, fields } => self.begin(mark, explains, fields),
             Said::Outcome { begins, fields } => self.add_line(mark, begins, fields),
@@ -126,9 +125,14 @@ impl State {
         self.refuse(mark, &Refusal::of_line(fault))
     }
 
-    // A line of a file of hosts.
-    fn add_hosts(&mut self, mark: &str, fields: &[&str]) -> Result<Heard, AllocError>
-        ensures { IsActedUpon (conversation_of self.old) mark.now (said.Hosts (texts fields.now)) result
+    // A line of a file.
+    fn add_file_line(
+        &mut self,
+        mark: &str,
+        kind: FileKind,
+        fields: &[&str],
+    ) -> Result<Heard, AllocError>
+        ensures { IsActedUpon (conversation_of self.old) mark.now (said.File kind (texts fields.now)) result
             (conversation_of self.new) }
     {
         if self.resolver.is_some() {
@@ -136,7 +140,7 @@ impl State {
         }
         let mut line = String::from_str(self.alloc, "\n")?;
         push_fields(&mut line, fields)?;
-        self.hosts.extend_from_slice(line.as_bytes())?;
+        self.files.add(kind, line.as_bytes())?;
         Ok(told_nothing(self.alloc))
     }
 
@@ -158,7 +162,7 @@ impl State {
     fn take_setting(&mut self, mark: &str, line: Line, fields: &[&str]) -> Result<Heard, AllocError>
         requires { is_some self.old.resolver ≡ false }
         ensures { let before = conversation_of self.old in IsAnswered before mark.now
-            (λ answer. answer ≡ sets before mark.now self.old.configuration self.old.hosts.items (texts fields.now)
+            (λ answer. answer ≡ sets before mark.now self.old.configuration self.old.files (texts fields.now)
             (Ok line))
             nothing_left result (conversation_of self.new) }
     {
@@ -173,7 +177,7 @@ impl State {
         requires { is_some self.old.resolver ≡ false }
         ensures told { IfOk result (IsSettingTold (texts fields.now)) }
         ensures set { OnOk result (conversation_of self.new ≡ set_so (conversation_of self.old)
-            (with_setting setting self.old.configuration) self.old.hosts.items) }
+            (with_setting setting self.old.configuration) self.old.files) }
         ensures unchanged { OnErr result (conversation_of self.new ≡ conversation_of self.old) }
     {
         let heard = told_setting(self.alloc, fields)?;
@@ -206,58 +210,61 @@ impl State {
     ) -> Result<Heard, AllocError>
         ensures { let before = conversation_of self.old in IsAnswered before mark.now
             (Begins before mark.now explains (request_of request))
-            (IsBegunOut before.stage (request_of request))
+            (IsBegunOut before.phase (request_of request))
             result (conversation_of self.new) }
     {
         match self.open(request.moment()) {
-            Ok(()) => self.serve(mark, explains, request),
+            Ok(told) => self.serve_telling(mark, explains, request, told),
             Err(fault) => self.refuse_line(mark, fault),
         }
     }
 
-    // At the first request, of this moment (seconds), the resolver is made.
-    fn open(&mut self, now: u64) -> Result<(), ConversationFault>
+    // At the first request, of this moment (seconds), the resolver is made. Gives what the journal gets of a file.
+    fn open(&mut self, now: u64) -> Result<String, ConversationFault>
         ensures { IsOpening (conversation_of self.old) now result (conversation_of self.new) }
     {
         if self.resolver.is_some() {
-            return Ok(());
+            return Ok(String::new(self.alloc));
         }
-        match self.configuration.check_bounds(self.alloc) {
-            Ok(()) => self.open_first(now),
-            Err(fault) => Err(ConversationFault::Script(fault)),
-        }
-    }
-
-    // The hosts are read, and the resolver is made. The bounds are in order.
-    fn open_first(&mut self, now: u64) -> Result<(), ConversationFault>
-        requires unset { is_some self.old.resolver ≡ false }
-        requires ordered { bounds_fault (bounds_of self.old.configuration.options) ≡ None }
-        ensures { IsOpening (conversation_of self.old) now result (conversation_of self.new) }
-    {
-        let mut hosts = Hosts::default(self.alloc);
-        match hosts.read_hosts_bytes(&self.hosts, now) {
-            Ok(()) => self.make_resolver(hosts),
-            Err(error) => Err(ConversationFault::from(error)),
+        match open(self.alloc, &self.configuration, &self.files, now) {
+            Ok(opened) => Ok(self.serve_by(opened)),
+            Err(fault) => Err(fault),
         }
     }
 
-    // The resolver of what is set is made, over these hosts. The bounds are in order, and it takes no memory.
-    fn make_resolver(&mut self, hosts: Hosts) -> Result<(), ConversationFault>
-        requires { bounds_fault (bounds_of self.old.configuration.options) ≡ None }
-        ensures ok { IsOk result }
-        ensures made { OnOk result (conversation_of self.new
-            ≡ record (conversation_of self.old) { stage = stage_over self.old.configuration hosts }) }
+    // This resolver is there from now on.
+    fn serve_by(&mut self, opened: Opened) -> String
+        ensures told { result ≡ opened.told }
+        ensures serves { conversation_of self.new
+            ≡ record (conversation_of self.old) { phase = phase_by opened.resolver } }
     {
-        let nothing = Configuration::default(self.alloc);
-        let configuration = mem::replace(&mut self.configuration, nothing);
-        self.hosts = Vec::new(self.alloc);
-        self.resolver = Some(resolver_of(self.alloc, configuration, hosts)?);
-        Ok(())
+        let Opened { resolver, told } = opened;
+        self.configuration = Configuration::default(self.alloc);
+        self.files = Files::new(Vec::new(self.alloc));
+        self.resolver = Some(resolver);
+        told
+    }
+
+    // A request begins over the resolver that is there, and the journal gets this first.
+    fn serve_telling(
+        &mut self,
+        mark: &str,
+        explains: bool,
+        request: Request,
+        told: String,
+    ) -> Result<Heard, AllocError>
+        ensures { IsServing (conversation_of self.old) mark.now explains (request_of request) (string_bytes told)
+            result (conversation_of self.new) }
+    {
+        match self.serve(mark, explains, request) {
+            Ok(heard) => telling(told, heard),
+            Err(AllocError) => Err(AllocError),
+        }
     }
 
     // A request begins over the resolver that is there.
     fn serve(&mut self, mark: &str, explains: bool, request: Request) -> Result<Heard, AllocError>
-        ensures { IsServing (conversation_of self.old) mark.now explains (request_of request) result
+        ensures { IsServing (conversation_of self.old) mark.now explains (request_of request) [] result
             (conversation_of self.new) }
     {
         let Some(resolver) = &mut self.resolver else {
@@ -317,7 +324,7 @@ impl State {
     // The open reply is fed to its request.
     fn feed_reply(&mut self, mark: &str) -> Result<Heard, AllocError>
         ensures { let before = conversation_of self.old in IsForRequest before mark.now
-            (λ r. FeedsReply mark.now before.stage r)
+            (λ r. FeedsReply mark.now before.phase r)
             (IsOutcomeOf (said.Done []))
             result (conversation_of self.new) }
     {
@@ -461,27 +468,14 @@ fn is_early(begins: bool, has_reply: bool) -> bool
     begins && has_reply
 }
 
-// The resolver of this configuration, whose bounds are in order, over these hosts. Its own handle is never asked.
-fn resolver_of(
-    alloc: Global,
-    configuration: Configuration,
-    hosts: Hosts,
-) -> Result<Resolver<ScriptHandle>, AllocError>
-    requires { bounds_fault (bounds_of configuration.options) ≡ None }
-    ensures { result ≡ Ok (resolver_over configuration hosts) }
+// What is told, and before it this in the journal.
+fn telling(told: String, heard: Heard) -> Result<Heard, AllocError>
+    ensures others { IfOk result (λ h. h ≡ record heard { journal = h.journal }) }
+    ensures journal { IfOk result (λ h. string_bytes h.journal ≡ string_bytes told ++ string_bytes heard.journal) }
 {
-    let Configuration {
-        options,
-        domain,
-        search,
-        ..
-    } = configuration;
-    let config = ResolverConfig::from_parts(domain, search, Vec::new(alloc));
-    let handle = ScriptHandle::new(Vec::new(alloc));
-    let builder = Resolver::builder_with_config(config, handle).with_options(options);
-    let Ok(mut resolver) = builder.build() else {
-        return Err(AllocError);
-    };
-    resolver.set_hosts(hosts);
-    Ok(resolver)
+    let mut journal = told;
+    let mut heard = heard;
+    journal.push_str(heard.journal.as_str())?;
+    heard.journal = journal;
+    Ok(heard)
 }

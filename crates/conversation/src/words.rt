@@ -2,13 +2,15 @@
 ghost use Rattle.std.specs.Prelude.{◌≡◌};
 ghost use Rattle.conversation.specs.Lines.{word_named};
 
+use crate::files::FileKind;
+
 /// What the first word of a line says.
 #[derive(Clone, Copy)]
 pub enum Word {
     /// The conversation ends.
     End,
-    /// A line of a file of hosts.
-    Hosts,
+    /// A line of a file.
+    File(FileKind),
     /// A setting.
     Setting,
     /// No request can have this mark.
@@ -24,7 +26,8 @@ impl Word {
     {
         match word {
             "end" => Word::End,
-            "hosts" => Word::Hosts,
+            "hosts" => Word::File(FileKind::Hosts),
+            "resolv" => Word::File(FileKind::ResolvConf),
             "option" => Word::Setting,
             "domain" => Word::Setting,
             "search" => Word::Setting,

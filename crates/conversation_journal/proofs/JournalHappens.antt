@@ -24,14 +24,17 @@ use Rattle.replay_script.specs.declared.reply_line.ReplyHead.{ReplyHead}
 use Rattle.replay_script.specs.declared.script.OpenReply.{OpenReply}
 use Rattle.replay_script.specs.declared.setting.Setting.{Setting as OneSetting}
 use Rattle.replay_script.specs.declared.setting.Setting.TheVariants as setting
-use Rattle.conversation.specs.Answers.{Answer, AnswersDone, AnswersInFlight, AnswersLine, AnswersOutcome, AnswersSaid, AnswersSetting, Begins, Feeds, FeedsReply, IsOpened, Serves, Takes, adds_hosts, cancels, keeps, nothing, refused, sets, with_hosts, with_line}
+use Rattle.conversation.specs.Answers.{Answer, AnswersDone, AnswersInFlight, AnswersLine, AnswersOutcome, AnswersSaid, AnswersSetting, Begins, BeginsOver, Feeds, FeedsReply, IsOpened, Takes, adds_line, cancels, file_line, keeps, lines_told, nothing, refused, sets, with_line}
+use Rattle.conversation.specs.Files.{FilesValue, with_text}
+use Rattle.conversation.specs.declared.files.FileKind.{FileKind}
+use Rattle.conversation.specs.declared.files.FileKind.TheVariants.{Hosts, ResolvConf}
 use Rattle.conversation.specs.Hearing.{Answers}
 use Rattle.conversation_journal.specs.Journal.{moment_asked, moment_at, moment_behind}
 use Rattle.conversation.specs.Faults.{RefusalValue, of_line, refusal_of, unknown}
 use Rattle.conversation.specs.Lines.{IsAsked, mark_by, mark_in, mark_of, said_of, word_named}
 use Rattle.conversation.specs.Said as said
 use Rattle.conversation.specs.Said.{SaidValue, said_behind_mark, said_by_verb, said_by_word, said_explained, said_in}
-use Rattle.conversation.specs.State.{ConversationValue, InFlightValue, Setting, Serving, Stage, request_at}
+use Rattle.conversation.specs.State.{ConversationValue, InFlightValue, Setting, Serving, Phase, request_at}
 use Rattle.conversation.specs.Texts.{fields_text}
 use Rattle.conversation.specs.declared.fault.ConversationFault.{ConversationFault}
 use Rattle.conversation.specs.declared.fault.ConversationFault.TheVariants as fault
@@ -48,20 +51,20 @@ IsNoMode (setting.Search x) = Unit {0}
 IsNoMode (setting.Upstream x) = ⊥
 
 pub data Happens (c : ConversationValue) (mark : List ℕ) (moment : Option ℕ) (answer : Answer) : Type 0 where
-  unchanged : answer.journal ≡ [] → answer.stage ≡ c.stage → answer.held ≡ request_at mark c.requests → Happens c mark moment answer
-  more_hosts : (configuration : ConfigurationValue) (lines more : List ℕ) → c.stage ≡ Setting configuration lines → answer.stage ≡ Setting configuration more → answer.journal ≡ [] → answer.held ≡ request_at mark c.requests → Happens c mark moment answer
-  set : (configuration : ConfigurationValue) (lines : List ℕ) (given : List (List ℕ)) (one : OneSetting) → c.stage ≡ Setting configuration lines → AreFields given → IsSaid false given (Ok (line.Configuration one)) → IsNoMode one
-      → answer.stage ≡ Setting (with_setting one configuration) lines → answer.journal ≡ fields_text given → answer.text ≡ [] → answer.held ≡ request_at mark c.requests → Happens c mark moment answer
+  unchanged : answer.journal ≡ [] → answer.phase ≡ c.phase → answer.held ≡ request_at mark c.requests → Happens c mark moment answer
+  more_lines : (configuration : ConfigurationValue) (lines more : FilesValue) → c.phase ≡ Setting configuration lines → answer.phase ≡ Setting configuration more → answer.journal ≡ [] → answer.held ≡ request_at mark c.requests → Happens c mark moment answer
+  set : (configuration : ConfigurationValue) (lines : FilesValue) (given : List (List ℕ)) (one : OneSetting) → c.phase ≡ Setting configuration lines → AreFields given → IsSaid false given (Ok (line.Configuration one)) → IsNoMode one
+      → answer.phase ≡ Setting (with_setting one configuration) lines → answer.journal ≡ fields_text given → answer.text ≡ [] → answer.held ≡ request_at mark c.requests → Happens c mark moment answer
   begun : (given : List (List ℕ)) (explains : Bool) (q : RequestValue) (s : Settings) (cache : CacheValue) → request_at mark c.requests ≡ None → AreFields given → IsAsked given (Ok q) → moment ≡ moment_at given
-      → IsOpened c.stage (moment_of q) (Ok (s, cache)) → Serves mark explains q s cache answer → Happens c mark moment answer
+      → IsOpened c.phase (moment_of q) (Ok (s, cache)) → BeginsOver mark explains q (lines_told c.phase) s cache answer → Happens c mark moment answer
   cancelled : (r : InFlightValue) → request_at mark c.requests ≡ Some r → answer.journal ≡ [] → answer.held ≡ None → Happens c mark moment answer
   opened : (r : InFlightValue) (given : List (List ℕ)) (head : ReplyHead) → request_at mark c.requests ≡ Some r → r.reply ≡ None → AreFields given → ((b : Bool) → IsSaid b given (Ok (line.Reply head)))
       → answer ≡ keeps c mark (record { begun = with_line r.begun given; waiting = r.waiting; reply = Some (record { query = head.query; message = opened_response head }) }) → Happens c mark moment answer
   recorded : (r : InFlightValue) (given : List (List ℕ)) (section : Section) (found : RecordValue) (reply : OpenReply) → request_at mark c.requests ≡ Some r → r.reply ≡ Some reply → AreFields given → IsSaid (is_some r.reply) given (Ok (line.Record section found))
       → answer ≡ keeps c mark (record { begun = with_line r.begun given; waiting = r.waiting; reply = option_map (answered section found) r.reply }) → Happens c mark moment answer
-  done : (r : InFlightValue) (reply : OpenReply) → request_at mark c.requests ≡ Some r → r.reply ≡ Some reply → Feeds mark c.stage r.begun r.waiting (Ok reply.message) answer → Happens c mark moment answer
+  done : (r : InFlightValue) (reply : OpenReply) → request_at mark c.requests ≡ Some r → r.reply ≡ Some reply → Feeds mark c.phase r.begun r.waiting (Ok reply.message) answer → Happens c mark moment answer
   failed : (r : InFlightValue) (given : List (List ℕ)) (failure : Failure) → request_at mark c.requests ≡ Some r → r.reply ≡ None → AreFields given → ((b : Bool) → IsSaid b given (Ok (line.Fail failure)))
-      → Feeds mark c.stage (with_line r.begun given) r.waiting (Err (error_of failure.kind)) answer → Happens c mark moment answer
+      → Feeds mark c.phase (with_line r.begun given) r.waiting (Err (error_of failure.kind)) answer → Happens c mark moment answer
 
 -- what was made of a value is of its kind
 made : {A : Type 0} (make : A → Line) (r : Result A LineFaultValue) (said : Line) → Ok said ≡ (r >>= (λ x. Ok (make x))) → (x : A) × (said ≡ make x)
@@ -79,27 +82,28 @@ pick P false x y p f g = g refl p
 
 module _ (c : ConversationValue) (mark : List ℕ) (moment : Option ℕ) (answer : Answer) where
   refuses : (f : RefusalValue) → answer ≡ refused c mark f → Happens c mark moment answer
-  refuses f e = unchanged (ap (λ a. a.journal) e) (ap (λ a. a.stage) e) (ap (λ a. a.held) e)
+  refuses f e = unchanged (ap (λ a. a.journal) e) (ap (λ a. a.phase) e) (ap (λ a. a.held) e)
 
   -- ---- settings
 
-  hosts_by : (stage : Stage) (behind : List (List ℕ)) → c.stage ≡ stage → answer ≡ adds_hosts c mark stage behind → Happens c mark moment answer
-  hosts_by (Setting configuration lines) behind at e = more_hosts configuration lines (with_hosts lines behind) at (ap (λ a. a.stage) e) (ap (λ a. a.journal) e) (ap (λ a. a.held) e)
-  hosts_by (Serving s cache) behind at e = refuses (of_line fault.SettingAfterRequest) e
+  file_by : (phase : Phase) (kind : FileKind) (behind : List (List ℕ)) → c.phase ≡ phase → answer ≡ adds_line c mark phase kind behind → Happens c mark moment answer
+  file_by (Setting configuration files) kind behind at e = more_lines configuration files (with_text kind (file_line behind) files) at (ap (λ a. a.phase) e) (ap (λ a. a.journal) e) (ap (λ a. a.held) e)
+  file_by (Serving s cache) kind behind at e = refuses (of_line fault.SettingAfterRequest) e
 
   ends_by : (b : Bool) → AnswersSaid c mark (cond b said.End (said.Refused (of_line (fault.Script script.FieldCount)))) answer → Happens c mark moment answer
-  ends_by true e = unchanged (ap (λ a. a.journal) e) (ap (λ a. a.stage) e) (ap (λ a. a.held) e)
+  ends_by true e = unchanged (ap (λ a. a.journal) e) (ap (λ a. a.phase) e) (ap (λ a. a.held) e)
   ends_by false e = refuses (of_line (fault.Script script.FieldCount)) e
 
   -- what a line of a setting says
   setting_kind : (text : List ℕ) (behind : List (List ℕ)) (said : Line) → word_named text ≡ word.Setting → IsSaid false (text ∷ behind) (Ok said) → (one : OneSetting) × (said ≡ line.Configuration one) × IsNoMode one
   setting_kind text behind said named is =
       pick (λ w. w ≡ word.Setting) (is_text (codes "end") text) word.End _ named (λ h e. absurd (let x = e in cc)) (λ h0 named.
-      pick (λ w. w ≡ word.Setting) (is_text (codes "hosts") text) word.Hosts _ named (λ h e. absurd (let x = e in cc)) (λ h1 named.
+      pick (λ w. w ≡ word.Setting) (is_text (codes "hosts") text) (word.File Hosts) _ named (λ h e. absurd (let x = e in cc)) (λ h1 named.
+      pick (λ w. w ≡ word.Setting) (is_text (codes "resolv") text) (word.File ResolvConf) _ named (λ h e. absurd (let x = e in cc)) (λ h5 named.
       pick (λ w. w ≡ word.Setting) (is_text (codes "option") text) word.Setting _ named (λ h e. of_option (word-is (codes "option") text h)) (λ h2 named.
       pick (λ w. w ≡ word.Setting) (is_text (codes "domain") text) word.Setting _ named (λ h e. of_domain (word-is (codes "domain") text h)) (λ h3 named.
       pick (λ w. w ≡ word.Setting) (is_text (codes "search") text) word.Setting _ named (λ h e. of_search (word-is (codes "search") text h)) (λ h4 named.
-      pick (λ w. w ≡ word.Setting) (is_text (codes "-") text) word.Unused word.Mark named (λ h e. absurd (let x = e in cc)) (λ h e. absurd (let x = e in cc)))))))
+      pick (λ w. w ≡ word.Setting) (is_text (codes "-") text) word.Unused word.Mark named (λ h e. absurd (let x = e in cc)) (λ h e. absurd (let x = e in cc))))))))
     where
       at_word : (w : List ℕ) → text ≡ w → IsSaid false (w ∷ behind) (Ok said)
       at_word w e = subst (λ x. IsSaid false (x ∷ behind) (Ok said)) e is
@@ -113,24 +117,24 @@ module _ (c : ConversationValue) (mark : List ℕ) (moment : Option ℕ) (answer
       of_search : text ≡ codes "search" → (one : OneSetting) × (said ≡ line.Configuration one) × IsNoMode one
       of_search e = two_made (λ x. setting.Search x) (λ x. tt) _ said (at_word (codes "search") e)
 
-  set_by : (configuration : ConfigurationValue) (lines : List ℕ) (text : List ℕ) (behind : List (List ℕ)) → c.stage ≡ Setting configuration lines → word_named text ≡ word.Setting → AreFields (text ∷ behind)
+  set_by : (configuration : ConfigurationValue) (lines : FilesValue) (text : List ℕ) (behind : List (List ℕ)) → c.phase ≡ Setting configuration lines → word_named text ≡ word.Setting → AreFields (text ∷ behind)
       → (result : Result Line LineFaultValue) → IsSaid false (text ∷ behind) result → answer ≡ sets c mark configuration lines (text ∷ behind) (said_of result) → Happens c mark moment answer
   set_by configuration lines text behind at named own (Ok said) is e =
       let kind = setting_kind text behind said named is in
       let P : Line → Type 0 = λ l. IsSaid false (text ∷ behind) (Ok l) in
       let made : answer ≡ sets c mark configuration lines (text ∷ behind) (Ok (line.Configuration kind.0)) = e ∙ ap (λ l. sets c mark configuration lines (text ∷ behind) (Ok l)) kind.1 in
-      set configuration lines (text ∷ behind) kind.0 at own (subst P kind.1 is) kind.2 (ap (λ a. a.stage) made) (ap (λ a. a.journal) made) (ap (λ a. a.text) made) (ap (λ a. a.held) made)
+      set configuration lines (text ∷ behind) kind.0 at own (subst P kind.1 is) kind.2 (ap (λ a. a.phase) made) (ap (λ a. a.journal) made) (ap (λ a. a.text) made) (ap (λ a. a.held) made)
   set_by configuration lines text behind at named own (Err f) is e = refuses (refusal_of f) e
 
-  setting_by : (stage : Stage) (text : List ℕ) (behind : List (List ℕ)) → c.stage ≡ stage → word_named text ≡ word.Setting → AreFields (text ∷ behind) → AnswersSetting c mark stage (text ∷ behind) answer → Happens c mark moment answer
+  setting_by : (phase : Phase) (text : List ℕ) (behind : List (List ℕ)) → c.phase ≡ phase → word_named text ≡ word.Setting → AreFields (text ∷ behind) → AnswersSetting c mark phase (text ∷ behind) answer → Happens c mark moment answer
   setting_by (Setting configuration lines) text behind at named own (said, (result, is, e), answer_is) =
       set_by configuration lines text behind at named own result is (answer_is ∙ ap (λ r. sets c mark configuration lines (text ∷ behind) r) e)
   setting_by (Serving s cache) text behind at named own e = refuses (of_line fault.SettingAfterRequest) e
 
   -- ---- requests
 
-  begins_by : (given : List (List ℕ)) (explains : Bool) (q : RequestValue) → request_at mark c.requests ≡ None → AreFields given → IsAsked given (Ok q) → moment ≡ moment_at given → (over : Result (Settings × CacheValue) ConversationFault) → IsOpened c.stage (moment_of q) over
-      → MatchResult over (λ o. Serves mark explains q o.0 o.1 answer) (λ f. answer ≡ refused c mark (of_line f)) → Happens c mark moment answer
+  begins_by : (given : List (List ℕ)) (explains : Bool) (q : RequestValue) → request_at mark c.requests ≡ None → AreFields given → IsAsked given (Ok q) → moment ≡ moment_at given → (over : Result (Settings × CacheValue) ConversationFault) → IsOpened c.phase (moment_of q) over
+      → MatchResult over (λ o. BeginsOver mark explains q (lines_told c.phase) o.0 o.1 answer) (λ f. answer ≡ refused c mark (of_line f)) → Happens c mark moment answer
   begins_by given explains q none own asked at (Ok o) is serves = begun given explains q o.0 o.1 none own asked at is serves
   begins_by given explains q none own asked at (Err f) is e = refuses (of_line f) e
 
@@ -151,7 +155,7 @@ module _ (c : ConversationValue) (mark : List ℕ) (moment : Option ℕ) (answer
   cancels_by r false at e = refuses (of_line (fault.Script script.FieldCount)) e
 
   done_by : (r : InFlightValue) (behind : List (List ℕ)) (b d : Bool) → request_at mark c.requests ≡ Some r
-      → MatchBool b (MatchBool d (FeedsReply mark c.stage r answer) (answer ≡ refused c mark (of_line (fault.Script script.FieldCount)))) (answer ≡ refused c mark (of_line (fault.Script script.NoReply))) → Happens c mark moment answer
+      → MatchBool b (MatchBool d (FeedsReply mark c.phase r answer) (answer ≡ refused c mark (of_line (fault.Script script.FieldCount)))) (answer ≡ refused c mark (of_line (fault.Script script.NoReply))) → Happens c mark moment answer
   done_by r behind true true at (reply, is_open, feeds) = done r reply at is_open feeds
   done_by r behind true false at e = refuses (of_line (fault.Script script.FieldCount)) e
   done_by r behind false d at e = refuses (of_line (fault.Script script.NoReply)) e
@@ -259,13 +263,13 @@ word_by c t answer w behind mark_is own is = subst (λ m. Happens c m (moment_be
   where
     by : (x : Word) → word_named w ≡ x → AnswersSaid c (mark_by x w) (said_by_word x behind (w ∷ behind)) answer → Happens c (mark_by (word_named w) w) (moment_behind behind) answer
     by word.End e is = subst (λ x. Happens c (mark_by x w) (moment_behind behind) answer) (sym e) (ends_by c (codes "-") (moment_behind behind) answer (is_empty behind) is)
-    by word.Hosts e is = subst (λ x. Happens c (mark_by x w) (moment_behind behind) answer) (sym e) (hosts_by c (codes "-") (moment_behind behind) answer c.stage behind refl is)
-    by word.Setting e is = subst (λ x. Happens c (mark_by x w) (moment_behind behind) answer) (sym e) (setting_by c (codes "-") (moment_behind behind) answer c.stage w behind refl e own is)
+    by (word.File kind) e is = subst (λ x. Happens c (mark_by x w) (moment_behind behind) answer) (sym e) (file_by c (codes "-") (moment_behind behind) answer c.phase kind behind refl is)
+    by word.Setting e is = subst (λ x. Happens c (mark_by x w) (moment_behind behind) answer) (sym e) (setting_by c (codes "-") (moment_behind behind) answer c.phase w behind refl e own is)
     by word.Unused e is = subst (λ x. Happens c (mark_by x w) (moment_behind behind) answer) (sym e) (refuses c (codes "-") (moment_behind behind) answer (unknown (w ∷ behind)) is)
     by word.Mark e is = subst (λ x. Happens c (mark_by x w) (moment_behind behind) answer) (sym e) (marked_by c w (moment_behind behind) answer behind own.1 refl is)
 
 nothing_heard : (c : ConversationValue) (mark : List ℕ) (moment : Option ℕ) (answer : Answer) → answer ≡ nothing c mark → Happens c mark moment answer
-nothing_heard c mark moment answer e = unchanged (ap (λ a. a.journal) e) (ap (λ a. a.stage) e) (ap (λ a. a.held) e)
+nothing_heard c mark moment answer e = unchanged (ap (λ a. a.journal) e) (ap (λ a. a.phase) e) (ap (λ a. a.held) e)
 
 fields_by : (c : ConversationValue) (t : List ℕ) (answer : Answer) (given : List (List ℕ)) → mark_of t ≡ mark_in given → AreFields given → AnswersSaid c (mark_in given) (said_in given) answer → Happens c (mark_of t) (moment_asked given) answer
 fields_by c t answer [] mark_is own e = subst (λ m. Happens c m None answer) (sym mark_is) (nothing_heard c (codes "-") None answer e)

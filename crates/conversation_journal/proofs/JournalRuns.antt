@@ -1,5 +1,5 @@
 -- A run that grows by one request at its end, and its text.
-use Rattle.std.proofs.Common.{◌≡◌, ◌∙◌, ℕ, true, false, not, List, [], ◌∷◌, ◌++◌, length, map, flat_map, take, drop, refl, sym, ap, ap₂, subst, inl, inr}
+use Rattle.std.proofs.Common.{◌≡◌, ◌∙◌, ℕ, true, false, not, List, [], ◌∷◌, ◌++◌, length, map, flat_map, take, drop, Option, None, Some, Result, Ok, Err, refl, sym, ap, ap₂, subst, inl, inr}
 use Rattle.std.proofs.lemmas.Bool.{and_from}
 use Rattle.std.proofs.lemmas.Grind.{flat_map-append}
 use Rattle.std.proofs.lemmas.List.{append-nil}
@@ -8,7 +8,13 @@ use Rattle.hickory_proto_core.specs.Handles.{OutcomeValue, ScriptStep, Leads}
 use Rattle.hickory_proto_core.specs.declared.dns_request.DnsRequestOptions.{DnsRequestOptions}
 use Rattle.hickory_proto_core.specs.declared.recorded.Exchange.{Exchange}
 use Rattle.hickory_resolver_model.specs.Cache.{CacheValue}
-use Rattle.hickory_resolver_model.specs.Run.{RequestValue, Settings, Stage, StepValue, IsStage, AreStages, exchanges_of, ends_run, first_cache}
+use Rattle.std.specs.declared.net.IpAddr.{IpAddr}
+use Rattle.hickory_proto_core.specs.Name.{NameValue}
+use Rattle.hickory_proto_core.specs.codes.record_type.RecordType.{RecordType}
+use Rattle.hickory_proto_core.specs.names.name_error.NameError.{NameError}
+use Rattle.hickory_resolver_model.specs.Calls.{SubLookup}
+use Rattle.hickory_resolver_model.specs.Lookup.{LookupResult}
+use Rattle.hickory_resolver_model.specs.Run.{RequestValue, Lookup, LookupIp, ClearLookup, Clear, Settings, Call, AtOnce, Attempt, IsCall, IsServed, Stage, StepReply, LookedUp, LookedUpIp, Cleared, StepValue, IsStage, AreStages, address_call, after_clear, answers_at, exchanges_of, ends_run, first_cache, name_call}
 use Rattle.hickory_resolver_theorems.proofs.PromisesHold.{promised_run}
 use Rattle.replay_script.specs.Output.{run_text, step_text}
 use Rattle.replay.specs.ScriptRun.{IsTold, is_remembered}
@@ -103,3 +109,70 @@ run-told s requests exchanges cache text outcomes run are =
       });
       told = (remembered run.stages run.live, run.text_is ∙ sym (ap (λ xs. run_text requests (map (λ stage. stage.step) run.stages) xs) run.joined ∙ text-of-stages s (first_cache s) requests run.stages cache run.live run.are));
     })
+
+-- ---- how questions are sent changes nothing of a run
+
+abbrev pub sent_so : Settings → DnsRequestOptions → Settings
+sent_so s options = record s { request_options = options }
+
+module _ (s : Settings) (options : DnsRequestOptions) where
+  abbrev so : Settings
+  so = sent_so s options
+
+  call-as : (now : ℕ) (before : CacheValue) (call : Call) (parts : List SubLookup) (reply : LookupResult) (after : CacheValue) → IsCall (answers_at so now) so before call parts reply after → IsCall (answers_at s now) s before call parts reply after
+  call-as now before (AtOnce answer) parts reply after is = is
+  call-as now before (Attempt n plan) parts reply after is = is
+
+  address-as : (address : Option IpAddr) (name : Result NameValue NameError) (now : ℕ) → address_call so address name now ≡ address_call s address name now
+  address-as None (Ok n) now = refl
+  address-as None (Err f) now = refl
+  address-as (Some a) (Ok n) now = refl
+  address-as (Some a) (Err f) now = refl
+
+  clear-as : (t : RecordType) (name : Result NameValue NameError) (before : CacheValue) → after_clear so t name before ≡ after_clear s t name before
+  clear-as t (Ok n) before = refl
+  clear-as t (Err f) before = refl
+
+  served-as : (before : CacheValue) (q : RequestValue) (parts : List SubLookup) (reply : StepReply) (after : CacheValue) → IsServed (answers_at so) so before q parts reply after → IsServed (answers_at s) s before q parts reply after
+  served-as before (Lookup text t now) parts (LookedUp reply) after (inl (name, read, is)) = inl (name, read, call-as now before (name_call t name) parts reply after is)
+  served-as before (Lookup text t now) parts (LookedUp reply) after (inr out) = inr out
+  served-as before (Lookup text t now) parts (LookedUpIp reply) after never = absurd never
+  served-as before (Lookup text t now) parts (Cleared r) after never = absurd never
+  served-as before (LookupIp text now) parts (LookedUpIp reply) after (inl (given, by, is)) =
+      let P : Call → Type 0 = λ call. IsCall (answers_at so now) so before call parts reply after in
+      inl (given, by, call-as now before (address_call s given.address given.name now) parts reply after (subst P (address-as given.address given.name now) is))
+  served-as before (LookupIp text now) parts (LookedUpIp reply) after (inr out) = inr out
+  served-as before (LookupIp text now) parts (LookedUp reply) after never = absurd never
+  served-as before (LookupIp text now) parts (Cleared r) after never = absurd never
+  served-as before (ClearLookup text t now) parts (Cleared (Ok u)) after (none, (name, read, is)) = (none, (name, read, is ∙ clear-as t name before))
+  served-as before (ClearLookup text t now) parts (Cleared (Err e)) after is = is
+  served-as before (ClearLookup text t now) parts (LookedUp reply) after never = absurd never
+  served-as before (ClearLookup text t now) parts (LookedUpIp reply) after never = absurd never
+  served-as before (Clear now) parts (Cleared (Ok u)) after is = is
+  served-as before (Clear now) parts (Cleared (Err e)) after never = absurd never
+  served-as before (Clear now) parts (LookedUp reply) after never = absurd never
+  served-as before (Clear now) parts (LookedUpIp reply) after never = absurd never
+
+  stage-as : (stage : Stage) (after : CacheValue) → IsStage so stage after → IsStage s stage after
+  stage-as stage after is = record {
+    served = served-as stage.before stage.request stage.parts stage.step.reply after is.served;
+    piece_is = is.piece_is;
+    now_is = is.now_is;
+    count_is = is.count_is;
+  }
+
+  stages-as : (before : CacheValue) (requests : List RequestValue) (stages : List Stage) (after : CacheValue) → AreStages so before requests stages after → AreStages s before requests stages after
+  stages-as before [] [] after is = is
+  stages-as before [] (x ∷ stages) after never = absurd never
+  stages-as before (q ∷ requests) [] after never = absurd never
+  stages-as before (q ∷ requests) (x ∷ stages) after (mid, for, starts, one, inl ended) = (mid, for, starts, stage-as x mid one, inl ended)
+  stages-as before (q ∷ requests) (x ∷ stages) after (mid, for, starts, one, inr (goes, rest)) = (mid, for, starts, stage-as x mid one, inr (goes, stages-as mid requests stages after rest))
+
+  pub run-as : (requests : List RequestValue) (exchanges : List Exchange) (cache : CacheValue) (text : List ℕ) → HasRun so requests exchanges cache text → HasRun s requests exchanges cache text
+  run-as requests exchanges cache text run = record {
+    stages = run.stages;
+    are = stages-as (first_cache s) requests run.stages cache run.are;
+    live = run.live;
+    joined = run.joined;
+    text_is = run.text_is;
+  }

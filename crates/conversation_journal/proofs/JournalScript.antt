@@ -103,10 +103,10 @@ written-read b [] said own is some = absurd (some cc)
 written-read b (f ∷ fs) said own is some = line-read b f fs said own.0 own.1 is
 
 module _ (ls : List (List ℕ)) (said : List Line) (reader : ReaderValue) (is : IsScript ls said reader) where
-  pub more-setting : (given : List (List ℕ)) (one : Setting) → AreFields given → IsSaid (has_reply said) given (Ok (line.Configuration one)) → IsNoMode one
-      → IsScript (ls ++ written given ∷ []) (said ++ line.Configuration one ∷ []) (record reader { configuration = with_setting one reader.configuration })
-  more-setting given one own says kind =
-      script-more ls said reader (written given) (line.Configuration one) (record reader { configuration = with_setting one reader.configuration }) is (written-allowed given own) (written-read (has_reply said) given (line.Configuration one) own says (λ e. let h = e in cc)) refl
+  pub more-line : (l : List ℕ) (one : Setting) → list_all is_allowed l ≡ true → IsRead (has_reply said) l (Ok (line.Configuration one)) → IsNoMode one
+      → IsScript (ls ++ l ∷ []) (said ++ line.Configuration one ∷ []) (record reader { configuration = with_setting one reader.configuration })
+  more-line l one own read kind =
+      script-more ls said reader l (line.Configuration one) (record reader { configuration = with_setting one reader.configuration }) is own read refl
       (keeps-configuration reader said one is.keeps) (straight one kind)
     where
       straight : (x : Setting) → IsNoMode x → (with_setting x reader.configuration).table ≡ false
@@ -114,6 +114,11 @@ module _ (ls : List (List ℕ)) (said : List Line) (reader : ReaderValue) (is : 
       straight (setting.Domain y) k = is.in_order
       straight (setting.Search y) k = is.in_order
       straight (setting.Upstream y) k = absurd k
+
+  pub more-setting : (given : List (List ℕ)) (one : Setting) → AreFields given → IsSaid (has_reply said) given (Ok (line.Configuration one)) → IsNoMode one
+      → IsScript (ls ++ written given ∷ []) (said ++ line.Configuration one ∷ []) (record reader { configuration = with_setting one reader.configuration })
+  more-setting given one own says kind =
+      more-line (written given) one (written-allowed given own) (written-read (has_reply said) given (line.Configuration one) own says (λ e. let h = e in cc)) kind
 
   pub more-reply : (given : List (List ℕ)) (head : ReplyHead) → AreFields given → IsSaid (has_reply said) given (Ok (line.Reply head))
       → IsScript (ls ++ written given ∷ []) (said ++ line.Reply head ∷ []) (record reader { closed = reader.closed ++ opened reader.open_reply; open_reply = Some (record { query = head.query; message = opened_response head }) })

@@ -28,11 +28,11 @@ use Rattle.replay_script.specs.declared.line.Line.TheVariants as line
 use Rattle.replay_script.specs.declared.script.OpenReply.{OpenReply}
 use Rattle.conversation.specs.Answers.{Answer, Clears, ComesTo, Looks, Tells, asking, config_of}
 use Rattle.conversation_journal.specs.Journal.{Idle, Busy, Turn, block_of, turn_of}
-use Rattle.conversation.specs.State.{BegunValue, InFlightValue, Setting, Serving, Stage}
+use Rattle.conversation.specs.State.{BegunValue, InFlightValue, Setting, Serving, Phase}
 use Rattle.conversation.specs.Texts.{clear_text, looked_up_text}
 use Rattle.conversation_journal.proofs.JournalTexts.{line_of, whole_lines, whole_lines-append}
 use Rattle.conversation_journal.proofs.JournalRequests.{IsWritable, asked_fields, request-text}
-use Rattle.conversation_journal.proofs.JournalRuns.{HasRun, run-more}
+use Rattle.conversation_journal.proofs.JournalRuns.{HasRun, run-more, sent_so}
 use Rattle.conversation_journal.proofs.JournalScript.{IsScript, more-request}
 use Rattle.conversation_journal.proofs.JournalCalls.{HasCall, RequestSoFar, cleared, looked_up}
 
@@ -66,8 +66,8 @@ pub some-behind : (told rest : List ℕ) → is_empty rest ≡ false → is_empt
 some-behind [] rest h = h
 some-behind (b ∷ told) rest h = refl
 
-block-of : (mark X : List ℕ) (answer : Answer) → is_empty answer.journal ≡ false → answer.text ≡ mark ++ 32 ∷ (X ++ 10 ∷ []) → block_of mark answer ≡ X
-block-of mark X answer some text = rw some (ap (λ t. without_last (drop (length mark + 1) t)) text ∙ block-text mark X)
+block-of : (mark X : List ℕ) (answer : Answer) → answer.held ≡ None → is_empty answer.journal ≡ false → answer.text ≡ mark ++ 32 ∷ (X ++ 10 ∷ []) → block_of mark answer ≡ X
+block-of mark X answer none some text = rw (none, some) (ap (λ t. without_last (drop (length mark + 1) t)) text ∙ block-text mark X)
 
 behind-mark : (mark X : List ℕ) → (mark ++ codes " ") ++ X ++ codes "\n" ≡ mark ++ 32 ∷ (X ++ 10 ∷ [])
 behind-mark mark X = append_assoc (mark ++ codes " ") X (codes "\n") ∙ append_assoc mark (codes " ") (X ++ 10 ∷ [])
@@ -87,12 +87,13 @@ clear-block mark q =
 
 -- ---- what stands
 
--- the settings of a resolver that was made at a moment, of what is configured and these hosts
+-- the settings of a resolver that was made at a moment, of what is configured and these hosts, but for how questions are
+-- sent
 pub record IsSetUp (hosts : List ℕ) (first : ℕ) (c : ConfigurationValue) (s : Settings) : Type 0 where
   pub bounds : bounds_fault (bounds_of c.options) ≡ None
   pub table : List Host
   pub hosts_are : IsTable first hosts table
-  pub settings_are : s ≡ settings_of (config_of c) c.options table
+  pub settings_are : s ≡ sent_so (settings_of (config_of c) c.options table) s.request_options
 
 abbrev pub outcomes_in : List (Query × OutcomeValue) → List OutcomeValue
 outcomes_in os = map (λ o. o.1) os
@@ -166,10 +167,10 @@ pub record IsBusy (hosts J B : List ℕ) (latest : ℕ) (s : Settings) (cache : 
   pub far : RequestSoFar s (request_of asked) start call asks (Waits r.waiting) cache
   pub latest_is : latest ≡ moment_of (request_of asked)
 
-abbrev pub StandsAt : List ℕ → List ℕ → List ℕ → Turn → Stage → Option InFlightValue → Type 0
-StandsAt hosts J B (Idle latest) (Setting configuration lines) held = (lines ≡ hosts) × (latest ≡ 0) × IsSettingUp configuration J B
+abbrev pub StandsAt : List ℕ → List ℕ → List ℕ → Turn → Phase → Option InFlightValue → Type 0
+StandsAt hosts J B (Idle latest) (Setting configuration files) held = (files.hosts ≡ hosts) × (latest ≡ 0) × IsSettingUp configuration J B
 StandsAt hosts J B (Idle latest) (Serving s cache) held = IsServing hosts J B latest s cache
-StandsAt hosts J B (Busy mark latest) (Setting configuration lines) held = ⊥
+StandsAt hosts J B (Busy mark latest) (Setting configuration files) held = ⊥
 StandsAt hosts J B (Busy mark latest) (Serving s cache) None = ⊥
 StandsAt hosts J B (Busy mark latest) (Serving s cache) (Some r) = IsBusy hosts J B latest s cache r
 
@@ -207,20 +208,20 @@ over hosts J B s asked asks told start parts reply after w asks_are served live 
 
 module _ (hosts J B : List ℕ) (s : Settings) (asked : Request) (asks : List Exchange) (start : CacheValue) (mark : List ℕ) (begun : BegunValue) (w : IsUnderWay hosts J B s asked asks begun.told start None) (request_is : begun.request ≡ request_of asked) (sent_are : begun.sent ≡ map (λ x. x.query) asks) where
   abbrev pub IsNext : Answer → Type 0
-  IsNext answer = StandsAt hosts (J ++ answer.journal) (B ++ block_of mark answer) (turn_of mark answer.held (moment_of (request_of asked))) answer.stage answer.held
+  IsNext answer = StandsAt hosts (J ++ answer.journal) (B ++ block_of mark answer) (turn_of mark answer.held (moment_of (request_of asked))) answer.phase answer.held
 
   -- the block and the lines of the journal
-  ended : (cache : CacheValue) (answer : Answer) (block : List ℕ) → answer.stage ≡ Serving s cache → answer.held ≡ None → answer.journal ≡ begun.told ++ request_text begun.request → answer.text ≡ mark ++ 32 ∷ (block ++ 10 ∷ [])
+  ended : (cache : CacheValue) (answer : Answer) (block : List ℕ) → answer.phase ≡ Serving s cache → answer.held ≡ None → answer.journal ≡ begun.told ++ request_text begun.request → answer.text ≡ mark ++ 32 ∷ (block ++ 10 ∷ [])
       → IsServing hosts (J ++ (begun.told ++ request_text (request_of asked))) (B ++ block) (moment_of (request_of asked)) s cache → IsNext answer
-  ended cache answer block stage_is held_is journal_is text_is serving =
+  ended cache answer block phase_is held_is journal_is text_is serving =
       let own : begun.told ++ request_text (request_of asked) ≡ answer.journal = ap (λ q. begun.told ++ request_text q) (sym request_is) ∙ sym journal_is in
       let some : is_empty answer.journal ≡ false = ap is_empty journal_is ∙ some-behind begun.told (request_text begun.request) (some_request begun.request) in
-      let told : block ≡ block_of mark answer = sym (block-of mark block answer some text_is) in
-      let P : Stage → Type 0 = λ x. StandsAt hosts (J ++ answer.journal) (B ++ block_of mark answer) (turn_of mark answer.held (moment_of (request_of asked))) x answer.held in
+      let told : block ≡ block_of mark answer = sym (block-of mark block answer held_is some text_is) in
+      let P : Phase → Type 0 = λ x. StandsAt hosts (J ++ answer.journal) (B ++ block_of mark answer) (turn_of mark answer.held (moment_of (request_of asked))) x answer.held in
       let Q : Option InFlightValue → Type 0 = λ h. StandsAt hosts (J ++ answer.journal) (B ++ block_of mark answer) (turn_of mark h (moment_of (request_of asked))) (Serving s cache) h in
       let R : List ℕ → Type 0 = λ j. IsServing hosts (J ++ j) (B ++ block_of mark answer) (moment_of (request_of asked)) s cache in
       let T : List ℕ → Type 0 = λ b. IsServing hosts (J ++ (begun.told ++ request_text (request_of asked))) (B ++ b) (moment_of (request_of asked)) s cache in
-      subst P (sym stage_is) (subst Q (sym held_is) (subst R own (subst T told serving)))
+      subst P (sym phase_is) (subst Q (sym held_is) (subst R own (subst T told serving)))
 
   pub proceed : (call : Call) → HasCall s (request_of asked) call → (progress : CallProgressValue) (cache : CacheValue) → RequestSoFar s (request_of asked) start call asks progress cache → (answer : Answer) (explained : List ℕ) → Tells mark explained s begun (Looks progress) cache answer → IsNext answer
   proceed call call_is (Waits x) cache far answer explained e =
@@ -244,12 +245,12 @@ module _ (hosts J B : List ℕ) (s : Settings) (asked : Request) (asks : List Ex
       let block = step_text (request_of asked) (map (λ x. x.query) asks) up.reply in
       let same : request_text begun.request ++ sent_text begun.sent ++ result_text begun.request result ≡ block =
       ap (λ q. request_text q ++ sent_text begun.sent ++ result_text q result) request_is ∙ ap₂ (λ qs t. request_text (request_of asked) ++ sent_text qs ++ t) sent_are (sym up.text_is) in
-      ended cache answer block (ap (λ a. a.stage) e) (ap (λ a. a.held) e) (ap (λ a. a.journal) e) (ap (λ a. a.text) e ∙ looked_up-block mark begun result ∙ ap (λ x. mark ++ 32 ∷ (x ++ 10 ∷ [])) same)
+      ended cache answer block (ap (λ a. a.phase) e) (ap (λ a. a.held) e) (ap (λ a. a.journal) e) (ap (λ a. a.text) e ∙ looked_up-block mark begun result ∙ ap (λ x. mark ++ 32 ∷ (x ++ 10 ∷ [])) same)
       (over hosts J B s asked asks begun.told start far.parts up.reply cache w far.asks_are up.served (up.ends ∙ live))
 
   pub clear-proceed : asks ≡ [] → (cache : CacheValue) → ComesTo s (request_of asked) start Clears cache → (answer : Answer) (explained : List ℕ) → Tells mark explained s begun Clears cache answer → IsNext answer
   clear-proceed none cache comes answer explained e =
       let block = step_text (request_of asked) (map (λ x. x.query) asks) (Cleared (Ok tt)) in
       let same : request_text begun.request ++ sent_text [] ++ codes "  cleared\n" ≡ block = ap₂ (λ q xs. request_text q ++ sent_text (map (λ x. x.query) xs) ++ codes "  cleared\n") request_is (sym none) in
-      ended cache answer block (ap (λ a. a.stage) e) (ap (λ a. a.held) e) (ap (λ a. a.journal) e) (ap (λ a. a.text) e ∙ clear-block mark begun.request ∙ ap (λ x. mark ++ 32 ∷ (x ++ 10 ∷ [])) same)
+      ended cache answer block (ap (λ a. a.phase) e) (ap (λ a. a.held) e) (ap (λ a. a.journal) e) (ap (λ a. a.text) e ∙ clear-block mark begun.request ∙ ap (λ x. mark ++ 32 ∷ (x ++ 10 ∷ [])) same)
       (over hosts J B s asked asks begun.told start [] (Cleared (Ok tt)) cache w none (cleared s (request_of asked) start cache comes).served refl)

@@ -1,9 +1,10 @@
 -- A line after another: what stands of the conversation and of its journal.
-use Rattle.std.proofs.Common.{◌≡◌, ◌∙◌, ◌≤◌, ◌||◌, ◌+◌, ℕ, zero, suc, Bool, true, false, cond, not, List, [], ◌∷◌, ◌++◌, length, drop, Option, None, Some, Result, Ok, Err, MatchOption, refl, sym, ap, ap₂, subst, arith, append_assoc}
+use Rattle.std.proofs.Common.{◌≡◌, ◌∙◌, ◌≤◌, ◌||◌, ◌+◌, ℕ, zero, suc, Bool, true, false, cond, not, List, [], ◌∷◌, ◌++◌, length, drop, Option, None, Some, Result, Ok, Err, MatchBool, MatchOption, refl, sym, ap, ap₂, subst, arith, append_assoc}
 use Rattle.std.proofs.lemmas.Bool.{and_from, eq-eqb}
 use Rattle.std.proofs.lemmas.List.{append-nil, map-append}
 use Rattle.std.specs.Cmp.Lexicographic.{same_text}
 use Rattle.std.specs.Ffi.{without_last}
+use Rattle.std.specs.List.{list_all}
 use Rattle.std.specs.Option.{is_some}
 use Rattle.std.specs.Str.{bytes_eq}
 use Rattle.hickory_proto_core.specs.Handles.{OutcomeValue}
@@ -26,20 +27,25 @@ use Rattle.hickory_resolver_theorems.proofs.CallsAlone.{resumed}
 use Rattle.replay_script.specs.Output.{request_text}
 use Rattle.replay_script.specs.Configuration.{ConfigurationValue, with_setting}
 use Rattle.replay_script.specs.FailLine.{error_of}
-use Rattle.replay_script.specs.Fields.{fields}
-use Rattle.replay_script.specs.Line.{IsSaid}
+use Rattle.replay_script.specs.Faults.{LineFaultValue, wrong_line}
+use Rattle.replay_script.specs.Fields.{fields, is_allowed, is_skipped}
+use Rattle.replay_script.specs.Line.{IsRead, IsSaid}
 use Rattle.replay_script.specs.Reader.{answered, opened}
 use Rattle.replay_script.specs.ReplyLine.{opened_response}
 use Rattle.replay_script.specs.Script.{has_reply}
 use Rattle.replay_script.specs.declared.fail_line.Failure.{Failure}
+use Rattle.replay_script.specs.declared.line.Line.{Line}
 use Rattle.replay_script.specs.declared.line.Line.TheVariants as line
 use Rattle.replay_script.specs.declared.record_line.Section.{Section}
 use Rattle.replay_script.specs.declared.reply_line.ReplyHead.{ReplyHead}
 use Rattle.replay_script.specs.declared.script.OpenReply.{OpenReply}
 use Rattle.replay_script.specs.declared.setting.Setting.{Setting as OneSetting}
-use Rattle.conversation.specs.Answers.{Answer, AreHosts, Came, Clears, Feeds, IsFirst, IsOpened, Looks, Serves, Tells, config_of, just_begun}
+use Rattle.replay_script.specs.declared.setting.Setting.TheVariants as setting
+use Rattle.conversation.specs.Answers.{Answer, AreHosts, Came, Clears, Feeds, IsMade, IsOpened, Looks, Serves, Tells, config_of, just_begun, lines_told, telling}
+use Rattle.conversation.specs.FileSettings.{AreSet, file_settings, lines_text, setting_in, with_edns}
+use Rattle.conversation.specs.Files.{FilesValue}
 use Rattle.conversation_journal.specs.Journal.{Busy, Idle, Turn, block_of, hosts_after, moment_asked, moment_begun, turn_of}
-use Rattle.conversation.specs.State.{BegunValue, InFlightValue, Puts, Requests, Serving, Setting, Stage, request_at}
+use Rattle.conversation.specs.State.{BegunValue, InFlightValue, Puts, Requests, Serving, Setting, Phase, request_at}
 use Rattle.conversation.specs.Texts.{fields_text}
 use Rattle.replay.specs.ScriptRun.{first_moment}
 use Rattle.replay_script.specs.declared.fault.ScriptFault.TheVariants as script
@@ -47,8 +53,8 @@ use Rattle.conversation.specs.declared.fault.ConversationFault.{ConversationFaul
 use Rattle.conversation.specs.declared.fault.ConversationFault.TheVariants as fault
 use Rattle.conversation_journal.proofs.JournalTexts.{AreFields, whole_lines, whole_lines-append}
 use Rattle.conversation_journal.proofs.JournalRequests.{IsWritable}
-use Rattle.conversation_journal.proofs.JournalRuns.{HasRun, none_run}
-use Rattle.conversation_journal.proofs.JournalScript.{IsScript, from_ok, more-failure, more-record, more-reply, more-setting, written, written-text}
+use Rattle.conversation_journal.proofs.JournalRuns.{HasRun, none_run, sent_so}
+use Rattle.conversation_journal.proofs.JournalScript.{IsScript, from_ok, more-failure, more-line, more-record, more-reply, more-setting, written, written-text}
 use Rattle.conversation_journal.proofs.JournalCalls.{NotOut, RequestSoFar, WholeCall, begun_call}
 use Rattle.conversation_journal.proofs.JournalHappens.{IsNoMode}
 use Rattle.conversation_journal.proofs.JournalStands.{IsBusy, IsServing, IsSetUp, IsSettingUp, IsUnderWay, StandsAt, clear-proceed, outcomes_in, outcomes_of, proceed, some-behind, some_request}
@@ -67,7 +73,7 @@ module _ (configuration : ConfigurationValue) (hosts : List ℕ) (now : ℕ) (s 
       let same = ap (from_ok both) e in
       let s_is : s ≡ made = ap (λ p. p.0) same in
       record {
-        set_up = record { bounds = bounds; table = table; hosts_are = is; settings_are = s_is };
+        set_up = record { bounds = bounds; table = table; hosts_are = is; settings_are = s_is ∙ ap (λ (x : Settings). sent_so made x.request_options) (sym s_is) };
         cache_is = ap (λ p. p.1) same ∙ ap first_cache (sym s_is);
       }
   by_table bounds (Err f) table is e = absurd (let h = e in cc)
@@ -75,12 +81,94 @@ module _ (configuration : ConfigurationValue) (hosts : List ℕ) (now : ℕ) (s 
   abbrev over : Result (Settings × CacheValue) ConversationFault
   over = Ok (s, cache)
 
-  pub opening : IsFirst configuration hosts now (Ok (s, cache)) → IsOpening configuration hosts now s cache
+  pub opening : IsMade configuration hosts now (Ok (s, cache)) → IsOpening configuration hosts now s cache
   opening is = by (bounds_fault (bounds_of configuration.options)) refl is
     where
       by : (o : Option BoundsError) → bounds_fault (bounds_of configuration.options) ≡ o → MatchOption o ((read : Result (Unit {0}) HostsError) × (table : List Host) × IsBytesRead now hosts [] read table × AreHosts configuration read table (Ok (s, cache))) (λ reversed. over ≡ Err (fault.Script script.ReversedBounds)) → IsOpening configuration hosts now s cache
       by None e (read, table, is, are) = by_table e read table is are
       by (Some reversed) e is = absurd (let h = is in cc)
+
+-- whether questions have an EDNS record is no setting of a script
+without-edns : (edns : Option Bool) (c : ConfigurationValue) (hosts : List ℕ) (now : ℕ) (s : Settings) (cache : CacheValue) → IsOpening (with_edns edns c) hosts now s cache → IsOpening c hosts now s cache
+without-edns None c hosts now s cache o = o
+without-edns (Some edns) c hosts now s cache o =
+    record { set_up = record { bounds = o.set_up.bounds; table = o.set_up.table; hosts_are = o.set_up.hosts_are; settings_are = o.set_up.settings_are }; cache_is = o.cache_is }
+
+-- ---- the lines of a file
+
+-- what a line was read as
+setting-read : (one : OneSetting) (said : Result Line LineFaultValue) → Ok one ≡ setting_in said → (said ≡ Ok (line.Configuration one)) × IsNoMode one
+setting-read one (Ok (line.Configuration (setting.Option x))) e = let same : setting.Option x ≡ one = let h = e in cc in (ap (λ y. Ok (line.Configuration y)) same, subst IsNoMode same tt)
+setting-read one (Ok (line.Configuration (setting.Domain x))) e = let same : setting.Domain x ≡ one = let h = e in cc in (ap (λ y. Ok (line.Configuration y)) same, subst IsNoMode same tt)
+setting-read one (Ok (line.Configuration (setting.Search x))) e = let same : setting.Search x ≡ one = let h = e in cc in (ap (λ y. Ok (line.Configuration y)) same, subst IsNoMode same tt)
+setting-read one (Ok (line.Configuration (setting.Upstream x))) e = absurd (let h = e in cc)
+setting-read one (Ok line.Blank) e = absurd (let h = e in cc)
+setting-read one (Ok (line.Reply x)) e = absurd (let h = e in cc)
+setting-read one (Ok (line.Fail x)) e = absurd (let h = e in cc)
+setting-read one (Ok (line.Record x y)) e = absurd (let h = e in cc)
+setting-read one (Ok (line.Request x)) e = absurd (let h = e in cc)
+setting-read one (Err f) e = absurd (let h = e in cc)
+
+-- a line that was read has no byte that may not stand in it
+read-allowed : (b : Bool) (l : List ℕ) (one : OneSetting) → IsRead b l (Ok (line.Configuration one)) → list_all is_allowed l ≡ true
+read-allowed b l one is = by (is_skipped l) (list_all is_allowed l) refl is
+  where
+    r : Result Line LineFaultValue
+    r = Ok (line.Configuration one)
+
+    by : (skipped allowed : Bool) → list_all is_allowed l ≡ allowed → MatchBool skipped (r ≡ Ok line.Blank) (MatchBool allowed (IsSaid b (fields l) r) (r ≡ Err (wrong_line script.BadByte))) → list_all is_allowed l ≡ true
+    by true a e is = absurd (let h = is in cc)
+    by false true e is = e
+    by false false e is = absurd (let h = is in cc)
+
+line-more : (c : ConfigurationValue) (J B l : List ℕ) (one : OneSetting) → IsRead false l (Ok (line.Configuration one)) → IsNoMode one → IsSettingUp c J B → IsSettingUp (with_setting one c) (J ++ whole_lines (l ∷ [])) B
+line-more c J B l one read kind is =
+    let none : false ≡ has_reply is.said = ap is_some (sym is.open_is) ∙ is.script.keeps.reply_is in
+    record {
+      ls = is.ls ++ l ∷ [];
+      said = is.said ++ line.Configuration one ∷ [];
+      reader = record is.reader { configuration = with_setting one is.reader.configuration };
+      journal_is = ap (λ x. x ++ whole_lines (l ∷ [])) is.journal_is ∙ sym (whole_lines-append is.ls (l ∷ []));
+      script = more-line is.ls is.said is.reader is.script l one (read-allowed false l one read) (subst (λ b. IsRead b l (Ok (line.Configuration one))) none read) kind;
+      configuration_is = ap (with_setting one) is.configuration_is;
+      requests_are = is.requests_are;
+      closed_are = is.closed_are;
+      open_is = is.open_is;
+      latest_is = is.latest_is;
+      text_is = is.text_is;
+    }
+
+-- all lines that set something
+lines-more : (ls : List (List ℕ)) (c whole : ConfigurationValue) (J B : List ℕ) → AreSet ls c (Ok whole) → IsSettingUp c J B → IsSettingUp whole (J ++ whole_lines ls) B
+lines-more [] c whole J B e is =
+    let same : c ≡ whole = let h = e in cc in
+    let P : List ℕ → Type 0 = λ j. IsSettingUp whole j B in
+    subst P (sym (append-nil J)) (subst (λ x. IsSettingUp x J B) same is)
+lines-more (l ∷ ls) c whole J B (Ok one, (said, read, e), rest) is =
+    let found = setting-read one said e in
+    let more = line-more c J B l one (subst (λ r. IsRead false l r) found.0 read) found.1 is in
+    let P : List ℕ → Type 0 = λ j. IsSettingUp whole j B in
+    subst P (append_assoc J (whole_lines (l ∷ [])) (whole_lines ls) ∙ ap (λ x. J ++ x) (sym (whole_lines-append (l ∷ []) ls))) (lines-more ls (with_setting one c) whole (J ++ whole_lines (l ∷ [])) B rest more)
+lines-more (l ∷ ls) c whole J B (Err f, read, e) is = absurd (let h = e in cc)
+
+told-lines : (ls : List (List ℕ)) → lines_text ls ≡ whole_lines ls
+told-lines [] = refl
+told-lines (l ∷ ls) = append_assoc l (10 ∷ []) (lines_text ls) ∙ ap (λ rest. l ++ 10 ∷ rest) (told-lines ls)
+
+-- what the file sets is set, and told
+pub file-more : (files : FilesValue) (c : ConfigurationValue) (hosts J B : List ℕ) (now : ℕ) (s : Settings) (cache : CacheValue) → files.hosts ≡ hosts → IsSettingUp c J B → IsOpened (Setting c files) now (Ok (s, cache))
+    → (whole : ConfigurationValue) × IsSettingUp whole (J ++ lines_told (Setting c files)) B × IsOpening whole hosts now s cache
+file-more files c hosts J B now s cache hosts_are is (Ok w, (Ok whole, set, w_is), made) =
+    let edns = (file_settings files.resolv).edns in
+    let same : w ≡ with_edns edns whole = let h = w_is in cc in
+    let opens : IsMade (with_edns edns whole) hosts now (Ok (s, cache)) = subst (λ h. IsMade (with_edns edns whole) h now (Ok (s, cache))) hosts_are (subst (λ x. IsMade x files.hosts now (Ok (s, cache))) same made) in
+    let P : List ℕ → Type 0 = λ t. IsSettingUp whole (J ++ t) B in (
+      whole,
+      subst P (sym (told-lines (file_settings files.resolv).lines)) (lines-more (file_settings files.resolv).lines c whole J B set is),
+      without-edns edns whole hosts now s cache (opening (with_edns edns whole) hosts now s cache opens),
+    )
+file-more files c hosts J B now s cache hosts_are is (Ok w, (Err f, set, w_is), made) = absurd (let h = w_is in cc)
+file-more files c hosts J B now s cache hosts_are is (Err f, wrong, made) = absurd (let h = made in cc)
 
 begin-first : (hosts J B : List ℕ) (configuration : ConfigurationValue) (s : Settings) (cache : CacheValue) (asked : Request) → IsSettingUp configuration J B → IsOpening configuration hosts (moment_of (request_of asked)) s cache → IsWritable (request_of asked) → IsUnderWay hosts J B s asked [] [] cache None
 begin-first hosts J B configuration s cache asked is o writable =
@@ -215,7 +303,7 @@ way-done hosts J B s asked asks told start reply x x_is w = record {
 pub feed : (hosts J B : List ℕ) (latest : ℕ) (s : Settings) (cache : CacheValue) (r : InFlightValue) (mark : List ℕ) (b : IsBusy hosts J B latest s cache r) (outcome : OutcomeValue) (begun : BegunValue) (answer : Answer)
     → IsUnderWay hosts J B s b.asked (b.asks ++ record { query = r.waiting.lookup.hop.query; outcome = outcome } ∷ []) begun.told b.start None → begun.request ≡ request_of b.asked → begun.sent ≡ r.begun.sent
     → Feeds mark (Serving s cache) begun r.waiting outcome answer
-    → StandsAt hosts (J ++ answer.journal) (B ++ block_of mark answer) (turn_of mark answer.held (moment_of (request_of b.asked))) answer.stage answer.held
+    → StandsAt hosts (J ++ answer.journal) (B ++ block_of mark answer) (turn_of mark answer.held (moment_of (request_of b.asked))) answer.phase answer.held
 feed hosts J B latest s cache r mark b outcome begun answer w request_is sent_is (progress, after, resumes, tells) =
     let x : Exchange = record { query = r.waiting.lookup.hop.query; outcome = outcome } in
     let q = request_of b.asked in
@@ -226,15 +314,23 @@ feed hosts J B latest s cache r mark b outcome begun answer w request_is sent_is
 
 -- what is told of a request that was begun
 pub record IsTold (s : Settings) (cache : CacheValue) (answer : Answer) : Type 0 where
-  pub stage_is : answer.stage ≡ Serving s cache
+  pub phase_is : answer.phase ≡ Serving s cache
   pub some : (is_some answer.held || not (is_empty answer.journal)) ≡ true
 
 pub told-of : (mark explained : List ℕ) (s : Settings) (begun : BegunValue) (came : Came) (cache : CacheValue) (answer : Answer) → Tells mark explained s begun came cache answer → IsTold s cache answer
-told-of mark explained s begun (Looks (Waits w)) cache answer e = subst (λ a. IsTold s cache a) (sym e) (record { stage_is = refl; some = refl })
+told-of mark explained s begun (Looks (Waits w)) cache answer e = subst (λ a. IsTold s cache a) (sym e) (record { phase_is = refl; some = refl })
 told-of mark explained s begun (Looks (IsDone result)) cache answer (live, e) =
-    subst (λ a. IsTold s cache a) (sym e) (record { stage_is = refl; some = ap not (some-behind begun.told (request_text begun.request) (some_request begun.request)) })
+    subst (λ a. IsTold s cache a) (sym e) (record { phase_is = refl; some = ap not (some-behind begun.told (request_text begun.request) (some_request begun.request)) })
 told-of mark explained s begun Clears cache answer e =
-    subst (λ a. IsTold s cache a) (sym e) (record { stage_is = refl; some = ap not (some-behind begun.told (request_text begun.request) (some_request begun.request)) })
+    subst (λ a. IsTold s cache a) (sym e) (record { phase_is = refl; some = ap not (some-behind begun.told (request_text begun.request) (some_request begun.request)) })
+
+pub telling-told : (told : List ℕ) (s : Settings) (cache : CacheValue) (answer : Answer) → IsTold s cache answer → IsTold s cache (telling told answer)
+telling-told told s cache answer is = record { phase_is = is.phase_is; some = by answer.held answer.journal is.some }
+  where
+    by : (held : Option InFlightValue) (journal : List ℕ) → (is_some held || not (is_empty journal)) ≡ true → (is_some held || not (is_empty (told ++ journal))) ≡ true
+    by (Some r) journal h = refl
+    by None [] h = absurd (let x = h in cc)
+    by None (b ∷ journal) h = ap not (some-behind told (b ∷ journal) refl)
 
 -- ---- whose request is in flight
 
@@ -289,43 +385,60 @@ drop-none (suc n) [] e = refl
 drop-none n (x ∷ xs) e = absurd (let h = e in cc)
 
 pub no-block : (mark : List ℕ) (answer : Answer) → answer.journal ≡ [] → block_of mark answer ≡ []
-no-block mark answer e = rw e refl
+no-block mark answer e = by (is_some answer.held) (is_empty answer.journal) (ap is_empty e)
+  where
+    by : (held none : Bool) → none ≡ true → cond (held || none) [] (without_last (drop (length mark + 1) answer.text)) ≡ []
+    by true none h = refl
+    by false true h = refl
+    by false false h = absurd (let x = h in cc)
 
 pub no-text : (mark : List ℕ) (answer : Answer) → answer.text ≡ [] → block_of mark answer ≡ []
-no-text mark answer e = by (is_empty answer.journal)
+no-text mark answer e = by (is_some answer.held || is_empty answer.journal)
   where
     by : (b : Bool) → cond b [] (without_last (drop (length mark + 1) answer.text)) ≡ []
     by true = refl
     by false = drop-none (length mark + 1) answer.text e
 
-pub none-begun : (text : List ℕ) (answer : Answer) (stage : Stage) → answer.held ≡ None → answer.journal ≡ [] → moment_begun text answer stage ≡ None
-none-begun text answer (Setting configuration lines) h j = refl
+-- what is told before a request is no block
+pub same-block : (mark told : List ℕ) (answer : Answer) → (is_some answer.held || not (is_empty answer.journal)) ≡ true → block_of mark (telling told answer) ≡ block_of mark answer
+same-block mark told answer some = by answer.held answer.journal some
+  where
+    text : List ℕ
+    text = without_last (drop (length mark + 1) answer.text)
+
+    by : (held : Option InFlightValue) (journal : List ℕ) → (is_some held || not (is_empty journal)) ≡ true → cond (is_some held || is_empty (told ++ journal)) [] text ≡ cond (is_some held || is_empty journal) [] text
+    by (Some r) journal h = refl
+    by None [] h = absurd (let x = h in cc)
+    by None (b ∷ journal) h = ap (λ e. cond e [] text) (some-behind told (b ∷ journal) refl)
+
+pub none-begun : (text : List ℕ) (answer : Answer) (phase : Phase) → answer.held ≡ None → answer.journal ≡ [] → moment_begun text answer phase ≡ None
+none-begun text answer (Setting configuration files) h j = refl
 none-begun text answer (Serving s cache) h j = rw (h, j) refl
 
-pub some-begun : (text : List ℕ) (answer : Answer) (s : Settings) (cache : CacheValue) → IsTold s cache answer → moment_begun text answer answer.stage ≡ moment_asked (fields text)
-some-begun text answer s cache told = ap (λ x. moment_begun text answer x) told.stage_is ∙ rw told.some refl
+pub some-begun : (text : List ℕ) (answer : Answer) (s : Settings) (cache : CacheValue) → IsTold s cache answer → moment_begun text answer answer.phase ≡ moment_asked (fields text)
+some-begun text answer s cache told = ap (λ x. moment_begun text answer x) told.phase_is ∙ rw told.some refl
 
 -- after this answer
 abbrev pub NextIdle : List ℕ → List ℕ → List ℕ → List ℕ → ℕ → Answer → Type 0
-NextIdle hosts J B mark latest answer = StandsAt (hosts_after hosts answer.stage) (J ++ answer.journal) (B ++ block_of mark answer) (turn_of mark answer.held latest) answer.stage answer.held
+NextIdle hosts J B mark latest answer = StandsAt (hosts_after hosts answer.phase) (J ++ answer.journal) (B ++ block_of mark answer) (turn_of mark answer.held latest) answer.phase answer.held
 
 -- nothing is told
-pub quiet : (hosts J B mark : List ℕ) (latest : ℕ) (answer : Answer) (stage : Stage) → answer.journal ≡ [] → answer.held ≡ None → answer.stage ≡ stage → StandsAt (hosts_after hosts stage) J B (Idle latest) stage None → NextIdle hosts J B mark latest answer
-quiet hosts J B mark latest answer stage j h st stands =
-    let P : Stage → Type 0 = λ x. StandsAt (hosts_after hosts x) (J ++ answer.journal) (B ++ block_of mark answer) (turn_of mark answer.held latest) x answer.held in
-    let Q : Option InFlightValue → Type 0 = λ o. StandsAt (hosts_after hosts stage) (J ++ answer.journal) (B ++ block_of mark answer) (turn_of mark o latest) stage o in
-    let R : List ℕ → Type 0 = λ x. StandsAt (hosts_after hosts stage) x (B ++ block_of mark answer) (Idle latest) stage None in
-    let T : List ℕ → Type 0 = λ x. StandsAt (hosts_after hosts stage) J x (Idle latest) stage None in
+pub quiet : (hosts J B mark : List ℕ) (latest : ℕ) (answer : Answer) (phase : Phase) → answer.journal ≡ [] → answer.held ≡ None → answer.phase ≡ phase → StandsAt (hosts_after hosts phase) J B (Idle latest) phase None → NextIdle hosts J B mark latest answer
+quiet hosts J B mark latest answer phase j h st stands =
+    let P : Phase → Type 0 = λ x. StandsAt (hosts_after hosts x) (J ++ answer.journal) (B ++ block_of mark answer) (turn_of mark answer.held latest) x answer.held in
+    let Q : Option InFlightValue → Type 0 = λ o. StandsAt (hosts_after hosts phase) (J ++ answer.journal) (B ++ block_of mark answer) (turn_of mark o latest) phase o in
+    let R : List ℕ → Type 0 = λ x. StandsAt (hosts_after hosts phase) x (B ++ block_of mark answer) (Idle latest) phase None in
+    let T : List ℕ → Type 0 = λ x. StandsAt (hosts_after hosts phase) J x (Idle latest) phase None in
     let j_is : J ≡ J ++ answer.journal = sym (append-nil J) ∙ ap (λ x. J ++ x) (sym j) in
     let b_is : B ≡ B ++ block_of mark answer = sym (append-nil B) ∙ ap (λ x. B ++ x) (sym (no-block mark answer j)) in
     subst P (sym st) (subst Q (sym h) (subst R j_is (subst T b_is stands)))
 
-pub same-hosts : (hosts J B : List ℕ) (latest : ℕ) (stage : Stage) (held : Option InFlightValue) → StandsAt hosts J B (Idle latest) stage held → StandsAt (hosts_after hosts stage) J B (Idle latest) stage None
-same-hosts hosts J B latest (Setting configuration lines) held (lines_are, zero_is, is) = (refl, zero_is, is)
+pub same-hosts : (hosts J B : List ℕ) (latest : ℕ) (phase : Phase) (held : Option InFlightValue) → StandsAt hosts J B (Idle latest) phase held → StandsAt (hosts_after hosts phase) J B (Idle latest) phase None
+same-hosts hosts J B latest (Setting configuration files) held (hosts_are, zero_is, is) = (refl, zero_is, is)
 same-hosts hosts J B latest (Serving s cache) held is = is
 
-pub setting-up : (hosts J B : List ℕ) (latest : ℕ) (stage : Stage) (held : Option InFlightValue) (configuration : ConfigurationValue) (lines : List ℕ) → stage ≡ Setting configuration lines → StandsAt hosts J B (Idle latest) stage held → (lines ≡ hosts) × (latest ≡ 0) × IsSettingUp configuration J B
-setting-up hosts J B latest stage held configuration lines e is = subst (λ x. StandsAt hosts J B (Idle latest) x held) e is
+pub setting-up : (hosts J B : List ℕ) (latest : ℕ) (phase : Phase) (held : Option InFlightValue) (configuration : ConfigurationValue) (files : FilesValue) → phase ≡ Setting configuration files → StandsAt hosts J B (Idle latest) phase held → (files.hosts ≡ hosts) × (latest ≡ 0) × IsSettingUp configuration J B
+setting-up hosts J B latest phase held configuration files e is = subst (λ x. StandsAt hosts J B (Idle latest) x held) e is
 
 -- one more setting
 pub set-more : (configuration : ConfigurationValue) (J B : List ℕ) (given : List (List ℕ)) (one : OneSetting) → AreFields given → IsSaid false given (Ok (line.Configuration one)) → IsNoMode one → IsSettingUp configuration J B → IsSettingUp (with_setting one configuration) (J ++ fields_text given) B
@@ -345,20 +458,22 @@ set-more configuration J B given one own says kind is =
       text_is = is.text_is;
     }
 
--- the request that is begun here is under way
-pub underway : (hosts J B : List ℕ) (latest : ℕ) (stage : Stage) (held : Option InFlightValue) (asked : Request) (s : Settings) (cache : CacheValue) → StandsAt hosts J B (Idle latest) stage held → IsOpened stage (moment_of (request_of asked)) (Ok (s, cache)) → latest ≤ moment_of (request_of asked) → IsWritable (request_of asked)
-    → IsUnderWay hosts J B s asked [] [] cache None
-underway hosts J B latest (Setting configuration lines) held asked s cache (lines_are, zero_is, is) opens order writable =
-    begin-first hosts J B configuration s cache asked is (opening configuration hosts (moment_of (request_of asked)) s cache (subst (λ h. IsFirst configuration h (moment_of (request_of asked)) (Ok (s, cache))) lines_are opens)) writable
+-- the request that is begun here is under way, behind what the journal gets of a file
+pub underway : (hosts J B : List ℕ) (latest : ℕ) (phase : Phase) (held : Option InFlightValue) (asked : Request) (s : Settings) (cache : CacheValue) → StandsAt hosts J B (Idle latest) phase held → IsOpened phase (moment_of (request_of asked)) (Ok (s, cache)) → latest ≤ moment_of (request_of asked) → IsWritable (request_of asked)
+    → IsUnderWay hosts (J ++ lines_told phase) B s asked [] [] cache None
+underway hosts J B latest (Setting configuration files) held asked s cache (hosts_are, zero_is, is) opens order writable =
+    let more = file-more files configuration hosts J B (moment_of (request_of asked)) s cache hosts_are is opens in
+    begin-first hosts (J ++ lines_told (Setting configuration files)) B more.0 s cache asked more.1 more.2 writable
 underway hosts J B latest (Serving t before) held asked s cache is opens order writable =
     let both : Settings × CacheValue = (s, cache) in
     let same = ap (from_ok both) opens in
     let P : Settings → Type 0 = λ x. IsServing hosts J B latest x before in
     let Q : CacheValue → Type 0 = λ x. IsServing hosts J B latest s x in
-    begin-next hosts J B latest s cache asked (subst Q (sym (ap (λ p. p.1) same)) (subst P (sym (ap (λ p. p.0) same)) is)) order writable
+    let R : List ℕ → Type 0 = λ j. IsUnderWay hosts j B s asked [] [] cache None in
+    subst R (sym (append-nil J)) (begin-next hosts J B latest s cache asked (subst Q (sym (ap (λ p. p.1) same)) (subst P (sym (ap (λ p. p.0) same)) is)) order writable)
 
 pub serves : (hosts J B mark : List ℕ) (explains : Bool) (asked : Request) (s : Settings) (cache : CacheValue) (answer : Answer) → IsUnderWay hosts J B s asked [] [] cache None → Serves mark explains (request_of asked) s cache answer
-    → StandsAt hosts (J ++ answer.journal) (B ++ block_of mark answer) (turn_of mark answer.held (moment_of (request_of asked))) answer.stage answer.held
+    → StandsAt hosts (J ++ answer.journal) (B ++ block_of mark answer) (turn_of mark answer.held (moment_of (request_of asked))) answer.phase answer.held
 serves hosts J B mark explains asked s cache answer w (Looks progress, after, comes, explained, starts, tells) =
     let begun = begun_call s (request_of asked) cache progress after (not-out progress tells) comes in
     proceed hosts J B s asked [] cache mark (just_begun (request_of asked) explains) w refl refl begun.call begun.call_is progress after begun.far answer explained tells

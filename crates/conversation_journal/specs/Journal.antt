@@ -14,10 +14,11 @@ use Rattle.replay.specs.ScriptRun.{IsReplayed}
 use Rattle.replay_script.specs.Fields.{fields}
 use Rattle.replay_script.specs.Words.{number_field}
 use Rattle.conversation.specs.Answers.{Answer, IsOpened}
+use Rattle.conversation.specs.Files.{only_hosts}
 use Rattle.conversation.specs.Hearing.{Answers, RunsOut, Says, Stands, silent}
 use Rattle.conversation.specs.Lines.{mark_of}
 use Rattle.conversation.specs.Said.{said_by}
-use Rattle.conversation.specs.State.{ConversationValue, InFlightValue, Setting, Serving, Stage, counted}
+use Rattle.conversation.specs.State.{ConversationValue, InFlightValue, Setting, Serving, Phase, counted}
 use Rattle.conversation.specs.declared.heard.Heard.{Heard}
 
 -- ---- lines, one after another
@@ -62,8 +63,8 @@ moment_asked [] = None
 moment_asked (mark ∷ behind) = moment_behind behind
 
 -- the moment of the request that a line began while none was in flight, where it began one: that waits now, or is over
-abbrev pub moment_begun : List ℕ → Answer → Stage → Option ℕ
-moment_begun text answer (Setting configuration hosts) = None
+abbrev pub moment_begun : List ℕ → Answer → Phase → Option ℕ
+moment_begun text answer (Setting configuration files) = None
 moment_begun text answer (Serving s cache) =
     if is_some answer.held || not (is_empty answer.journal) then moment_asked (fields text) else None
 
@@ -82,7 +83,7 @@ turn_of mark (Some r) latest = Busy mark latest
 
 abbrev pub next_turn : Turn → List ℕ → Answer → Turn
 next_turn (Idle latest) text answer =
-    turn_of (mark_of text) answer.held (later latest (moment_begun text answer answer.stage))
+    turn_of (mark_of text) answer.held (later latest (moment_begun text answer answer.phase))
 next_turn (Busy mark latest) text answer =
     if bytes_eq mark (mark_of text) then turn_of mark answer.held latest else Busy mark latest
 
@@ -98,7 +99,7 @@ BeginsNone answer = (answer.held ≡ None) × (answer.journal ≡ [])
 -- A line in its turn: while no request is in flight, one may begin, not earlier than the one before it; while one is,
 -- it is not cancelled, and no other begins.
 abbrev pub IsInTurn : Turn → List ℕ → Answer → Type 0
-IsInTurn (Idle latest) text answer = IsNoEarlier latest (moment_begun text answer answer.stage)
+IsInTurn (Idle latest) text answer = IsNoEarlier latest (moment_begun text answer answer.phase)
 IsInTurn (Busy mark latest) text answer =
     MatchBool (bytes_eq mark (mark_of text)) (IsOver answer answer.held) (BeginsNone answer)
 
@@ -112,11 +113,11 @@ AreInTurn turn (text ∷ texts) (answer ∷ answers) =
 
 -- ---- what went out
 
--- the block of a request that is over, without its mark and the empty line behind it; nothing else has lines in the
--- journal and a text
+-- the block of a request that is over, without its mark and the empty line behind it; no other line that holds no
+-- request has lines in the journal and a text
 abbrev pub block_of : List ℕ → Answer → List ℕ
 block_of mark answer =
-    if is_empty answer.journal then [] else without_last (drop (length mark + 1) answer.text)
+    if is_some answer.held || is_empty answer.journal then [] else without_last (drop (length mark + 1) answer.text)
 
 -- the blocks, one after another
 abbrev pub blocks_of : List (List ℕ) → List Answer → List ℕ
@@ -128,26 +129,31 @@ abbrev pub journal_of : List Answer → List ℕ
 journal_of answers = flat_map (λ answer. answer.journal) answers
 
 -- the lines of the hosts that stood at the first request, or at the end
-abbrev pub hosts_after : List ℕ → Stage → List ℕ
-hosts_after hosts (Setting configuration lines) = lines
+abbrev pub hosts_after : List ℕ → Phase → List ℕ
+hosts_after hosts (Setting configuration files) = files.hosts
 hosts_after hosts (Serving s cache) = hosts
 
 abbrev pub hosts_stood : List ℕ → List Answer → List ℕ
 hosts_stood hosts [] = hosts
-hosts_stood hosts (answer ∷ answers) = hosts_stood (hosts_after hosts answer.stage) answers
+hosts_stood hosts (answer ∷ answers) = hosts_stood (hosts_after hosts answer.phase) answers
 
 -- ---- the law
 
+-- before the first request, without a file resolv.conf, of which the journal has nothing yet
+abbrev pub without_file : Phase → Phase
+without_file (Setting configuration files) = Setting configuration (only_hosts files.hosts)
+without_file (Serving s cache) = Serving s cache
+
 -- a request can be begun, or could have been: the bounds on times to live are not reversed, and the hosts can be read
-abbrev pub CanServe : Stage → Type 0
-CanServe stage = (opened : Settings × CacheValue) × IsOpened stage 0 (Ok opened)
+abbrev pub CanServe : Phase → Type 0
+CanServe phase = (opened : Settings × CacheValue) × IsOpened (without_file phase) 0 (Ok opened)
 
 -- Lines that are heard one after another, from silence on, one request at a time, and each is answered: their blocks
 -- are what a replay writes of their journal and the hosts.
 abbrev pub IsScriptOfBlocks : List ℕ → List (List ℕ) → List Answer → ConversationValue → Type 0
 IsScriptOfBlocks hosts texts answers after =
     AreHeard (silent hosts) texts (map (λ answer. Some answer) answers) after → AreInTurn (Idle 0) texts answers
-    → CanServe after.stage
+    → CanServe after.phase
     → IsReplayed (journal_of answers) (hosts_stood hosts answers) (blocks_of texts answers)
 
 -- Lines that were heard one after another, each of them answered, and what went out. From silence on, one request at a
@@ -155,6 +161,6 @@ IsScriptOfBlocks hosts texts answers after =
 abbrev pub IsScriptHeard : ConversationValue → List (List ℕ) → List Heard → ConversationValue → Type 0
 IsScriptHeard before texts heards after =
     (answers : List Answer) × AllSay answers heards × AreHeard before texts (map (λ answer. Some answer) answers) after
-    × ((hosts : List ℕ) → before ≡ silent hosts → AreInTurn (Idle 0) texts answers → CanServe after.stage
+    × ((hosts : List ℕ) → before ≡ silent hosts → AreInTurn (Idle 0) texts answers → CanServe after.phase
     → IsReplayed (flat_map (λ heard. string_bytes heard.journal) heards) (hosts_stood hosts answers)
     (blocks_of texts answers))

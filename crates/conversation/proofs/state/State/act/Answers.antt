@@ -23,9 +23,9 @@ returns-in-End c =
     acted_as s s mark mark said.End (said_value c.args.said) (Ok c.told_last.result) refl (ap said_value (sym c.in-End.is))
     (answered_here s mark (AnswersSaid s mark said.End) (IsServedOut s mark said.End) c.told_last.result true refl c.told_last.ensures.explained c.told_last.ensures.text c.told_last.ensures.journal c.told_last.ensures.last)
 
-pub returns-in-Hosts : goal.returns-in-Hosts
-returns-in-Hosts c =
-    acted_as (conversation_of c.args.self.now) (conversation_of c.add_hosts.new.self) c.args.mark.now c.args.mark.now (said.Hosts (texts c.in-Hosts.fields.now)) (said_value c.args.said) c.add_hosts.result refl (ap said_value (sym c.in-Hosts.is)) c.add_hosts.ensures
+pub returns-in-File : goal.returns-in-File
+returns-in-File c =
+    acted_as (conversation_of c.args.self.now) (conversation_of c.add_file_line.new.self) c.args.mark.now c.args.mark.now (said.File c.in-File.kind (texts c.in-File.fields.now)) (said_value c.args.said) c.add_file_line.result refl (ap said_value (sym c.in-File.is)) c.add_file_line.ensures
 
 pub returns-in-Setting : goal.returns-in-Setting
 returns-in-Setting c =
