@@ -1,5 +1,5 @@
 -- Lines before the first request: settings and hosts.
-use Rattle.std.proofs.Common.{◌≡◌, ◌∙◌, ◌⊎◌, ℕ, Bool, true, false, cond, List, [], ◌∷◌, ◌++◌, codes, length, ◌==◌, Option, None, Some, Result, Ok, Err, IfOk, OnErr, OnOk, Bor, string_bytes, refl, sym, ap, subst, append_assoc, inl, inr, ne_eqb, arith}
+use Rattle.std.proofs.Common.{◌≡◌, ◌∙◌, ◌⊎◌, ℕ, Bool, true, false, cond, List, [], ◌∷◌, ◌++◌, length, ◌==◌, Option, None, Some, Result, Ok, Err, IfOk, OnErr, OnOk, Bor, string_bytes, refl, sym, ap, subst, inl, inr, ne_eqb, arith}
 use Rattle.std.specs.Option.{is_some}
 use Rattle.std.specs.declared.alloc.AllocError.{AllocError}
 use Rattle.hickory_proto_core.specs.Handles.{OutcomeValue}
@@ -20,7 +20,6 @@ use Rattle.conversation.specs.Lines.{IsScriptLine}
 use Rattle.conversation.specs.Said as said
 use Rattle.conversation.specs.State.{ConversationValue, Puts, Setting, Serving, Phase, request_at, phase_of}
 use Rattle.conversation.specs.Telling.{IsActedUpon, IsAnswered, IsRefused, IsSettingTold, RanOut, nothing_left}
-use Rattle.conversation.specs.Texts.{fields_text}
 use Rattle.conversation.specs.declared.files.FileKind.{FileKind}
 use Rattle.conversation.specs.declared.heard.Heard.{Heard}
 use Rattle.conversation.specs.declared.fault.ConversationFault.TheVariants as fault

@@ -17,8 +17,8 @@ use Rattle.conversation.specs.declared.words.Word.TheVariants as word
 
 -- A blank line or a comment; `end`; one line of a file; a setting; a request, with whether it is explained; a
 -- line of an outcome, with whether it is the first one; `done`; `cancel`; or none of these. The fields are those behind
--- the word that names the file, all of a setting, those from `at` on, from the verb of an outcome on, and behind the verbs `done` and
--- `cancel`.
+-- the word that names the file, all of a setting, those from `at` on, from the verb of an outcome on, and behind the
+-- verbs `done` and `cancel`.
 pub data SaidValue : Type 0 where
   Nothing : SaidValue
   End : SaidValue

@@ -1,5 +1,5 @@
 -- Lines that are heard one after another.
-use Rattle.std.proofs.Common.{◌≡◌, ◌∙◌, ◌<◌, ◌≤◌, ◌+◌, ℕ, zero, suc, Bool, true, false, List, [], ◌∷◌, ◌++◌, length, get_or, map, take, drop, take_all, flat_map, Option, Some, Ok, MatchBool, Bor, string_bytes, refl, sym, ap, ap₂, subst, append_assoc, append-nil, arith}
+use Rattle.std.proofs.Common.{◌≡◌, ◌∙◌, ◌<◌, ◌≤◌, ◌+◌, ℕ, zero, suc, true, false, List, [], ◌∷◌, ◌++◌, length, get_or, map, take, drop, take_all, flat_map, Option, Some, Ok, Bor, string_bytes, refl, sym, ap, ap₂, subst, append_assoc, append-nil, arith}
 use Rattle.replay.specs.ScriptRun.{IsReplayed}
 use Rattle.replay_script.specs.Words.{texts}
 use Rattle.conversation.specs.Answers.{Answer}

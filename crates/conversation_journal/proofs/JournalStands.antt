@@ -16,7 +16,7 @@ use Rattle.hickory_resolver_model.specs.Calls.{SubLookup, asks_of_sub_lookups}
 use Rattle.hickory_resolver_model.specs.Hosts.{Host}
 use Rattle.hickory_resolver_model.specs.Lookup.{LookupResult}
 use Rattle.hickory_resolver_model.specs.Options.{bounds_of}
-use Rattle.hickory_resolver_model.specs.Run.{RequestValue, Lookup, LookupIp, ClearLookup, Clear, Settings, Call, IsServed, StepReply, Cleared, answers_at, call_context_at, ends_run, first_cache, moment_of, settings_of}
+use Rattle.hickory_resolver_model.specs.Run.{RequestValue, Lookup, LookupIp, ClearLookup, Clear, Settings, Call, IsServed, StepReply, Cleared, answers_at, ends_run, moment_of, settings_of}
 use Rattle.hickory_resolver_model.specs.Run as run
 use Rattle.hickory_resolver_theorems.specs.ResumingCalls.{CallProgressValue}
 use Rattle.replay_script.specs.Output.{request_text, result_text, sent_text, step_text}

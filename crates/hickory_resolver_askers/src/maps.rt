@@ -105,7 +105,7 @@ pub(crate) fn remove_waiting(waiting: &mut Waiting, transaction: u64)
 pub(crate) fn remove_first(waiting: &mut Waiting)
     ensures { waiting.new.entries ≡ drop 1 waiting.old.entries }
 {
-    let _first = waiting.pop_first();
+    drop(waiting.pop_first());
 }
 
 pub(crate) fn push_waiting(

@@ -2,16 +2,12 @@
 use Rattle.std.proofs.Common.{◌≡◌, ℕ, Bool, true, false, cond, List, [], ◌∷◌, ◌++◌, refl, ap, sym, subst, ◌∙◌, append_assoc}
 use Rattle.std.specs.Prelude.{Option, None, Some, IfSome}
 use Rattle.std.proofs.lemmas.List.{append-nil}
-use Rattle.std.specs.List.{fold}
 use Rattle.std.specs.Option.{option_map_or}
-use Rattle.hickory_resolver_servers.specs.Server.{ServerState}
 use Rattle.hickory_resolver_tries.specs.Belief.{belief_of}
 use Rattle.hickory_resolver_tries.specs.declared.belief.Belief.{Belief}
 use Rattle.hickory_resolver_tries.specs.declared.belief.Belief.TheVariants as belief
-use Rattle.hickory_resolver_tries.specs.declared.pool_question.PoolQuestion.{PoolQuestion}
-use Rattle.hickory_resolver_transactions.specs.Transaction.{TransactionState, try_at}
+use Rattle.hickory_resolver_transactions.specs.Transaction.{try_at}
 use Rattle.hickory_resolver_transactions.specs.declared.candidate.Try.{Try}
-use Rattle.hickory_resolver_transactions.specs.declared.settings.Settings.{Settings}
 use Rattle.hickory_resolver_flights.specs.Flights.{FlightState, KeptValue, flight_of, names, kept_of, replied, heard_as, heard_by, heard}
 use Rattle.hickory_resolver_flights.specs.Laws.{FlightEvent, round_begins, is_sent, has_no_room, octets_came, channel_failed, no_channel, channel_free, time_passed, after_event, after_events, IsOfOctets, NothingIsMadeUp}
 

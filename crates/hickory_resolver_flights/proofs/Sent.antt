@@ -1,7 +1,7 @@
 -- What waits, or is late, was sent.
-use Rattle.std.proofs.Common.{◌≡◌, ℕ, Bool, true, false, cond, not, ◌&&◌, ◌||◌, eqb, ltb, List, [], ◌∷◌, ◌++◌, length, map, drop, refl, ap, sym, subst, ◌∙◌, append_assoc, ◌+◌}
-use Rattle.std.specs.Prelude.{Option, None, Some, Contains, find, filter, slice_get}
-use Rattle.std.specs.List.{AllByRecursion, list_any, enumerate_from, fold}
+use Rattle.std.proofs.Common.{◌≡◌, ℕ, Bool, true, false, cond, not, ◌&&◌, ◌||◌, eqb, ltb, List, [], ◌∷◌, ◌++◌, length, map, drop, refl, subst, ◌∙◌, append_assoc, ◌+◌}
+use Rattle.std.specs.Prelude.{Option, None, Some, Contains, find, filter}
+use Rattle.std.specs.List.{AllByRecursion, list_any, enumerate_from}
 use Rattle.std.specs.Option.{is_some, option_map, option_map_or, option_or, option_and_then}
 use Rattle.std.proofs.lemmas.List.Elements.{Contains-append_left, Contains-push}
 use Rattle.hickory_resolver_servers.specs.Server.{ServerState}
@@ -10,10 +10,9 @@ use Rattle.hickory_resolver_tries.specs.Outcome as reply
 use Rattle.hickory_resolver_tries.specs.declared.belief.Belief.{Belief}
 use Rattle.hickory_resolver_tries.specs.declared.belief.Belief.TheVariants as belief
 use Rattle.hickory_resolver_tries.specs.declared.outcome.ReplyOutcome.{ReplyOutcome}
-use Rattle.hickory_resolver_tries.specs.declared.pool_question.PoolQuestion.{PoolQuestion}
 use Rattle.hickory_resolver_transactions.specs.Candidates.{candidate_of, is_tried, is_blocked, is_try, waits_as, waits_on, is_due, way_of, way_of_try, try_made, uncounted, counted, sent_with, requeued, freed_one, freed_progress, has_failed_by}
 use Rattle.hickory_resolver_transactions.specs.Table.{after_reply, after_deadline, after_closed_stream, then_of_reply, then_of_refused_opt, then_of_other_letters, stays_believed}
-use Rattle.hickory_resolver_transactions.specs.Transaction.{TransactionState, begun_with, replaced, replacing, putting, noting, with_late, noted_of_closed, kept_in, keeping, acted, acted_late, picked, candidate_at, late_at, late_came_to, late_replied, came_to, came, opt_was_refused, other_letters_came, failed_at, failed_in, failed, blocked_in, blocked, freed, expired_in, late_expired, expired, wants_round, with_round, chosen, sent, unsent, try_in, try_at}
+use Rattle.hickory_resolver_transactions.specs.Transaction.{TransactionState, replaced, replacing, putting, noting, with_late, noted_of_closed, kept_in, keeping, acted, acted_late, picked, candidate_at, late_at, late_came_to, late_replied, came_to, came, opt_was_refused, other_letters_came, failed_at, failed_in, failed, blocked_in, blocked, freed, expired_in, late_expired, expired, wants_round, with_round, chosen, sent, unsent, try_in, try_at}
 use Rattle.hickory_resolver_transactions.specs.declared.candidate.Candidate.{Candidate}
 use Rattle.hickory_resolver_transactions.specs.declared.candidate.LateTry.{LateTry}
 use Rattle.hickory_resolver_transactions.specs.declared.candidate.Made.{Made}
@@ -25,10 +24,9 @@ use Rattle.hickory_resolver_transactions.specs.declared.candidate.Try.{Try}
 use Rattle.hickory_resolver_transactions.specs.declared.candidate.Way.{Way}
 use Rattle.hickory_resolver_transactions.specs.declared.outcome.Outcome.{Outcome}
 use Rattle.hickory_resolver_transactions.specs.declared.outcome.Outcome.TheVariants as told
-use Rattle.hickory_resolver_transactions.specs.declared.settings.Settings.{Settings}
 use Rattle.hickory_resolver_transactions.specs.declared.table.Then.{Then}
 use Rattle.hickory_resolver_transactions.specs.declared.table.Then.TheVariants.{Ends, Leaves, Rests, Again, Nothing}
-use Rattle.hickory_resolver_flights.specs.Flights.{FlightState, flight_of, replied, heard_as, heard_by, heard}
+use Rattle.hickory_resolver_flights.specs.Flights.{FlightState, flight_of, heard_as, heard_by, heard}
 use Rattle.hickory_resolver_flights.specs.Laws.{FlightEvent, round_begins, is_sent, has_no_room, octets_came, channel_failed, no_channel, channel_free, time_passed, after_event, after_events, WasSent, EachTryWasSent}
 
 -- ---- tries of which something holds

@@ -1,8 +1,7 @@
 -- Tries that nothing waits for any more, and rounds.
-use Rattle.std.specs.Prelude.{ℕ, Bool, List, remove, position, slice_get, Option, None, Some}
-use Rattle.std.specs.Option.{is_none, option_map, option_map_or, option_and_then}
+use Rattle.std.specs.Prelude.{ℕ, Bool, remove, position, slice_get, Option}
+use Rattle.std.specs.Option.{is_none, option_map_or, option_and_then}
 use Rattle.hickory_resolver_channels.specs.Channels.{ChannelsState, left, closes}
-use Rattle.hickory_resolver_flights.specs.Flights.{FlightState}
 use Rattle.hickory_resolver_transactions.specs.Transaction.{TransactionState, try_at}
 use Rattle.hickory_resolver_steps.specs.Steps.{FlyingState}
 use Rattle.hickory_resolver_steps.specs.declared.ending.Ended.{Ended}

@@ -2,7 +2,7 @@
 use Rattle.std.specs.Prelude.{ℕ, Bool, true, false, List, [], ◌∷◌, ◌++◌, Option, None, Some, if◌then◌else◌}
 use Rattle.std.specs.Option.{is_some, option_map, option_map_or, option_and_then}
 use Rattle.rand_chacha.specs.ChaCha.{ChaCha}
-use Rattle.hickory_resolver_channels.specs.Channels.{ChannelsState, number_given, joinable, joined, opened_for, left, closes}
+use Rattle.hickory_resolver_channels.specs.Channels.{ChannelsState, number_given, joinable, joined, opened_for}
 use Rattle.hickory_resolver_channels.specs.Draws.{try_drawn, after_try}
 use Rattle.hickory_resolver_channels.specs.declared.channel.ChannelKind.{ChannelKind}
 use Rattle.hickory_resolver_channels.specs.declared.channel.ChannelKind.TheVariants.{Datagram, Stream}

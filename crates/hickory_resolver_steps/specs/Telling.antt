@@ -1,13 +1,13 @@
 -- What comes of a try, and what that tells of its server.
-use Rattle.std.specs.Prelude.{ℕ, List, Option, None, Some}
+use Rattle.std.specs.Prelude.{ℕ, List, Option}
 use Rattle.std.specs.Option.{option_map, option_map_or}
 use Rattle.hickory_resolver_channels.specs.Channels.{ChannelsState, channel_at}
-use Rattle.hickory_resolver_flights.specs.Flights.{FlightState, heard, meaning_to, changed}
+use Rattle.hickory_resolver_flights.specs.Flights.{FlightState, meaning_to}
 use Rattle.hickory_resolver_flights.specs.declared.heard.Heard.{Heard}
 use Rattle.hickory_resolver_flights.specs.declared.heard.Heard.TheVariants as what
 use Rattle.hickory_resolver_tries.specs.declared.outcome.ReplyOutcome.{ReplyOutcome}
 use Rattle.hickory_resolver_tries.specs.declared.outcome.ReplyOutcome.TheVariants as reply
-use Rattle.hickory_resolver_transactions.specs.Transaction.{try_at, failed, failed_try, expired, due_try}
+use Rattle.hickory_resolver_transactions.specs.Transaction.{try_at, failed, failed_try, due_try}
 use Rattle.hickory_resolver_transactions.specs.declared.candidate.Try.{Try}
 use Rattle.hickory_resolver_steps.specs.Lists.{ListState, place_of}
 use Rattle.hickory_resolver_steps.specs.Lists as list

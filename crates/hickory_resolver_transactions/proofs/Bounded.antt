@@ -1,7 +1,7 @@
 -- A transaction stays within its bounds.
-use Rattle.std.proofs.Common.{◌≡◌, ℕ, zero, suc, ◌+◌, ◌-◌, ◌<◌, ◌≤◌, Bool, true, false, cond, not, ◌&&◌, ◌||◌, eqb, ltb, List, [], ◌∷◌, ◌++◌, length, map, drop, refl, ap, sym, subst, ◌∙◌, arith, min}
+use Rattle.std.proofs.Common.{◌≡◌, ℕ, zero, suc, ◌+◌, ◌-◌, ◌<◌, ◌≤◌, Bool, true, false, cond, not, ◌&&◌, ◌||◌, eqb, ltb, List, [], ◌∷◌, ◌++◌, length, map, drop, refl, ap, sym, subst, ◌∙◌, arith}
 use Rattle.std.specs.Prelude.{Option, None, Some, find, filter, count_by, slice_get}
-use Rattle.std.specs.List.{AllByRecursion, list_any, enumerate_from, sum_by, fold}
+use Rattle.std.specs.List.{AllByRecursion, list_any, enumerate_from, sum_by}
 use Rattle.std.specs.Option.{is_some, is_none, option_map_or, option_or, option_and_then}
 use Rattle.std.proofs.lemmas.Bool.{and_parts, ltb-true, ltb-false, eqb-true}
 use Rattle.std.proofs.lemmas.List.{length-append, length-drop}
@@ -12,7 +12,7 @@ use Rattle.hickory_resolver_tries.specs.declared.outcome.ReplyOutcome.TheVariant
 use Rattle.hickory_resolver_transactions.specs.Candidates.{candidate_of, is_udp, is_again, is_queued, is_waiting, is_blocked, is_tried, waits_as, waits_on, is_due, way_of, way_of_try, way_in, first_way, sent_with, counted, uncounted, try_made, requeued, freed_one, freed_progress, has_failed_by}
 use Rattle.hickory_resolver_transactions.specs.Laws.{TransactionEvent, round_begins, is_sent, has_no_room, reply_came, opt_refused, letters_differ, channel_failed, no_channel, channel_free, time_passed, after_event, after_events, HasRoom, IsWithinSends, IsBounded, StaysBounded}
 use Rattle.hickory_resolver_transactions.specs.Table.{sends_by, has_room, may_change_to_tcp, may_begin_tcp, again_if, after_reply, after_refused_opt, after_other_letters, after_deadline, after_closed_stream, stays_believed, then_in, then_of_reply, then_of_refused_opt, then_of_other_letters}
-use Rattle.hickory_resolver_transactions.specs.Transaction.{TransactionState, begun_with, candidates_of, replaced, replacing, putting, noting, noted_of_closed, with_late, kept_in, keeping, acted, acted_late, picked, candidate_at, late_at, late_replied, came, opt_was_refused, other_letters_came, failed_at, failed_in, failed, blocked_in, blocked, freed, expired_in, late_expired, expired, wants_round, is_idle, may_go_on, with_round, is_queued_at, first_queued, may_send, chosen, sent, unsent}
+use Rattle.hickory_resolver_transactions.specs.Transaction.{TransactionState, begun_with, replaced, replacing, putting, noting, noted_of_closed, with_late, kept_in, keeping, acted, acted_late, picked, candidate_at, late_at, late_replied, came, opt_was_refused, other_letters_came, failed_at, failed_in, failed, blocked_in, blocked, freed, expired_in, late_expired, expired, wants_round, is_idle, may_go_on, with_round, is_queued_at, first_queued, may_send, chosen, sent, unsent}
 use Rattle.hickory_resolver_transactions.specs.declared.candidate.Candidate.{Candidate}
 use Rattle.hickory_resolver_transactions.specs.declared.candidate.LateTry.{LateTry}
 use Rattle.hickory_resolver_transactions.specs.declared.candidate.Made.{Made}
@@ -22,7 +22,6 @@ use Rattle.hickory_resolver_transactions.specs.declared.candidate.Transport.{Tra
 use Rattle.hickory_resolver_transactions.specs.declared.candidate.Transport.TheVariants.{Udp, Tcp}
 use Rattle.hickory_resolver_transactions.specs.declared.candidate.Try.{Try}
 use Rattle.hickory_resolver_transactions.specs.declared.candidate.Way.{Way}
-use Rattle.hickory_resolver_transactions.specs.declared.settings.Settings.{Settings}
 use Rattle.hickory_resolver_transactions.specs.declared.outcome.Outcome.{Outcome}
 use Rattle.hickory_resolver_transactions.specs.declared.outcome.Outcome.TheVariants as told
 use Rattle.hickory_resolver_transactions.specs.declared.table.Then.{Then}

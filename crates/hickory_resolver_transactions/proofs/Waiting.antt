@@ -1,13 +1,13 @@
 -- A transaction that is not over waits for something that comes.
 use Rattle.std.proofs.Common.{◌≡◌, ◌⊎◌, ℕ, ◌+◌, ◌<◌, ◌≤◌, Bool, true, false, cond, not, ◌&&◌, ◌||◌, ltb, List, [], ◌∷◌, refl, ap, sym, ◌∙◌, inl, inr, arith}
-use Rattle.std.specs.Prelude.{Option, None, Some, find, count_by, slice_get, unwrap_or}
+use Rattle.std.specs.Prelude.{Option, None, Some, find, count_by, slice_get}
 use Rattle.std.specs.List.{list_any, fold, filter_map, cons_option}
 use Rattle.std.specs.Option.{is_some, is_none, option_or, option_and_then, option_map}
 use Rattle.std.proofs.lemmas.Bool.{ltb-false}
 use Rattle.std.proofs.lemmas.List.Sums.{sum_by-cons}
 use Rattle.hickory_resolver_transactions.specs.Candidates.{is_again, is_queued, is_waiting, is_busy, due_of, late_due, way_of}
 use Rattle.hickory_resolver_transactions.specs.Laws.{WaitsForSomething, NeverWaitsForEver}
-use Rattle.hickory_resolver_transactions.specs.Transaction.{TransactionState, picked, is_idle, may_go_on, wants_round, first_queued, is_queued_at, may_send, next_of, chosen, wanted, told, outcome_of, earlier, next_deadline}
+use Rattle.hickory_resolver_transactions.specs.Transaction.{TransactionState, picked, is_idle, may_go_on, first_queued, is_queued_at, may_send, next_of, told, earlier, next_deadline}
 use Rattle.hickory_resolver_transactions.specs.declared.candidate.Candidate.{Candidate}
 use Rattle.hickory_resolver_transactions.specs.declared.candidate.LateTry.{LateTry}
 use Rattle.hickory_resolver_transactions.specs.declared.candidate.Progress.{Progress}

@@ -11,7 +11,6 @@ use Rattle.hickory_resolver_transactions.specs.declared.candidate.Transport.{Tra
 use Rattle.hickory_resolver_transactions.specs.declared.candidate.Transport.TheVariants.{Udp, Tcp}
 use Rattle.hickory_resolver_transactions.specs.declared.candidate.Try.{Try}
 use Rattle.hickory_resolver_transactions.specs.declared.choices.TheConstants.{SENDS_BY_TRANSPORT}
-use Rattle.hickory_resolver_transactions.specs.declared.outcome.Outcome.{Outcome}
 use Rattle.hickory_resolver_transactions.specs.declared.outcome.Outcome.TheVariants as told
 use Rattle.hickory_resolver_transactions.specs.declared.table.Then.{Then}
 use Rattle.hickory_resolver_transactions.specs.declared.table.Then.TheVariants.{Ends, Leaves, Rests, Again, Nothing}

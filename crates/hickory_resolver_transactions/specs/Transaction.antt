@@ -2,7 +2,7 @@
 -- the number under which the caller keeps it.
 use Rattle.std.specs.Prelude.{◌≡◌, ℕ, ◌+◌, Bool, true, false, not, ◌&&◌, ◌||◌, ◌==◌, List, [], ◌∷◌, ◌++◌, length, map, filter, find, drop, count_by, slice_get, nat_lt, Option, None, Some, unwrap_or, if◌then◌else◌}
 use Rattle.std.specs.List.{list_any, fold, filter_map, enumerate_from}
-use Rattle.std.specs.Option.{is_some, is_none, option_map, option_map_or, option_or, option_and_then}
+use Rattle.std.specs.Option.{is_none, option_map, option_map_or, option_or, option_and_then}
 use Rattle.hickory_resolver_servers.specs.Server.{ServerState}
 use Rattle.hickory_resolver_tries.specs.declared.outcome.ReplyOutcome.{ReplyOutcome}
 use Rattle.hickory_resolver_transactions.specs.Candidates.{candidate_of, is_again, is_queued, is_waiting, is_blocked, is_tried, is_busy, is_try, waits_as, waits_on, due_of, is_due, way_of, way_of_try, try_made, sent_with, uncounted, requeued, freed_one, late_due, has_failed_by}

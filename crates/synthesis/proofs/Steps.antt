@@ -1,5 +1,5 @@
 -- One step of what is read octet by octet.
-use Rattle.std.proofs.Common.{◌≡◌, ◌≢◌, ◌≤◌, ◌-◌, ◌/◌, ◌%◌, ◌<◌, ℕ, zero, suc, Bool, true, false, ◌||◌, ◌==◌, cond, nat_lt, get_or, length, take, drop, List, [], ◌∷◌, ◌++◌, Option, None, refl, ◌⊎◌, ◌+◌, inl, inr, length-drop, ap, ap₂, sym, ◌∙◌, arith}
+use Rattle.std.proofs.Common.{◌≡◌, ◌≢◌, ◌≤◌, ◌-◌, ◌/◌, ◌%◌, ◌<◌, ℕ, zero, suc, true, false, ◌||◌, ◌==◌, cond, nat_lt, get_or, length, take, drop, List, [], ◌∷◌, ◌++◌, None, refl, ◌⊎◌, ◌+◌, inl, inr, length-drop, ap, ap₂, sym, ◌∙◌, arith}
 use Rattle.std.proofs.lemmas.Bool.{cond-true, cond-false, eq-eqb, le-ltb, lt-ltb, ne_eqb, or_left, or_right}
 use Rattle.std.proofs.lemmas.Bool.Decides.{nat_tests}
 use Rattle.std.proofs.lemmas.Grind.{common_steps}
@@ -7,7 +7,7 @@ use Rattle.std.proofs.lemmas.List.{take_all}
 use Rattle.std.specs.Global.{Vec}
 use Rattle.hickory_proto_core.specs.Name.{label_bytes}
 use Rattle.synthesis.specs.TypeBits.{has_bit, has_type_in}
-use Rattle.synthesis.specs.WireNames.{WireNameValue, named, read_behind}
+use Rattle.synthesis.specs.WireNames.{named, read_behind}
 
 -- no window is left, or no octet
 pub no_window : (code : ℕ) (bits : List ℕ) → has_type_in 0 code bits ≡ false

@@ -1,6 +1,6 @@
 -- Names as they stand in the data of a record, not compressed: a length before each label, and the root's length of 0
 -- at the end (RFC 1035, section 3.1; RFC 3597, section 4).
-use Rattle.std.specs.Prelude.{ℕ, zero, suc, true, false, ◌||◌, ◌==◌, nat_lt, length, take, drop, List, [], ◌∷◌, ◌++◌, Option, None, Some, if◌then◌else◌}
+use Rattle.std.specs.Prelude.{ℕ, zero, suc, true, ◌||◌, ◌==◌, nat_lt, length, take, drop, List, [], ◌∷◌, ◌++◌, Option, None, Some, if◌then◌else◌}
 use Rattle.hickory_proto_core.specs.Name.{NameValue, label_fault}
 use Rattle.hickory_proto_core.specs.names.name_error.NameError.{NameError}
 

@@ -1,20 +1,19 @@
 -- Denials by the questions that stand for them.
-use Rattle.std.proofs.Common.{◌≡◌, ◌+◌, ◌-◌, ◌≤◌, ◌<◌, ℕ, zero, suc, Bool, true, false, ◌&&◌, ◌||◌, ◌==◌, cond, drop, length, map, max, nat_eq, nat_le, nat_lt, List, [], ◌∷◌, ◌++◌, Option, None, Some, refl, ap, sym, ◌∙◌, inl, inr, arith, length-drop}
+use Rattle.std.proofs.Common.{◌≡◌, ◌+◌, ◌-◌, ◌≤◌, ◌<◌, ℕ, zero, suc, Bool, true, false, ◌&&◌, ◌||◌, ◌==◌, cond, drop, length, map, nat_eq, nat_le, nat_lt, List, [], ◌∷◌, ◌++◌, refl, ap, sym, ◌∙◌, inl, inr, arith, length-drop}
 use Rattle.std.specs.List.{list_any}
 use Rattle.std.specs.Cmp.{nat_eq_equiv}
 use Rattle.std.specs.Cmp.Lexicographic.{pointwise}
 use Rattle.std.proofs.lemmas.List.{drop-map, length-map}
-use Rattle.std.proofs.lemmas.Bool.{and_from, and_parts, cases_Bool, cond-false, eq-eqb, le-ltb, or_cases, or_left, or_right, cases_eq}
+use Rattle.std.proofs.lemmas.Bool.{and_from, and_parts, cond-false, le-ltb, or_cases, or_left, or_right, cases_eq}
 use Rattle.hickory_proto_core.specs.Codes.{class_code, type_code}
 use Rattle.hickory_proto_core.specs.Name.{NameValue, is_zone_of, lower_label, lower_labels, name_eq, trimmed_name}
 use Rattle.hickory_proto_core.specs.NameLaws.{label_lists_Decides, name_equiv}
 use Rattle.hickory_proto_core.specs.Query.{query_eq}
 use Rattle.hickory_proto_core.specs.codes.dns_class.DNSClass.{DNSClass}
 use Rattle.hickory_proto_core.specs.codes.record_type.RecordType.{RecordType}
-use Rattle.hickory_proto_core.specs.codes.record_type.RecordType.TheVariants as type
 use Rattle.hickory_proto_core.specs.declared.query.Query.{Query}
-use Rattle.trace_judge.specs.Denials.{covers, covers_denied, covers_until, denial_deadline, denies_type}
-use Rattle.trace_judge.specs.Index.{DeniedValue, NotesDenial, NotesDenied, denied_at, is_since, latest_at, latest_of, type_key, whole_below, whole_key}
+use Rattle.trace_judge.specs.Denials.{covers_denied, covers_until, denial_deadline}
+use Rattle.trace_judge.specs.Index.{DeniedValue, NotesDenial, NotesDenied, denied_at, is_since, latest_at, type_key, whole_below, whole_key}
 use Rattle.trace_judge.specs.Judging.{DeniesAs, is_type_denial, is_whole_denial}
 use Rattle.trace_judge.specs.declared.denials.Denial.{Denial}
 use Rattle.trace_judge.specs.declared.denials.Denied.{Denied}

@@ -1,17 +1,16 @@
 -- What is known of a record or a denial, by the index.
-use Rattle.std.proofs.Common.{◌≡◌, ◌+◌, ◌-◌, ◌≤◌, ℕ, Bool, true, false, ◌&&◌, ◌||◌, cond, fold, max, nat_le, not, List, [], ◌∷◌, Option, None, Some, refl, ap, sym, ◌∙◌, inl, inr, arith}
+use Rattle.std.proofs.Common.{◌≡◌, ◌+◌, ◌-◌, ◌≤◌, ℕ, Bool, true, false, ◌&&◌, ◌||◌, cond, fold, max, nat_le, not, List, [], ◌∷◌, Option, None, Some, refl, ap, sym, ◌∙◌, arith}
 use Rattle.std.specs.List.{list_any}
-use Rattle.std.proofs.lemmas.Bool.{cases_Bool, cond-true, cond-false, le-leb, leb-true}
+use Rattle.std.proofs.lemmas.Bool.{le-leb, leb-true}
 use Rattle.std.proofs.lemmas.Bool.Decides.{nat_tests}
-use Rattle.hickory_proto_core.specs.Query.{query_eq}
 use Rattle.hickory_proto_core.specs.Records.{RecordValue}
 use Rattle.hickory_proto_core.specs.codes.dns_class.DNSClass.{DNSClass}
 use Rattle.hickory_proto_core.specs.Name.{NameValue}
 use Rattle.hickory_proto_core.specs.declared.query.Query.{Query}
-use Rattle.trace_judge.specs.Asks.{is_ask_from, is_ask_since, was_asked_after, was_asked_since}
+use Rattle.trace_judge.specs.Asks.{is_ask_from, was_asked_after, was_asked_since}
 use Rattle.trace_judge.specs.Denials.{covers, covers_until, denial_deadline, last_denial, last_name, was_denial_allowed, was_denied}
 use Rattle.trace_judge.specs.Evidence.{EvidenceValue}
-use Rattle.trace_judge.specs.Index.{IndexValue, Stands, denied_at, is_reaching, is_since, last_from, later_from, latest_at, moment_since, reaches, seen_at, tried_in}
+use Rattle.trace_judge.specs.Index.{IndexValue, Stands, denied_at, is_reaching, is_since, last_from, latest_at, moment_since, reaches, seen_at, tried_in}
 use Rattle.trace_judge.specs.Receptions.{deadline, grace, had_ttl, is_same_record, last_deadline, question_of, reach, was_allowed, was_received}
 use Rattle.trace_judge.specs.Findings.{denial_facts_of, denial_reach, facts_of}
 use Rattle.trace_judge.specs.Replies.{ReplyValue}
@@ -24,7 +23,7 @@ use Rattle.trace_judge.specs.declared.denials.Denial.{Denial}
 use Rattle.trace_judge.specs.declared.denials.Denied.{Denied}
 use Rattle.trace_judge.specs.declared.receptions.Reception.{Reception}
 use Rattle.trace_judge.proofs.Leads.{SeenAlike}
-use Rattle.trace_judge.proofs.Tests.{any-or, any_same, le_max, max_le}
+use Rattle.trace_judge.proofs.Tests.{any-or, any_same, le_max}
 
 -- numbers are the same where the same numbers are below them
 pub same_numbers : (m n : ℕ) → ((u : ℕ) → nat_le u m ≡ nat_le u n) → m ≡ n

@@ -4,34 +4,32 @@ use Rattle.std.specs.List.{ends_with, list_any}
 use Rattle.std.specs.Map.{lookup}
 use Rattle.std.specs.Ordering.{bool_cmp, nat_cmp, ordering_then}
 use Rattle.std.specs.Cmp.Lexicographic.{bytes_decides, pointwise, slice_cmp}
-use Rattle.std.proofs.lemmas.Bool.{and_from, and_parts, cases_Bool, cond-false, cond-true, eq-eqb, eqb-true, or_left, or_right}
+use Rattle.std.proofs.lemmas.Bool.{and_from, and_parts, cases_Bool, cond-false, eq-eqb, eqb-true, or_left, or_right}
 use Rattle.std.proofs.lemmas.Bool.Decides.{nat_tests}
 use Rattle.hickory_proto_core.specs.Codes.{class_code, type_code, type_of}
 use Rattle.hickory_proto_core.specs.Name.{NameValue, is_zone_of, lower_labels, name_eq, trimmed_name}
 use Rattle.hickory_proto_core.specs.NameLaws.{label_lists_Decides, name_equiv, same_from_name_eq}
-use Rattle.hickory_proto_core.specs.Query.{query_eq, query_equiv}
+use Rattle.hickory_proto_core.specs.Query.{query_eq}
 use Rattle.hickory_proto_core.specs.Records.{DataValue, RecordValue, a_data, aaaa_data, cname_data, unknown_data, data_eq, data_type}
 use Rattle.hickory_proto_core.specs.codes.dns_class.DNSClass.{DNSClass}
 use Rattle.hickory_proto_core.specs.codes.record_type.RecordType.TheVariants as type
 use Rattle.hickory_proto_core.specs.declared.query.Query.{Query}
 use Rattle.synthesis.specs.Dname.{is_substitution}
-use Rattle.synthesis.specs.Dns64.{is_embedded}
-use Rattle.synthesis.specs.Nsec.{denies_name, denies_type, is_before, is_delegation, is_less, lacks_type, name_denied_by, type_denied_by}
+use Rattle.synthesis.specs.Nsec.{is_before, is_delegation, is_less, lacks_type, name_denied_by, type_denied_by}
 use Rattle.synthesis.specs.TypeBits.{has_type}
 use Rattle.synthesis.specs.WireNames.{WireNameValue, read_name}
 use Rattle.synthesis.specs.declared.dns64.Prefix.{Prefix}
-use Rattle.trace_judge.specs.Denials.{last_name, negative_ttl}
 use Rattle.trace_judge.specs.Evidence.{EvidenceValue}
 use Rattle.trace_judge.specs.Index.{IndexValue, Stands, is_for, questions_of, seen_at, type_key}
-use Rattle.trace_judge.specs.MadeIndex.{any_late, is_address_made_in, is_alias_made_at, is_alias_made_in, is_data_made_in, is_denial_made_in, late, makes_denial_of}
+use Rattle.trace_judge.specs.MadeIndex.{any_late, is_alias_made_at, is_data_made_in, is_denial_made_in, late, makes_denial_of}
 use Rattle.trace_judge.specs.Making.{any_lasts, denies_as, denies_by, embeds_as, is_data_made, leads_as, makes_address, makes_alias, makes_denial}
 use Rattle.trace_judge.specs.Receptions.{deadline, grace, is_same_record, question_of}
 use Rattle.trace_judge.specs.declared.denials.Denied.{Denied}
 use Rattle.trace_judge.specs.declared.denials.Denied.TheVariants.{WholeName, OneType}
 use Rattle.trace_judge.specs.declared.receptions.Reception.{Reception}
-use Rattle.trace_judge.proofs.Keys.{lookup_same, seen_same}
+use Rattle.trace_judge.proofs.Keys.{seen_same}
 use Rattle.trace_judge.proofs.MadeFound.{Asks, Respects, made-alike, made_back, made_there, some-same}
-use Rattle.trace_judge.proofs.Tests.{any-filter, any_same, any_weaker, found_in, same_tests}
+use Rattle.trace_judge.proofs.Tests.{any-filter, any_weaker, found_in, same_tests}
 
 -- ---- the same data
 

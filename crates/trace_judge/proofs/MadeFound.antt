@@ -1,17 +1,10 @@
 -- What may be made of receptions is found by the index as by all receptions.
-use Rattle.std.proofs.Common.{◌≡◌, ◌+◌, ◌-◌, ◌<◌, ◌≤◌, ℕ, zero, suc, Bool, true, false, ◌&&◌, ◌||◌, ◌==◌, cond, filter, length, map, max, nat_eq, nat_le, not, List, [], ◌∷◌, Option, None, Some, unwrap_or, refl, ap, ap₂, sym, ◌∙◌, inl, inr, arith}
+use Rattle.std.proofs.Common.{◌≡◌, ◌+◌, ◌-◌, ◌<◌, ◌≤◌, ℕ, zero, suc, Bool, true, ◌&&◌, ◌||◌, ◌==◌, max, nat_le, List, [], ◌∷◌, refl, ap, sym, ◌∙◌, arith}
 use Rattle.std.specs.List.{list_any}
-use Rattle.std.specs.Bool.{beq}
-use Rattle.std.specs.Cmp.Lexicographic.{pointwise}
-use Rattle.std.specs.Map.{lookup}
-use Rattle.std.proofs.lemmas.Bool.{and_from, and_parts, cases_Bool, cond-true, cond-false, eq-eqb, eqb-true, or_cases, or_left, or_right}
+use Rattle.std.proofs.lemmas.Bool.{and_from, and_parts}
 use Rattle.std.proofs.lemmas.Bool.Decides.{nat_tests}
-use Rattle.hickory_proto_core.specs.Codes.{class_code, type_code, type_of}
-use Rattle.hickory_proto_core.specs.Name.{NameValue, lower_labels, name_eq, trimmed_name}
-use Rattle.hickory_proto_core.specs.NameLaws.{label_lists_Decides, name_equiv}
 use Rattle.hickory_proto_core.specs.Query.{query_eq}
-use Rattle.hickory_proto_core.specs.Records.{DataValue, RecordValue, a_data, unknown_data, data_eq, data_equiv, data_type}
-use Rattle.hickory_proto_core.specs.codes.dns_class.DNSClass.{DNSClass}
+use Rattle.hickory_proto_core.specs.Records.{RecordValue}
 use Rattle.hickory_proto_core.specs.declared.query.Query.{Query}
 use Rattle.trace_judge.specs.Index.{seen_at, is_reaching, reaches}
 use Rattle.trace_judge.specs.MadeIndex.{any_late}
@@ -20,7 +13,7 @@ use Rattle.trace_judge.specs.Receptions.{deadline, grace, is_same_record, questi
 use Rattle.trace_judge.specs.declared.receptions.Reception.{Reception}
 use Rattle.trace_judge.proofs.Keys.{same_equiv, seen_same}
 use Rattle.trace_judge.proofs.Leads.{SeenAlike}
-use Rattle.trace_judge.proofs.Tests.{any_same, found_in, same_tests}
+use Rattle.trace_judge.proofs.Tests.{found_in, same_tests}
 
 -- a test of records that what is the same passes too
 abbrev pub Respects : (RecordValue → Bool) → Type 0

@@ -1,5 +1,5 @@
 -- What a judge keeps, from line to line.
-use Rattle.std.proofs.Common.{◌≡◌, ◌+◌, ◌-◌, ◌≤◌, ℕ, Bool, true, false, ◌&&◌, ◌||◌, filter, max, ◌<◌, nat_le, List, [], ◌∷◌, ◌++◌, Option, None, Some, get_or, length, map, take, unwrap_or, refl, ap, sym, ◌∙◌, arith}
+use Rattle.std.proofs.Common.{◌≡◌, ◌+◌, ◌-◌, ◌≤◌, ℕ, Bool, true, false, ◌&&◌, ◌||◌, filter, max, ◌<◌, nat_le, List, [], ◌∷◌, ◌++◌, get_or, length, map, take, unwrap_or, refl, ap, sym, ◌∙◌, arith}
 use Rattle.std.specs.List.{list_any}
 use Rattle.std.proofs.lemmas.Bool.Decides.{nat_tests}
 use Rattle.std.proofs.lemmas.Grind.{common_steps}
@@ -10,13 +10,12 @@ use Rattle.hickory_proto_core.specs.codes.dns_class.DNSClass.{DNSClass}
 use Rattle.hickory_proto_core.specs.declared.query.Query.{Query}
 use Rattle.trace_judge.specs.Asks.{answers, asks, is_ask_from}
 use Rattle.trace_judge.specs.Denials.{covers, covers_until, denial_deadline, denials}
-use Rattle.trace_judge.specs.Evidence.{EvidenceValue}
 use Rattle.trace_judge.specs.Forgetting.{latest, oldest}
-use Rattle.trace_judge.specs.Index.{DeniedValue, Forgets, ForgetsDenials, ForgetsMoments, IndexValue, Stands, denied_at, is_reaching, is_since, latest_at, reaches, seen_at}
-use Rattle.trace_judge.specs.Judging.{DeniesAs, JudgeValue, Keeps, NotesAs, SeesAs, evidence_of, index_of, is_type_denial, is_whole_denial}
+use Rattle.trace_judge.specs.Index.{DeniedValue, Forgets, ForgetsDenials, ForgetsMoments, Stands, denied_at, is_reaching, is_since, latest_at, reaches, seen_at}
+use Rattle.trace_judge.specs.Judging.{DeniesAs, JudgeValue, Keeps, NotesAs, SeesAs, evidence_of, index_of}
 use Rattle.trace_judge.specs.Options.{OptionsValue}
-use Rattle.trace_judge.specs.Receptions.{deadline, grace, is_same_record, question_of, reception_at, receptions}
-use Rattle.trace_judge.specs.Trace.{milliseconds_of, start_in}
+use Rattle.trace_judge.specs.Receptions.{deadline, is_same_record, question_of, reception_at, receptions}
+use Rattle.trace_judge.specs.Trace.{milliseconds_of}
 use Rattle.trace_judge.specs.declared.asks.Ask.{Ask}
 use Rattle.trace_judge.specs.declared.denials.Denial.{Denial}
 use Rattle.trace_judge.specs.declared.denials.Denied.{Denied}

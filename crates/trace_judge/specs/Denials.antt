@@ -1,5 +1,5 @@
 -- Denials: responses that say that a name, or a type of it, does not exist (RFC 2308).
-use Rattle.std.specs.Prelude.{◌+◌, ◌*◌, ℕ, Bool, true, false, not, ◌&&◌, ◌||◌, ◌==◌, nat_le, List, [], ◌∷◌, ◌++◌, max, fold, Option, None, Some, option_and_then, unwrap_or, if◌then◌else◌}
+use Rattle.std.specs.Prelude.{◌+◌, ◌*◌, ℕ, Bool, false, not, ◌&&◌, ◌||◌, ◌==◌, nat_le, List, [], ◌∷◌, ◌++◌, max, fold, Option, None, Some, option_and_then, unwrap_or, if◌then◌else◌}
 use Rattle.std.specs.List.{list_any}
 use Rattle.hickory_proto_core.specs.Codes.{class_code, response_code, type_code}
 use Rattle.hickory_proto_core.specs.Name.{NameValue, is_zone_of, name_eq}

@@ -18,7 +18,6 @@ use Rattle.trace_judge.specs.declared.classes.Place.{Place}
 use Rattle.trace_judge.specs.declared.classes.Place.TheVariants as place
 use Rattle.trace_judge.specs.declared.classes.Section.{Section}
 use Rattle.trace_judge.specs.declared.classes.Section.TheVariants as section
-use Rattle.trace_judge.specs.declared.denials.Denial.{Denial}
 use Rattle.trace_judge.specs.declared.denials.Denied.{Denied}
 use Rattle.trace_judge.specs.declared.event.Moment.{Moment}
 use Rattle.trace_judge.specs.declared.facts.DenialFacts.{DenialFacts}

@@ -1,14 +1,14 @@
 -- What a resolver may make by itself, found by questions.
-use Rattle.std.specs.Prelude.{◌-◌, ℕ, Bool, false, ◌&&◌, ◌||◌, ◌==◌, nat_le, length, max, map, List}
+use Rattle.std.specs.Prelude.{◌-◌, ℕ, Bool, false, ◌&&◌, ◌||◌, ◌==◌, nat_le, length, max, List}
 use Rattle.std.specs.List.{list_any}
-use Rattle.hickory_proto_core.specs.Codes.{class_code, type_code, type_of}
+use Rattle.hickory_proto_core.specs.Codes.{type_of}
 use Rattle.hickory_proto_core.specs.Name.{NameValue, name_eq, trimmed_name}
 use Rattle.hickory_proto_core.specs.Records.{DataValue, RecordValue, aaaa_data, cname_data}
 use Rattle.hickory_proto_core.specs.codes.dns_class.DNSClass.{DNSClass}
 use Rattle.hickory_proto_core.specs.codes.record_type.RecordType.TheVariants as type
 use Rattle.hickory_proto_core.specs.declared.query.Query.{Query}
 use Rattle.trace_judge.specs.Index.{IndexValue, questions_of, seen_at, type_key}
-use Rattle.trace_judge.specs.Making.{is_own, makes_address, makes_alias, makes_denial, some_below}
+use Rattle.trace_judge.specs.Making.{makes_address, makes_alias, makes_denial, some_below}
 use Rattle.trace_judge.specs.Receptions.{deadline, grace}
 use Rattle.trace_judge.specs.declared.denials.Denied.{Denied}
 use Rattle.trace_judge.specs.declared.receptions.Reception.{Reception}

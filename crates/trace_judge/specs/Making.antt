@@ -1,6 +1,6 @@
 -- What a resolver may make by itself of what it received, as long as that is current: aliases of a DNAME record (RFC
 -- 6672), denials of an NSEC record (RFC 8198), and addresses by DNS64 (RFC 6147). And what it has of its own.
-use Rattle.std.specs.Prelude.{◌+◌, ◌-◌, ℕ, zero, suc, Bool, false, ◌&&◌, ◌||◌, ◌==◌, nat_le, length, List, [], ◌∷◌, Option}
+use Rattle.std.specs.Prelude.{◌+◌, ◌-◌, ℕ, zero, suc, Bool, false, ◌&&◌, ◌||◌, ◌==◌, nat_le, length, List, [], ◌∷◌}
 use Rattle.std.specs.List.{list_any}
 use Rattle.hickory_proto_core.specs.Codes.{class_code, type_code}
 use Rattle.hickory_proto_core.specs.Name.{NameValue, name_eq, trimmed_name}

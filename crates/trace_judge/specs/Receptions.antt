@@ -1,5 +1,5 @@
 -- Records as they were received, and what the receptions allow of a record that is told.
-use Rattle.std.specs.Prelude.{◌+◌, ◌*◌, ℕ, Bool, ◌&&◌, ◌==◌, nat_le, nat_lt, List, [], ◌∷◌, ◌++◌, map, max, fold, if◌then◌else◌}
+use Rattle.std.specs.Prelude.{◌+◌, ◌*◌, ℕ, Bool, ◌&&◌, ◌==◌, nat_le, List, [], ◌∷◌, ◌++◌, map, max, fold, if◌then◌else◌}
 use Rattle.std.specs.List.{list_any}
 use Rattle.hickory_proto_core.specs.Codes.{class_code}
 use Rattle.hickory_proto_core.specs.Name.{name_eq}

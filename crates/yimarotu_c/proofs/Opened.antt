@@ -1,5 +1,5 @@
 -- A call of a session that is open.
-use Rattle.std.proofs.Common.{◌≡◌, Option, None, Some, subst, sym}
+use Rattle.std.proofs.Common.{◌≡◌, Option, Some, subst, sym}
 use Rattle.yimarotu_c.specs.LookingUp.{OnOpen}
 use Rattle.yimarotu_session.specs.Sessions.{SessionValue}
 

@@ -1,8 +1,7 @@
 -- What the calls of C do with look-ups.
-use Rattle.std.specs.Prelude.{◌≡◌, ◌⊎◌, ℕ, Bool, true, false, List, Option, None, Some, Result, Ok, Err, MatchOption, if◌then◌else◌}
+use Rattle.std.specs.Prelude.{◌≡◌, ◌⊎◌, ℕ, Bool, false, List, Option, None, Some, Result, Ok, Err, MatchOption, if◌then◌else◌}
 use Rattle.std.specs.Str.{IsUtf8}
 use Rattle.hickory_proto_core.specs.Codes.{type_of}
-use Rattle.hickory_proto_core.specs.Handles.{OutcomeValue}
 use Rattle.hickory_proto_core.specs.declared.net_error.NetError.{NetError}
 use Rattle.hickory_proto_wire.specs.Messages.{message_of}
 use Rattle.hickory_proto_wire.specs.Octets as wire

@@ -1,11 +1,9 @@
 -- A look-up that was begun is kept, or lost.
-use Rattle.std.proofs.Common.{◌≡◌, ℕ, Bool, true, false, List, Option, None, Some, Result, Ok, Err, IfErr, IfOk, MatchOption, MatchResult, subst, sym}
+use Rattle.std.proofs.Common.{◌≡◌, ℕ, Bool, true, false, Option, None, Some, Result, Ok, Err, IfErr, IfOk, MatchOption, MatchResult}
 use Rattle.std.specs.Option.{is_some}
 use mathlib.Core.Bool.{true≢false}
-use Rattle.hickory_proto_core.specs.Handles.{OutcomeValue}
 use Rattle.hickory_resolver.specs.Contexts.{progress_of}
 use Rattle.hickory_resolver.specs.Driving.{CallProgress}
-use Rattle.hickory_resolver_model.specs.Resolver.{ResolverValue}
 use Rattle.yimarotu_session.specs.Calls.{Begins, Does, IsLost, Stands, waits_of}
 use Rattle.yimarotu_session.specs.Sessions.{Puts, SessionValue, lookup_at}
 use Rattle.yimarotu_session.specs.declared.session_error.SessionError.{SessionError}

@@ -16,7 +16,7 @@ use Rattle.hickory_resolver.specs.client.waiting.Progress.TheVariants.{Waiting, 
 use Rattle.hickory_resolver_model.specs.Lookup.{LookupResult}
 use Rattle.hickory_resolver_model.specs.Resolver.{ResolverValue, after_clear_lookup}
 use Rattle.hickory_resolver_theorems.specs.ResumingCalls.{CallProgressValue}
-use Rattle.yimarotu_session.specs.Sessions.{Lookups, Puts, SessionValue, lookup_at}
+use Rattle.yimarotu_session.specs.Sessions.{Puts, SessionValue, lookup_at}
 use Rattle.yimarotu_session.specs.declared.session_error.SessionError.{SessionError}
 use Rattle.yimarotu_session.specs.declared.session_error.SessionError.TheVariants.{OutOfMemory, InUse, NoLookup, Waits, IsDone}
 

@@ -1,5 +1,5 @@
 -- The messages by which questions are sent, and those that tell what a look-up came to.
-use Rattle.std.specs.Prelude.{ℕ, true, false, List, [], ◌∷◌, map, Option, None, Some, if◌then◌else◌}
+use Rattle.std.specs.Prelude.{true, false, List, [], ◌∷◌, map, Option, None, Some, if◌then◌else◌}
 use Rattle.hickory_proto_core.specs.Errors.{NoRecordsValue}
 use Rattle.hickory_proto_core.specs.Messages.{MessageValue, response_metadata}
 use Rattle.hickory_proto_core.specs.Records.{RecordValue}

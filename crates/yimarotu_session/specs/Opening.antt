@@ -2,7 +2,6 @@
 use Rattle.std.specs.Prelude.{◌≡◌, ◌≢◌, ◌⊎◌, ◌&&◌, ◌==◌, ℕ, Bool, false, true, List, [], length, Result, Ok, Err, MatchResult}
 use Rattle.hickory_proto_core.specs.Handles.{OutcomeValue}
 use Rattle.hickory_resolver.specs.Reading.{IsBytesRead}
-use Rattle.hickory_resolver.specs.hosts.hosts_error.HostsError.{HostsError}
 use Rattle.hickory_resolver.specs.hosts.hosts_error.HostsError.TheVariants as hosts_error
 use Rattle.hickory_resolver_config.specs.ResolverConfig.{ResolverConfigValue}
 use Rattle.hickory_resolver_model.specs.Hosts.{Host}

@@ -1,4 +1,4 @@
-use Rattle.std.proofs.Common.{◌≡◌, ◌+◌, ◌∷◌, Err, List, Ok, drop, string_bytes, subst, ℕ}
+use Rattle.std.proofs.Common.{◌≡◌, ◌+◌, ◌∷◌, Err, List, Ok, drop, subst, ℕ}
 use Rattle.conversation.specs.Telling.{IsLineSet}
 use Rattle.conversation.proofs.FileLines.{next_line, set_off, set_on}
 use Rattle.conversation.proofs.file_settings.set_lines.Goals as goal

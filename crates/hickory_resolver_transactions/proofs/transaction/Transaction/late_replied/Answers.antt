@@ -1,7 +1,7 @@
 use Rattle.std.proofs.Common.{◌≡◌, List, ap, sym, ◌∙◌, eqb}
 use Rattle.std.specs.Prelude.{Option, Some, find}
 use Rattle.std.specs.Option.{option_map_or}
-use Rattle.hickory_resolver_transactions.specs.Transaction.{TransactionState, candidate_at, late_came_to, late_replied}
+use Rattle.hickory_resolver_transactions.specs.Transaction.{TransactionState, candidate_at, late_came_to}
 use Rattle.hickory_resolver_transactions.specs.declared.candidate.Candidate.{Candidate}
 use Rattle.hickory_resolver_transactions.proofs.transaction.Transaction.late_replied.Goals as goal
 

@@ -1,4 +1,4 @@
-use Rattle.std.proofs.Common.{◌≡◌, ◌∙◌, ◌++◌, Some, ap, max, subst, sym, unwrap_or, arith}
+use Rattle.std.proofs.Common.{◌≡◌, ◌∙◌, ◌++◌, Some, ap, max, subst, sym, unwrap_or}
 use Rattle.trace_judge.specs.Asks.{answered_by, answers, asked_by, asks}
 use Rattle.trace_judge.specs.Denials.{denials, denied_in}
 use Rattle.trace_judge.specs.Forgetting.{latest, oldest}

@@ -1,4 +1,4 @@
-use Rattle.std.proofs.Common.{◌≡◌, ◌∙◌, [], Some, None, ap, cond, sym, unwrap_or}
+use Rattle.std.proofs.Common.{◌≡◌, ◌∙◌, [], ap, cond, unwrap_or}
 use Rattle.std.specs.Map.{lookup}
 use Rattle.hickory_proto_core.specs.Query.{query_eq}
 use Rattle.trace_judge.specs.Index.{seen_at, with_reception}
