@@ -110,6 +110,13 @@ impl Askers {
         }
     }
 
+    /// The number of the transaction that begins next.
+    pub fn next_transaction(&self) -> u64
+        ensures { result ≡ self.now.next_transaction }
+    {
+        self.next_transaction
+    }
+
     // ---- asking
 
     fn next_one(&self) -> Asker

@@ -3,10 +3,12 @@
 use Rattle.std.specs.Prelude.{ℕ, ◌+◌, ◌-◌, ◌^◌, Bool, false, not, ◌==◌, List, [], length, min, max, nat_lt, slice_get, Option, None, Some, if◌then◌else◌}
 use Rattle.std.specs.declared.cmp.Ordering.{Ordering}
 use Rattle.std.specs.Ordering.{nat_cmp, ordering_then}
-use Rattle.std.specs.Option.{is_some, option_map_or, option_and_then}
+use Rattle.std.specs.Option.{is_some, option_map, option_map_or, option_and_then}
 use Rattle.std.specs.Map.{lookup, remove_entry, set_value}
 use Rattle.std.specs.Set.{remove_key}
 use Rattle.std.specs.BTreeMap.{insert_entry, is_at}
+use Rattle.std.specs.BTreeMap.Range.{entries_between}
+use Rattle.std.specs.declared.ops.Bound.TheVariants.{Included}
 use Rattle.std.specs.BTreeSet.{insert_key}
 use Rattle.hickory_resolver_channels.specs.declared.channel.Channel.{Channel}
 use Rattle.hickory_resolver_channels.specs.declared.channel.ChannelKind.{ChannelKind}
@@ -43,6 +45,16 @@ transaction_at number id s = lookup (is_at (pair_cmp (number, id))) s.tries
 
 abbrev pub has_try : ℕ → ℕ → ChannelsState → Bool
 has_try number id s = is_some (transaction_at number id s)
+
+-- of the tries on a channel the first, by the numbers of their messages: its number, and its transaction
+abbrev pub tries_on : ℕ → List ((ℕ × ℕ) × ℕ) → List ((ℕ × ℕ) × ℕ)
+tries_on number tries = entries_between pair_cmp (Included (number, 0)) (Included (number, 65535)) tries
+
+abbrev pub first_on : ℕ → List ((ℕ × ℕ) × ℕ) → Option (ℕ × ℕ)
+first_on number tries = option_map (λ e. (e.0.1, e.1)) (slice_get (tries_on number tries) 0)
+
+abbrev pub first_try : ℕ → ChannelsState → Option (ℕ × ℕ)
+first_try number s = first_on number s.tries
 
 -- the stream that is kept the shortest, after its moment
 abbrev pub first_idle : ChannelsState → Option (ℕ × ℕ)

@@ -1,12 +1,12 @@
 //! The channels that are open, and the tries on them.
 ghost use Rattle.std.specs.Prelude.{◌≡◌, IfOk, OnOk, OnErr};
 ghost use Rattle.std.specs.Option.{is_some};
-ghost use Rattle.hickory_resolver_channels.specs.Channels.{no_channels, channel_at, transaction_at, has_try, first_idle, has_place, number_given, opened, opened_for, joinable, joined_to, joined, if_it_takes_try, left_to_others, left_idle, left_closed, left_last, left_in, channel_of_try, left, closes_last, closes, has_others, if_empty, closable, closed_one, closed};
+ghost use Rattle.hickory_resolver_channels.specs.Channels.{no_channels, channel_at, transaction_at, first_try, has_try, first_idle, has_place, number_given, opened, opened_for, joinable, joined_to, joined, if_it_takes_try, left_to_others, left_idle, left_closed, left_last, left_in, channel_of_try, left, closes_last, closes, has_others, if_empty, closable, closed_one, closed};
 
 use crate::channel::{Channel, ChannelKind, ChannelLimits};
 use crate::maps::{
-    ByNumber, Idle, Tries, channel_in, first_in, insert, insert_both, insert_idle, insert_try,
-    remove, remove_idle, remove_try, replace, transaction_in,
+    ByNumber, Idle, Tries, channel_in, first_in, first_on, insert, insert_both, insert_idle,
+    insert_try, remove, remove_idle, remove_try, replace, transaction_in,
 };
 use std::alloc::{AllocError, Global};
 use std::collections::{BTreeMap, BTreeSet};
@@ -62,6 +62,13 @@ impl Channels {
         ensures { result ≡ transaction_at number id self.now }
     {
         transaction_in(&self.tries, number, id)
+    }
+
+    /// The first try on a channel, by the numbers of their messages: its number, and its transaction.
+    pub fn first_try(&self, number: u64) -> Option<(u16, u64)>
+        ensures { result ≡ first_try number self.now }
+    {
+        first_on(&self.tries, number)
     }
 
     /// Of the streams without a try the one that is kept the shortest: up to when, and its number.

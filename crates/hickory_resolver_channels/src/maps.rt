@@ -4,7 +4,7 @@ ghost use Rattle.std.specs.Ordering.{nat_cmp};
 ghost use Rattle.std.specs.Map.{lookup, remove_entry};
 ghost use Rattle.std.specs.BTreeMap.{insert_entry, is_at};
 ghost use Rattle.std.specs.BTreeSet.{insert_key};
-ghost use Rattle.hickory_resolver_channels.specs.Channels.{pair_cmp, channel_in, replaced, not_idle};
+ghost use Rattle.hickory_resolver_channels.specs.Channels.{pair_cmp, channel_in, replaced, not_idle, first_on};
 
 use crate::channel::Channel;
 use std::alloc::AllocError;
@@ -60,6 +60,17 @@ pub(crate) fn transaction_in(tries: &Tries, number: u64, id: u16) -> Option<u64>
     ensures { result ≡ lookup (is_at (pair_cmp (number, id))) tries.now.entries }
 {
     tries.get(&(number, id)).copied()
+}
+
+// The first try on a channel: its number, and its transaction.
+pub(crate) fn first_on(tries: &Tries, number: u64) -> Option<(u16, u64)>
+    ensures { result ≡ first_on number tries.now.entries }
+{
+    let mut on_channel = tries.range((number, 0)..=(number, u16::MAX));
+    match on_channel.next() {
+        Some((key, transaction)) => Some((key.1, *transaction)),
+        None => None,
+    }
 }
 
 pub(crate) fn insert_try(
