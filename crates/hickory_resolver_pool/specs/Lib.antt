@@ -1,0 +1,4 @@
+pub mod Laws
+pub mod Over
+pub mod Pool
+pub mod Servers
