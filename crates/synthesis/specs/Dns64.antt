@@ -1,5 +1,5 @@
 -- IPv6 addresses with an IPv4 address in them (RFC 6052, section 2.2).
-use Rattle.std.specs.Prelude.{ℕ, ◌-◌, Bool, ◌&&◌, ◌||◌, ◌==◌, nat_le, nat_eq, take, drop, replicate, List, [], ◌∷◌, ◌++◌, if◌then◌else◌}
+use Rattle.std.specs.Prelude.{ℕ, ◌-◌, Bool, ◌&&◌, ◌||◌, ◌==◌, nat_le, nat_eq, take, drop, replicate, List, ◌∷◌, ◌++◌, if◌then◌else◌}
 use Rattle.std.specs.Cmp.Lexicographic.{pointwise}
 use Rattle.std.specs.Net.Addr.{ipv6_octets, octets_of}
 use Rattle.synthesis.specs.declared.dns64.Prefix.{Prefix}

@@ -59,7 +59,12 @@ fn substituted(
     Ok(made)
 }
 
-fn add_labels(alloc: Global, made: &mut Vec<Vec<u8>>, labels: &[Vec<u8>]) -> Result<(), AllocError>
+/// Puts copies of labels behind others.
+pub fn add_labels(
+    alloc: Global,
+    made: &mut Vec<Vec<u8>>,
+    labels: &[Vec<u8>],
+) -> Result<(), AllocError>
     ensures { OnOk result
         (label_bytes made.new.items ≡ label_bytes made.old.items ++ label_bytes labels.now) }
 {

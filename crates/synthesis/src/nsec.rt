@@ -65,7 +65,8 @@ fn is_between(owner: &Name, next: &Name, name: &Name) -> bool
         && (is_before(name, next) || (!is_before(owner, next) && next.zone_of(name)))
 }
 
-fn is_before(a: &Name, b: &Name) -> bool
+/// Whether a name is before another in canonical order (RFC 4034, section 6.1).
+pub fn is_before(a: &Name, b: &Name) -> bool
     ensures { result ≡ is_before a.now b.now }
 {
     matches!(a.cmp(b), Ordering::Less)
@@ -78,15 +79,16 @@ fn is_hidden(owner: &Name, bits: &[u8], name: &Name) -> bool
     owner.zone_of(name) && (is_delegation(bits) || has_type(bits, 39))
 }
 
-fn is_delegation(bits: &[u8]) -> bool
+/// Whether these types say that another zone begins at the name.
+pub fn is_delegation(bits: &[u8]) -> bool
     ensures { result ≡ is_delegation bits.now }
 {
     has_type(bits, 2) && !has_type(bits, 6)
 }
 
-// Whether the bit of the type is not set, nor that of an alias. Where another zone begins, only a DS record is of this
-// one.
-fn lacks_type(bits: &[u8], code: u16) -> bool
+/// Whether the bit of the type is not set, nor that of an alias. Where another zone begins, only a DS record is of this
+/// one.
+pub fn lacks_type(bits: &[u8], code: u16) -> bool
     ensures { result ≡ lacks_type bits.now code }
 {
     !has_type(bits, code) && !has_type(bits, 5) && (!is_delegation(bits) || code == 43)

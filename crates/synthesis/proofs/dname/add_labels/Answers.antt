@@ -1,4 +1,4 @@
-use Rattle.std.proofs.Common.{◌≡◌, ◌∙◌, ◌++◌, ◌∷◌, [], ap}
+use Rattle.std.proofs.Common.{◌∙◌, ◌++◌, ◌∷◌, [], ap}
 use Rattle.hickory_proto_core.specs.Name.{label_bytes}
 use Rattle.synthesis.proofs.Steps.{one_more, pushed}
 use Rattle.synthesis.proofs.dname.add_labels.Goals as goal

@@ -1,4 +1,4 @@
-use Rattle.std.proofs.Common.{◌≡◌, ◌∙◌, ap, sym}
+use Rattle.std.proofs.Common.{◌∙◌, ap, sym}
 use Rattle.hickory_proto_core.specs.Name.{label_bytes, label_fault, name_eq}
 use Rattle.synthesis.specs.Dname.{is_unless, substituted}
 use Rattle.synthesis.proofs.dname.is_made.Goals as goal

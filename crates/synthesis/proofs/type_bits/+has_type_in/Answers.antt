@@ -1,5 +1,5 @@
-use Rattle.std.proofs.Common.{◌≡◌, ◌∙◌, ◌-◌, ap, drop, length, refl, sym, take, arith}
-use Rattle.synthesis.specs.TypeBits.{has_bit, has_type_in}
+use Rattle.std.proofs.Common.{◌∙◌, ◌-◌, ap, drop, length, refl, sym, take, arith}
+use Rattle.synthesis.specs.TypeBits.{has_type_in}
 use Rattle.synthesis.proofs.Steps.{WindowAt, behind, few_bits, no_window_at, other_window, short_window, this_window}
 use Rattle.synthesis.proofs.type_bits.+has_type_in.Goals as goal
 

@@ -1,4 +1,4 @@
-use Rattle.std.proofs.Common.{◌≡◌, ◌∙◌, ◌-◌, ◌||◌, ◌++◌, ◌∷◌, [], IfOk, ap, drop, length, subst, take, arith, inl, inr}
+use Rattle.std.proofs.Common.{◌≡◌, ◌∙◌, ◌-◌, ◌++◌, ◌∷◌, [], IfOk, ap, drop, length, subst, take, arith, inl, inr}
 use Rattle.hickory_proto_core.specs.Name.{label_bytes}
 use Rattle.synthesis.specs.WireNames.{read_behind}
 use Rattle.synthesis.proofs.Steps.{LabelAt, bad_label, behind, few_bytes, good_label, is_bad, is_good, last_label, no_label_at, pushed}

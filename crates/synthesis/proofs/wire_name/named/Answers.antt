@@ -1,4 +1,4 @@
-use Rattle.std.proofs.Common.{◌≡◌, ◌∙◌, Some, ap, sym}
+use Rattle.std.proofs.Common.{◌∙◌, Some, ap, sym}
 use Rattle.hickory_proto_core.specs.Name.{label_bytes}
 use Rattle.synthesis.specs.WireNames.{named_unless}
 use Rattle.synthesis.proofs.wire_name.named.Goals as goal
