@@ -9,5 +9,6 @@ pub mod Leads
 pub mod Knowing
 pub mod Standing
 pub mod Sections
+pub mod Owning
 pub mod MadeFound
 pub mod Made

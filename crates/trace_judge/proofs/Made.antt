@@ -1,35 +1,38 @@
 -- What makes records and denials: the same record makes the same, and it is found by its question.
-use Rattle.std.proofs.Common.{◌≡◌, ◌+◌, ◌-◌, ◌<◌, ℕ, Bool, true, false, ◌&&◌, ◌||◌, ◌==◌, cond, filter, get_or, length, map, max, nat_eq, nat_le, not, reverse, List, [], ◌∷◌, Option, None, Some, refl, ap, ap₂, sym, ◌∙◌, inl, inr, unwrap_or, arith}
-use Rattle.std.specs.List.{ends_with, list_any}
-use Rattle.std.specs.Map.{lookup}
+use Rattle.std.proofs.Common.{◌≡◌, ◌+◌, ◌-◌, ℕ, Bool, true, false, ◌&&◌, ◌||◌, ◌==◌, cond, get_or, length, max, nat_eq, nat_le, not, reverse, List, [], ◌∷◌, Option, None, Some, refl, ap, ap₂, sym, ◌∙◌, arith}
+use Rattle.std.specs.List.{ends_with}
 use Rattle.std.specs.Ordering.{bool_cmp, nat_cmp, ordering_then}
 use Rattle.std.specs.Cmp.Lexicographic.{bytes_decides, pointwise, slice_cmp}
-use Rattle.std.proofs.lemmas.Bool.{and_from, and_parts, cases_Bool, cond-false, eq-eqb, eqb-true, or_left, or_right}
+use Rattle.std.proofs.lemmas.Bool.{and_from, and_parts, eq-eqb, eqb-true}
 use Rattle.std.proofs.lemmas.Bool.Decides.{nat_tests}
+use Rattle.std.proofs.lemmas.List.{length-map}
 use Rattle.hickory_proto_core.specs.Codes.{class_code, type_code, type_of}
-use Rattle.hickory_proto_core.specs.Name.{NameValue, is_zone_of, lower_labels, name_eq, trimmed_name}
+use Rattle.hickory_proto_core.specs.Name.{NameValue, is_zone_of, lower_label, lower_labels, name_eq, trimmed_name}
 use Rattle.hickory_proto_core.specs.NameLaws.{label_lists_Decides, name_equiv, same_from_name_eq}
 use Rattle.hickory_proto_core.specs.Query.{query_eq}
 use Rattle.hickory_proto_core.specs.Records.{DataValue, RecordValue, a_data, aaaa_data, cname_data, unknown_data, data_eq, data_type}
 use Rattle.hickory_proto_core.specs.codes.dns_class.DNSClass.{DNSClass}
 use Rattle.hickory_proto_core.specs.codes.record_type.RecordType.TheVariants as type
-use Rattle.hickory_proto_core.specs.declared.query.Query.{Query}
 use Rattle.synthesis.specs.Dname.{is_substitution}
 use Rattle.synthesis.specs.Nsec.{is_before, is_delegation, is_less, lacks_type, name_denied_by, type_denied_by}
+use Rattle.synthesis.specs.Nsec3.{ChainValue, Nsec3Value, covers, is_between_if, is_in_chain, is_opt_out, is_usable, owner_of, read_chain, read_nsec3}
 use Rattle.synthesis.specs.TypeBits.{has_type}
 use Rattle.synthesis.specs.WireNames.{WireNameValue, read_name}
 use Rattle.synthesis.specs.declared.dns64.Prefix.{Prefix}
 use Rattle.trace_judge.specs.Evidence.{EvidenceValue}
-use Rattle.trace_judge.specs.Index.{IndexValue, Stands, is_for, questions_of, seen_at, type_key}
-use Rattle.trace_judge.specs.MadeIndex.{any_late, is_alias_made_at, is_data_made_in, is_denial_made_in, late, makes_denial_of}
-use Rattle.trace_judge.specs.Making.{any_lasts, denies_as, denies_by, embeds_as, is_data_made, leads_as, makes_address, makes_alias, makes_denial}
+use Rattle.trace_judge.specs.Hashed.{chain_passes, data_pass, is_hashed, is_of_chain}
+use Rattle.trace_judge.specs.Index.{IndexValue, IsOfType, Respects, Stands, any_late, any_owner, chains_in, is_late, is_unknown, seen_at, type_key}
+use Rattle.trace_judge.specs.MadeIndex.{is_alias_made_at, is_data_made_in, is_kept_chain, late, octets_pass, said_test}
+use Rattle.trace_judge.specs.Making.{any_lasts, denies_as, denies_by, embeds_as, is_data_made, lasts, leads_as, makes_address, makes_alias, makes_denial}
 use Rattle.trace_judge.specs.Receptions.{deadline, grace, is_same_record, question_of}
 use Rattle.trace_judge.specs.declared.denials.Denied.{Denied}
 use Rattle.trace_judge.specs.declared.denials.Denied.TheVariants.{WholeName, OneType}
+use Rattle.trace_judge.specs.declared.hashed.Says.{Says}
+use Rattle.trace_judge.specs.declared.hashed.Says.TheVariants.{Encloses, IsBare}
 use Rattle.trace_judge.specs.declared.receptions.Reception.{Reception}
-use Rattle.trace_judge.proofs.Keys.{seen_same}
-use Rattle.trace_judge.proofs.MadeFound.{Asks, Respects, made-alike, made_back, made_there, some-same}
-use Rattle.trace_judge.proofs.Tests.{any-filter, any_weaker, found_in, same_tests}
+use Rattle.trace_judge.proofs.MadeFound.{Asks, late_by, made-alike, some-same}
+use Rattle.trace_judge.proofs.Owning.{chain_late}
+use Rattle.trace_judge.proofs.Tests.{any_same}
 
 -- ---- the same data
 
@@ -205,90 +208,161 @@ denial_respects class n denied = λ a b same made.
     (ap (denies_as b.name n denied) e ∙ and_from (d.0 == 47) (denies_by b.name d.1 n denied) d.3
     (sym (denies_same a.name b.name d.1 n denied s.0) ∙ d.4))
 
-denial_type : (class : DNSClass) (n : NameValue) (denied : Denied) (a : RecordValue) → makes_denial class n denied a ≡ true
-    → type_code (data_type a.rdata) ≡ type_code (type_of 47)
-denial_type class n denied a made =
+denial_unknown : (class : DNSClass) (n : NameValue) (denied : Denied) → IsOfType 47 (makes_denial class n denied)
+denial_unknown class n denied = λ a made.
     let p = and_parts (class_code a.dns_class == class_code class) (denies_as a.name n denied a.rdata) made in
-    let d = denies_of a.name n denied a.rdata p.1 in unknown_type 47 d.0 d.1 a.rdata d.2 d.3
+    let d = denies_of a.name n denied a.rdata p.1 in ap (is_unknown 47) d.2 ∙ d.3
 
--- and those with the name of a question too, which they answer
-of_respects : (q : Query) (class : DNSClass) (n : NameValue) (denied : Denied) → Respects (makes_denial_of q class n denied)
-of_respects q class n denied = λ a b same made.
-    let p = and_parts (name_eq a.name q.name) (makes_denial class n denied a) made in
-    and_from (name_eq b.name q.name) (makes_denial class n denied b) (name_from q.name a b (parts_same a b same).0 p.0)
-    (denial_respects class n denied a b same p.1)
+-- what may be kept for so long runs out at that moment, less what is allowed
+lasts-late : (slack until : ℕ) (makes : RecordValue → Bool) (rs : List Reception)
+    → any_late (until - grace slack) makes rs ≡ any_lasts slack until makes rs
+lasts-late slack until makes rs =
+    any_same (is_late (until - grace slack) makes) (λ r. makes r.found && nat_le until (deadline r + grace slack)) rs
+    (λ r. ap (λ b. makes r.found && b) (sym (late_by slack until (deadline r))))
 
-of_asks : (q : Query) (class : DNSClass) (n : NameValue) (denied : Denied) → is_for class 47 q ≡ true → Asks (makes_denial_of q class n denied) q
-of_asks q class n denied is = λ a made.
-    let p = and_parts (name_eq a.name q.name) (makes_denial class n denied a) made in
-    let c = and_parts (class_code a.dns_class == class_code class) (denies_as a.name n denied a.rdata) p.1 in
-    let k = and_parts (class_code q.query_class == class_code class) (type_code q.query_type == 47) is in
-    let t : type_code (data_type a.rdata) ≡ type_code q.query_type
-    = denial_type class n denied a p.1 ∙ sym (eqb-true (type_code q.query_type) 47 k.1) in
-    let cs : (class_code a.dns_class == class_code q.query_class) ≡ true = grind (arith, nat_tests) in
-    and_from (name_eq a.name q.name && (type_code (data_type a.rdata) == type_code q.query_type)) (class_code a.dns_class == class_code q.query_class)
-    (and_from (name_eq a.name q.name) (type_code (data_type a.rdata) == type_code q.query_type) p.0
-    (eq-eqb (type_code (data_type a.rdata)) (type_code q.query_type) t)) cs
+pub between-made : (e : EvidenceValue) (i : IndexValue) → Stands e i → (until : ℕ) (class : DNSClass) (n : NameValue) (denied : Denied)
+    → any_owner (late i until) (makes_denial class n denied) i.gaps.nsec ≡ lasts e until (makes_denial class n denied)
+between-made e i s until class n denied =
+    let makes = makes_denial class n denied in
+    ap (λ m. any_owner (max (until - grace m) i.oldest) makes i.gaps.nsec) s.slack_is
+    ∙ s.gaps_are.nsec_are makes (until - grace e.slack) (denial_respects class n denied) (denial_unknown class n denied)
+    ∙ lasts-late e.slack until makes e.received
 
--- where something was received for a question, it is among the questions
-key_of : (q : Query) (test : Reception → Bool) (seen : List (Query × List Reception)) → list_any test (seen_at seen q) ≡ true
-    → list_any (query_eq q) (map (λ e. e.0) seen) ≡ true
-key_of q test [] h = absurd (let no : false ≡ true = h in cc)
-key_of q test (e ∷ seen) h = elim (cases_Bool (query_eq q e.0)) [
-  | inl k ↦ or_left (query_eq q e.0) (list_any (query_eq q) (map (λ x. x.0) seen)) k
-  | inr k ↦ or_right (query_eq q e.0) (list_any (query_eq q) (map (λ x. x.0) seen))
-      (key_of q test seen (ap (λ o. list_any test (unwrap_or o [])) (sym (cond-false (query_eq q e.0) (Some e.1) (lookup (query_eq q) seen) k)) ∙ h))
-]
+-- ---- NSEC3
 
--- a question that equals it is for the same type
-for_same : (class : DNSClass) (a : RecordValue) (q : Query) → query_eq (question_of a) q ≡ true
-    → (class_code a.dns_class == class_code class) ≡ true → type_code (data_type a.rdata) ≡ 47
-    → (is_for class 47 q ≡ true) × (name_eq a.name q.name ≡ true)
-for_same class a q h c t =
-    let outer = and_parts (name_eq a.name q.name && (type_code (data_type a.rdata) == type_code q.query_type)) (class_code a.dns_class == class_code q.query_class) h in
-    let inner = and_parts (name_eq a.name q.name) (type_code (data_type a.rdata) == type_code q.query_type) outer.0 in
-    let cs : (class_code q.query_class == class_code class) ≡ true = grind (arith, nat_tests) in
-    let ts : type_code q.query_type ≡ 47
-    = sym (eqb-true (type_code (data_type a.rdata)) (type_code q.query_type) inner.1) ∙ t in
-    (and_from (class_code q.query_class == class_code class) (type_code q.query_type == 47) cs (eq-eqb (type_code q.query_type) 47 ts), inner.0)
+-- a test to which owners that are equal are alike
+abbrev OwnersAlike : (NameValue → Option Nsec3Value → Bool) → Type 0
+OwnersAlike test = (a b : NameValue) (o : Option Nsec3Value) → name_eq a b ≡ true → test a o ≡ test b o
 
-pub denial-made : (e : EvidenceValue) (i : IndexValue) → Stands e i → (until : ℕ) (class : DNSClass) (n : NameValue) (denied : Denied)
-    → is_denial_made_in i (late i until) class n denied ≡ any_lasts e.slack until (makes_denial class n denied) e.received
-denial-made e i s until class n denied =
-    let from = max (until - grace e.slack) i.oldest in
-    let at = λ (q : Query). any_late from (makes_denial_of q class n denied) (seen_at i.seen q) in
-    let whole = any_lasts e.slack until (makes_denial class n denied) e.received in
-    ap (λ m. list_any (λ q. any_late (max (until - grace m) i.oldest) (makes_denial_of q class n denied) (seen_at i.seen q)) (questions_of class 47 i.seen)) s.slack_is
-    ∙ any-filter (is_for class 47) at (map (λ e. e.0) i.seen)
-    ∙ same_tests (list_any (λ q. is_for class 47 q && at q) (map (λ e. e.0) i.seen)) whole
-    (λ h. let q = found_in (λ q. is_for class 47 q && at q) (map (λ e. e.0) i.seen) h in
-    let p = and_parts (is_for class 47 q.0) (at q.0) q.1 in
-    let back = made_back (makes_denial_of q.0 class n denied) q.0 e.slack until i.oldest e.received i.seen s.seen_are
-    (of_respects q.0 class n denied) (of_asks q.0 class n denied p.0) p.1 in
-    any_weaker (λ r. makes_denial_of q.0 class n denied r.found && nat_le until (deadline r + grace e.slack))
-    (λ r. makes_denial class n denied r.found && nat_le until (deadline r + grace e.slack)) e.received
-    (λ r k. let x = and_parts (makes_denial_of q.0 class n denied r.found) (nat_le until (deadline r + grace e.slack)) k in
-    and_from (makes_denial class n denied r.found) (nat_le until (deadline r + grace e.slack))
-    (and_parts (name_eq r.found.name q.0.name) (makes_denial class n denied r.found) x.0).1 x.1) back)
-    (λ h. let r = found_in (λ r. makes_denial class n denied r.found && nat_le until (deadline r + grace e.slack)) e.received h in
-    let p = and_parts (makes_denial class n denied r.0.found) (nat_le until (deadline r.0 + grace e.slack)) r.1 in
-    let mine = r.2 (λ x. makes_denial_of (question_of r.0.found) class n denied x.found && nat_le until (deadline x + grace e.slack))
-    (and_from (makes_denial_of (question_of r.0.found) class n denied r.0.found) (nat_le until (deadline r.0 + grace e.slack))
-    (and_from (name_eq r.0.found.name r.0.found.name) (makes_denial class n denied r.0.found) (name_equiv.refl r.0.found.name) p.0) p.1) in
-    let a = made_there (makes_denial_of (question_of r.0.found) class n denied) e.slack until i.oldest e.received i.seen s.seen_are
-    (of_respects (question_of r.0.found) class n denied) mine in
-    let m = and_parts (name_eq a.0.name r.0.found.name) (makes_denial class n denied a.0) a.1 in
-    let c = and_parts (class_code a.0.dns_class == class_code class) (denies_as a.0.name n denied a.0.rdata) m.1 in
-    let first = λ (x : Reception). makes_denial_of (question_of r.0.found) class n denied x.found && nat_le from (deadline x) in
-    let key = found_in (query_eq (question_of a.0)) (map (λ e. e.0) i.seen) (key_of (question_of a.0) first i.seen a.2) in
-    let is = for_same class a.0 key.0 key.1 c.0 (denial_type class n denied a.0 m.1) in
-    let names : name_eq r.0.found.name key.0.name ≡ true
-    = sym (name_equiv.congr a.0.name r.0.found.name key.0.name m.0) ∙ is.1 in
-    key.2 (λ q. is_for class 47 q && at q) (and_from (is_for class 47 key.0) (at key.0) is.0
-    (any_weaker first (λ x. makes_denial_of key.0 class n denied x.found && nat_le from (deadline x)) (seen_at i.seen key.0)
-    (λ x k. let y = and_parts (makes_denial_of (question_of r.0.found) class n denied x.found) (nat_le from (deadline x)) k in
-    let z = and_parts (name_eq x.found.name r.0.found.name) (makes_denial class n denied x.found) y.0 in
-    and_from (makes_denial_of key.0 class n denied x.found) (nat_le from (deadline x))
-    (and_from (name_eq x.found.name key.0.name) (makes_denial class n denied x.found)
-    (name_equiv.congr x.found.name r.0.found.name key.0.name z.0 ∙ names) z.1) y.1)
-    (ap (list_any first) (sym (seen_same (question_of a.0) key.0 key.1 i.seen)) ∙ a.2))))
+hashed_of : (test : Option Nsec3Value → Bool) (d : DataValue) → data_pass test d ≡ true
+    → (code : ℕ) × (bytes : List ℕ) × (d ≡ unknown_data code bytes) × ((code == 50) ≡ true) × (test (read_nsec3 bytes) ≡ true)
+hashed_of test (unknown_data code bytes) h =
+    let p = and_parts (code == 50) (test (read_nsec3 bytes)) h in (code, bytes, refl, p.0, p.1)
+hashed_of test _ h = absurd (let no : false ≡ true = h in cc)
+
+hashed_respects : (class : DNSClass) (test : NameValue → Option Nsec3Value → Bool) → OwnersAlike test → Respects (is_hashed class test)
+hashed_respects class test alike = λ a b same made.
+    let p = and_parts (class_code a.dns_class == class_code class) (data_pass (test a.name) a.rdata) made in
+    let s = parts_same a b same in
+    let d = hashed_of (test a.name) a.rdata p.1 in
+    let e = equal_unknown d.0 d.1 b.rdata (ap (λ x. data_eq x b.rdata) (sym d.2) ∙ s.2) in
+    and_from (class_code b.dns_class == class_code class) (data_pass (test b.name) b.rdata)
+    (class_from class a b s.1 p.0)
+    (ap (data_pass (test b.name)) e ∙ and_from (d.0 == 50) (test b.name (read_nsec3 d.1)) d.3
+    (sym (alike a.name b.name (read_nsec3 d.1) s.0) ∙ d.4))
+
+hashed_unknown : (class : DNSClass) (test : NameValue → Option Nsec3Value → Bool) → IsOfType 50 (is_hashed class test)
+hashed_unknown class test = λ a made.
+    let p = and_parts (class_code a.dns_class == class_code class) (data_pass (test a.name) a.rdata) made in
+    let d = hashed_of (test a.name) a.rdata p.1 in ap (is_unknown 50) d.2 ∙ d.3
+
+hashed_asks : (class : DNSClass) (test : NameValue → Option Nsec3Value → Bool) (hashed : NameValue)
+    → ((a : NameValue) (o : Option Nsec3Value) → test a o ≡ true → name_eq a hashed ≡ true)
+    → Asks (is_hashed class test) (type_key class hashed (type_of 50))
+hashed_asks class test hashed named = λ a made.
+    let p = and_parts (class_code a.dns_class == class_code class) (data_pass (test a.name) a.rdata) made in
+    let d = hashed_of (test a.name) a.rdata p.1 in
+    asks_by class hashed 50 a p.0 (named a.name (read_nsec3 d.1) d.4) (unknown_type 50 d.0 d.1 a.rdata d.2 d.3)
+
+-- owners that are equal are in one chain
+length_same : (a b : NameValue) → lower_labels a.labels ≡ lower_labels b.labels → length a.labels ≡ length b.labels
+length_same a b e = sym (length-map a.labels lower_label) ∙ ap length e ∙ length-map b.labels lower_label
+
+in_chain_same : (chain : ChainValue) (a b : NameValue) (n : Nsec3Value) → name_eq a b ≡ true → is_in_chain chain a n ≡ is_in_chain chain b n
+in_chain_same chain a b n h =
+    let same = same_from_name_eq a b h in let len = length_same a b same.1 in
+    λ i. is_usable n && (n.iterations == chain.iterations) && pointwise nat_eq n.salt chain.salt
+    && (len i == length chain.zone.labels + 1) && ends_with (pointwise nat_eq) (same.1 i) (lower_labels chain.zone.labels)
+
+said_alike : (chain : ChainValue) (w : Says) (hashed : NameValue) → OwnersAlike (said_test chain w hashed)
+said_alike chain Encloses hashed a b None h = refl
+said_alike chain Encloses hashed a b (Some n) h =
+    let e = name_equiv.congr a b hashed h in let c = in_chain_same chain a b n h in
+    λ i. (e i) && (c i) && not (is_delegation n.bits || has_type 39 n.bits)
+said_alike chain (IsBare code) hashed a b None h = refl
+said_alike chain (IsBare code) hashed a b (Some n) h =
+    let e = name_equiv.congr a b hashed h in let c = in_chain_same chain a b n h in
+    λ i. (e i) && (c i) && lacks_type n.bits code
+
+said_named : (chain : ChainValue) (w : Says) (hashed a : NameValue) (o : Option Nsec3Value) → said_test chain w hashed a o ≡ true
+    → name_eq a hashed ≡ true
+said_named chain Encloses hashed a None h = absurd (let no : false ≡ true = h in cc)
+said_named chain Encloses hashed a (Some n) h =
+    (and_parts (name_eq a hashed) (is_in_chain chain a n)
+    (and_parts (name_eq a hashed && is_in_chain chain a n) (not (is_delegation n.bits || has_type 39 n.bits)) h).0).0
+said_named chain (IsBare code) hashed a None h = absurd (let no : false ≡ true = h in cc)
+said_named chain (IsBare code) hashed a (Some n) h =
+    (and_parts (name_eq a hashed) (is_in_chain chain a n)
+    (and_parts (name_eq a hashed && is_in_chain chain a n) (lacks_type n.bits code) h).0).0
+
+between_same : (a b hashed : NameValue) (o : Option NameValue) → name_eq a b ≡ true → is_between_if a hashed o ≡ is_between_if b hashed o
+between_same a b hashed None h = refl
+between_same a b hashed (Some next) h =
+    let p = before_same a b next h in let q = before_same a b hashed h in
+    λ i. cond (p i) ((q i) && is_before hashed next) ((q i) || is_before hashed next)
+
+covers_alike : (chain : ChainValue) (hashed : NameValue) → OwnersAlike (covers chain hashed)
+covers_alike chain hashed a b None h = refl
+covers_alike chain hashed a b (Some n) h =
+    let c = in_chain_same chain a b n h in let m = between_same a b hashed (owner_of chain n.next) h in
+    λ i. (c i) && not (is_opt_out n) && (m i)
+
+pub said-made : (e : EvidenceValue) (i : IndexValue) → Stands e i → (until : ℕ) (class : DNSClass) (chain : ChainValue) (w : Says) (hashed : NameValue)
+    → any_late (late i until) (is_hashed class (said_test chain w hashed)) (seen_at i.seen (type_key class hashed (type_of 50)))
+    ≡ lasts e until (is_hashed class (said_test chain w hashed))
+said-made e i s until class chain w hashed =
+    let makes = is_hashed class (said_test chain w hashed) in
+    ap (λ m. any_late (max (until - grace m) i.oldest) makes (seen_at i.seen (type_key class hashed (type_of 50)))) s.slack_is
+    ∙ made-alike makes (type_key class hashed (type_of 50)) e.slack until i.oldest e.received i.seen s.seen_are
+    (hashed_respects class (said_test chain w hashed) (said_alike chain w hashed))
+    (hashed_asks class (said_test chain w hashed) hashed (said_named chain w hashed))
+
+pub cover-made : (e : EvidenceValue) (i : IndexValue) → Stands e i → (until : ℕ) (class : DNSClass) (chain : ChainValue) (hashed : NameValue)
+    → any_owner (late i until) (is_hashed class (covers chain hashed)) i.gaps.nsec3 ≡ lasts e until (is_hashed class (covers chain hashed))
+cover-made e i s until class chain hashed =
+    let makes = is_hashed class (covers chain hashed) in
+    ap (λ m. any_owner (max (until - grace m) i.oldest) makes i.gaps.nsec3) s.slack_is
+    ∙ s.gaps_are.nsec3_are makes (until - grace e.slack) (hashed_respects class (covers chain hashed) (covers_alike chain hashed))
+    (hashed_unknown class (covers chain hashed))
+    ∙ lasts-late e.slack until makes e.received
+
+-- ---- chains
+
+kept_of : (test : ChainValue → Bool) (zone : NameValue) (d : DataValue) → octets_pass test zone d ≡ true
+    → (code : ℕ) × (octets : List ℕ) × (d ≡ unknown_data code octets) × ((code == 51) ≡ true)
+    × (chain_passes test (read_chain zone octets) ≡ true)
+kept_of test zone (unknown_data code octets) h =
+    let p = and_parts (code == 51) (chain_passes test (read_chain zone octets)) h in (code, octets, refl, p.0, p.1)
+kept_of test zone _ h = absurd (let no : false ≡ true = h in cc)
+
+kept_respects : (class : DNSClass) (zone : NameValue) (test : ChainValue → Bool) → Respects (is_kept_chain class zone test)
+kept_respects class zone test = λ a b same made.
+    let outer = and_parts ((class_code a.dns_class == class_code class) && name_eq a.name zone) (octets_pass test zone a.rdata) made in
+    let inner = and_parts (class_code a.dns_class == class_code class) (name_eq a.name zone) outer.0 in
+    let s = parts_same a b same in
+    let d = kept_of test zone a.rdata outer.1 in
+    let e = equal_unknown d.0 d.1 b.rdata (ap (λ x. data_eq x b.rdata) (sym d.2) ∙ s.2) in
+    and_from ((class_code b.dns_class == class_code class) && name_eq b.name zone) (octets_pass test zone b.rdata)
+    (and_from (class_code b.dns_class == class_code class) (name_eq b.name zone)
+    (class_from class a b s.1 inner.0) (name_from zone a b s.0 inner.1))
+    (ap (octets_pass test zone) (e ∙ sym d.2) ∙ outer.1)
+
+kept_asks : (class : DNSClass) (zone : NameValue) (test : ChainValue → Bool)
+    → Asks (is_kept_chain class zone test) (type_key class zone (type_of 51))
+kept_asks class zone test = λ a made.
+    let outer = and_parts ((class_code a.dns_class == class_code class) && name_eq a.name zone) (octets_pass test zone a.rdata) made in
+    let inner = and_parts (class_code a.dns_class == class_code class) (name_eq a.name zone) outer.0 in
+    let d = kept_of test zone a.rdata outer.1 in
+    asks_by class zone 51 a inner.0 inner.1 (unknown_type 51 d.0 d.1 a.rdata d.2 d.3)
+
+pub chain-made : (e : EvidenceValue) (i : IndexValue) → Stands e i → (until : ℕ) (class : DNSClass) (zone : NameValue) (test : ChainValue → Bool)
+    → any_late (late i until) (is_kept_chain class zone test) (seen_at i.gaps.chains (type_key class zone (type_of 51)))
+    ≡ lasts e until (is_of_chain class zone test)
+chain-made e i s until class zone test =
+    let makes = is_kept_chain class zone test in
+    ap (λ m. any_late (max (until - grace m) i.oldest) makes (seen_at i.gaps.chains (type_key class zone (type_of 51)))) s.slack_is
+    ∙ made-alike makes (type_key class zone (type_of 51)) e.slack until i.oldest (chains_in e.received) i.gaps.chains s.gaps_are.chains_are
+    (kept_respects class zone test) (kept_asks class zone test)
+    ∙ sym (lasts-late e.slack until makes (chains_in e.received))
+    ∙ chain_late (until - grace e.slack) class zone test e.received
+    ∙ lasts-late e.slack until (is_of_chain class zone test) e.received

@@ -1,29 +1,25 @@
 -- What may be made of receptions is found by the index as by all receptions.
-use Rattle.std.proofs.Common.{◌≡◌, ◌+◌, ◌-◌, ◌<◌, ◌≤◌, ℕ, zero, suc, Bool, true, ◌&&◌, ◌||◌, ◌==◌, max, nat_le, List, [], ◌∷◌, refl, ap, sym, ◌∙◌, arith}
+use Rattle.std.proofs.Common.{◌≡◌, ◌+◌, ◌-◌, ℕ, zero, suc, Bool, true, ◌&&◌, ◌||◌, max, nat_le, List, refl, ap, sym, ◌∙◌, arith}
 use Rattle.std.specs.List.{list_any}
 use Rattle.std.proofs.lemmas.Bool.{and_from, and_parts}
 use Rattle.std.proofs.lemmas.Bool.Decides.{nat_tests}
 use Rattle.hickory_proto_core.specs.Query.{query_eq}
 use Rattle.hickory_proto_core.specs.Records.{RecordValue}
 use Rattle.hickory_proto_core.specs.declared.query.Query.{Query}
-use Rattle.trace_judge.specs.Index.{seen_at, is_reaching, reaches}
-use Rattle.trace_judge.specs.MadeIndex.{any_late}
-use Rattle.trace_judge.specs.Making.{any_lasts, some_below}
+use Rattle.trace_judge.specs.Index.{Respects, any_late, seen_at, is_reaching, reaches}
+use Rattle.trace_judge.specs.Making.{any_lasts}
+use Rattle.trace_judge.specs.Below.{some_below}
 use Rattle.trace_judge.specs.Receptions.{deadline, grace, is_same_record, question_of}
 use Rattle.trace_judge.specs.declared.receptions.Reception.{Reception}
 use Rattle.trace_judge.proofs.Keys.{same_equiv, seen_same}
 use Rattle.trace_judge.proofs.Leads.{SeenAlike}
 use Rattle.trace_judge.proofs.Tests.{found_in, same_tests}
 
--- a test of records that what is the same passes too
-abbrev pub Respects : (RecordValue → Bool) → Type 0
-Respects makes = (a b : RecordValue) → is_same_record a b ≡ true → makes a ≡ true → makes b ≡ true
-
 -- what passes the test answers this question
 abbrev pub Asks : (RecordValue → Bool) → Query → Type 0
 Asks makes q = (a : RecordValue) → makes a ≡ true → query_eq (question_of a) q ≡ true
 
-late_by : (slack at d : ℕ) → nat_le at (d + grace slack) ≡ nat_le (at - grace slack) d
+pub late_by : (slack at d : ℕ) → nat_le at (d + grace slack) ≡ nat_le (at - grace slack) d
 late_by slack at d = grind (arith, nat_tests)
 
 reached : (r : Reception) (until : ℕ) → nat_le until (deadline r) ≡ true → is_reaching r.found until 0 r ≡ true

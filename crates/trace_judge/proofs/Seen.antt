@@ -1,5 +1,5 @@
 -- What is kept of receptions.
-use Rattle.std.proofs.Common.{◌≡◌, ◌≤◌, ℕ, Bool, true, false, not, ◌&&◌, ◌||◌, cond, nat_le, List, [], ◌∷◌, ◌++◌, filter, Option, None, Some, unwrap_or, refl, ap, sym, ◌∙◌, inl, inr, if◌then◌else◌}
+use Rattle.std.proofs.Common.{◌≡◌, ◌≤◌, ℕ, Bool, true, false, not, ◌&&◌, ◌||◌, cond, nat_le, List, [], ◌∷◌, ◌++◌, filter, Option, None, Some, unwrap_or, refl, ap, sym, ◌∙◌, inl, inr}
 use Rattle.std.specs.List.{list_any}
 use Rattle.std.proofs.lemmas.Bool.{and_from, and_parts, and_left, cases_Bool, cond-true, cond-false, le-leb, or_cases, or_left, or_right, not_from_false, false_from_ne_true}
 use Rattle.std.proofs.lemmas.Map.Entries.{option_filter}
@@ -25,31 +25,32 @@ outdone_reaches told until ttl by r o h =
     (and_from (nat_le until (deadline by)) (nat_le ttl by.found.ttl)
     (le_trans until (deadline r) (deadline by) far.0 later.0) (le_trans ttl r.found.ttl by.found.ttl far.1 later.1))
 
-pub reaches-with : (told : RecordValue) (until ttl : ℕ) (new : Reception) (rs : List Reception)
-    → reaches told until ttl (with_reception new rs) ≡ (reaches told until ttl rs || is_reaching told until ttl new)
-reaches-with told until ttl new rs =
-    let hit = is_reaching told until ttl in
+-- with one more reception, where what outdoes one that passes a test passes it too
+pub any-with : (hit : Reception → Bool)
+    → ((by r : Reception) → is_outdone by r ≡ true → hit r ≡ true → hit by ≡ true)
+    → (new : Reception) (rs : List Reception) → list_any hit (with_reception new rs) ≡ (list_any hit rs || hit new)
+any-with hit rises new rs =
     let better = list_any (λ r. is_outdone r new) rs in
     let kept = filter (λ r. not (is_outdone new r)) rs in
     elim (cases_Bool better) [
-      | inl e ↦ ap (reaches told until ttl) (cond-true better rs (kept ++ new ∷ []) e)
-          ∙ same_tests (reaches told until ttl rs) (reaches told until ttl rs || hit new)
-          (λ h. or_left (reaches told until ttl rs) (hit new) h)
-          (λ h. elim (or_cases (reaches told until ttl rs) (hit new) h) [
+      | inl e ↦ ap (list_any hit) (cond-true better rs (kept ++ new ∷ []) e)
+          ∙ same_tests (list_any hit rs) (list_any hit rs || hit new)
+          (λ h. or_left (list_any hit rs) (hit new) h)
+          (λ h. elim (or_cases (list_any hit rs) (hit new) h) [
             | inl a ↦ a
-            | inr b ↦ (let r = found_in (λ r. is_outdone r new) rs e in r.2 hit (outdone_reaches told until ttl r.0 new r.1 b))
+            | inr b ↦ (let r = found_in (λ r. is_outdone r new) rs e in r.2 hit (rises r.0 new r.1 b))
           ])
-      | inr e ↦ ap (reaches told until ttl) (cond-false better rs (kept ++ new ∷ []) e)
+      | inr e ↦ ap (list_any hit) (cond-false better rs (kept ++ new ∷ []) e)
           ∙ any-push hit kept new
-          ∙ same_tests (list_any hit kept || hit new) (reaches told until ttl rs || hit new)
+          ∙ same_tests (list_any hit kept || hit new) (list_any hit rs || hit new)
           (λ h. elim (or_cases (list_any hit kept) (hit new) h) [
-            | inl a ↦ or_left (reaches told until ttl rs) (hit new) (any_weaker (λ r. not (is_outdone new r) && hit r) hit rs
+            | inl a ↦ or_left (list_any hit rs) (hit new) (any_weaker (λ r. not (is_outdone new r) && hit r) hit rs
                 (λ r k. (and_parts (not (is_outdone new r)) (hit r) k).1) (sym (any-filter (λ r. not (is_outdone new r)) hit rs) ∙ a))
-            | inr b ↦ or_right (reaches told until ttl rs) (hit new) b
+            | inr b ↦ or_right (list_any hit rs) (hit new) b
           ])
-          (λ h. elim (or_cases (reaches told until ttl rs) (hit new) h) [
+          (λ h. elim (or_cases (list_any hit rs) (hit new) h) [
             | inl a ↦ (let r = found_in hit rs a in elim (cases_Bool (is_outdone new r.0)) [
-              | inl o ↦ or_right (list_any hit kept) (hit new) (outdone_reaches told until ttl new r.0 o r.1)
+              | inl o ↦ or_right (list_any hit kept) (hit new) (rises new r.0 o r.1)
               | inr o ↦ or_left (list_any hit kept) (hit new) (any-filter (λ x. not (is_outdone new x)) hit rs
                   ∙ r.2 (λ x. not (is_outdone new x) && hit x)
                   (and_from (not (is_outdone new r.0)) (hit r.0) (not_from_false (is_outdone new r.0) o) r.1))
@@ -57,6 +58,10 @@ reaches-with told until ttl new rs =
             | inr b ↦ or_right (list_any hit kept) (hit new) b
           ])
     ]
+
+pub reaches-with : (told : RecordValue) (until ttl : ℕ) (new : Reception) (rs : List Reception)
+    → reaches told until ttl (with_reception new rs) ≡ (reaches told until ttl rs || is_reaching told until ttl new)
+reaches-with told until ttl new rs = any-with (is_reaching told until ttl) (outdone_reaches told until ttl) new rs
 
 -- a reception was put to the question that it answers, and other questions keep what they had
 pub adds_from : (new : Reception) (before after : List (Query × List Reception))

@@ -1,5 +1,5 @@
 -- What a judge keeps, from line to line.
-use Rattle.std.proofs.Common.{◌≡◌, ◌+◌, ◌-◌, ◌≤◌, ℕ, Bool, true, false, ◌&&◌, ◌||◌, filter, max, ◌<◌, nat_le, List, [], ◌∷◌, ◌++◌, get_or, length, map, take, unwrap_or, refl, ap, sym, ◌∙◌, arith}
+use Rattle.std.proofs.Common.{◌≡◌, ◌+◌, ◌≤◌, ℕ, Bool, true, false, ◌&&◌, ◌||◌, filter, max, ◌<◌, nat_le, List, [], ◌∷◌, ◌++◌, get_or, length, map, take, unwrap_or, refl, ap, subst, sym, ◌∙◌, arith}
 use Rattle.std.specs.List.{list_any}
 use Rattle.std.proofs.lemmas.Bool.Decides.{nat_tests}
 use Rattle.std.proofs.lemmas.Grind.{common_steps}
@@ -11,8 +11,8 @@ use Rattle.hickory_proto_core.specs.declared.query.Query.{Query}
 use Rattle.trace_judge.specs.Asks.{answers, asks, is_ask_from}
 use Rattle.trace_judge.specs.Denials.{covers, covers_until, denial_deadline, denials}
 use Rattle.trace_judge.specs.Forgetting.{latest, oldest}
-use Rattle.trace_judge.specs.Index.{DeniedValue, Forgets, ForgetsDenials, ForgetsMoments, Stands, denied_at, is_reaching, is_since, latest_at, reaches, seen_at}
-use Rattle.trace_judge.specs.Judging.{DeniesAs, JudgeValue, Keeps, NotesAs, SeesAs, evidence_of, index_of}
+use Rattle.trace_judge.specs.Index.{DeniedValue, Forgets, ForgetsDenials, ForgetsGaps, ForgetsMoments, GapsSee, GapsStand, GapsValue, SeesAs, Stands, any_late, chains_in, denied_at, is_late, is_reaching, is_since, latest_at, reaches, seen_at}
+use Rattle.trace_judge.specs.Judging.{DeniesAs, JudgeValue, Keeps, NotesAs, evidence_of, index_of}
 use Rattle.trace_judge.specs.Options.{OptionsValue}
 use Rattle.trace_judge.specs.Receptions.{deadline, is_same_record, question_of, reception_at, receptions}
 use Rattle.trace_judge.specs.Trace.{milliseconds_of}
@@ -23,6 +23,7 @@ use Rattle.trace_judge.specs.declared.event.Event.{Event}
 use Rattle.trace_judge.specs.declared.event.Moment.{Moment}
 use Rattle.trace_judge.specs.declared.receptions.Reception.{Reception}
 use Rattle.trace_judge.proofs.Denying.{denied-alike}
+use Rattle.trace_judge.proofs.Owning.{chains_kept}
 use Rattle.trace_judge.proofs.Tests.{any-filter, any-push, any_same}
 
 -- ---- what is not forgotten
@@ -55,6 +56,24 @@ seen-stands before seen rs sees told until ttl =
     (λ r. seen_kept (is_same_record r.found told) before until ttl r)
     ∙ sym (sees told (max until before) ttl (later_max until before))
 
+pub late_kept : (before from : ℕ) (makes : RecordValue → Bool) (rs : List Reception)
+    → any_late (max from before) makes rs ≡ any_late from makes (filter (λ r. nat_le before (deadline r)) rs)
+late_kept before from makes rs =
+    any_same (is_late (max from before) makes) (λ r. nat_le before (deadline r) && is_late from makes r) rs
+    (λ r. sym (moment_kept (makes r.found) before from (deadline r)))
+    ∙ sym (any-filter (λ r. nat_le before (deadline r)) (is_late from makes) rs)
+
+pub gaps-stand : (before : ℕ) (gaps : GapsValue) (rs : List Reception) → GapsSee before gaps rs
+    → GapsStand before gaps (filter (λ r. nat_le before (deadline r)) rs)
+gaps-stand before gaps rs sees = record {
+  nsec_are = λ makes from respects typed.
+      sees.nsec_are makes (max from before) respects typed (later_max from before) ∙ late_kept before from makes rs;
+  nsec3_are = λ makes from respects typed.
+      sees.nsec3_are makes (max from before) respects typed (later_max from before) ∙ late_kept before from makes rs;
+  chains_are = λ told until ttl. ap (reaches told until ttl) (chains_kept before rs)
+      ∙ seen-stands before gaps.chains (chains_in rs) sees.chains_are told until ttl;
+}
+
 pub notes-stand : (before : ℕ) (moments : List (Query × ℕ)) (among : List Ask) → NotesAs before moments among
     → (q : Query) (since : ℕ)
     → list_any (is_ask_from q since) (filter (λ a. nat_le before (milliseconds_of a.moment)) among)
@@ -79,6 +98,13 @@ denials-stand before index ds denies class name denied until =
 
 pub sees-later : (a b : ℕ) (seen : List (Query × List Reception)) (rs : List Reception) → a ≤ b → SeesAs a seen rs → SeesAs b seen rs
 sees-later a b seen rs below sees = λ told until ttl k. sees told until ttl (omega arith)
+
+pub gaps-later : (a b : ℕ) (gaps : GapsValue) (rs : List Reception) → a ≤ b → GapsSee a gaps rs → GapsSee b gaps rs
+gaps-later a b gaps rs below sees = record {
+  nsec_are = λ makes from respects typed k. sees.nsec_are makes from respects typed (omega arith);
+  nsec3_are = λ makes from respects typed k. sees.nsec3_are makes from respects typed (omega arith);
+  chains_are = sees-later a b gaps.chains (chains_in rs) below sees.chains_are;
+}
 
 pub notes-later : (a b : ℕ) (moments : List (Query × ℕ)) (among : List Ask) → a ≤ b → NotesAs a moments among → NotesAs b moments among
 notes-later a b moments among below notes = λ q since k. notes q since (omega arith)
@@ -115,6 +141,14 @@ notes-push before was is among new notes adds = λ q since k.
 pub sees-forgetting : (before : ℕ) (was is : List (Query × List Reception)) (rs : List Reception) → Forgets before was is → SeesAs before was rs → SeesAs before is rs
 sees-forgetting before was is rs forgets sees = λ told until ttl k. forgets told until ttl k ∙ sees told until ttl k
 
+pub gaps-forgetting : (before : ℕ) (was is : GapsValue) (rs : List Reception) → ForgetsGaps before was is → GapsSee before was rs
+    → GapsSee before is rs
+gaps-forgetting before was is rs forgets sees = record {
+  nsec_are = λ makes from respects typed k. forgets.nsec_are makes from k ∙ sees.nsec_are makes from respects typed k;
+  nsec3_are = λ makes from respects typed k. forgets.nsec3_are makes from k ∙ sees.nsec3_are makes from respects typed k;
+  chains_are = sees-forgetting before was.chains is.chains (chains_in rs) forgets.chains_are sees.chains_are;
+}
+
 pub notes-forgetting : (before : ℕ) (was is : List (Query × ℕ)) (among : List Ask) → ForgetsMoments before was is → NotesAs before was among → NotesAs before is among
 notes-forgetting before was is among forgets notes = λ q since k. forgets q since k ∙ notes q since k
 
@@ -140,6 +174,9 @@ stands-kept options past judge now before kept is =
       seen_are = λ told until ttl. seen-stands from judge.seen (receptions past)
           (sees-later (oldest options.slack (latest past)) from judge.seen (receptions past) later kept.seen_are) told until ttl
           ∙ ap (λ n. reaches told (max until n) ttl (seen_at judge.seen (question_of told))) (sym is);
+      gaps_are = subst (λ n. GapsStand n judge.gaps (filter (λ r. nat_le from (deadline r)) (receptions past))) (sym is)
+          (gaps-stand from judge.gaps (receptions past)
+          (gaps-later (oldest options.slack (latest past)) from judge.gaps (receptions past) later kept.gaps_are));
       asked_are = λ q since. notes-stand from judge.asked (asks past)
           (notes-later (oldest options.slack (latest past)) from judge.asked (asks past) later kept.asked_are) q since
           ∙ ap (λ n. is_since (max since n) (latest_at judge.asked q)) (sym is);

@@ -1,5 +1,5 @@
 -- Aliases that led from a name to another (RFC 1034, section 3.6.2), and whether they had run out.
-use Rattle.std.specs.Prelude.{◌+◌, ◌-◌, ℕ, Bool, false, not, ◌&&◌, ◌||◌, ◌==◌, nat_le, List, Option, None, if◌then◌else◌, zero, suc}
+use Rattle.std.specs.Prelude.{◌+◌, ℕ, Bool, false, not, ◌&&◌, ◌||◌, ◌==◌, nat_le, List, Option, None, if◌then◌else◌, zero, suc}
 use Rattle.std.specs.List.{list_any}
 use Rattle.std.specs.Option.{option_map_or}
 use Rattle.hickory_proto_core.specs.Codes.{class_code}

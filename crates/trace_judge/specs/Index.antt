@@ -1,16 +1,17 @@
 -- What a judge keeps of a trace, by questions, so that it finds at once what it needs.
-use Rattle.std.specs.Prelude.{◌≡◌, ◌≤◌, ◌+◌, ℕ, suc, zero, Bool, false, true, not, ◌&&◌, ◌||◌, ◌==◌, nat_le, List, [], ◌∷◌, ◌++◌, filter, fold, length, map, max, Option, None, Some, unwrap_or, if◌then◌else◌}
-use Rattle.std.specs.List.{list_any}
+use Rattle.std.specs.Prelude.{◌≡◌, ◌≤◌, ◌+◌, ℕ, suc, zero, Bool, false, true, not, ◌&&◌, ◌||◌, ◌==◌, nat_le, List, [], ◌∷◌, ◌++◌, filter, fold, length, max, Option, None, Some, unwrap_or, if◌then◌else◌}
+use Rattle.std.specs.List.{flat_map, list_any}
 use Rattle.std.specs.Option.{option_map_or}
 use Rattle.std.specs.Map.{lookup}
 use Rattle.hickory_proto_core.specs.Query.{query_eq}
-use Rattle.hickory_proto_core.specs.Records.{RecordValue}
+use Rattle.hickory_proto_core.specs.Records.{DataValue, RecordValue, unknown_data}
 use Rattle.hickory_proto_core.specs.declared.query.Query.{Query}
-use Rattle.hickory_proto_core.specs.Codes.{class_code, type_code}
-use Rattle.hickory_proto_core.specs.Name.{NameValue, name_eq, trimmed_name}
+use Rattle.hickory_proto_core.specs.Codes.{class_code}
+use Rattle.hickory_proto_core.specs.Name.{NameValue, base_of, name_eq, trimmed_name}
 use Rattle.hickory_proto_core.specs.codes.dns_class.DNSClass.{DNSClass}
 use Rattle.hickory_proto_core.specs.codes.record_type.RecordType.{RecordType}
 use Rattle.hickory_proto_core.specs.codes.record_type.RecordType.TheVariants as type
+use Rattle.synthesis.specs.Nsec3.{ChainValue, chain_octets, chain_of}
 use Rattle.synthesis.specs.declared.dns64.Prefix.{Prefix}
 use Rattle.trace_judge.specs.Asks.{is_ask_from}
 use Rattle.trace_judge.specs.Denials.{alias_target, covers_until, denial_deadline}
@@ -57,14 +58,6 @@ is_lasting before rs = list_any (λ r. nat_le before (deadline r)) rs
 abbrev pub seen_at : List (Query × List Reception) → Query → List Reception
 seen_at seen q = unwrap_or (lookup (query_eq q) seen) []
 
--- a question is for a type, by its code
-abbrev pub is_for : DNSClass → ℕ → Query → Bool
-is_for class code q = (class_code q.query_class == class_code class) && (type_code q.query_type == code)
-
--- the questions for a type that something was received for
-abbrev pub questions_of : DNSClass → ℕ → List (Query × List Reception) → List Query
-questions_of class code seen = filter (is_for class code) (map (λ e. e.0) seen)
-
 -- a reception was put in
 abbrev pub Adds : Reception → List (Query × List Reception) → List (Query × List Reception) → Type 0
 Adds new before after =
@@ -77,6 +70,109 @@ Forgets moment before after =
     (told : RecordValue) (until ttl : ℕ) → moment ≤ until
     → reaches told until ttl (seen_at after (question_of told))
     ≡ reaches told until ttl (seen_at before (question_of told))
+
+-- from a moment on, the index says what these receptions do
+abbrev pub SeesAs : ℕ → List (Query × List Reception) → List Reception → Type 0
+SeesAs before seen rs =
+    (told : RecordValue) (until ttl : ℕ) → before ≤ until
+    → reaches told until ttl (seen_at seen (question_of told)) ≡ reaches told until ttl rs
+
+-- ---- records that say what is not there
+
+-- a reception of a record that passes the test runs out at that moment or later
+abbrev pub is_late : ℕ → (RecordValue → Bool) → Reception → Bool
+is_late from makes r = makes r.found && nat_le from (deadline r)
+
+abbrev pub any_late : ℕ → (RecordValue → Bool) → List Reception → Bool
+any_late from makes rs = list_any (is_late from makes) rs
+
+-- a test of records that what is the same passes too
+abbrev pub Respects : (RecordValue → Bool) → Type 0
+Respects makes = (a b : RecordValue) → is_same_record a b ≡ true → makes a ≡ true → makes b ≡ true
+
+-- data of a type that is kept by its code
+abbrev pub is_unknown : ℕ → DataValue → Bool
+is_unknown code (unknown_data c bytes) = c == code
+is_unknown code other = false
+
+-- records of this type alone pass the test
+abbrev pub IsOfType : ℕ → (RecordValue → Bool) → Type 0
+IsOfType code makes = (a : RecordValue) → makes a ≡ true → is_unknown code a.rdata ≡ true
+
+-- such a reception is among those of some owner
+abbrev pub any_owner : ℕ → (RecordValue → Bool) → List (NameValue × List Reception) → Bool
+any_owner from makes owners = list_any (λ o. any_late from makes o.1) owners
+
+-- from a moment on, the owners of a type say what these receptions do
+abbrev pub OwnersSee : ℕ → ℕ → List (NameValue × List Reception) → List Reception → Type 0
+OwnersSee code before owners rs =
+    (makes : RecordValue → Bool) (from : ℕ) → Respects makes → IsOfType code makes → before ≤ from
+    → any_owner from makes owners ≡ any_late from makes rs
+
+-- a reception was put to its owner
+abbrev pub AddsOwner : Reception → List (NameValue × List Reception) → List (NameValue × List Reception) → Type 0
+AddsOwner new before after =
+    (makes : RecordValue → Bool) (from : ℕ) → Respects makes
+    → any_owner from makes after ≡ (any_owner from makes before || is_late from makes new)
+
+-- nothing is forgotten but what ran out before this moment
+abbrev pub ForgetsOwners : ℕ → List (NameValue × List Reception) → List (NameValue × List Reception) → Type 0
+ForgetsOwners moment before after =
+    (makes : RecordValue → Bool) (from : ℕ) → moment ≤ from → any_owner from makes after ≡ any_owner from makes before
+
+-- The chain of an NSEC3 record, kept as a record of its zone: as an NSEC3PARAM record (of type 51) it says how the names
+-- are hashed (RFC 5155, section 4), and it lasts for as long.
+abbrev pub chain_record : RecordValue → ChainValue → RecordValue
+chain_record r chain = record {
+  name = chain.zone;
+  dns_class = r.dns_class;
+  ttl = r.ttl;
+  rdata = unknown_data 51 (chain_octets chain);
+}
+
+abbrev pub with_chain : Moment → RecordValue → Option ChainValue → List Reception
+with_chain moment r None = []
+with_chain moment r (Some chain) = record { moment = moment; found = chain_record r chain } ∷ []
+
+abbrev pub received_if : Moment → Option RecordValue → List Reception
+received_if moment None = []
+received_if moment (Some r) = record { moment = moment; found = r } ∷ []
+
+abbrev pub chain_by : Moment → RecordValue → DataValue → List Reception
+chain_by moment r (unknown_data code bytes) =
+    if code == 50 then with_chain moment r (chain_of (base_of r.name) bytes) else []
+chain_by moment r other = []
+
+abbrev pub chains_in : List Reception → List Reception
+chains_in rs = flat_map (λ r. chain_by r.moment r.found r.found.rdata) rs
+
+-- what is kept of records that say what is not there: NSEC and NSEC3 records by their owners in canonical order, and
+-- chains by their zones
+pub record GapsValue : Type 0 where
+  pub nsec : List (NameValue × List Reception)
+  pub nsec3 : List (NameValue × List Reception)
+  pub chains : List (Query × List Reception)
+
+-- from a moment on, they say what these receptions do
+pub record GapsSee (before : ℕ) (gaps : GapsValue) (rs : List Reception) : Type 0 where
+  pub nsec_are : OwnersSee 47 before gaps.nsec rs
+  pub nsec3_are : OwnersSee 50 before gaps.nsec3 rs
+  pub chains_are : SeesAs before gaps.chains (chains_in rs)
+
+-- nothing is forgotten but what ran out before this moment
+pub record ForgetsGaps (moment : ℕ) (before after : GapsValue) : Type 0 where
+  pub nsec_are : ForgetsOwners moment before.nsec after.nsec
+  pub nsec3_are : ForgetsOwners moment before.nsec3 after.nsec3
+  pub chains_are : Forgets moment before.chains after.chains
+
+-- they say what these receptions do, of which all that ran out before that moment are forgotten
+pub record GapsStand (before : ℕ) (gaps : GapsValue) (rs : List Reception) : Type 0 where
+  pub nsec_are : (makes : RecordValue → Bool) (from : ℕ) → Respects makes → IsOfType 47 makes
+      → any_owner (max from before) makes gaps.nsec ≡ any_late from makes rs
+  pub nsec3_are : (makes : RecordValue → Bool) (from : ℕ) → Respects makes → IsOfType 50 makes
+      → any_owner (max from before) makes gaps.nsec3 ≡ any_late from makes rs
+  pub chains_are : (told : RecordValue) (until ttl : ℕ)
+      → reaches told until ttl (chains_in rs) ≡ reaches told (max until before) ttl (seen_at gaps.chains (question_of told))
 
 -- ---- the latest moment of each question
 
@@ -209,6 +305,7 @@ pub record IndexValue : Type 0 where
   pub dns64 : List Prefix
   pub start : Moment
   pub seen : List (Query × List Reception)
+  pub gaps : GapsValue
   pub asked : List (Query × ℕ)
   pub answered : List (Query × ℕ)
   pub denied : DeniedValue
@@ -229,6 +326,7 @@ pub record Stands (e : EvidenceValue) (i : IndexValue) : Type 0 where
   pub start_is : i.start ≡ e.start
   pub seen_are : (told : RecordValue) (until ttl : ℕ)
       → reaches told until ttl e.received ≡ reaches told (max until i.oldest) ttl (seen_at i.seen (question_of told))
+  pub gaps_are : GapsStand i.oldest i.gaps e.received
   pub asked_are : (q : Query) (since : ℕ)
       → list_any (is_ask_from q since) e.asks ≡ is_since (max since i.oldest) (latest_at i.asked q)
   pub answered_are : (q : Query) (since : ℕ)

@@ -1,16 +1,15 @@
 -- What a judge finds in a trace, and what it keeps of the lines that it has heard.
-use Rattle.std.specs.Prelude.{◌≡◌, ◌≤◌, ◌&&◌, ℕ, Bool, false, not, nat_le, List, [], ◌∷◌, ◌++◌, filter, max, Option, unwrap_or}
+use Rattle.std.specs.Prelude.{◌≡◌, ◌≤◌, ◌&&◌, ℕ, Bool, false, not, nat_le, List, [], filter, max, Option, unwrap_or}
 use Rattle.std.specs.List.{list_any}
 use Rattle.hickory_proto_core.specs.Query.{query_eq}
-use Rattle.hickory_proto_core.specs.Records.{RecordValue}
 use Rattle.hickory_proto_core.specs.declared.query.Query.{Query}
 use Rattle.trace_judge.specs.Asks.{answers, asks, is_ask_from}
 use Rattle.trace_judge.specs.Denials.{denial_deadline, denials}
 use Rattle.trace_judge.specs.Evidence.{EvidenceValue}
 use Rattle.trace_judge.specs.Findings.{told_findings, when}
 use Rattle.trace_judge.specs.Forgetting.{latest, oldest}
-use Rattle.trace_judge.specs.Index.{DeniedValue, Forgets, ForgetsDenials, ForgetsMoments, IndexValue, count_at, is_since, latest_at, reaches, seen_at, times, type_key, whole_key}
-use Rattle.trace_judge.specs.Receptions.{deadline, question_of, receptions}
+use Rattle.trace_judge.specs.Index.{DeniedValue, Forgets, ForgetsDenials, ForgetsGaps, ForgetsMoments, GapsSee, GapsValue, IndexValue, SeesAs, count_at, is_since, latest_at, times, type_key, whole_key}
+use Rattle.trace_judge.specs.Receptions.{deadline, receptions}
 use Rattle.trace_judge.specs.Trace.{is_counted, milliseconds_of, open_questions, start_in}
 use Rattle.trace_judge.specs.declared.asks.Ask.{Ask}
 use Rattle.trace_judge.specs.declared.classes.Class.TheVariants.{Unasked}
@@ -59,6 +58,7 @@ pub record JudgeValue : Type 0 where
   pub clock : ℕ
   pub open_counts : List (Query × ℕ)
   pub seen : List (Query × List Reception)
+  pub gaps : GapsValue
   pub asked : List (Query × ℕ)
   pub answered : List (Query × ℕ)
   pub denied : DeniedValue
@@ -66,12 +66,6 @@ pub record JudgeValue : Type 0 where
 -- each question is open as often as it is among these
 abbrev pub CountsOpen : List (Query × ℕ) → List Query → Type 0
 CountsOpen counts open_ones = (q : Query) → count_at counts q ≡ times q open_ones
-
--- from a moment on, the index says what these receptions do
-abbrev pub SeesAs : ℕ → List (Query × List Reception) → List Reception → Type 0
-SeesAs before seen rs =
-    (told : RecordValue) (until ttl : ℕ) → before ≤ until
-    → reaches told until ttl (seen_at seen (question_of told)) ≡ reaches told until ttl rs
 
 -- from a moment on, the index says what these questions do
 abbrev pub NotesAs : ℕ → List (Query × ℕ) → List Ask → Type 0
@@ -107,6 +101,7 @@ index_of judge now before = record {
   dns64 = judge.options.dns64;
   start = unwrap_or judge.start now;
   seen = judge.seen;
+  gaps = judge.gaps;
   asked = judge.asked;
   answered = judge.answered;
   denied = judge.denied;
@@ -119,6 +114,7 @@ pub record ForgetsAll (moment : ℕ) (before after : JudgeValue) : Type 0 where
   pub clock_is : after.clock ≡ before.clock
   pub open_are : after.open_counts ≡ before.open_counts
   pub seen_are : Forgets moment before.seen after.seen
+  pub gaps_are : ForgetsGaps moment before.gaps after.gaps
   pub asked_are : ForgetsMoments moment before.asked after.asked
   pub answered_are : ForgetsMoments moment before.answered after.answered
   pub denied_are : ForgetsDenials moment before.denied after.denied
@@ -130,6 +126,7 @@ pub record Keeps (options : OptionsValue) (past : List Event) (judge : JudgeValu
   pub clock_is : judge.clock ≡ latest past
   pub open_are : CountsOpen judge.open_counts (open_questions past)
   pub seen_are : SeesAs (oldest options.slack (latest past)) judge.seen (receptions past)
+  pub gaps_are : GapsSee (oldest options.slack (latest past)) judge.gaps (receptions past)
   pub asked_are : NotesAs (oldest options.slack (latest past)) judge.asked (asks past)
   pub answered_are : NotesAs (oldest options.slack (latest past)) judge.answered (answers past)
   pub denied_are : DeniesAs (oldest options.slack (latest past)) judge.denied (denials past)

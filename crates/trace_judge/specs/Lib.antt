@@ -8,6 +8,8 @@ pub mod Asks
 pub mod Forgetting
 pub mod Evidence
 pub mod Index
+pub mod Below
+pub mod Hashed
 pub mod Making
 pub mod MadeIndex
 pub mod Findings

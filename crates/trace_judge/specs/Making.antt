@@ -1,6 +1,6 @@
 -- What a resolver may make by itself of what it received, as long as that is current: aliases of a DNAME record (RFC
--- 6672), denials of an NSEC record (RFC 8198), and addresses by DNS64 (RFC 6147). And what it has of its own.
-use Rattle.std.specs.Prelude.{◌+◌, ◌-◌, ℕ, zero, suc, Bool, false, ◌&&◌, ◌||◌, ◌==◌, nat_le, length, List, [], ◌∷◌}
+-- 6672), denials of NSEC and NSEC3 records (RFC 8198), and addresses by DNS64 (RFC 6147). And what it has of its own.
+use Rattle.std.specs.Prelude.{◌+◌, ℕ, Bool, false, ◌&&◌, ◌||◌, ◌==◌, nat_le, length, List}
 use Rattle.std.specs.List.{list_any}
 use Rattle.hickory_proto_core.specs.Codes.{class_code, type_code}
 use Rattle.hickory_proto_core.specs.Name.{NameValue, name_eq, trimmed_name}
@@ -10,8 +10,10 @@ use Rattle.synthesis.specs.Dname.{is_substitution}
 use Rattle.synthesis.specs.Dns64.{is_embedded}
 use Rattle.synthesis.specs.Nsec.{is_name_denied, is_type_denied}
 use Rattle.synthesis.specs.declared.dns64.Prefix.{Prefix}
+use Rattle.trace_judge.specs.Below.{some_below}
 use Rattle.trace_judge.specs.Denials.{last_name, negative_ttl}
 use Rattle.trace_judge.specs.Evidence.{EvidenceValue}
+use Rattle.trace_judge.specs.Hashed.{is_denied_hashed}
 use Rattle.trace_judge.specs.Receptions.{deadline, grace, is_same_record, reach}
 use Rattle.trace_judge.specs.Replies.{ReplyValue}
 use Rattle.trace_judge.specs.Trace.{milliseconds_of}
@@ -24,10 +26,9 @@ use Rattle.trace_judge.specs.declared.receptions.Reception.{Reception}
 abbrev pub any_lasts : ℕ → ℕ → (RecordValue → Bool) → List Reception → Bool
 any_lasts slack until makes received = list_any (λ r. makes r.found && nat_le until (deadline r + grace slack)) received
 
--- a number below this one passes the test
-abbrev pub some_below : ℕ → (ℕ → Bool) → Bool
-some_below zero test = false
-some_below (suc n) test = test n || some_below n test
+-- the same of the evidence
+abbrev pub lasts : EvidenceValue → ℕ → (RecordValue → Bool) → Bool
+lasts e until makes = any_lasts e.slack until makes e.received
 
 -- ---- DNAME
 
@@ -103,4 +104,5 @@ abbrev pub is_denial_made : EvidenceValue → Moment → ReplyValue → Denied �
 is_denial_made e now reply denied =
     let class = reply.query.query_class in let name = last_name reply.query reply.answers in
     let until = reach (milliseconds_of now) (negative_ttl reply.authorities) in
-    has_own_name e.own class name || any_lasts e.slack until (makes_denial class name denied) e.received
+    has_own_name e.own class name || lasts e until (makes_denial class name denied)
+    || is_denied_hashed (lasts e until) class name denied

@@ -2,6 +2,7 @@
 
 use crate::denied::Denials;
 use crate::event::Moment;
+use crate::gaps::Gaps;
 use crate::latest::LatestMoments;
 use crate::sightings::Sightings;
 use hickory_proto_core::{Name, Record};
@@ -27,6 +28,8 @@ pub struct Evidence<'a> {
     pub start: Moment,
     /// What was received.
     pub seen: &'a Sightings,
+    /// What was received of the records that say what is not there.
+    pub gaps: &'a Gaps,
     /// When each question was asked last.
     pub asked: &'a LatestMoments,
     /// When each question was answered last.
@@ -48,6 +51,7 @@ impl<'a> Model for Evidence<'a> {
       dns64 = e.dns64.now;
       start = e.start;
       seen = e.seen.now;
+      gaps = e.gaps.now;
       asked = e.asked.now;
       answered = e.answered.now;
       denied = e.denied.now;

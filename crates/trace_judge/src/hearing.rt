@@ -5,8 +5,8 @@ ghost use Rattle.trace_judge.specs.Asks.{answered_by, asked_by};
 ghost use Rattle.trace_judge.specs.Denials.{denial_of, denied_by, denied_in};
 ghost use Rattle.trace_judge.specs.Evidence.{EvidenceValue};
 ghost use Rattle.trace_judge.specs.Forgetting.{oldest};
-ghost use Rattle.trace_judge.specs.Index.{Stands};
-ghost use Rattle.trace_judge.specs.Judging.{CountsOpen, DeniesAs, ForgetsAll, Keeps, NotesAs, SeesAs, event_findings, findings_by, index_of};
+ghost use Rattle.trace_judge.specs.Index.{GapsSee, SeesAs, Stands};
+ghost use Rattle.trace_judge.specs.Judging.{CountsOpen, DeniesAs, ForgetsAll, Keeps, NotesAs, event_findings, findings_by, index_of};
 ghost use Rattle.trace_judge.specs.Options.{OptionsValue};
 ghost use Rattle.trace_judge.specs.Receptions.{reception_at, received_by, received_of};
 ghost use Rattle.trace_judge.specs.Trace.{is_open_for, open_after};
@@ -20,6 +20,7 @@ use crate::denials::{Denial, denied_by, last_name, negative_ttl};
 use crate::denied::Denials;
 use crate::event::{Event, Moment, Reply, Said, is_outcome};
 use crate::evidence::Evidence;
+use crate::gaps::Gaps;
 use crate::latest::LatestMoments;
 use crate::open::OpenQuestions;
 use crate::options::Options;
@@ -43,6 +44,7 @@ pub struct Judge {
     clock: u64,
     questions: OpenQuestions,
     seen: Sightings,
+    gaps: Gaps,
     asked: LatestMoments,
     answered: LatestMoments,
     denied: Denials,
@@ -59,6 +61,7 @@ impl Model for Judge {
       clock = j.clock;
       open_counts = j.questions;
       seen = j.seen;
+      gaps = j.gaps;
       asked = j.asked;
       answered = j.answered;
       denied = j.denied;
@@ -77,6 +80,7 @@ impl Judge {
             clock: 0,
             questions: OpenQuestions::new(alloc),
             seen: Sightings::new(alloc),
+            gaps: Gaps::new(alloc),
             asked: LatestMoments::new(alloc),
             answered: LatestMoments::new(alloc),
             denied: Denials::new(alloc),
@@ -100,6 +104,7 @@ impl Judge {
         hear_asked(&mut self.asked, now, said)?;
         hear_answered(&mut self.answered, now, counts, said)?;
         hear_received(&mut self.seen, now, counts, said)?;
+        hear_gaps(&mut self.gaps, now, counts, said)?;
         hear_denied(&mut self.denied, now, counts, said)?;
         self.start = Some(self.start.unwrap_or(now));
         self.forget(oldest);
@@ -131,6 +136,7 @@ impl Judge {
                     dns64: &self.options.dns64,
                     start: self.start.unwrap_or(now),
                     seen: &self.seen,
+                    gaps: &self.gaps,
                     asked: &self.asked,
                     answered: &self.answered,
                     denied: &self.denied,
@@ -146,6 +152,7 @@ impl Judge {
         ensures { ForgetsAll oldest self.old self.new }
     {
         self.seen.forget(oldest);
+        self.gaps.forget(oldest);
         self.asked.forget(oldest);
         self.answered.forget(oldest);
         self.denied.forget(oldest);
@@ -235,6 +242,36 @@ fn keep_section(seen: &mut Sightings, moment: Moment, records: &[Record]) -> Res
     for r in records {
         let found = Clone::clone(r)?;
         seen.add(Reception { moment, found })?;
+    }
+    Ok(())
+}
+
+// Keeps those of its records that say what is not there.
+fn hear_gaps(gaps: &mut Gaps, now: Moment, counts: bool, said: &Said) -> Result<(), AllocError>
+    ensures { (from : ℕ) (before : List Reception) → GapsSee from gaps.old before
+        → OnOk result (GapsSee from gaps.new (before ++ received_by counts now said.now)) }
+{
+    match said {
+        Said::Received(reply) if counts && is_outcome(reply.code) => keep_gaps(gaps, now, reply),
+        _ => Ok(()),
+    }
+}
+
+fn keep_gaps(gaps: &mut Gaps, now: Moment, reply: &Reply) -> Result<(), AllocError>
+    ensures { (from : ℕ) (before : List Reception) → GapsSee from gaps.old before
+        → OnOk result (GapsSee from gaps.new (before ++ received_of now reply.now)) }
+{
+    keep_gaps_in(gaps, now, &reply.answers)?;
+    keep_gaps_in(gaps, now, &reply.authorities)?;
+    keep_gaps_in(gaps, now, &reply.additionals)
+}
+
+fn keep_gaps_in(gaps: &mut Gaps, moment: Moment, records: &[Record]) -> Result<(), AllocError>
+    ensures { (from : ℕ) (before : List Reception) → GapsSee from gaps.old before
+        → OnOk result (GapsSee from gaps.new (before ++ map (reception_at moment) records.now)) }
+{
+    for r in records {
+        gaps.add(moment, r)?;
     }
     Ok(())
 }

@@ -6,9 +6,9 @@ ghost use Rattle.hickory_proto_core.specs.Codes.{class_code};
 ghost use Rattle.hickory_proto_core.specs.Name.{name_eq};
 ghost use Rattle.hickory_proto_core.specs.Records.{data_of};
 ghost use Rattle.trace_judge.specs.Evidence.{EvidenceValue};
-ghost use Rattle.trace_judge.specs.Index.{Stands};
-ghost use Rattle.trace_judge.specs.MadeIndex.{any_late, is_address_made_in, is_alias_made_at, is_alias_made_in, is_data_made_in, is_denial_made_in, late, makes_denial_of};
-ghost use Rattle.trace_judge.specs.Making.{denies_as, denies_by, embeds_as, has_own_name, is_denial_made, is_made, is_own, leads_as, makes_address, makes_alias};
+ghost use Rattle.trace_judge.specs.Index.{Stands, any_late};
+ghost use Rattle.trace_judge.specs.MadeIndex.{is_address_made_in, is_alias_made_at, is_alias_made_in, is_data_made_in, late};
+ghost use Rattle.trace_judge.specs.Making.{embeds_as, has_own_name, is_denial_made, is_made, is_own, lasts, leads_as, makes_address, makes_alias, makes_denial};
 ghost use Rattle.trace_judge.specs.Receptions.{is_same_record};
 
 use crate::denials::{Denied, last_name};
@@ -16,11 +16,14 @@ use crate::denied::{label_count, trimmed, type_key};
 use crate::event::{Moment, Reply};
 use crate::evidence::Evidence;
 use crate::facts::denial_reach;
+use crate::gap::Gap;
+use crate::hashed::is_denied_hashed;
+use crate::owners::any_owner;
 use crate::receptions::{Reception, grace, is_same_record, reach};
-use hickory_proto_core::{DNSClass, Name, Query, RData, Record, RecordType};
+use hickory_proto_core::{DNSClass, Name, RData, Record, RecordType};
 use std::alloc::{AllocError, Global};
 use std::net::Ipv6Addr;
-use synthesis::{Prefix, is_embedded, is_name_denied, is_substitution, is_type_denied};
+use synthesis::{Prefix, is_embedded, is_substitution};
 
 /// Whether the resolver may make a record by itself, or has it of its own.
 pub fn is_made(evidence: &Evidence, now: Moment, told: &Record) -> Result<bool, AllocError>
@@ -33,8 +36,8 @@ pub fn is_made(evidence: &Evidence, now: Moment, told: &Record) -> Result<bool, 
     is_data_made(evidence, late(evidence, reach(now, told.ttl)), told)
 }
 
-// What may be kept until a moment runs out at this one or later, both in milliseconds.
-fn late(evidence: &Evidence, until: u64) -> u64
+/// What may be kept until a moment runs out at this one or later, both in milliseconds.
+pub fn late(evidence: &Evidence, until: u64) -> u64
     ensures { result ≡ late evidence.now until }
 {
     until
@@ -241,7 +244,7 @@ fn embeds_as(
     Ok(false)
 }
 
-// ---- NSEC
+// ---- denials
 
 /// Whether the resolver may make a denial by itself, or has records of its own with its name.
 pub fn is_denial_made(
@@ -258,112 +261,25 @@ pub fn is_denial_made(
     if has_own_name(evidence.own, dns_class, name) {
         return Ok(true);
     }
-    let from = late(evidence, denial_reach(now, reply));
-    is_denial_made_in(evidence, from, dns_class, name, denied)
+    let until = denial_reach(now, reply);
+    if is_denied_between(evidence, until, dns_class, name, denied)? {
+        return Ok(true);
+    }
+    is_denied_hashed(evidence, until, dns_class, name, denied)
 }
 
-fn is_denial_made_in(
+// Whether an NSEC record makes a denial, for so long.
+fn is_denied_between(
     evidence: &Evidence,
-    from: u64,
+    until: u64,
     dns_class: DNSClass,
     name: &Name,
     denied: Denied,
 ) -> Result<bool, AllocError>
-    ensures { IfOk result
-        (λ made. made ≡ is_denial_made_in evidence.now from dns_class name.now denied) }
+    ensures { (e : EvidenceValue) → Stands e evidence.now
+        → IfOk result (λ made. made ≡ lasts e until (makes_denial dns_class name.now denied)) }
 {
-    let questions = evidence.seen.questions_of(dns_class, 47)?;
-    for query in &questions {
-        let received = evidence.seen.of(query);
-        if any_makes_denial(
-            evidence.alloc,
-            from,
-            query,
-            dns_class,
-            name,
-            denied,
-            received,
-        )? {
-            return Ok(true);
-        }
-    }
-    Ok(false)
-}
-
-fn any_makes_denial(
-    alloc: Global,
-    from: u64,
-    query: &Query,
-    dns_class: DNSClass,
-    name: &Name,
-    denied: Denied,
-    received: &[Reception],
-) -> Result<bool, AllocError>
-    ensures { IfOk result (λ made. made
-        ≡ any_late from (makes_denial_of query.now dns_class name.now denied) received.now) }
-{
-    for r in received {
-        if makes_denial_of(alloc, query, dns_class, name, denied, &r.found)?
-            && from <= r.deadline()
-        {
-            return Ok(true);
-        }
-    }
-    Ok(false)
-}
-
-fn makes_denial_of(
-    alloc: Global,
-    query: &Query,
-    dns_class: DNSClass,
-    name: &Name,
-    denied: Denied,
-    by: &Record,
-) -> Result<bool, AllocError>
-    ensures { IfOk result
-        (λ made. made ≡ makes_denial_of query.now dns_class name.now denied by.now) }
-{
-    if by.name == query.name && by.dns_class == dns_class {
-        denies_as(alloc, &by.name, name, denied, &by.rdata)
-    } else {
-        Ok(false)
-    }
-}
-
-fn denies_as(
-    alloc: Global,
-    owner: &Name,
-    name: &Name,
-    denied: Denied,
-    by: &RData,
-) -> Result<bool, AllocError>
-    ensures { IfOk result (λ made. made ≡ denies_as owner.now name.now denied (data_of by.now)) }
-{
-    match by {
-        RData::Unknown { code, bytes } if *code == 47 => denies_by(
-            alloc, owner, bytes, name, denied,
-        ),
-        _ => Ok(false),
-    }
-}
-
-fn denies_by(
-    alloc: Global,
-    owner: &Name,
-    bytes: &[u8],
-    name: &Name,
-    denied: Denied,
-) -> Result<bool, AllocError>
-    ensures { IfOk result (λ made. made ≡ denies_by owner.now bytes.now name.now denied) }
-{
-    match denied {
-        Denied::WholeName => is_name_denied(alloc, owner, bytes, name),
-        Denied::OneType(record_type) => is_type_denied(
-            alloc,
-            owner,
-            bytes,
-            name,
-            record_type.code(),
-        ),
-    }
+    let gap = Gap::Between(name, denied);
+    let from = late(evidence, until);
+    any_owner(evidence.alloc, from, dns_class, &gap, evidence.gaps.nsec())
 }

@@ -1,11 +1,11 @@
 //! What was received, by the question that it answers.
 ghost use Rattle.std.specs.Prelude.{◌≡◌, [], IfOk, OnOk, filter, not};
 ghost use Rattle.std.specs.List.{list_any};
-ghost use Rattle.trace_judge.specs.Index.{Adds, Forgets, is_for, is_lasting, is_outdone, questions_of, seen_at, with_reception};
+ghost use Rattle.trace_judge.specs.Index.{Adds, Forgets, is_lasting, is_outdone, seen_at, with_reception};
 ghost use Rattle.trace_judge.specs.Receptions.{question_of};
 
 use crate::receptions::{Reception, is_same_record};
-use hickory_proto_core::{DNSClass, Query, Record};
+use hickory_proto_core::{Query, Record};
 use std::alloc::{AllocError, Global};
 use std::collections::HashMap;
 use std::marker::Model;
@@ -127,19 +127,6 @@ impl Sightings {
         }
     }
 
-    /// The questions for a type, by its code, that something was received for.
-    pub fn questions_of(&self, dns_class: DNSClass, code: u16) -> Result<Vec<Query>, AllocError>
-        ensures { IfOk result (λ qs. qs.items ≡ questions_of dns_class code self.now) }
-    {
-        let mut found = Vec::new(self.alloc);
-        for key in self.seen.keys() {
-            if is_for(key, dns_class, code) {
-                found.push(Clone::clone(key)?)?;
-            }
-        }
-        Ok(found)
-    }
-
     /// One more reception.
     pub fn add(&mut self, new: Reception) -> Result<(), AllocError>
         ensures { OnOk result (Adds new self.old self.new) }
@@ -167,13 +154,6 @@ fn drop_ended(seen: &mut HashMap<Query, Seen>, moment: u64)
     ensures { Forgets moment seen.old.entries seen.new.entries }
 {
     seen.retain(|_, s| s.is_lasting(moment));
-}
-
-// Whether a question is for a type, by its code.
-fn is_for(query: &Query, dns_class: DNSClass, code: u16) -> bool
-    ensures { result ≡ is_for dns_class code query.now }
-{
-    query.query_class == dns_class && query.query_type.code() == code
 }
 
 /// The question that a record answers.

@@ -1,5 +1,5 @@
-use Rattle.std.proofs.Common.{◌≡◌, ◌∙◌, ◌++◌, ◌∷◌, [], ap, map, subst, take}
-use Rattle.trace_judge.specs.Judging.{SeesAs}
+use Rattle.std.proofs.Common.{◌∙◌, ◌++◌, ◌∷◌, [], ap, map, subst, take}
+use Rattle.trace_judge.specs.Index.{SeesAs}
 use Rattle.trace_judge.specs.Receptions.{reception_at}
 use Rattle.trace_judge.proofs.Standing.{map_more, sees-push}
 use Rattle.trace_judge.proofs.hearing.keep_section.Goals as goal

@@ -1,5 +1,5 @@
 use Rattle.std.proofs.Common.{ℕ, List, ◌++◌, map, take}
-use Rattle.trace_judge.specs.Judging.{SeesAs}
+use Rattle.trace_judge.specs.Index.{SeesAs}
 use Rattle.trace_judge.specs.Receptions.{reception_at}
 use Rattle.trace_judge.specs.declared.receptions.Reception.{Reception}
 use Rattle.trace_judge.proofs.hearing.keep_section.Given as goal

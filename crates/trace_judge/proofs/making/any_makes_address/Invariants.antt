@@ -1,6 +1,6 @@
 use Rattle.std.proofs.Common.{◌≡◌, false, take}
 use Rattle.std.specs.Net.Addr.{ipv6_segments}
-use Rattle.trace_judge.specs.MadeIndex.{any_late}
+use Rattle.trace_judge.specs.Index.{any_late}
 use Rattle.trace_judge.specs.Making.{makes_address}
 use Rattle.trace_judge.proofs.making.any_makes_address.Given as goal
 

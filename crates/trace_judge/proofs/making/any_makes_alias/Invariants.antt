@@ -1,5 +1,5 @@
 use Rattle.std.proofs.Common.{◌≡◌, false, take}
-use Rattle.trace_judge.specs.MadeIndex.{any_late}
+use Rattle.trace_judge.specs.Index.{any_late}
 use Rattle.trace_judge.specs.Making.{makes_alias}
 use Rattle.trace_judge.proofs.making.any_makes_alias.Given as goal
 

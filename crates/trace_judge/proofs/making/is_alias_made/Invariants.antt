@@ -1,6 +1,6 @@
 use Rattle.std.proofs.Common.{◌≡◌}
 use Rattle.trace_judge.specs.MadeIndex.{is_alias_made_at}
-use Rattle.trace_judge.specs.Making.{some_below}
+use Rattle.trace_judge.specs.Below.{some_below}
 use Rattle.trace_judge.proofs.making.is_alias_made.Given as goal
 
 -- whether some owner of fewer labels makes it

@@ -2,11 +2,11 @@ use Rattle.std.proofs.Common.{◌≡◌, ◌∙◌, ◌++◌, Some, ap, max, sub
 use Rattle.trace_judge.specs.Asks.{answered_by, answers, asked_by, asks}
 use Rattle.trace_judge.specs.Denials.{denials, denied_in}
 use Rattle.trace_judge.specs.Forgetting.{latest, oldest}
-use Rattle.trace_judge.specs.Index.{Forgets, ForgetsDenials, ForgetsMoments, count_at}
-use Rattle.trace_judge.specs.Judging.{DeniesAs, Keeps, NotesAs, SeesAs, evidence_of, findings_by}
+use Rattle.trace_judge.specs.Index.{Forgets, ForgetsDenials, ForgetsGaps, ForgetsMoments, GapsSee, SeesAs, count_at}
+use Rattle.trace_judge.specs.Judging.{DeniesAs, Keeps, NotesAs, evidence_of, findings_by}
 use Rattle.trace_judge.specs.Receptions.{received_by, receptions}
 use Rattle.trace_judge.specs.Trace.{is_counted, milliseconds_of, open_questions}
-use Rattle.trace_judge.proofs.Standing.{denies-forgetting, denies-later, notes-forgetting, notes-later, oldest-later, sees-forgetting, sees-later, stands-kept}
+use Rattle.trace_judge.proofs.Standing.{denies-forgetting, denies-later, gaps-forgetting, gaps-later, notes-forgetting, notes-later, oldest-later, sees-forgetting, sees-later, stands-kept}
 use Rattle.trace_judge.proofs.hearing.Judge.hear.Goals as goal
 
 pub returns : goal.returns
@@ -35,6 +35,10 @@ returns c = λ options past given.
             (sees-forgetting from c.hear_received.new.seen c.forget.new.self.seen (receptions past ++ received_by c.in_ok-counts.counts now said)
             (subst (λ n. Forgets n c.hear_received.new.seen c.forget.new.self.seen) from_is forgot.seen_are)
             (c.in_ok-hear_received.ensures from (receptions past) (sees-later was from i.seen (receptions past) below kept.seen_are)));
+        gaps_are = subst (λ b. GapsSee from c.forget.new.self.gaps (receptions past ++ received_by b now said)) counts
+            (gaps-forgetting from c.hear_gaps.new.gaps c.forget.new.self.gaps (receptions past ++ received_by c.in_ok-counts.counts now said)
+            (subst (λ n. ForgetsGaps n c.hear_gaps.new.gaps c.forget.new.self.gaps) from_is forgot.gaps_are)
+            (c.in_ok-hear_gaps.ensures from (receptions past) (gaps-later was from i.gaps (receptions past) below kept.gaps_are)));
         asked_are = notes-forgetting from c.hear_asked.new.asked c.forget.new.self.asked (asks past ++ asked_by now said)
             (subst (λ n. ForgetsMoments n c.hear_asked.new.asked c.forget.new.self.asked) from_is forgot.asked_are)
             (c.in_ok-hear_asked.ensures from (asks past) (notes-later was from i.asked (asks past) below kept.asked_are));
