@@ -1,4 +1,8 @@
 //! Lines that begin an event: `at` MOMENT, and what was asked, received or told.
+ghost use Rattle.std.specs.Prelude.{◌≡◌, ◌⊎◌, Err};
+ghost use Rattle.replay_script.specs.Faults.{out_of_memory};
+ghost use Rattle.replay_script.specs.Words.{texts};
+ghost use Rattle.trace_lines.specs.Openings.{asked_of, head_of, opening_of, question_of};
 
 use hickory_proto_core::Query;
 use replay_script::reply_line::read_reply;
@@ -20,7 +24,9 @@ pub fn read_opening<'a>(
     alloc: Global,
     verb: &'a str,
     fields: &[&'a str],
-) -> Result<Opening, LineFault<'a>> {
+) -> Result<Opening, LineFault<'a>>
+    ensures { (result ≡ opening_of verb.now (texts fields.now)) ⊎ (result ≡ Err out_of_memory) }
+{
     match verb {
         "asked" => Ok(Opening::Asked(read_asked(alloc, fields)?)),
         "received" => Ok(Opening::Received(read_head(alloc, fields)?)),
@@ -30,7 +36,9 @@ pub fn read_opening<'a>(
 }
 
 // NAME TYPE [CLASS]
-fn read_asked<'a>(alloc: Global, fields: &[&'a str]) -> Result<Query, LineFault<'a>> {
+fn read_asked<'a>(alloc: Global, fields: &[&'a str]) -> Result<Query, LineFault<'a>>
+    ensures { (result ≡ asked_of (texts fields.now)) ⊎ (result ≡ Err out_of_memory) }
+{
     match fields {
         [name, record_type] => read_question(alloc, name, record_type, "IN"),
         [name, record_type, class] => read_question(alloc, name, record_type, class),
@@ -43,7 +51,10 @@ fn read_question<'a>(
     name: &'a str,
     record_type: &'a str,
     class: &'a str,
-) -> Result<Query, LineFault<'a>> {
+) -> Result<Query, LineFault<'a>>
+    ensures { (result ≡ question_of name.now record_type.now class.now)
+        ⊎ (result ≡ Err out_of_memory) }
+{
     let name = read_name(alloc, name)?;
     let query_type = read_type(record_type)?;
     let query_class = read_class(class)?;
@@ -55,7 +66,9 @@ fn read_question<'a>(
 }
 
 // CODE NAME TYPE [CLASS] [tc]: a response of a trace has its question.
-fn read_head<'a>(alloc: Global, fields: &[&'a str]) -> Result<ReplyHead, LineFault<'a>> {
+fn read_head<'a>(alloc: Global, fields: &[&'a str]) -> Result<ReplyHead, LineFault<'a>>
+    ensures { (result ≡ head_of (texts fields.now)) ⊎ (result ≡ Err out_of_memory) }
+{
     let head = read_reply(alloc, fields)?;
     if head.without_question {
         return Err(LineFault::wrong_line(ScriptFault::UnknownWord));

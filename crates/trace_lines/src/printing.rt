@@ -1,60 +1,101 @@
 //! A finding as a line.
-use crate::error::TraceError;
+ghost use Rattle.std.specs.Prelude.{◌≡◌, option_copied};
+ghost use Rattle.trace_lines.specs.Printing.{record_at};
+
 use crate::reader::Placed;
 use hickory_proto_core::Record;
 use std::fmt;
-use std::io::Write;
 use trace_judge::{Class, Finding, Moment, Place, Reply, Said, Section};
 
-/// Prints a finding: `line` NUMBER `at` MOMENT, the class, and what it is said of.
-pub fn print_finding<W: Write>(
-    placed: &Placed,
-    finding: &Finding,
-    writer: &mut W,
-) -> Result<(), TraceError> {
-    match &placed.event.said {
-        Said::Asked(_) => Ok(()),
-        Said::Received(reply) => print_found(placed, reply, finding, writer),
-        Said::Told(reply) => print_found(placed, reply, finding, writer),
+/// A finding: `line` NUMBER `at` MOMENT, the class, and what it is said of.
+#[derive(Clone, Copy)]
+pub struct FindingText<'a> {
+    pub placed: &'a Placed,
+    pub finding: Finding,
+}
+
+impl fmt::Display for FindingText<'_> {
+    ghost use Rattle.std.specs.Prelude.{Some};
+    ghost use Rattle.trace_lines.specs.Printing.{finding_text};
+
+    ghost output = { λ x. Some (finding_text x.placed.now x.finding) };
+
+    fn fmt<W: fmt::Write>(&self, f: &mut fmt::Formatter<W>) -> fmt::Result {
+        let line = self.placed.line;
+        let moment = MomentText(self.placed.event.moment);
+        let class = ClassText(self.finding.class);
+        let subject = SubjectText {
+            said: &self.placed.event.said,
+            place: self.finding.place,
+        };
+        write!(f, "line {line} at {moment} {class}: {subject}\n")
     }
 }
 
-fn print_found<W: Write>(
-    placed: &Placed,
-    reply: &Reply,
-    finding: &Finding,
-    writer: &mut W,
-) -> Result<(), TraceError> {
-    let line = placed.line;
-    let moment = MomentText(placed.event.moment);
-    let class = ClassText(finding.class);
-    if write!(writer, "line {line} at {moment} {class}: ").is_err() {
-        return Err(TraceError::Output);
-    }
-    match record_of(reply, finding.place) {
-        Some(found) => print_record(found, writer),
-        None => print_response(reply, writer),
+// What a finding is said of.
+#[derive(Clone, Copy)]
+struct SubjectText<'a> {
+    said: &'a Said,
+    place: Place,
+}
+
+impl fmt::Display for SubjectText<'_> {
+    ghost use Rattle.std.specs.Prelude.{Some};
+    ghost use Rattle.trace_lines.specs.Printing.{subject_text};
+
+    ghost output = { λ x. Some (subject_text x.said.now x.place) };
+
+    fn fmt<W: fmt::Write>(&self, f: &mut fmt::Formatter<W>) -> fmt::Result {
+        match self.said {
+            Said::Asked(query) => write!(f, "{query}"),
+            Said::Received(reply) => {
+                let text = PlaceText {
+                    reply,
+                    place: self.place,
+                };
+                write!(f, "{text}")
+            }
+            Said::Told(reply) => {
+                let text = PlaceText {
+                    reply,
+                    place: self.place,
+                };
+                write!(f, "{text}")
+            }
+        }
     }
 }
 
-fn print_record<W: Write>(found: &Record, writer: &mut W) -> Result<(), TraceError> {
-    match writeln!(writer, "{found}") {
-        Ok(()) => Ok(()),
-        Err(_) => Err(TraceError::Output),
-    }
+// The record at a place of a response, or the response.
+#[derive(Clone, Copy)]
+struct PlaceText<'a> {
+    reply: &'a Reply,
+    place: Place,
 }
 
-fn print_response<W: Write>(reply: &Reply, writer: &mut W) -> Result<(), TraceError> {
-    let code = reply.code;
-    let query = &reply.query;
-    match writeln!(writer, "{code} {query}") {
-        Ok(()) => Ok(()),
-        Err(_) => Err(TraceError::Output),
+impl fmt::Display for PlaceText<'_> {
+    ghost use Rattle.std.specs.Prelude.{Some};
+    ghost use Rattle.trace_lines.specs.Printing.{place_text, record_at};
+
+    ghost output = { λ x. Some (place_text x.reply.now (record_at x.reply.now x.place)) };
+
+    fn fmt<W: fmt::Write>(&self, f: &mut fmt::Formatter<W>) -> fmt::Result {
+        match record_at(self.reply, self.place) {
+            Some(found) => write!(f, "{found}"),
+            None => {
+                let reply = self.reply;
+                let code = reply.code;
+                let query = &reply.query;
+                write!(f, "{code} {query}")
+            }
+        }
     }
 }
 
 // The record at a place.
-fn record_of(reply: &Reply, place: Place) -> Option<&Record> {
+fn record_at(reply: &Reply, place: Place) -> Option<&Record>
+    ensures { option_copied result ≡ record_at reply.now place }
+{
     match place {
         Place::Record(Section::Answer, i) => reply.answers.get(i),
         Place::Record(Section::Authority, i) => reply.authorities.get(i),
@@ -64,10 +105,15 @@ fn record_of(reply: &Reply, place: Place) -> Option<&Record> {
 }
 
 // A moment, with three digits behind a dot.
-#[derive(Drop)]
+#[derive(Clone, Copy)]
 struct MomentText(Moment);
 
 impl fmt::Display for MomentText {
+    ghost use Rattle.std.specs.Prelude.{Some};
+    ghost use Rattle.trace_lines.specs.Printing.{moment_text};
+
+    ghost output = { λ x. Some (moment_text x.0) };
+
     fn fmt<W: fmt::Write>(&self, f: &mut fmt::Formatter<W>) -> fmt::Result {
         let seconds = self.0.seconds;
         let milliseconds = self.0.milliseconds;
@@ -76,17 +122,31 @@ impl fmt::Display for MomentText {
 }
 
 // A class by its name, and by how many seconds.
-#[derive(Drop)]
+#[derive(Clone, Copy)]
 struct ClassText(Class);
 
 impl fmt::Display for ClassText {
+    ghost use Rattle.std.specs.Prelude.{Some};
+    ghost use Rattle.trace_lines.specs.Printing.{class_text};
+
+    ghost output = { λ x. Some (class_text x.0) };
+
     fn fmt<W: fmt::Write>(&self, f: &mut fmt::Formatter<W>) -> fmt::Result {
         match self.0 {
-            Class::Stale(by) => write_by(f, "stale by", by),
-            Class::ServedStale(by) => write_by(f, "served stale for", by),
+            Class::Stale(by) => {
+                let by = SecondsText(by);
+                write!(f, "stale by {by}")
+            }
+            Class::ServedStale(by) => {
+                let by = SecondsText(by);
+                write!(f, "served stale for {by}")
+            }
             Class::Raised => f.write_str("raised"),
             Class::AliasOutlives => f.write_str("alias outlives"),
-            Class::NegativeOutlives(by) => write_by(f, "negative outlives by", by),
+            Class::NegativeOutlives(by) => {
+                let by = SecondsText(by);
+                write!(f, "negative outlives by {by}")
+            }
             Class::Synthesized => f.write_str("synthesized"),
             Class::NeverReceived => f.write_str("never received"),
             Class::Unseen => f.write_str("unseen"),
@@ -95,9 +155,19 @@ impl fmt::Display for ClassText {
     }
 }
 
-// How many seconds, out of milliseconds.
-fn write_by<W: fmt::Write>(f: &mut fmt::Formatter<W>, name: &str, by: u64) -> fmt::Result {
-    let seconds = by / 1000;
-    let milliseconds = by % 1000;
-    write!(f, "{name} {seconds}.{milliseconds:03}")
+// Milliseconds, as seconds.
+#[derive(Clone, Copy)]
+struct SecondsText(u64);
+
+impl fmt::Display for SecondsText {
+    ghost use Rattle.std.specs.Prelude.{Some, ◌/◌, ◌%◌};
+    ghost use Rattle.trace_lines.specs.Printing.{seconds_text};
+
+    ghost output = { λ x. Some (seconds_text (x.0 / 1000) (x.0 % 1000)) };
+
+    fn fmt<W: fmt::Write>(&self, f: &mut fmt::Formatter<W>) -> fmt::Result {
+        let seconds = self.0 / 1000;
+        let milliseconds = self.0 % 1000;
+        write!(f, "{seconds}.{milliseconds:03}")
+    }
 }

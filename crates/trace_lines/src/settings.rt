@@ -1,6 +1,6 @@
 //! What is allowed, as options of a command line.
 use crate::hosts::add_hosts;
-use crate::reporting::Strictness;
+use crate::verdict::Strictness;
 use hickory_proto_core::{Name, read_decimal, read_ip};
 use std::alloc::{AllocError, Global};
 use std::env::Args;
