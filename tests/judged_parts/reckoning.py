@@ -4,6 +4,8 @@ ran out are not reckoned, nor are traces of more than a day."""
 import re
 from collections import Counter, defaultdict, namedtuple
 
+from judged_parts.made import Proof, is_made
+
 Event = namedtuple("Event", "line moment verb code question truncated records")
 Record = namedtuple("Record", "section owner ttl dns_class type data")
 Denial = namedtuple("Denial", "name dns_class type deadline")
@@ -34,7 +36,9 @@ def begun(number, fields):
     seconds, _, thousandths = fields[1].partition(".")
     moment = int(seconds) * 1000 + int(thousandths.ljust(3, "0"))
     verb, code, rest = (fields[2], None, fields[3:]) if fields[2] == "asked" else (fields[2], fields[3], fields[4:])
-    return Event(number, moment, verb, code, tuple(rest[:3]), "tc" in rest[3:], [])
+    name, record_type, *words = rest
+    dns_class = words[0] if words and words[0] != "tc" else "in"
+    return Event(number, moment, verb, code, (name, record_type, dns_class), "tc" in words, [])
 
 
 def deadline(moment, ttl):
@@ -88,17 +92,27 @@ def of_record(event, record, received, slack):
     return ["stale by"] * is_stale + ["raised"] * is_raised
 
 
-def of_denial(denial, denied, slack):
+def of_denial(denial, denied, proofs, slack):
+    def is_late(deadline):
+        return deadline + 1000 * slack + AT_ONCE < denial.deadline
+
     deadlines = list(covering(denial, denied))
-    if not deadlines:
-        return ["unseen"]
-    is_late = all(other + 1000 * slack + AT_ONCE < denial.deadline for other in deadlines)
-    return ["negative outlives by"] * is_late
+    if not all(map(is_late, deadlines)):
+        return []
+    lasting = [proof for proof in proofs if not is_late(proof.deadline)]
+    if is_made(denial.name, denial.dns_class, denial.type, lasting):
+        return []
+    return ["negative outlives by"] if deadlines else ["unseen"]
+
+
+def proof_of(moment, record):
+    """What a record says is not there: one of NSEC or of NSEC3."""
+    return Proof(record.owner, record.dns_class, record.type, bytes.fromhex(record.data), deadline(moment, record.ttl))
 
 
 def reckon(text, slack):
     """How often each class is found in each line."""
-    opened, received, denied, found = Counter(), defaultdict(list), defaultdict(list), Counter()
+    opened, received, denied, proofs, found = Counter(), defaultdict(list), defaultdict(list), [], Counter()
     for event in events(text):
         if event.verb == "asked":
             opened[event.question] += 1
@@ -110,12 +124,14 @@ def reckon(text, slack):
             if event.code in ("noerror", "nxdomain"):
                 for record in event.records:
                     received[same(record)].append((event.moment, record.ttl))
+                    if record.type in ("type47", "type50"):
+                        proofs.append(proof_of(event.moment, record))
                 if denial := denial_of(event):
                     denied[denial.name, denial.dns_class, denial.type].append(denial.deadline)
         elif event.code in ("noerror", "nxdomain"):
             classes = [name for record in event.records for name in of_record(event, record, received, slack)]
             denial = denial_of(event)
-            found.update((event.line, name) for name in classes + (of_denial(denial, denied, slack) if denial else []))
+            found.update((event.line, name) for name in classes + (of_denial(denial, denied, proofs, slack) if denial else []))
     return found
 
 
