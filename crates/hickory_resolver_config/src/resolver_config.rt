@@ -19,7 +19,8 @@ pub struct ResolverConfig {
     pub domain: Option<Name>,
     /// The search list: the domains that relative names are looked up in, in order.
     pub search: Vec<Name>,
-    /// The servers. No effect: the upstream that is handed in decides whom it asks.
+    /// The servers that a pool asks. A resolver does not read them: the upstream that is handed in decides whom it
+    /// asks.
     pub name_servers: Vec<NameServerConfig>,
 }
 

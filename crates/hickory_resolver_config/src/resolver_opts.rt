@@ -8,17 +8,18 @@ use std::alloc::{AllocError, Global};
 use std::collections::BTreeSet;
 use std::marker::Model;
 
-/// The options of a resolver. Where a field has no effect, its comment says so: it concerns transports, or
-/// servers that are chosen among.
+/// The options of a resolver. Those that say how name servers are asked are read by a pool of name servers alone:
+/// a resolver over an upstream that is handed in does not read them, for that upstream decides how it asks.
 #[derive(Debug, Drop)]
 pub struct ResolverOpts {
     /// A relative name of more labels than this is looked up as it is before the domain and the search list
     /// are tried, and else after them. `lookup_ip` looks the text of an IPv4 address up as a name only where
     /// this is 5 or more.
     pub ndots: usize,
-    /// After how many seconds a request has failed. No effect: the upstream answers or fails.
+    /// For how many seconds a pool waits for the reply to one try.
     pub timeout: u64,
-    /// How often a request is tried again. No effect: each question is sent once.
+    /// How often a pool asks again, at most twice: each time is a round over the servers of a group. A resolver sends
+    /// each question once.
     pub attempts: usize,
     /// Whether requests have an EDNS record (RFC 6891): it is handed to the upstream with each question.
     pub edns0: bool,
@@ -38,28 +39,27 @@ pub struct ResolverOpts {
     pub positive_max_ttl: Option<u64>,
     /// For how many seconds a negative answer is kept at the greatest; a day where it is left out.
     pub negative_max_ttl: Option<u64>,
-    /// How many servers are asked at a time. No effect: there is one upstream.
+    /// How many servers a pool asks at a time, at least one.
     pub num_concurrent_reqs: usize,
-    /// How many requests of one connection are open at a time. No effect: there are no connections.
+    /// How many messages of a pool wait on one stream at a time, at least one.
     pub max_active_requests: usize,
     /// Whether a result keeps the CNAME records on the way to it.
     pub preserve_intermediates: bool,
-    /// Whether a question that fails over UDP is sent over TCP. No effect: there are no protocols.
+    /// Whether a pool asks over TCP where a question failed over UDP.
     pub try_tcp_on_error: bool,
-    /// In which order servers are asked. No effect: there is one upstream.
+    /// In which order a pool asks servers.
     pub server_ordering_strategy: ServerOrderingStrategy,
     /// Whether the upstream is asked to recurse: it is handed to the upstream with each question.
     pub recursion_desired: bool,
-    /// Local UDP ports that are not used. No effect: there are no ports.
+    /// Local UDP ports that are not used: for the program that opens the sockets.
     pub avoid_local_udp_ports: BTreeSet<u16>,
-    /// Whether the system chooses local UDP ports. No effect: there are no ports.
+    /// Whether the system chooses local UDP ports: for the program that opens the sockets.
     pub os_port_selection: bool,
     /// Whether the case of names is varied: it is handed to the upstream with each question.
     pub case_randomization: bool,
-    /// Networks whose addresses are kept in answers in spite of `deny_answers`. No effect: answers are not
-    /// filtered by address.
+    /// Networks whose addresses are kept in answers in spite of `deny_answers`, where a program filters answers.
     pub allow_answers: Vec<IpNet>,
-    /// Networks whose addresses are taken out of answers. No effect: answers are not filtered by address.
+    /// Networks whose addresses are taken out of answers, where a program filters answers.
     pub deny_answers: Vec<IpNet>,
     /// The largest payload that is announced by EDNS, in bytes: it is handed to the upstream with each
     /// question.
