@@ -7,9 +7,11 @@ use Rattle.std.specs.Ordering.{is_eq, match_ordering}
 use Rattle.std.specs.declared.cmp.Ordering.{Ordering}
 use Rattle.std.specs.declared.cmp.Ordering.TheVariants.{Less, Equal, Greater}
 use Rattle.std.specs.BTreeSet.{insert_key}
+use Rattle.std.proofs.Math.Bool.{or_self_left}
 use Rattle.std.proofs.lemmas.List.{drop_more, map_push, reverse-append, reverse-reverse}
 use Rattle.hickory_proto_core.specs.Name.{NameValue, name_eq, name_cmp}
 use Rattle.hickory_proto_core.specs.NameLaws.{name_ties, name_equiv}
+use Rattle.hickory_resolver_lookup.proofs.Booleans.{or_left_comm}
 use Rattle.hickory_resolver_model.specs.Attempts.{keep_last}
 
 -- whether a name is equal to one of some names
@@ -20,16 +22,6 @@ is_among name names = list_any (name_eq name) names
 pub record KeepsLast (xs kept seen : List NameValue) : Type 0 where
   pub kept_are : kept ≡ reverse (keep_last xs)
   pub seen_are : (name : NameValue) → is_among name seen ≡ is_among name xs
-
-or_comm : (a b c : Bool) → (a || (b || c)) ≡ (b || (a || c))
-or_comm true true c = refl
-or_comm true false c = refl
-or_comm false true c = refl
-or_comm false false c = refl
-
-or_idem : (a b : Bool) → (a || b) ≡ (a || (a || b))
-or_idem true b = refl
-or_idem false b = refl
 
 not_true : (b : Bool) → not b ≡ true → b ≡ false
 not_true false h = refl
@@ -96,11 +88,11 @@ module _ {K : Type 0} (name_of : K → NameValue) where
           (x ∷ insert_key (λ x y. name_cmp (name_of x) (name_of y)) xs k)) ≡ (name_eq name (name_of k) || here (x ∷ xs))
       by Less e later = refl
       by Greater e later = ap (λ b. name_eq name (name_of x) || b) later
-          ∙ or_comm (name_eq name (name_of x)) (name_eq name (name_of k)) (here xs)
+          ∙ or_left_comm (name_eq name (name_of x)) (name_eq name (name_of k)) (here xs)
       by Equal e later =
           let same = name_equiv.symm name (name_of k) ∙ name_equiv.congr (name_of k) (name_of x) name
           (name_ties (name_of k) (name_of x) ∙ ap is_eq e) ∙ name_equiv.symm (name_of x) name in
-          or_idem (name_eq name (name_of x)) (here xs) ∙ ap (λ b. b || (name_eq name (name_of x) || here xs)) (sym same)
+          sym (or_self_left (name_eq name (name_of x)) (here xs)) ∙ ap (λ b. b || (name_eq name (name_of x) || here xs)) (sym same)
 
   -- whether the name is among those behind it, as the set tells
   told : (k : K) (ks : List K) (xs kept : List NameValue) → KeepsLast xs kept (map name_of ks) → is_found k ks

@@ -7,11 +7,13 @@ use Rattle.std.specs.Ordering.{is_eq, match_ordering}
 use Rattle.std.specs.declared.cmp.Ordering.{Ordering}
 use Rattle.std.specs.declared.cmp.Ordering.TheVariants.{Less, Equal, Greater}
 use Rattle.std.specs.BTreeSet.{insert_key}
+use Rattle.std.proofs.Math.Bool.{or_comm, or-false, or_self_left}
 use Rattle.std.proofs.lemmas.List.Folds.{list_any-append}
 use Rattle.std.proofs.lemmas.List.Sums.{fold-append}
 use Rattle.hickory_proto_core.specs.Name.{NameValue, name_eq, name_cmp}
 use Rattle.hickory_proto_core.specs.NameLaws.{name_ties, name_equiv}
 use Rattle.hickory_proto_core.specs.ResponseKind.{is_empty}
+use Rattle.hickory_resolver_lookup.proofs.Booleans.{or_left_comm}
 use Rattle.hickory_resolver_model.specs.Bounds.{least}
 use Rattle.hickory_resolver_model.specs.AliasWalk.{Walk, AliasTo, Server, has_target}
 use Rattle.hickory_resolver_client.specs.declared.alias_walk.Targets.{Targets}
@@ -21,30 +23,6 @@ use Rattle.hickory_resolver_client.specs.Walks.{ShowsWith, shown_walk}
 
 abbrev pub is_among : NameValue → List NameValue → Bool
 is_among name names = list_any (λ t. name_eq t name) names
-
-or_comm : (a b c : Bool) → (a || (b || c)) ≡ (b || (a || c))
-or_comm true true c = refl
-or_comm true false c = refl
-or_comm false true c = refl
-or_comm false false c = refl
-
-or_idem : (a b : Bool) → (a || b) ≡ (a || (a || b))
-or_idem true b = refl
-or_idem false b = refl
-
-or_swap : (a b : Bool) → (a || b) ≡ (b || a)
-or_swap true true = refl
-or_swap true false = refl
-or_swap false true = refl
-or_swap false false = refl
-
-or_assoc : (a b c : Bool) → ((a || b) || c) ≡ (a || (b || c))
-or_assoc true b c = refl
-or_assoc false b c = refl
-
-or_false : (a : Bool) → (a || false) ≡ a
-or_false true = refl
-or_false false = refl
 
 module _ {K : Type 0} (name_of : K → NameValue) where
   -- the look-up of a name finds it where it is among the names
@@ -62,10 +40,10 @@ module _ {K : Type 0} (name_of : K → NameValue) where
 
       by : (o : Ordering) → name_cmp (name_of k) (name_of x) ≡ o → here (insert_key (λ x y. name_cmp (name_of x) (name_of y)) xs k) ≡ (name_eq (name_of k) name || here xs) → here (match_ordering o (k ∷ x ∷ xs) (x ∷ xs) (x ∷ insert_key (λ x y. name_cmp (name_of x) (name_of y)) xs k)) ≡ (name_eq (name_of k) name || here (x ∷ xs))
       by Less e later = refl
-      by Greater e later = ap (λ b. name_eq (name_of x) name || b) later ∙ or_comm (name_eq (name_of x) name) (name_eq (name_of k) name) (here xs)
+      by Greater e later = ap (λ b. name_eq (name_of x) name || b) later ∙ or_left_comm (name_eq (name_of x) name) (name_eq (name_of k) name) (here xs)
       by Equal e later =
           let same = name_equiv.congr (name_of k) (name_of x) name (name_ties (name_of k) (name_of x) ∙ ap is_eq e) in
-          or_idem (name_eq (name_of x) name) (here xs) ∙ ap (λ b. b || (name_eq (name_of x) name || here xs)) (sym same)
+          sym (or_self_left (name_eq (name_of x) name) (here xs)) ∙ ap (λ b. b || (name_eq (name_of x) name || here xs)) (sym same)
 
 -- ---- one more record that counts
 
@@ -87,8 +65,8 @@ first_alone (z ∷ zs) x e = cc
 
 among_push : (w : Walk) (before : Bool) (name target : NameValue) → before ≡ has_target w name → (name_eq target name || before) ≡ is_among name (w.targets ++ target ∷ [])
 among_push w before name target e =
-    ap (λ b. name_eq target name || b) e ∙ or_swap (name_eq target name) (is_among name w.targets)
-    ∙ sym (ap (λ b. is_among name w.targets || b) (or_false (name_eq target name)))
+    ap (λ b. name_eq target name || b) e ∙ or_comm (name_eq target name) (is_among name w.targets)
+    ∙ sym (ap (λ b. is_among name w.targets || b) (or-false (name_eq target name)))
     ∙ sym (list_any-append (λ t. name_eq t name) w.targets (target ∷ []))
 
 -- an alias
@@ -153,7 +131,7 @@ module _ (given : Walk) (last : NameValue) (ttl : ℕ) (alias_ttl : Option ℕ) 
   keeps_other u t target old new was lower first added =
       subst (λ w. ShowsWith (Server target) t w (shown_walk last u alias_ttl (Some new))) (ap (shown_walk last ttl alias_ttl) (sym was) ∙ is)
       (shows_other (shown_walk last ttl alias_ttl (Some old)) (shown_walk last u alias_ttl (Some new)) target old.first.now t refl lower refl (leads_on (is_some alias_ttl)) refl (ap Some first)
-      (λ name. ap₂ (λ f b. name_eq f name || b) first (added name) ∙ or_comm (name_eq old.first.now name) (name_eq target name) (is_among name (map (λ k. k.now) old.others.keys))))
+      (λ name. ap₂ (λ f b. name_eq f name || b) first (added name) ∙ or_left_comm (name_eq old.first.now name) (name_eq target name) (is_among name (map (λ k. k.now) old.others.keys))))
 
   -- a name that is not the first target is looked up among the others
   pub has_other : (name : NameValue) (old : Targets) (first found : Bool) → targets ≡ Some old → first ≡ name_eq old.first.now name → first ≡ false → found ≡ list_any (λ k. is_eq (name_cmp name k.now)) old.others.keys → found ≡ has_target given name

@@ -20,8 +20,8 @@ use Rattle.hickory_resolver.specs.Transcripts.{NewRun}
 use Rattle.replay.specs.Hearing.{AddsBlock}
 use Rattle.replay_script.specs.Output.{run_text, step_text}
 use Rattle.replay.specs.ScriptRun.{IsNoTable, IsRefused, IsReplayed, IsScriptTold, IsTable, IsTableTold, IsTold}
-use Rattle.replay.specs.ScriptRun.{config_of, first_moment, hosts_fault, is_remembered}
-use Rattle.replay_script.specs.Script.{IsWhole, ScriptValue, script_of}
+use Rattle.replay.specs.ScriptRun.{first_moment, hosts_fault, is_remembered}
+use Rattle.replay_script.specs.Script.{IsWhole, ScriptValue, config_of, script_of}
 use Rattle.replay_script.specs.declared.line.Line.{Line}
 use Rattle.replay.specs.declared.error.ReplayError.{ReplayError}
 use Rattle.replay.specs.declared.error.ReplayError.TheVariants.{Memory}

@@ -5,7 +5,6 @@ use Rattle.hickory_proto_core.specs.Handles.{OutcomeValue, HandleStep, ScriptSte
 use Rattle.hickory_proto_core.specs.Table.{TableValue, TableStep, outcome_in, last_given}
 use Rattle.hickory_proto_core.specs.declared.query.Query.{Query}
 use Rattle.hickory_proto_core.specs.declared.recorded.Exchange.{Exchange}
-use Rattle.hickory_resolver_config.specs.ResolverConfig.{ResolverConfigValue}
 use Rattle.hickory_resolver.specs.Reading.{IsBytesRead}
 use Rattle.hickory_resolver.specs.hosts.hosts_error.HostsError.{HostsError}
 use Rattle.hickory_resolver.specs.hosts.hosts_error.HostsError.TheVariants as hosts_error
@@ -13,7 +12,7 @@ use Rattle.hickory_resolver_model.specs.Cache.{CacheValue}
 use Rattle.hickory_resolver_model.specs.Hosts.{Host}
 use Rattle.hickory_resolver_theorems.specs.Promises.{PromisedRun}
 use Rattle.hickory_resolver_model.specs.Run.{RequestValue, Settings, StepValue, ends_run, moment_of, settings_of}
-use Rattle.replay_script.specs.Script.{IsFault, IsWhole, ScriptValue, script_of}
+use Rattle.replay_script.specs.Script.{IsFault, IsWhole, ScriptValue, config_of, script_of}
 use Rattle.replay_script.specs.declared.fault.ScriptFault.TheVariants as fault
 use Rattle.replay_script.specs.declared.fault.ScriptFault.{ScriptFault}
 use Rattle.replay_script.specs.declared.fault.ScriptError.{ScriptError}
@@ -48,10 +47,6 @@ abbrev pub IsTableTold : Settings → List (Query × OutcomeValue) → List Requ
 IsTableTold s outcomes requests text =
     (table : TableValue) × ((q : Query) → outcome_in q table ≡ last_given q outcomes)
     × IsTold TableStep s table requests text
-
--- what a script configures
-abbrev pub config_of : ScriptValue → ResolverConfigValue
-config_of script = record { domain = script.domain; search = script.search; name_servers = [] }
 
 -- over the upstream of a script: a table, or one that answers the outcomes in order, whatever is asked
 abbrev pub IsScriptTold : ScriptValue → List Host → List ℕ → Type 0

@@ -6,7 +6,7 @@ use Rattle.hickory_proto_core.specs.Handles.{OutcomeValue}
 use Rattle.hickory_proto_core.specs.Messages.{MessageValue}
 use Rattle.hickory_proto_core.specs.Name.{NameValue}
 use Rattle.hickory_proto_core.specs.declared.query.Query.{Query}
-use Rattle.hickory_resolver_config.specs.ResolverConfig.{OptionsValue, default_options}
+use Rattle.hickory_resolver_config.specs.ResolverConfig.{OptionsValue, ResolverConfigValue, default_options}
 use Rattle.hickory_resolver_model.specs.Bounds.{bounds_fault}
 use Rattle.hickory_resolver_model.specs.Options.{bounds_of}
 use Rattle.hickory_resolver_lookup.specs.Requests.{request_of}
@@ -33,6 +33,10 @@ pub record ScriptValue : Type 0 where
   pub options : OptionsValue
   pub domain : Option NameValue
   pub search : List NameValue
+
+-- what a resolver is configured with
+abbrev pub config_of : ScriptValue → ResolverConfigValue
+config_of script = record { domain = script.domain; search = script.search; name_servers = [] }
 
 -- a response gets the records of the lines behind it, up to the next outcome
 abbrev pub with_records : MessageValue → List Line → MessageValue

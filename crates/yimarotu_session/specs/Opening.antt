@@ -3,18 +3,13 @@ use Rattle.std.specs.Prelude.{◌≡◌, ◌≢◌, ◌⊎◌, ◌&&◌, ◌==�
 use Rattle.hickory_proto_core.specs.Handles.{OutcomeValue}
 use Rattle.hickory_resolver.specs.Reading.{IsBytesRead}
 use Rattle.hickory_resolver.specs.hosts.hosts_error.HostsError.TheVariants as hosts_error
-use Rattle.hickory_resolver_config.specs.ResolverConfig.{ResolverConfigValue}
 use Rattle.hickory_resolver_model.specs.Hosts.{Host}
 use Rattle.hickory_resolver_model.specs.Resolver.{ResolverValue, new_resolver}
-use Rattle.replay_script.specs.Script.{IsFault, IsScript, ScriptValue}
+use Rattle.replay_script.specs.Script.{IsFault, IsScript, ScriptValue, config_of}
 use Rattle.replay_script.specs.declared.fault.ScriptFault.TheVariants as script_fault
 use Rattle.yimarotu_session.specs.Sessions.{SessionValue}
 use Rattle.yimarotu_session.specs.declared.opening.OpenError.{OpenError}
 use Rattle.yimarotu_session.specs.declared.opening.OpenError.TheVariants.{Script, NotSettings, Hosts, OutOfMemory}
-
--- what the lines of a script configure
-abbrev pub config_of : ScriptValue → ResolverConfigValue
-config_of script = record { domain = script.domain; search = script.search; name_servers = [] }
 
 -- a resolver of these settings over this table of hosts, with an empty cache
 abbrev pub resolver_over : ScriptValue → List Host → ResolverValue (List OutcomeValue)

@@ -1,6 +1,7 @@
 use Rattle.std.proofs.Common.{◌≡◌, ◌∙◌, ap, map, sym}
 use Rattle.hickory_resolver.specs.Requests.{request_of}
-use Rattle.replay.specs.ScriptRun.{config_of, first_moment}
+use Rattle.replay.specs.ScriptRun.{first_moment}
+use Rattle.replay_script.specs.Script.{config_of}
 use Rattle.replay.proofs.TextSteps.{ran_out, replayed, told_by_table, told_in_order}
 use Rattle.replay.proofs.run.replay_text_with_hashers.Goals as goal
 
