@@ -17,8 +17,8 @@ fn target_if(owns: bool, rdata: &RData) -> Option<&Name>
     }
 }
 
-// The target of a record, where it is an alias of the name that was reached.
-fn alias_at<'a>(reached: &Name, found: &'a Record) -> Option<&'a Name>
+/// The target of a record, where it is an alias of the name that was reached.
+pub fn alias_at<'a>(reached: &Name, found: &'a Record) -> Option<&'a Name>
     ensures { option_copied result ≡ alias_at reached.now found.now }
 {
     let owns = *reached == found.name;
@@ -36,8 +36,9 @@ fn next_name<'a>(reached: &'a Name, found: &'a Record) -> (&'a Name, bool)
     }
 }
 
-// Whether aliases lead a question on.
-fn follows_aliases(query: &Query) -> bool
+/// Whether aliases lead a question on: all but one for CNAME records or for records of any type (RFC 1034, section
+/// 3.6.2).
+pub fn follows_aliases(query: &Query) -> bool
     ensures { result ≡ follows_aliases query.now }
 {
     if query.query_type == RecordType::ANY {
@@ -61,8 +62,8 @@ fn end_from<'a>(name: &'a Name, answers: &'a [Record]) -> (&'a Name, bool)
     (reached, moved)
 }
 
-// The name where the aliases among the answers end, and whether there are some.
-pub(crate) fn end_of<'a>(query: &'a Query, answers: &'a [Record]) -> (&'a Name, bool)
+/// The name where the aliases among the answers end, each behind the one that leads to it, and whether there are some.
+pub fn end_of<'a>(query: &'a Query, answers: &'a [Record]) -> (&'a Name, bool)
     ensures last { result.0.now ≡ (walk_of query.now answers.now).last }
     ensures moved { result.1 ≡ is_moved (walk_of query.now answers.now) }
 {

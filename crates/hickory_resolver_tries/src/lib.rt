@@ -3,7 +3,7 @@
 #![tactic(auto)]
 
 pub mod belief;
-mod chain;
+pub mod chain;
 pub mod head;
 pub mod letters_back;
 pub mod message_stream;

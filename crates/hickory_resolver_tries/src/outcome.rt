@@ -137,7 +137,8 @@ fn refuses_sent_opt(message: &TryMessage, form: &TryForm, read: &WireMessage) ->
         && !message.question().is_dnssec_ok()
 }
 
-fn first_soa(records: &[Record]) -> Option<&Record>
+/// The first SOA record.
+pub fn first_soa(records: &[Record]) -> Option<&Record>
     ensures { option_copied result ≡ first_soa records.now }
 {
     records
@@ -173,8 +174,9 @@ fn is_lame(read: &Message) -> bool
             || (!read.metadata.recursion_available && !read.metadata.authoritative))
 }
 
-// Whether a record is asked for by the question, at another name.
-fn is_asked(query: &Query, name: &Name, found: &Record) -> bool
+/// Whether a record is asked for by the question, at another name: by its type and its owner. Any type at all is asked
+/// for by a question for any; and by one for SOA records that of a zone of the name, too.
+pub fn is_asked(query: &Query, name: &Name, found: &Record) -> bool
     ensures { result ≡ is_asked (at_name query.now name.now) found.now }
 {
     if query.query_type == RecordType::ANY {
