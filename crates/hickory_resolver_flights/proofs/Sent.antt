@@ -1,6 +1,6 @@
 -- What waits, or is late, was sent.
 use Rattle.std.proofs.Common.{◌≡◌, ℕ, Bool, true, false, cond, not, ◌&&◌, ◌||◌, eqb, ltb, List, [], ◌∷◌, ◌++◌, length, map, drop, refl, subst, ◌∙◌, append_assoc, ◌+◌}
-use Rattle.std.specs.Prelude.{Option, None, Some, Contains, find, filter}
+use Rattle.std.specs.Prelude.{Option, None, Some, Contains, find, filter, unwrap_or}
 use Rattle.std.specs.List.{AllByRecursion, list_any, enumerate_from}
 use Rattle.std.specs.Option.{is_some, option_map, option_map_or, option_or, option_and_then}
 use Rattle.std.proofs.lemmas.List.Elements.{Contains-append_left, Contains-push}
@@ -10,7 +10,7 @@ use Rattle.hickory_resolver_tries.specs.Outcome as reply
 use Rattle.hickory_resolver_tries.specs.declared.belief.Belief.{Belief}
 use Rattle.hickory_resolver_tries.specs.declared.belief.Belief.TheVariants as belief
 use Rattle.hickory_resolver_tries.specs.declared.outcome.ReplyOutcome.{ReplyOutcome}
-use Rattle.hickory_resolver_transactions.specs.Candidates.{candidate_of, is_tried, is_blocked, is_try, waits_as, waits_on, is_due, way_of, way_of_try, try_made, uncounted, counted, sent_with, requeued, freed_one, freed_progress, has_failed_by}
+use Rattle.hickory_resolver_transactions.specs.Candidates.{candidate_of, is_tried, is_blocked, is_try, waits_as, waits_on, is_due, way_of, way_of_try, try_made, uncounted, counted, sent_with, without_channel, blocked_as, requeued, freed_one, freed_progress, has_failed_by}
 use Rattle.hickory_resolver_transactions.specs.Table.{after_reply, after_deadline, after_closed_stream, then_of_reply, then_of_refused_opt, then_of_other_letters, stays_believed}
 use Rattle.hickory_resolver_transactions.specs.Transaction.{TransactionState, replaced, replacing, putting, noting, with_late, noted_of_closed, kept_in, keeping, acted, acted_late, picked, candidate_at, late_at, late_came_to, late_replied, came_to, came, opt_was_refused, other_letters_came, failed_at, failed_in, failed, blocked_in, blocked, freed, expired_in, late_expired, expired, wants_round, with_round, chosen, sent, unsent, try_in, try_at}
 use Rattle.hickory_resolver_transactions.specs.declared.candidate.Candidate.{Candidate}
@@ -112,7 +112,7 @@ module _ (P : Try → Type 0) where
 
     sent-kept : (p : Progress) (place : ℕ) → Held p → AreSent (kept_in p place s)
     sent-kept progress.Queued place k = h
-    sent-kept (progress.Again way) place k = h
+    sent-kept (progress.Again way due) place k = h
     sent-kept (progress.Blocked way due) place k = h
     sent-kept (progress.Waiting t) place k = sent-late (record { place = place; tried = t; has_failed = false }) k
     sent-kept progress.Tried place k = h
@@ -134,7 +134,7 @@ module _ (P : Try → Type 0) where
       let put = sent-replacing (keeping keeps c s) kept (record c { progress = progress.Tried }) tt in
       sent-noting (putting progress.Tried c (keeping keeps c s)) put o
   sent-acted s h (Again way) keeps c k =
-      sent-replacing (keeping keeps c s) (sent-keeping s h keeps c k) (record c { progress = progress.Again way }) tt
+      sent-replacing (keeping keeps c s) (sent-keeping s h keeps c k) (record c { progress = progress.Again way None }) tt
   sent-acted s h Nothing keeps c k = h
 
   sent-acted_late : (s : TransactionState) → AreSent s → (t : Then) (c : Candidate) → AreSent (acted_late t c s)
@@ -145,8 +145,8 @@ module _ (P : Try → Type 0) where
   sent-acted_late s h (Rests o) c = h
   sent-acted_late s h (Again way) c = by (is_tried c.progress)
     where
-      by : (rests : Bool) → AreSent (cond rests (putting (progress.Again way) c s) s)
-      by true = sent-replacing s h (record c { progress = progress.Again way }) tt
+      by : (rests : Bool) → AreSent (cond rests (putting (progress.Again way None) c s) s)
+      by true = sent-replacing s h (record c { progress = progress.Again way None }) tt
       by false = h
   sent-acted_late s h Nothing c = h
 
@@ -201,7 +201,7 @@ module _ (P : Try → Type 0) where
 
     sent-failed_in : (c : Candidate) → HeldBy c → (p : Progress) → Held p → AreSent (failed_in c p s)
     sent-failed_in c k progress.Queued p = h
-    sent-failed_in c k (progress.Again way) p = h
+    sent-failed_in c k (progress.Again way due) p = h
     sent-failed_in c k (progress.Blocked way due) p = h
     sent-failed_in c k (progress.Waiting t) p = sent-failed_at c k t.transport t p
     sent-failed_in c k progress.Tried p = h
@@ -224,11 +224,11 @@ module _ (P : Try → Type 0) where
 
     sent-blocked_in : (c : Candidate) (p : Progress) → AreSent (blocked_in c p s)
     sent-blocked_in c progress.Queued = h
-    sent-blocked_in c (progress.Again way) = h
+    sent-blocked_in c (progress.Again way due) = h
     sent-blocked_in c (progress.Blocked way due) = h
     sent-blocked_in c (progress.Waiting t) =
-        sent-replacing s h (uncounted t.transport (record c { progress = progress.Blocked (way_of_try t) t.due }))
-        (held-uncounted t.transport c (way_of_try t) t.due)
+        sent-replacing s h (blocked_as t c)
+        (held-uncounted t.transport c (way_of_try t) (unwrap_or t.channel_due t.due))
     sent-blocked_in c progress.Tried = h
     sent-blocked_in c progress.Gone = h
 
@@ -241,7 +241,7 @@ module _ (P : Try → Type 0) where
 
     held-freed : (p : Progress) → Held p → Held (freed_progress p)
     held-freed progress.Queued k = tt
-    held-freed (progress.Again way) k = tt
+    held-freed (progress.Again way due) k = tt
     held-freed (progress.Blocked way due) k = tt
     held-freed (progress.Waiting t) k = k
     held-freed progress.Tried k = tt
@@ -261,16 +261,16 @@ module _ (P : Try → Type 0) where
     sent-unsent due = by (chosen s)
       where
         by : (found : Option Candidate)
-            → AreSent (option_map_or (λ c. putting (progress.Blocked (way_of c) due) c s) found s)
+            → AreSent (option_map_or (λ c. replacing (without_channel due c) s) found s)
         by None = h
-        by (Some c) = sent-replacing s h (record c { progress = progress.Blocked (way_of c) due }) tt
+        by (Some c) = sent-replacing s h (without_channel due c) tt
 
     held-counted : (how : Transport) (c : Candidate) (t : Try) → P t
         → HeldBy (record (counted how c) { progress = progress.Waiting t })
     held-counted Udp c t p = p
     held-counted Tcp c t p = p
 
-    sent-sent : (made : Made) → ((way : Way) → P (try_made made way s.settings)) → AreSent (sent made s)
+    sent-sent : (made : Made) → ((c : Candidate) → P (try_made made c s.settings)) → AreSent (sent made s)
     sent-sent made p = by (chosen s)
       where
         by : (found : Option Candidate)
@@ -278,7 +278,7 @@ module _ (P : Try → Type 0) where
         by None = h
         by (Some c) =
             sent-replacing s h (sent_with made s.settings c)
-            (held-counted (way_of c).transport c (try_made made (way_of c) s.settings) (p (way_of c)))
+            (held-counted (way_of c).transport c (try_made made c s.settings) (p c))
 
     held-requeued : (c : Candidate) → HeldBy c → HeldBy (requeued c)
     held-requeued c k = by (is_tried c.progress)
@@ -304,7 +304,7 @@ module _ (P : Try → Type 0) where
 
     sent-expired_in : (c : Candidate) → HeldBy c → (p : Progress) → AreSent (expired_in c p s)
     sent-expired_in c k progress.Queued = h
-    sent-expired_in c k (progress.Again way) = h
+    sent-expired_in c k (progress.Again way due) = h
     sent-expired_in c k (progress.Blocked way due) =
         let put = sent-replacing s h (record c { progress = progress.Tried }) tt in
         sent-noting (putting progress.Tried c s) put told.Timeout
@@ -332,7 +332,7 @@ module _ (P : Try → Type 0) where
     -- a try that is there
     held-try : (p : Progress) (t : Try) → Held p → try_in p ≡ Some t → P t
     held-try progress.Queued t k e = absurd cc
-    held-try (progress.Again way) t k e = absurd cc
+    held-try (progress.Again way due) t k e = absurd cc
     held-try (progress.Blocked way due) t k e = absurd cc
     held-try (progress.Waiting x) t k e = let same : x ≡ t = cc in subst P same k
     held-try progress.Tried t k e = absurd cc
@@ -393,7 +393,7 @@ was-more events more t w = record {
 module _ (events more : List FlightEvent) where
   held-more : (p : Progress) → Held (WasSent events) p → Held (WasSent (events ++ more)) p
   held-more progress.Queued k = tt
-  held-more (progress.Again way) k = tt
+  held-more (progress.Again way due) k = tt
   held-more (progress.Blocked way due) k = tt
   held-more (progress.Waiting t) k = was-more events more t k
   held-more progress.Tried k = tt
@@ -420,7 +420,7 @@ sent-event done s (round_begins order) h =
 sent-event done s (is_sent made) h =
     let events = done ++ is_sent made ∷ [] in
     sent-sent (WasSent events) s.transaction (sent-more done (is_sent made ∷ []) s.transaction h) made
-    (λ way. record { made = made; sent = Contains-push done (is_sent made); channel = refl; id = refl })
+    (λ c. record { made = made; sent = Contains-push done (is_sent made); channel = refl; id = refl })
 sent-event done s (has_no_room due) h =
     let events = done ++ has_no_room due ∷ [] in
     sent-unsent (WasSent events) s.transaction (sent-more done (has_no_room due ∷ []) s.transaction h) due

@@ -41,8 +41,7 @@ pub data Reached (start : PoolState) : PoolState → Type 0 where
 -- ---- bounded
 
 -- Channels, tries on each of them, transactions in flight and those that wait are within the limits, and no number of
--- them
--- is given twice.
+-- them is given twice.
 pub record IsBounded (limits : TrafficLimits) (s : PoolState) : Type 0 where
   pub channels : channels.IsWithinLimits limits.channels s.traffic.shared.channels
   pub askers : askers.IsWithinLimits limits.askers s.traffic.askers

@@ -14,8 +14,7 @@ pub const MOST_IN_FLIGHT: usize = 4_096;
 pub const MOST_WAITING: usize = 4_096;
 
 /// How many channels are open at the most: a program has 1,024 descriptors where nobody gave it more, and needs some
-/// for
-/// itself.
+/// for itself.
 pub const MOST_CHANNELS: usize = 900;
 
 /// How much there may be of what grows.

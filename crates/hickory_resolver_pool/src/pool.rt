@@ -86,8 +86,7 @@ impl<S: BuildHasher> Model for NameServerPool<S> {
 
 impl<S: BuildHasher> NameServerPool<S> {
     /// No group has servers yet. The seed is 32 octets that nobody knows; a child of `fork`, or a copied machine,
-    /// begins
-    /// anew with another one. The hasher is for names that come from strangers.
+    /// begins anew with another one. The hasher is for names that come from strangers.
     pub fn new(
         alloc: Global,
         options: ResolverOpts,
@@ -118,8 +117,7 @@ impl<S: BuildHasher> NameServerPool<S> {
     // ---- events
 
     /// A group has these servers from now on, of which nothing is known yet. What is in flight goes on with those
-    /// that it
-    /// began with. A refused call changes nothing.
+    /// that it began with. A refused call changes nothing.
     pub fn set_servers(&mut self, group: u64, servers: &[PoolServer]) -> Result<(), ServersError>
         ensures ok { OnOk result (self.new ≡ after_servers group servers.now self.old) }
         ensures err { OnErr result (self.new ≡ self.old) }
@@ -433,8 +431,7 @@ impl<S: BuildHasher> NameServerPool<S> {
 }
 
 // Does this with the transaction that is worked on, and answers the channel that is closed by it. A refused call
-// changes
-// nothing.
+// changes nothing.
 fn carry_out(
     traffic: &mut Traffic,
     current: &mut Option<Current>,

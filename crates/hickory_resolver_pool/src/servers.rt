@@ -33,8 +33,7 @@ impl Model for PoolServer {
 #[derive(Clone, Copy, Debug, PartialEq, Eq, Error)]
 pub enum ServersError {
     /// The server of this place, counted from 0, is to be asked over UDP from a port that is given: what is sent from
-    /// it
-    /// could be answered by anybody who guesses the number of the message.
+    /// it could be answered by anybody who guesses the number of the message.
     #[error("server {0} has a UDP source port")]
     FixedPort(usize),
     /// No memory was left.

@@ -40,7 +40,8 @@ abbrev pub place_on : ℕ → ChannelsState → ListState → Option ℕ
 place_on channel channels s = option_map (λ c. place_of c.server s) (channel_at channel channels)
 
 abbrev pub told_of : Measure → Telling → ChannelsState → Try → ListState → ListState
-told_of measure at channels t s = option_map_or (λ place. measured measure at t place s) (place_on t.channel channels s) s
+told_of measure at channels t s =
+    option_map_or (λ place. measured measure at t place s) (place_on t.channel channels s) s
 
 -- octets came
 abbrev pub servers_heard_to : Telling → ChannelsState → List ℕ → FlightState → ListState → Try → ListState
@@ -55,9 +56,11 @@ abbrev pub servers_failed : Telling → ChannelsState → ℕ → FlightState �
 servers_failed at channels channel f s =
     option_map_or (λ t. told_of Failed at channels t s) (failed_try channel f.transaction) s
 
--- time passed
+-- Time passed. The stream of a try that ran out may swallow all, so that nothing more is sent on it; what still comes
+-- on it is believed as before.
 abbrev pub late_at : Telling → Try → ListState → ℕ → ListState
-late_at at t s place = list.timed_out place at.timeout t.sent_at t.due at.moment s
+late_at at t s place =
+    list.without_stream place t.channel (list.timed_out place at.timeout t.sent_at t.due at.moment s)
 
 abbrev pub servers_late_to : Telling → ChannelsState → ListState → Try → ListState
 servers_late_to at channels s t = option_map_or (late_at at t s) (place_on t.channel channels s) s

@@ -30,8 +30,8 @@ fn place_done(transaction: &Transaction, tries: &[SentTry]) -> Option<usize>
     tries.iter().position(|one| is_done(transaction, one))
 }
 
-/// Takes the first try for which nothing waits any more off its channel, where there is one: a stream is kept up to this
-/// moment once it has none, and a datagram channel is closed. A refused call changes nothing.
+/// Takes the first try for which nothing waits any more off its channel, where there is one: a stream is kept up to
+/// this moment once it has none, and a datagram channel is closed. A refused call changes nothing.
 pub fn end_one(
     channels: &mut Channels,
     flying: &mut Flying,

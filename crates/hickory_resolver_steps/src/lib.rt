@@ -1,5 +1,5 @@
-//! What a question in flight does with the servers of its group and the channels of a pool, one step at a time. No input
-//! or output, and no clock.
+//! What a question in flight does with the servers of its group and the channels of a pool, one step at a time. No
+//! input or output, and no clock.
 #![tactic(auto)]
 
 pub mod ending;

@@ -3,14 +3,14 @@ ghost use Rattle.std.specs.Prelude.{◌≡◌, map, set, slice_get, None, Some, 
 ghost use Rattle.std.specs.Option.{option_map_or};
 ghost use Rattle.hickory_resolver_servers.specs.Measures.{released};
 ghost use Rattle.hickory_resolver_servers.specs.Order.{IsOrder, probe_of, probed};
-ghost use Rattle.hickory_resolver_steps.specs.Lists.{list_of, number_of, place_of, stream_of, the_same, with_stream, answered, failed, timed_out};
+ghost use Rattle.hickory_resolver_steps.specs.Lists.{list_of, number_of, place_of, stream_of, the_same, with_stream, without, without_stream, answered, failed, timed_out};
 
 use hickory_resolver_config::ServerOrderingStrategy;
 use hickory_resolver_servers::{RoundStart, Server, Servers};
 use std::alloc::{AllocError, Global};
 use std::marker::Model;
 
-/// The servers of a group, with their numbers and the stream that was opened last to each.
+/// The servers of a group, with their numbers and the stream to each that new tries go on.
 #[derive(Drop)]
 pub struct ServerList {
     first: u64,
@@ -60,7 +60,7 @@ impl ServerList {
         number.saturating_sub(self.first) as usize
     }
 
-    /// The stream that was opened last to the server of a place.
+    /// The stream to the server of a place that new tries go on.
     pub fn stream_of(&self, place: usize) -> Option<u64>
         ensures { result ≡ stream_of place self.now }
     {
@@ -75,6 +75,13 @@ impl ServerList {
         ensures { self.new ≡ with_stream place channel self.old }
     {
         set_stream(&mut self.streams, place, channel);
+    }
+
+    /// A try ran out of time on this channel: where it is the stream to the server of a place, nothing more goes on it.
+    pub fn leave_stream(&mut self, place: usize, channel: u64)
+        ensures { self.new ≡ without_stream place channel self.old }
+    {
+        leave_stream(&mut self.streams, place, channel);
     }
 
     /// The order of a round, among the places that are left. A refused call changes nothing.
@@ -135,5 +142,24 @@ fn set_stream(streams: &mut Vec<Option<u64>>, place: usize, channel: u64)
 {
     if place < streams.len() {
         streams[place] = Some(channel);
+    }
+}
+
+// All but this one.
+fn without(stream: Option<u64>, channel: u64) -> Option<u64>
+    ensures { result ≡ without channel stream }
+{
+    match stream {
+        Some(latest) if latest != channel => Some(latest),
+        _ => None,
+    }
+}
+
+fn leave_stream(streams: &mut Vec<Option<u64>>, place: usize, channel: u64)
+    ensures { streams.new.items ≡ option_map_or (λ latest. set streams.old.items place (without channel latest))
+        (slice_get streams.old.items place) streams.old.items }
+{
+    if place < streams.len() {
+        streams[place] = without(streams[place], channel);
     }
 }

@@ -163,9 +163,9 @@ fn stream_in(
     Ok(stream_for(&shared.channels, list, kind, place, drawn.id))
 }
 
-/// Sends what a question in flight wants: on the stream that was opened last to the server, where it takes one try more,
-/// and else on a new channel. Where there may be none more it waits for one. Answers what goes out. A refused call
-/// changes nothing.
+/// Sends what a question in flight wants: on the stream that was opened last to the server, where it takes one try
+/// more, and else on a new channel. Where there may be none more it waits for one. Answers what goes out. A refused
+/// call changes nothing.
 pub fn send(
     shared: &mut Shared,
     list: &mut ServerList,

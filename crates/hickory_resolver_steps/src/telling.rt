@@ -85,6 +85,7 @@ fn tell_late(channels: &Channels, list: &mut ServerList, at: &Telling, tried: &T
 {
     if let Some(place) = place_on(tried.channel, channels, list) {
         list.timed_out(place, at.timeout, tried.sent_at, tried.due, at.moment);
+        list.leave_stream(place, tried.channel);
     }
 }
 
@@ -136,7 +137,8 @@ pub fn fail(
     Ok(())
 }
 
-/// Time passed: the first that was due by now is not waited for any more. A refused call changes nothing.
+/// Time passed: the first that was due by now is not waited for any more, and nothing more is sent on its stream. A
+/// refused call changes nothing.
 pub fn expire(
     channels: &Channels,
     list: &mut ServerList,

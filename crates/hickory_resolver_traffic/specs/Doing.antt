@@ -275,7 +275,8 @@ abbrev pub is_on : ℕ → SentTry → Bool
 is_on channel one = one.channel == channel
 
 abbrev pub place_on : Scene → Option ℕ
-place_on x = option_and_then (λ f. position (is_on f.channel) x.current.entry.flying.tries) (first_failure x.traffic.inbox)
+place_on x =
+    option_and_then (λ f. position (is_on f.channel) x.current.entry.flying.tries) (first_failure x.traffic.inbox)
 
 -- with the channel the failure is done with
 abbrev pub after_quit : Option ℕ → Scene → Scene
@@ -372,7 +373,8 @@ abbrev pub BeginsWith : ServerOrderingStrategy → RoundStart → Option GroupLi
 BeginsWith strategy round None f after = after ≡ f
 BeginsWith strategy round (Some l) f after = IsRound strategy round l f after
 
-abbrev pub probed_lists : ServerOrderingStrategy → RoundStart → ℕ → FlyingState → List (ℕ × GroupListState) → List (ℕ × GroupListState)
+abbrev pub probed_lists :
+    ServerOrderingStrategy → RoundStart → ℕ → FlyingState → List (ℕ × GroupListState) → List (ℕ × GroupListState)
 probed_lists strategy round list f lists =
     changed_list (with_probe strategy round (places_left f.flight.transaction)) list lists
 

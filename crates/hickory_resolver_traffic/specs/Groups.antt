@@ -1,5 +1,5 @@
--- The server lists of groups. A list has the number of its first server, which no server had before. One that is replaced
--- is kept until no transaction asks its servers.
+-- The server lists of groups. A list has the number of its first server, which no server had before. One that is
+-- replaced is kept until no transaction asks its servers.
 use Rattle.std.specs.Prelude.{ℕ, ◌+◌, ◌-◌, ◌^◌, Bool, true, false, not, ◌==◌, List, [], length, max, min, Option, if◌then◌else◌}
 use Rattle.std.specs.Ordering.{nat_cmp}
 use Rattle.std.specs.Option.{option_map_or}

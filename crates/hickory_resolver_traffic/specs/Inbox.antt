@@ -1,5 +1,5 @@
--- What came and was not read yet: messages, and channels that failed, each in the order in which they came; the octets of
--- each stream behind the last message that was cut off, and the streams of which more came since.
+-- What came and was not read yet: messages, and channels that failed, each in the order in which they came; the octets
+-- of each stream behind the last message that was cut off, and the streams of which more came since.
 use Rattle.std.specs.Prelude.{ℕ, List, [], ◌∷◌, ◌++◌, drop, slice_get, Option}
 use Rattle.std.specs.Ordering.{nat_cmp}
 use Rattle.std.specs.Option.{option_map_or, option_and_then}

@@ -1,4 +1,5 @@
--- Transactions by number: those in flight and those that wait for a place, when each is due, and which wait for a channel.
+-- Transactions by number: those in flight and those that wait for a place, when each is due, and which wait for a
+-- channel.
 use Rattle.std.specs.Prelude.{ℕ, Bool, List, [], slice_get, Option, None, Some}
 use Rattle.std.specs.Ordering.{nat_cmp}
 use Rattle.std.specs.Option.{is_some}

@@ -40,8 +40,8 @@ outgoing_task o = if o.sending.is_new then Opens else Writes
 abbrev pub hears_or_doubts : TableState → ℕ → Task
 hears_or_doubts t n = if has_entry n t then TakesUp n Hear else Doubts
 
--- Of a number that no try has there, a response to a query is one to a try that is over, as an honest server gives that is
--- slow: it is passed by, also on a stream.
+-- Of a number that no try has there, a response to a query is one to a try that is over, as an honest server gives that
+-- is slow: it is passed by, also on a stream.
 abbrev pub is_response : Head → Bool
 is_response h = (h.flags / 32768 % 2 == 1) && (h.flags / 2048 % 16 == 0)
 
@@ -70,6 +70,13 @@ failure_task s f =
 
 abbrev pub if_by : ℕ → ℕ × ℕ → Option (ℕ × ℕ)
 if_by now p = if nat_le p.0 now then Some p else None
+
+-- a stream without a try is kept up to its moment, and no longer where something waits for a channel
+abbrev pub kept_until : TrafficState → ℕ → ℕ
+kept_until s until = if is_some (first_blocked s.table) then 0 else until
+
+abbrev pub if_kept_enough : TrafficState → ℕ × ℕ → Option (ℕ × ℕ)
+if_kept_enough s p = if nat_le (kept_until s p.0) s.clock then Some p else None
 
 abbrev pub expires_or_undates : TableState → ℕ × ℕ → Task
 expires_or_undates t due = if has_entry due.1 t then TakesUp due.1 Expire else Undates due.0 due.1
@@ -101,10 +108,11 @@ abbrev pub free_in : TrafficState → Option Task
 free_in s = option_map (frees_or_unblocks s.table) (free_one s)
 
 abbrev pub idle_in : TrafficState → Option Task
-idle_in s = option_map (λ p. ClosesIdle p.1) (option_and_then (if_by s.clock) (first_idle s.shared.channels))
+idle_in s = option_map (λ p. ClosesIdle p.1) (option_and_then (if_kept_enough s) (first_idle s.shared.channels))
 
--- What came goes before what runs out, so that a reply that is there is never too late; and a channel that failed before
--- what came, so that what is behind an octet for which a stream is broken is read no more, however the stream was cut.
+-- What came goes before what runs out, so that a reply that is there is never too late; and a channel that failed
+-- before what came, so that what is behind an octet for which a stream is broken is read no more, however the stream
+-- was cut.
 abbrev pub came_in : TrafficState → Option Task
 came_in s =
     option_or (failure_in s) (option_or (message_in s) (option_or (option_map Cuts (first_unread s.inbox))
@@ -242,8 +250,8 @@ ended n e s = record s {
   table = without_blocked n (undated n e.due s.table);
 }
 
--- ---- up to when nothing is to be done: the earliest of the deadlines, of the places that are waited for, and of the streams
--- that are kept
+-- ---- up to when nothing is to be done: the earliest of the deadlines, of the places that are waited for, and of the
+-- streams that are kept
 
 abbrev pub earlier : Option ℕ → Option ℕ → Option ℕ
 earlier None other = other

@@ -50,8 +50,8 @@ pub struct ChannelFailure {
     pub why: Failure,
 }
 
-/// The octets of a stream that are not read yet. Those that are read are let go once more come, so that a piece with many
-/// messages is moved once.
+/// The octets of a stream that are not read yet. Those that are read are let go once more come, so that a piece with
+/// many messages is moved once.
 #[derive(Drop)]
 pub struct StreamOctets {
     octets: Vec<u8>,

@@ -4,7 +4,7 @@ ghost use Rattle.std.specs.Option.{option_map, option_or, option_and_then};
 ghost use Rattle.hickory_resolver_channels.specs.Channels.{first_idle};
 ghost use Rattle.hickory_resolver_traffic.specs.Inbox.{first_unread};
 ghost use Rattle.hickory_resolver_traffic.specs.Table.{first_due};
-ghost use Rattle.hickory_resolver_traffic.specs.Tasks.{outgoing_task, hears_or_doubts, is_response, passes_or_doubts, message_task, fails_or_drops, failed_task, failure_task, if_by, expires_or_undates, refuses_or_strays, frees_or_unblocks, free_one, message_in, failure_in, due_in, late_in, free_in, idle_in, came_in, ran_out, task_of, earlier, next_deadline};
+ghost use Rattle.hickory_resolver_traffic.specs.Tasks.{outgoing_task, hears_or_doubts, is_response, passes_or_doubts, message_task, fails_or_drops, failed_task, failure_task, if_by, kept_until, if_kept_enough, expires_or_undates, refuses_or_strays, frees_or_unblocks, free_one, message_in, failure_in, due_in, late_in, free_in, idle_in, came_in, ran_out, task_of, earlier, next_deadline};
 
 use crate::carrying::id_of;
 use crate::entry::ToDo;
@@ -40,7 +40,7 @@ pub enum Task {
     Strays(u64),
     /// There is no transaction of those that wait for a channel.
     Unblocks(u64),
-    /// This stream was kept for long enough: it is closed.
+    /// This stream was kept for long enough, or something waits for a channel: it is closed.
     ClosesIdle(u64),
     /// The first that waits for a place gets one, where there is one.
     Admits,
@@ -231,11 +231,33 @@ impl Traffic {
         }
     }
 
-    fn idle_by_now(&self) -> Option<(u64, u64)>
-        ensures { result ≡ option_and_then (if_by self.now.clock) (first_idle self.now.shared.channels) }
+    // Up to when a stream without a try is kept: where something waits for a channel, no longer.
+    fn kept_until(&self, until: u64) -> u64
+        ensures { result ≡ kept_until self.now until }
+    {
+        if self.table.first_blocked().is_some() {
+            0
+        } else {
+            until
+        }
+    }
+
+    fn if_kept_enough(&self, idle: (u64, u64)) -> Option<(u64, u64)>
+        ensures { result ≡ if_kept_enough self.now idle }
+    {
+        if self.kept_until(idle.0) <= self.clock {
+            Some(idle)
+        } else {
+            None
+        }
+    }
+
+    // The stream that was kept for long enough.
+    fn idle_to_close(&self) -> Option<(u64, u64)>
+        ensures { result ≡ option_and_then (if_kept_enough self.now) (first_idle self.now.shared.channels) }
     {
         match self.shared.channels.first_idle() {
-            Some(idle) => if_by(self.clock, idle),
+            Some(idle) => self.if_kept_enough(idle),
             None => None,
         }
     }
@@ -243,7 +265,7 @@ impl Traffic {
     fn idle_in(&self) -> Option<Task>
         ensures { result ≡ idle_in self.now }
     {
-        match self.idle_by_now() {
+        match self.idle_to_close() {
             Some(idle) => Some(Task::ClosesIdle(idle.1)),
             None => None,
         }

@@ -59,8 +59,8 @@ impl Model for Outgoing {
     ghost view = { λ o. record { list = o.list; sending = o.sending } };
 }
 
-/// What is on its way, but for the transaction that is worked on. An event takes in what came; what follows of it is done
-/// in steps.
+/// What is on its way, but for the transaction that is worked on. An event takes in what came; what follows of it is
+/// done in steps.
 #[derive(Drop)]
 pub struct Traffic {
     pub(crate) alloc: Global,

@@ -1,6 +1,6 @@
 -- A transaction stays within its bounds.
 use Rattle.std.proofs.Common.{◌≡◌, ℕ, zero, suc, ◌+◌, ◌-◌, ◌<◌, ◌≤◌, Bool, true, false, cond, not, ◌&&◌, ◌||◌, eqb, ltb, List, [], ◌∷◌, ◌++◌, length, map, drop, refl, ap, sym, subst, ◌∙◌, arith}
-use Rattle.std.specs.Prelude.{Option, None, Some, find, filter, count_by, slice_get}
+use Rattle.std.specs.Prelude.{Option, None, Some, find, filter, count_by, slice_get, unwrap_or}
 use Rattle.std.specs.List.{AllByRecursion, list_any, enumerate_from, sum_by}
 use Rattle.std.specs.Option.{is_some, is_none, option_map_or, option_or, option_and_then}
 use Rattle.std.proofs.lemmas.Bool.{and_parts, ltb-true, ltb-false, eqb-true}
@@ -9,7 +9,7 @@ use Rattle.std.proofs.lemmas.List.Sums.{sum_by-cons, length-filter, count_by-le-
 use Rattle.hickory_resolver_servers.specs.Server.{ServerState}
 use Rattle.hickory_resolver_tries.specs.declared.outcome.ReplyOutcome.{ReplyOutcome}
 use Rattle.hickory_resolver_tries.specs.declared.outcome.ReplyOutcome.TheVariants as came_to
-use Rattle.hickory_resolver_transactions.specs.Candidates.{candidate_of, is_udp, is_again, is_queued, is_waiting, is_blocked, is_tried, waits_as, waits_on, is_due, way_of, way_of_try, way_in, first_way, sent_with, counted, uncounted, try_made, requeued, freed_one, freed_progress, has_failed_by}
+use Rattle.hickory_resolver_transactions.specs.Candidates.{candidate_of, is_udp, is_again, is_queued, is_waiting, is_blocked, is_tried, waits_as, waits_on, is_due, way_of, way_of_try, way_in, first_way, channel_due_of, sent_with, counted, uncounted, try_made, without_channel, blocked_as, requeued, freed_one, freed_progress, has_failed_by}
 use Rattle.hickory_resolver_transactions.specs.Laws.{TransactionEvent, round_begins, is_sent, has_no_room, reply_came, opt_refused, letters_differ, channel_failed, no_channel, channel_free, time_passed, after_event, after_events, HasRoom, IsWithinSends, IsBounded, StaysBounded}
 use Rattle.hickory_resolver_transactions.specs.Table.{sends_by, has_room, may_change_to_tcp, may_begin_tcp, again_if, after_reply, after_refused_opt, after_other_letters, after_deadline, after_closed_stream, stays_believed, then_in, then_of_reply, then_of_refused_opt, then_of_other_letters}
 use Rattle.hickory_resolver_transactions.specs.Transaction.{TransactionState, begun_with, replaced, replacing, putting, noting, noted_of_closed, with_late, kept_in, keeping, acted, acted_late, picked, candidate_at, late_at, late_replied, came, opt_was_refused, other_letters_came, failed_at, failed_in, failed, blocked_in, blocked, freed, expired_in, late_expired, expired, wants_round, is_idle, may_go_on, with_round, is_queued_at, first_queued, may_send, chosen, sent, unsent}
@@ -88,7 +88,7 @@ quiet c p w room = record { udp = w.udp; tcp = w.tcp; room = room_of p room }
   where
     room_of : (q : Progress) → HasRoom q c → HasRoom q (record c { progress = p })
     room_of progress.Queued r = r
-    room_of (progress.Again way) r = by_way way.transport r
+    room_of (progress.Again way due) r = by_way way.transport r
       where
         by_way : (t : Transport) → sends_by t c < 2 → sends_by t (record c { progress = p }) < 2
         by_way Udp k = k
@@ -149,7 +149,7 @@ module _ (s : TransactionState) (b : IsBounded s) where
 
 bounded-kept : (s : TransactionState) → IsBounded s → (p : Progress) (place : ℕ) → IsBounded (kept_in p place s)
 bounded-kept s b progress.Queued place = b
-bounded-kept s b (progress.Again way) place = b
+bounded-kept s b (progress.Again way due) place = b
 bounded-kept s b (progress.Blocked way due) place = b
 bounded-kept s b (progress.Waiting t) place = bounded-late s b (record { place = place; tried = t; has_failed = false })
 bounded-kept s b progress.Tried place = b
@@ -177,7 +177,7 @@ bounded-acted s b (Rests o) keeps c w room =
     let k = keeping keeps c s in
     bounded-noting (putting progress.Tried c k) (bounded-putting k (bounded-keeping s b keeps c) progress.Tried c w tt refl) o
 bounded-acted s b (Again way) keeps c w room =
-    bounded-putting (keeping keeps c s) (bounded-keeping s b keeps c) (progress.Again way) c w room refl
+    bounded-putting (keeping keeps c s) (bounded-keeping s b keeps c) (progress.Again way None) c w room refl
 bounded-acted s b Nothing keeps c w room = b
 
 bounded-acted_late : (s : TransactionState) → IsBounded s → (then : Then) (c : Candidate) → IsWithinSends c
@@ -188,8 +188,8 @@ bounded-acted_late s b (Leaves o) c w room =
 bounded-acted_late s b (Rests o) c w room = b
 bounded-acted_late s b (Again way) c w room = by (is_tried c.progress)
   where
-    by : (rests : Bool) → IsBounded (cond rests (putting (progress.Again way) c s) s)
-    by true = bounded-putting s b (progress.Again way) c w room refl
+    by : (rests : Bool) → IsBounded (cond rests (putting (progress.Again way None) c s) s)
+    by true = bounded-putting s b (progress.Again way None) c w room refl
     by false = b
 bounded-acted_late s b Nothing c w room = b
 
@@ -232,7 +232,7 @@ room-deadline tcp c t =
 room-then : (after : Try → Then) (p : Progress) (c : Candidate) → ((t : Try) → RoomIn (after t) c)
     → RoomIn (then_in after p) c
 room-then after progress.Queued c room = tt
-room-then after (progress.Again way) c room = tt
+room-then after (progress.Again way due) c room = tt
 room-then after (progress.Blocked way due) c room = tt
 room-then after (progress.Waiting t) c room = room t
 room-then after progress.Tried c room = tt
@@ -302,7 +302,7 @@ bounded-failed_at s b c w Tcp t =
 bounded-failed_in : (s : TransactionState) → IsBounded s → (c : Candidate) → IsWithinSends c → (p : Progress)
     → IsBounded (failed_in c p s)
 bounded-failed_in s b c w progress.Queued = b
-bounded-failed_in s b c w (progress.Again way) = b
+bounded-failed_in s b c w (progress.Again way due) = b
 bounded-failed_in s b c w (progress.Blocked way due) = b
 bounded-failed_in s b c w (progress.Waiting t) = bounded-failed_at s b c w t.transport t
 bounded-failed_in s b c w progress.Tried = b
@@ -316,24 +316,25 @@ bounded-failed s b channel = by (picked (waits_on channel) s) refl
     by None e = b
     by (Some c) e = bounded-failed_in s b c (all-find (λ x. waits_on channel x.progress) s.candidates c b.sends e) c.progress
 
-within-uncounted : (c : Candidate) (t : Try) (how : Transport) → IsWithinSends c
-    → IsWithinSends (uncounted how (record c { progress = progress.Blocked (record { transport = how; with_opt = t.form.with_opt }) t.due }))
-within-uncounted c t Udp w = record { udp = omega (arith, w.udp); tcp = w.tcp; room = omega (arith, w.udp) }
-within-uncounted c t Tcp w = record { udp = w.udp; tcp = omega (arith, w.tcp); room = omega (arith, w.tcp) }
+within-uncounted : (c : Candidate) (with_opt : Bool) (due : ℕ) (how : Transport) → IsWithinSends c
+    → IsWithinSends (uncounted how (record c { progress = progress.Blocked (record { transport = how; with_opt = with_opt }) due }))
+within-uncounted c with_opt due Udp w = record { udp = omega (arith, w.udp); tcp = w.tcp; room = omega (arith, w.udp) }
+within-uncounted c with_opt due Tcp w = record { udp = w.udp; tcp = omega (arith, w.tcp); room = omega (arith, w.tcp) }
 
-waits-uncounted : (c : Candidate) (t : Try) (how : Transport) (way : Way)
-    → waits (uncounted how (record c { progress = progress.Blocked way t.due })) ≡ false
-waits-uncounted c t Udp way = refl
-waits-uncounted c t Tcp way = refl
+waits-uncounted : (c : Candidate) (due : ℕ) (how : Transport) (way : Way)
+    → waits (uncounted how (record c { progress = progress.Blocked way due })) ≡ false
+waits-uncounted c due Udp way = refl
+waits-uncounted c due Tcp way = refl
 
 bounded-blocked_in : (s : TransactionState) → IsBounded s → (c : Candidate) → IsWithinSends c → (p : Progress)
     → IsBounded (blocked_in c p s)
 bounded-blocked_in s b c w progress.Queued = b
-bounded-blocked_in s b c w (progress.Again way) = b
+bounded-blocked_in s b c w (progress.Again way due) = b
 bounded-blocked_in s b c w (progress.Blocked way due) = b
 bounded-blocked_in s b c w (progress.Waiting t) =
-    bounded-replacing s b (uncounted t.transport (record c { progress = progress.Blocked (way_of_try t) t.due }))
-    (within-uncounted c t t.transport w) (waits-uncounted c t t.transport (way_of_try t))
+    let due = unwrap_or t.channel_due t.due in
+    bounded-replacing s b (blocked_as t c) (within-uncounted c t.form.with_opt due t.transport w)
+    (waits-uncounted c due t.transport (way_of_try t))
 bounded-blocked_in s b c w progress.Tried = b
 bounded-blocked_in s b c w progress.Gone = b
 
@@ -362,8 +363,8 @@ freed-within c w = by c.progress w.room
   where
     by : (p : Progress) → HasRoom p c → IsWithinSends (record c { progress = freed_progress p })
     by progress.Queued r = quiet c progress.Queued w r
-    by (progress.Again way) r = quiet c (progress.Again way) w r
-    by (progress.Blocked way due) r = quiet c (progress.Again way) w r
+    by (progress.Again way due) r = quiet c (progress.Again way due) w r
+    by (progress.Blocked way due) r = quiet c (progress.Again way (Some due)) w r
     by (progress.Waiting t) r = quiet c (progress.Waiting t) w r
     by progress.Tried r = quiet c progress.Tried w r
     by progress.Gone r = quiet c progress.Gone w r
@@ -373,7 +374,7 @@ freed-waits c = by c.progress
   where
     by : (p : Progress) → is_waiting (freed_progress p) ≡ is_waiting p
     by progress.Queued = refl
-    by (progress.Again way) = refl
+    by (progress.Again way due) = refl
     by (progress.Blocked way due) = refl
     by (progress.Waiting t) = refl
     by progress.Tried = refl
@@ -390,7 +391,7 @@ find-passes {X} test (y ∷ ys) x e = by (test y) refl (λ h. find-passes test y
 
 blocked-rests : (p : Progress) → is_blocked p ≡ true → is_waiting p ≡ false
 blocked-rests progress.Queued e = refl
-blocked-rests (progress.Again way) e = refl
+blocked-rests (progress.Again way due) e = refl
 blocked-rests (progress.Blocked way due) e = refl
 blocked-rests (progress.Waiting t) e = absurd cc
 blocked-rests progress.Tried e = refl
@@ -421,7 +422,7 @@ requeued-waits c = by c.progress
         → waits (cond (is_tried p) (record c { udp_sends = 0; tcp_sends = 0; progress = progress.Queued }) (record c { progress = p }))
         ≡ is_waiting p
     by progress.Queued = refl
-    by (progress.Again way) = refl
+    by (progress.Again way due) = refl
     by (progress.Blocked way due) = refl
     by (progress.Waiting t) = refl
     by progress.Tried = refl
@@ -450,7 +451,7 @@ bounded-round s b order = by (wants_round s) refl
 bounded-expired_in : (s : TransactionState) → IsBounded s → (c : Candidate) → IsWithinSends c → (p : Progress)
     → IsBounded (expired_in c p s)
 bounded-expired_in s b c w progress.Queued = b
-bounded-expired_in s b c w (progress.Again way) = b
+bounded-expired_in s b c w (progress.Again way due) = b
 bounded-expired_in s b c w (progress.Blocked way due) =
     bounded-noting (putting progress.Tried c s) (bounded-putting s b progress.Tried c w tt refl) _
 bounded-expired_in s b c w (progress.Waiting t) =
@@ -485,12 +486,12 @@ bounded-expired s b now = by (picked (is_due now) s) refl
 -- asked again, or not asked yet
 abbrev IsToSend : Progress → Type 0
 IsToSend progress.Queued = Unit {0}
-IsToSend (progress.Again way) = Unit {0}
+IsToSend (progress.Again way due) = Unit {0}
 IsToSend other = ⊥
 
 again-sends : (p : Progress) → is_again p ≡ true → IsToSend p
 again-sends progress.Queued e = tt
-again-sends (progress.Again way) e = tt
+again-sends (progress.Again way due) e = tt
 again-sends (progress.Blocked way due) e = absurd cc
 again-sends (progress.Waiting t) e = absurd cc
 again-sends progress.Tried e = absurd cc
@@ -498,7 +499,7 @@ again-sends progress.Gone e = absurd cc
 
 queued-sends : (p : Progress) → is_queued p ≡ true → IsToSend p
 queued-sends progress.Queued e = tt
-queued-sends (progress.Again way) e = tt
+queued-sends (progress.Again way due) e = tt
 queued-sends (progress.Blocked way due) e = absurd cc
 queued-sends (progress.Waiting t) e = absurd cc
 queued-sends progress.Tried e = absurd cc
@@ -556,7 +557,7 @@ room-to_send c k = by c.progress k.sends k.within.room
 
     by : (p : Progress) → IsToSend p → HasRoom p c → sends_by (way_in p (first_way c)).transport c < 2
     by progress.Queued k r = first (first_way c).transport r.0 r.1
-    by (progress.Again way) k r = r
+    by (progress.Again way due) k r = r
     by (progress.Blocked way due) k r = absurd k
     by (progress.Waiting t) k r = absurd k
     by progress.Tried k r = absurd k
@@ -579,20 +580,20 @@ bounded-sent s b made = by (may_send s) refl (chosen s) refl
         let k = from-chosen s b c is e in
         let room = ltb-true (waiting_in s.candidates) s.settings.concurrent
         (and_parts (is_none s.ended) (ltb (waiting_in s.candidates) s.settings.concurrent) is).1 in
-        let t = try_made made (way_of c) s.settings in
+        let t = try_made made c s.settings in
         bounded-sending s b (sent_with made s.settings c) (within-sent c (way_of c).transport t k.within (room-to_send c k)) room
 
 bounded-unsent : (s : TransactionState) → IsBounded s → (due : ℕ) → IsBounded (unsent due s)
 bounded-unsent s b due = by (may_send s) refl (chosen s) refl
   where
     by : (may : Bool) → may_send s ≡ may → (found : Option Candidate) → chosen s ≡ found
-        → IsBounded (option_map_or (λ c. putting (progress.Blocked (way_of c) due) c s) found s)
+        → IsBounded (option_map_or (λ c. replacing (without_channel due c) s) found s)
     by may is None e = b
     by false is (Some c) e =
         let none = ap (λ (m : Bool). cond m (option_or (picked is_again s) (first_queued s)) None) (sym is) ∙ e in absurd cc
     by true is (Some c) e =
         let k = from-chosen s b c is e in
-        bounded-putting s b (progress.Blocked (way_of c) due) c k.within (room-to_send c k) refl
+        bounded-putting s b (progress.Blocked (way_of c) (unwrap_or (channel_due_of c.progress) due)) c k.within (room-to_send c k) refl
 
 -- ---- from the beginning on
 

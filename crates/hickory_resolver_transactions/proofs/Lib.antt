@@ -1,4 +1,5 @@
 pub mod Bounded
+pub mod Keeping
 pub mod MadeUp
 pub mod Replacing
 pub mod Waiting

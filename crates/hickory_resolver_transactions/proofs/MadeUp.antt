@@ -6,7 +6,7 @@ use Rattle.std.specs.Option.{option_map_or}
 use Rattle.std.proofs.lemmas.List.Elements.{Contains-append_left, Contains-push}
 use Rattle.hickory_resolver_tries.specs.declared.outcome.ReplyOutcome.{ReplyOutcome}
 use Rattle.hickory_resolver_tries.specs.declared.outcome.ReplyOutcome.TheVariants as came_as
-use Rattle.hickory_resolver_transactions.specs.Candidates.{is_tried, is_blocked, waits_as, waits_on, is_due, way_of, has_failed_by, freed_one, requeued, sent_with}
+use Rattle.hickory_resolver_transactions.specs.Candidates.{is_tried, is_blocked, waits_as, waits_on, is_due, has_failed_by, freed_one, requeued, sent_with, without_channel}
 use Rattle.hickory_resolver_transactions.specs.Laws.{TransactionEvent, round_begins, is_sent, has_no_room, reply_came, opt_refused, letters_differ, channel_failed, no_channel, channel_free, time_passed, after_event, after_events, reply_in, replies_in, IsOfReplies, IsToldOf, NothingIsMadeUp}
 use Rattle.hickory_resolver_transactions.specs.Outcomes.{better, rank_of}
 use Rattle.hickory_resolver_transactions.specs.Table.{has_room, may_change_to_tcp, may_begin_tcp, again_if, after_reply, after_refused_opt, after_other_letters, after_deadline, after_closed_stream, stays_believed, then_in, then_of_reply, then_of_refused_opt, then_of_other_letters}
@@ -59,7 +59,7 @@ module _ (rs : List ℕ) where
 
   sourced-kept : (s : TransactionState) (p : Progress) (place : ℕ) → IsSourced rs s → IsSourced rs (kept_in p place s)
   sourced-kept s progress.Queued place h = h
-  sourced-kept s (progress.Again way) place h = h
+  sourced-kept s (progress.Again way due) place h = h
   sourced-kept s (progress.Blocked way due) place h = h
   sourced-kept s (progress.Waiting t) place h = sourced-late s (record { place = place; tried = t; has_failed = false }) h
   sourced-kept s progress.Tried place h = h
@@ -95,7 +95,7 @@ module _ (rs : List ℕ) where
   sourced-acted_late s (Rests o) c h k = h
   sourced-acted_late s (Again way) c h k = by (is_tried c.progress)
     where
-      by : (rests : Bool) → IsSourced rs (cond rests (putting (progress.Again way) c s) s)
+      by : (rests : Bool) → IsSourced rs (cond rests (putting (progress.Again way None) c s) s)
       by true = h
       by false = h
   sourced-acted_late s Nothing c h k = h
@@ -122,7 +122,7 @@ module _ (rs : List ℕ) where
 
   then-waiting : (after : Try → Then) (p : Progress) → ((t : Try) → ThenOf (after t)) → ThenOf (then_in after p)
   then-waiting after progress.Queued k = tt
-  then-waiting after (progress.Again way) k = tt
+  then-waiting after (progress.Again way due) k = tt
   then-waiting after (progress.Blocked way due) k = tt
   then-waiting after (progress.Waiting t) k = k t
   then-waiting after progress.Tried k = tt
@@ -180,7 +180,7 @@ module _ (rs : List ℕ) where
 
     sourced-failed_in : (c : Candidate) (p : Progress) → IsSourced rs (failed_in c p s)
     sourced-failed_in c progress.Queued = h
-    sourced-failed_in c (progress.Again way) = h
+    sourced-failed_in c (progress.Again way due) = h
     sourced-failed_in c (progress.Blocked way due) = h
     sourced-failed_in c (progress.Waiting t) = sourced-failed_at c t.transport t
     sourced-failed_in c progress.Tried = h
@@ -195,7 +195,7 @@ module _ (rs : List ℕ) where
 
     sourced-blocked_in : (c : Candidate) (p : Progress) → IsSourced rs (blocked_in c p s)
     sourced-blocked_in c progress.Queued = h
-    sourced-blocked_in c (progress.Again way) = h
+    sourced-blocked_in c (progress.Again way due) = h
     sourced-blocked_in c (progress.Blocked way due) = h
     sourced-blocked_in c (progress.Waiting t) = h
     sourced-blocked_in c progress.Tried = h
@@ -238,13 +238,13 @@ module _ (rs : List ℕ) where
     sourced-unsent due = by (chosen s)
       where
         by : (found : Option Candidate)
-            → IsSourced rs (option_map_or (λ c. putting (progress.Blocked (way_of c) due) c s) found s)
+            → IsSourced rs (option_map_or (λ c. replacing (without_channel due c) s) found s)
         by None = h
         by (Some c) = h
 
     sourced-expired_in : (c : Candidate) (p : Progress) → IsSourced rs (expired_in c p s)
     sourced-expired_in c progress.Queued = h
-    sourced-expired_in c (progress.Again way) = h
+    sourced-expired_in c (progress.Again way due) = h
     sourced-expired_in c (progress.Blocked way due) = sourced-noting (putting progress.Tried c s) Timeout h tt
     sourced-expired_in c (progress.Waiting t) =
         sourced-acted s (after_deadline s.settings.tcp_on_error c t) true c h

@@ -93,7 +93,7 @@ waiting-due (c ∷ cs) h =
         → 1 ≤ cond (is_waiting p) 1 0 + count_by (λ (x : Candidate). is_waiting x.progress) cs
         → (is_some (due_of p) || list_any has_due cs) ≡ true
     by progress.Queued more k = more (omega arith)
-    by (progress.Again way) more k = more (omega arith)
+    by (progress.Again way due) more k = more (omega arith)
     by (progress.Blocked way due) more k = refl
     by (progress.Waiting t) more k = refl
     by progress.Tried more k = more (omega arith)
@@ -130,7 +130,7 @@ busy-next (c ∷ cs) h = by c.progress refl (λ k. next-more c cs (busy-next cs 
         → (is_busy p || list_any (λ (x : Candidate). is_busy x.progress) cs) ≡ true → HasNext (c ∷ cs)
     by progress.Queued e more k =
         record { next = inr (inr (true-or (waits_its_turn c) (list_any waits_its_turn cs) (ap is_queued e))) }
-    by (progress.Again way) e more k =
+    by (progress.Again way due) e more k =
         record { next = inr (inl (true-or (asks_again c) (list_any asks_again cs) (ap is_again e))) }
     by (progress.Blocked way due) e more k =
         record { next = inl (true-or (has_due c) (list_any has_due cs) (ap (λ (p : Progress). is_some (due_of p)) e)) }

@@ -1,5 +1,5 @@
 -- The servers of a transaction, and the tries at them.
-use Rattle.std.specs.Prelude.{ℕ, ◌+◌, ◌-◌, ◌^◌, Bool, true, false, ◌&&◌, ◌||◌, ◌==◌, min, nat_le, Option, None, Some, if◌then◌else◌}
+use Rattle.std.specs.Prelude.{ℕ, ◌+◌, ◌-◌, ◌^◌, Bool, true, false, ◌&&◌, ◌||◌, ◌==◌, min, nat_le, Option, None, Some, if◌then◌else◌, unwrap_or}
 use Rattle.std.specs.Option.{is_some}
 use Rattle.hickory_resolver_servers.specs.Server.{ServerState}
 use Rattle.hickory_resolver_transactions.specs.declared.candidate.Candidate.{Candidate}
@@ -29,7 +29,7 @@ candidate_of place server = record {
 -- ---- how far it has come with it
 
 abbrev pub is_again : Progress → Bool
-is_again (Again way) = true
+is_again (Again way due) = true
 is_again other = false
 
 abbrev pub is_queued : Progress → Bool
@@ -92,7 +92,7 @@ abbrev pub first_way : Candidate → Way
 first_way c = record { transport = if c.has_udp then Udp else Tcp; with_opt = true }
 
 abbrev pub way_in : Progress → Way → Way
-way_in (Again way) first = way
+way_in (Again way due) first = way
 way_in other first = first
 
 abbrev pub way_of : Candidate → Way
@@ -101,18 +101,24 @@ way_of c = way_in c.progress (first_way c)
 abbrev pub way_of_try : Try → Way
 way_of_try t = record { transport = t.transport; with_opt = t.form.with_opt }
 
--- a try that goes this way, with what was drawn for it; letters are varied by UDP alone
-abbrev pub try_made : Made → Way → Settings → Try
-try_made made way settings = record {
+-- up to when a channel was waited for, where one was
+abbrev pub channel_due_of : Progress → Option ℕ
+channel_due_of (Again way due) = due
+channel_due_of other = None
+
+-- the try at a server as it is sent next, with what was drawn for it; letters are varied by UDP alone
+abbrev pub try_made : Made → Candidate → Settings → Try
+try_made made c settings = record {
   channel = made.channel;
-  transport = way.transport;
+  transport = (way_of c).transport;
   form = record {
     id = made.id;
-    letters = if settings.varies_letters && is_udp way.transport then Some made.letters else None;
-    with_opt = way.with_opt;
+    letters = if settings.varies_letters && is_udp (way_of c).transport then Some made.letters else None;
+    with_opt = (way_of c).with_opt;
   };
   sent_at = made.moment;
   due = min (made.moment + settings.timeout) (2 ^ 64 - 1);
+  channel_due = channel_due_of c.progress;
 }
 
 -- with one message sent more, and one less
@@ -126,7 +132,18 @@ uncounted Tcp c = record c { tcp_sends = c.tcp_sends - 1 }
 
 abbrev pub sent_with : Made → Settings → Candidate → Candidate
 sent_with made settings c =
-    record (counted (way_of c).transport c) { progress = Waiting (try_made made (way_of c) settings) }
+    record (counted (way_of c).transport c) { progress = Waiting (try_made made c settings) }
+
+-- ---- where there is no channel: it waits for one, and where it waited for one before, no longer than that
+
+-- before it was sent
+abbrev pub without_channel : ℕ → Candidate → Candidate
+without_channel due c = record c { progress = Blocked (way_of c) (unwrap_or (channel_due_of c.progress) due) }
+
+-- after it: nothing was sent
+abbrev pub blocked_as : Try → Candidate → Candidate
+blocked_as t c =
+    uncounted t.transport (record c { progress = Blocked (way_of_try t) (unwrap_or t.channel_due t.due) })
 
 -- ---- at the beginning of a round, and once a channel is free
 
@@ -134,7 +151,7 @@ abbrev pub requeued : Candidate → Candidate
 requeued c = if is_tried c.progress then record c { udp_sends = 0; tcp_sends = 0; progress = Queued } else c
 
 abbrev pub freed_progress : Progress → Progress
-freed_progress (Blocked way due) = Again way
+freed_progress (Blocked way due) = Again way (Some due)
 freed_progress other = other
 
 abbrev pub freed_one : Candidate → Candidate

@@ -4,7 +4,7 @@ use Rattle.std.specs.Option.{is_some}
 use Rattle.std.specs.List.{AllByRecursion, flat_map, fold}
 use Rattle.hickory_resolver_servers.specs.Server.{ServerState}
 use Rattle.hickory_resolver_tries.specs.declared.outcome.ReplyOutcome.{ReplyOutcome}
-use Rattle.hickory_resolver_transactions.specs.Candidates.{is_waiting}
+use Rattle.hickory_resolver_transactions.specs.Candidates.{is_waiting, try_made, sent_with, freed_one, blocked_as, without_channel}
 use Rattle.hickory_resolver_transactions.specs.Table.{sends_by}
 use Rattle.hickory_resolver_transactions.specs.Transaction.{TransactionState, begun_with, came, opt_was_refused, other_letters_came, failed, blocked, freed, expired, with_round, sent, unsent, outcome_of, wants_round, wanted, next_deadline}
 use Rattle.hickory_resolver_transactions.specs.declared.candidate.Candidate.{Candidate}
@@ -14,6 +14,7 @@ use Rattle.hickory_resolver_transactions.specs.declared.candidate.Progress.TheVa
 use Rattle.hickory_resolver_transactions.specs.declared.choices.TheConstants.{SENDS_BY_TRANSPORT, LATE_TRIES}
 use Rattle.hickory_resolver_transactions.specs.declared.outcome.Outcome.{Outcome}
 use Rattle.hickory_resolver_transactions.specs.declared.outcome.Outcome.TheVariants.{Reply, Cut, Code, Unreachable, Timeout}
+use Rattle.hickory_resolver_transactions.specs.declared.candidate.Way.{Way}
 use Rattle.hickory_resolver_transactions.specs.declared.settings.Settings.{Settings}
 
 -- ---- events, one after another
@@ -50,7 +51,7 @@ after_events s events = fold after_event s events
 -- what is still to be sent to a server has its place among the two by a transport
 abbrev pub HasRoom : Progress → Candidate → Type 0
 HasRoom Queued c = (c.udp_sends ≡ 0) × (c.tcp_sends ≡ 0)
-HasRoom (Again way) c = sends_by way.transport c < SENDS_BY_TRANSPORT
+HasRoom (Again way due) c = sends_by way.transport c < SENDS_BY_TRANSPORT
 HasRoom (Blocked way due) c = sends_by way.transport c < SENDS_BY_TRANSPORT
 HasRoom other c = Unit {0}
 
@@ -101,8 +102,8 @@ NothingIsMadeUp =
 
 -- ---- it waits for something
 
--- While it is not over, a round is to begin, or something is to be sent, or it waits up to a moment: so it never waits for
--- ever, where at least one try may wait at once.
+-- While it is not over, a round is to begin, or something is to be sent, or it waits up to a moment: so it never waits
+-- for ever, where at least one try may wait at once.
 abbrev pub WaitsForSomething : TransactionState → Type 0
 WaitsForSomething s =
     (wants_round s ≡ true) ⊎ ((is_some (wanted s) ≡ true) ⊎ (is_some (next_deadline s) ≡ true))
@@ -110,3 +111,18 @@ WaitsForSomething s =
 abbrev pub NeverWaitsForEver : Type 0
 NeverWaitsForEver =
     (s : TransactionState) → 1 ≤ s.settings.concurrent → outcome_of s ≡ None → WaitsForSomething s
+
+-- ---- it does not wait for a channel for ever
+
+-- What waits for a channel waits up to one moment, however often one comes free for it: where that is gone again before
+-- it is sent, and where that cannot be opened.
+pub record KeepsItsTime (c : Candidate) (made : Made) (settings : Settings) (way : Way) (due until : ℕ) : Type 0 where
+  pub unsent : (without_channel until (freed_one c)).progress ≡ Blocked way due
+  pub unopened :
+      (blocked_as (try_made made (freed_one c) settings) (sent_with made settings (freed_one c))).progress
+      ≡ Blocked way due
+
+abbrev pub EachKeepsItsTime : Type 0
+EachKeepsItsTime =
+    (c : Candidate) (made : Made) (settings : Settings) (way : Way) (due until : ℕ) → c.progress ≡ Blocked way due
+    → KeepsItsTime c made settings way due until

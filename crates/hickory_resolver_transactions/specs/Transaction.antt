@@ -5,7 +5,7 @@ use Rattle.std.specs.List.{list_any, fold, filter_map, enumerate_from}
 use Rattle.std.specs.Option.{is_none, option_map, option_map_or, option_or, option_and_then}
 use Rattle.hickory_resolver_servers.specs.Server.{ServerState}
 use Rattle.hickory_resolver_tries.specs.declared.outcome.ReplyOutcome.{ReplyOutcome}
-use Rattle.hickory_resolver_transactions.specs.Candidates.{candidate_of, is_again, is_queued, is_waiting, is_blocked, is_tried, is_busy, is_try, waits_as, waits_on, due_of, is_due, way_of, way_of_try, try_made, sent_with, uncounted, requeued, freed_one, late_due, has_failed_by}
+use Rattle.hickory_resolver_transactions.specs.Candidates.{candidate_of, is_again, is_queued, is_waiting, is_blocked, is_tried, is_busy, is_try, waits_as, waits_on, due_of, is_due, way_of, try_made, sent_with, without_channel, blocked_as, requeued, freed_one, late_due, has_failed_by}
 use Rattle.hickory_resolver_transactions.specs.Outcomes.{better}
 use Rattle.hickory_resolver_transactions.specs.Table.{after_reply, after_deadline, after_closed_stream, then_of_reply, then_of_refused_opt, then_of_other_letters, stays_believed, failed_try_in}
 use Rattle.hickory_resolver_transactions.specs.declared.candidate.Candidate.{Candidate}
@@ -89,14 +89,14 @@ abbrev pub acted : Then → Bool → Candidate → TransactionState → Transact
 acted (Ends reply) keeps c s = record s { ended = Some reply }
 acted (Leaves outcome) keeps c s = noting outcome (putting progress.Gone c (keeping keeps c s))
 acted (Rests outcome) keeps c s = noting outcome (putting progress.Tried c (keeping keeps c s))
-acted (Again way) keeps c s = putting (progress.Again way) c (keeping keeps c s)
+acted (Again way) keeps c s = putting (progress.Again way None) c (keeping keeps c s)
 acted Nothing keeps c s = s
 
 -- the same for a late try: it asks again only where nothing waits at its server
 abbrev pub acted_late : Then → Candidate → TransactionState → TransactionState
 acted_late (Ends reply) c s = record s { ended = Some reply }
 acted_late (Leaves outcome) c s = noting outcome (putting progress.Gone c s)
-acted_late (Again way) c s = if is_tried c.progress then putting (progress.Again way) c s else s
+acted_late (Again way) c s = if is_tried c.progress then putting (progress.Again way None) c s else s
 acted_late other c s = s
 
 -- ---- events
@@ -153,8 +153,7 @@ failed channel s = option_map_or (λ c. failed_in c c.progress s) (picked (waits
 
 -- There was no channel for it: nothing was sent, and it waits for one.
 abbrev pub blocked_in : Candidate → Progress → TransactionState → TransactionState
-blocked_in c (progress.Waiting t) s =
-    replacing (uncounted t.transport (record c { progress = progress.Blocked (way_of_try t) t.due })) s
+blocked_in c (progress.Waiting t) s = replacing (blocked_as t c) s
 blocked_in c other s = s
 
 abbrev pub blocked : ℕ → TransactionState → TransactionState
@@ -230,15 +229,15 @@ wanted s = option_map (λ c. record { place = c.place; way = way_of c }) (chosen
 
 -- the try that goes as what is wanted, made so
 abbrev pub try_to_send : Made → TransactionState → Option Try
-try_to_send made s = option_map (λ c. try_made made (way_of c) s.settings) (chosen s)
+try_to_send made s = option_map (λ c. try_made made c s.settings) (chosen s)
 
 -- what was wanted is sent
 abbrev pub sent : Made → TransactionState → TransactionState
 sent made s = option_map_or (λ c. replacing (sent_with made s.settings c) s) (chosen s) s
 
--- there is no channel for what was wanted: it waits for one, up to this moment
+-- there is no channel for what was wanted: it waits for one, up to this moment where it did not before
 abbrev pub unsent : ℕ → TransactionState → TransactionState
-unsent due s = option_map_or (λ c. putting (progress.Blocked (way_of c) due) c s) (chosen s) s
+unsent due s = option_map_or (λ c. replacing (without_channel due c) s) (chosen s) s
 
 -- ---- what it comes to, and up to when it waits
 

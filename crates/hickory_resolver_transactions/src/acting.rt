@@ -1,5 +1,5 @@
 //! The parts of what an event does with a transaction.
-ghost use Rattle.std.specs.Prelude.{◌≡◌, ◌∷◌, [], OnOk, OnErr, if◌then◌else◌};
+ghost use Rattle.std.specs.Prelude.{◌≡◌, ◌∷◌, [], OnOk, OnErr, None, if◌then◌else◌};
 ghost use Rattle.hickory_resolver_transactions.specs.Candidates.{is_tried};
 ghost use Rattle.hickory_resolver_transactions.specs.Outcomes.{better};
 ghost use Rattle.hickory_resolver_transactions.specs.Transaction.{replaced, replacing, putting, noting, noted_of_closed, with_late, kept_in, keeping, acted, acted_late};
@@ -39,7 +39,7 @@ impl Transaction {
             }
             Then::Again(way) => {
                 self.keep_if(keeps, candidate)?;
-                self.put(candidate, Progress::Again(way));
+                self.put(candidate, Progress::Again(way, None));
                 Ok(())
             }
             Then::Nothing => Ok(()),
@@ -59,10 +59,10 @@ impl Transaction {
 
     fn ask_again(&mut self, candidate: &Candidate, way: Way)
         ensures { self.new ≡ (if is_tried candidate.now.progress
-            then putting (Progress.Again way) candidate.now self.old else self.old) }
+            then putting (Progress.Again way None) candidate.now self.old else self.old) }
     {
         if candidate.progress.is_tried() {
-            self.put(candidate, Progress::Again(way));
+            self.put(candidate, Progress::Again(way, None));
         }
     }
 

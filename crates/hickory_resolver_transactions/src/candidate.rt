@@ -1,6 +1,6 @@
 //! A server in a transaction, and the tries at it.
-ghost use Rattle.std.specs.Prelude.{◌≡◌, ◌+◌, is_some, Option, None, Some};
-ghost use Rattle.hickory_resolver_transactions.specs.Candidates.{candidate_of, is_udp, is_again, is_queued, is_waiting, is_blocked, is_tried, is_busy, is_try, waits_as, waits_on, due_of, is_due, first_way, way_of, way_of_try, counted, uncounted, try_made, sent_with, requeued, freed_one, late_due, has_failed_by};
+ghost use Rattle.std.specs.Prelude.{◌≡◌, ◌+◌, is_some, Option, None, Some, unwrap_or};
+ghost use Rattle.hickory_resolver_transactions.specs.Candidates.{candidate_of, is_udp, is_again, is_queued, is_waiting, is_blocked, is_tried, is_busy, is_try, waits_as, waits_on, due_of, is_due, first_way, way_of, way_of_try, counted, uncounted, channel_due_of, try_made, sent_with, without_channel, blocked_as, requeued, freed_one, late_due, has_failed_by};
 
 use crate::settings::Settings;
 use hickory_resolver_servers::Server;
@@ -37,6 +37,9 @@ pub struct Try {
     pub sent_at: u64,
     /// The moment up to which its reply is waited for.
     pub due: u64,
+    /// Up to when a channel was waited for, where none was there for it before: where this one cannot be opened,
+    /// another one is waited for no longer.
+    pub channel_due: Option<u64>,
 }
 
 /// What the caller makes of a try that is wanted: a channel, and what is drawn by chance.
@@ -57,8 +60,9 @@ pub struct Made {
 pub enum Progress {
     /// It is left in this round.
     Queued,
-    /// It is to be asked again in this round, this way.
-    Again(Way),
+    /// It is to be asked again in this round, this way. With it stands up to when it waited for a channel, where it
+    /// did.
+    Again(Way, Option<u64>),
     /// There was no channel for it: it waits for one, up to a moment.
     Blocked(Way, u64),
     /// A try waits for its reply.
@@ -132,10 +136,11 @@ impl Try {
 }
 
 impl Made {
-    // The try that goes this way.
-    pub(crate) fn make(&self, way: Way, settings: &Settings) -> Try
-        ensures { result ≡ try_made self.now way settings.now }
+    // The try at a server as it is sent next.
+    pub(crate) fn make(&self, candidate: &Candidate, settings: &Settings) -> Try
+        ensures { result ≡ try_made self.now candidate.now settings.now }
     {
+        let way = candidate.way();
         let varies = settings.varies_letters && way.transport.is_udp();
         Try {
             channel: self.channel,
@@ -147,6 +152,7 @@ impl Made {
             },
             sent_at: self.moment,
             due: self.moment.saturating_add(settings.timeout),
+            channel_due: candidate.progress.channel_due(),
         }
     }
 }
@@ -176,7 +182,7 @@ impl Progress {
         ensures { result ≡ is_again self.now }
     {
         match self {
-            Progress::Again(_) => true,
+            Progress::Again(_, _) => true,
             _ => false,
         }
     }
@@ -258,6 +264,16 @@ impl Progress {
         }
     }
 
+    // Up to when a channel was waited for, where it is to be asked again.
+    pub(crate) fn channel_due(&self) -> Option<u64>
+        ensures { result ≡ channel_due_of self.now }
+    {
+        match self {
+            Progress::Again(_, due) => *due,
+            _ => None,
+        }
+    }
+
     // Whether that moment has come.
     pub(crate) fn is_due(&self, now: u64) -> bool
         ensures { result ≡ is_due now self.now }
@@ -310,7 +326,7 @@ impl Candidate {
         ensures { result ≡ way_of self.now }
     {
         match self.progress {
-            Progress::Again(way) => way,
+            Progress::Again(way, _) => way,
             _ => self.first_way(),
         }
     }
@@ -328,7 +344,7 @@ impl Candidate {
     }
 
     // The same with one message sent less.
-    pub(crate) fn uncounted(&self, transport: Transport) -> Candidate
+    fn uncounted(&self, transport: Transport) -> Candidate
         ensures { result ≡ uncounted transport self.now }
     {
         let mut counted = *self;
@@ -352,9 +368,26 @@ impl Candidate {
     pub(crate) fn sent(&self, made: &Made, settings: &Settings) -> Candidate
         ensures { result ≡ sent_with made.now settings.now self.now }
     {
-        let way = self.way();
-        let tried = made.make(way, settings);
-        self.counted(way.transport).with(Progress::Waiting(tried))
+        let tried = made.make(self, settings);
+        self.counted(tried.transport).with(Progress::Waiting(tried))
+    }
+
+    // The same where there is no channel to send it on: it waits for one up to this moment, or as long as it did
+    // before.
+    pub(crate) fn without_channel(&self, due: u64) -> Candidate
+        ensures { result ≡ without_channel due self.now }
+    {
+        let due = self.progress.channel_due().unwrap_or(due);
+        self.with(Progress::Blocked(self.way(), due))
+    }
+
+    // The same where its try could not be sent.
+    pub(crate) fn blocked(&self, tried: &Try) -> Candidate
+        ensures { result ≡ blocked_as tried.now self.now }
+    {
+        let due = tried.channel_due.unwrap_or(tried.due);
+        self.with(Progress::Blocked(tried.way(), due))
+            .uncounted(tried.transport)
     }
 
     // The same at the beginning of a round.
@@ -375,7 +408,7 @@ impl Candidate {
         ensures { result ≡ freed_one self.now }
     {
         match self.progress {
-            Progress::Blocked(way, _) => self.with(Progress::Again(way)),
+            Progress::Blocked(way, due) => self.with(Progress::Again(way, Some(due))),
             _ => *self,
         }
     }

@@ -169,9 +169,7 @@ impl Transaction {
         ensures { self.new ≡ blocked_in candidate.now candidate.now.progress self.old }
     {
         if let Progress::Waiting(tried) = candidate.progress {
-            let progress = Progress::Blocked(tried.way(), tried.due);
-            let changed = candidate.with(progress).uncounted(tried.transport);
-            replace(&mut self.candidates, &changed);
+            replace(&mut self.candidates, &candidate.blocked(&tried));
         }
     }
 

@@ -2,7 +2,7 @@
 ghost use Rattle.std.specs.Prelude.{◌≡◌, [], ◌<◌, ◌+◌, IfOk, OnOk, OnErr, Some};
 ghost use Rattle.hickory_resolver_transactions.specs.Transaction.{begun_with, candidates_of, replacing, putting, is_idle, may_go_on, wants_round, places_left, with_round, may_send, next_of, chosen, wanted, try_to_send, sent, unsent};
 
-use crate::candidate::{Candidate, LateTry, Made, Progress, Try, Way};
+use crate::candidate::{Candidate, LateTry, Made, Try, Way};
 use crate::changed::{replace, requeue_each};
 use crate::outcome::Outcome;
 use crate::picked::{any_busy, any_failed, any_tried, candidates_of, next_of, waiting_count};
@@ -135,7 +135,7 @@ impl Transaction {
         ensures { result ≡ try_to_send made.now self.now }
     {
         match self.chosen() {
-            Some(candidate) => Some(made.make(candidate.way(), &self.settings)),
+            Some(candidate) => Some(made.make(&candidate, &self.settings)),
             None => None,
         }
     }
@@ -149,13 +149,13 @@ impl Transaction {
         }
     }
 
-    /// There is no channel for what was wanted: it is not sent, and waits for one up to this moment.
+    /// There is no channel for what was wanted: it is not sent, and waits for one up to this moment, or as long as it
+    /// did before.
     pub fn unsent(&mut self, due: u64)
         ensures { self.new ≡ unsent due self.old }
     {
         if let Some(candidate) = self.chosen() {
-            let progress = Progress::Blocked(candidate.way(), due);
-            replace(&mut self.candidates, &candidate.with(progress));
+            replace(&mut self.candidates, &candidate.without_channel(due));
         }
     }
 
