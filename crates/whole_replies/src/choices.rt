@@ -1,0 +1,5 @@
+//! Numbers that are choices.
+
+/// How many names are on the way of one reply at the most, the asked one and the last with them. Servers that people
+/// use stop after some ten aliases.
+pub const MOST_NAMES: usize = 17;
