@@ -12,6 +12,7 @@ use Rattle.trace_judge.specs.Denials.{covers, covers_until, denial_deadline, las
 use Rattle.trace_judge.specs.Evidence.{EvidenceValue}
 use Rattle.trace_judge.specs.Index.{IndexValue, Stands, denied_at, is_reaching, is_since, last_from, latest_at, moment_since, reaches, seen_at, tried_in}
 use Rattle.trace_judge.specs.Receptions.{deadline, grace, had_ttl, is_same_record, last_deadline, question_of, reach, was_allowed, was_received}
+use Rattle.trace_judge.specs.RecordKeys.{KeyValue, record_key}
 use Rattle.trace_judge.specs.Findings.{denial_facts_of, denial_reach, facts_of}
 use Rattle.trace_judge.specs.Replies.{ReplyValue}
 use Rattle.trace_judge.specs.Trace.{milliseconds_of}
@@ -63,11 +64,11 @@ any_reach : (b : Bool) (r : Reception) → b ≡ (b && (nat_le 0 (deadline r) &&
 any_reach true r = grind (arith, nat_tests)
 any_reach false r = refl
 
-pub received_known : (before : ℕ) (rs : List Reception) (seen : List (Query × List Reception)) → SeenAlike before rs seen
-    → (told : RecordValue) → reaches told before 0 (seen_at seen (question_of told)) ≡ was_received rs told
+pub received_known : (before : ℕ) (rs : List Reception) (seen : List (KeyValue × List Reception)) → SeenAlike before rs seen
+    → (told : RecordValue) → reaches told before 0 (seen_at seen (record_key told)) ≡ was_received rs told
 received_known before rs seen same told =
     let from : before ≡ max 0 before = omega arith in
-    ap (λ n. reaches told n 0 (seen_at seen (question_of told))) from ∙ sym (same told 0 0)
+    ap (λ n. reaches told n 0 (seen_at seen (record_key told))) from ∙ sym (same told 0 0)
     ∙ sym (any_same (λ r. is_same_record r.found told) (is_reaching told 0 0) rs (λ r. any_reach (is_same_record r.found told) r))
 
 late : (b : Bool) (slack until : ℕ) (r : Reception)
@@ -75,8 +76,8 @@ late : (b : Bool) (slack until : ℕ) (r : Reception)
 late true slack until r = grind (arith, nat_tests)
 late false slack until r = refl
 
-pub allowed_known : (slack until before : ℕ) (rs : List Reception) (seen : List (Query × List Reception)) → SeenAlike before rs seen
-    → (told : RecordValue) → reaches told (max (until - grace slack) before) 0 (seen_at seen (question_of told)) ≡ was_allowed slack rs until told
+pub allowed_known : (slack until before : ℕ) (rs : List Reception) (seen : List (KeyValue × List Reception)) → SeenAlike before rs seen
+    → (told : RecordValue) → reaches told (max (until - grace slack) before) 0 (seen_at seen (record_key told)) ≡ was_allowed slack rs until told
 allowed_known slack until before rs seen same told =
     sym (same told (until - grace slack) 0)
     ∙ sym (any_same (λ r. is_same_record r.found told && nat_le until (deadline r + grace slack))
@@ -87,11 +88,11 @@ ttl_reach : (b : Bool) (slack ttl : ℕ) (r : Reception)
 ttl_reach true slack ttl r = grind (arith, nat_tests)
 ttl_reach false slack ttl r = refl
 
-pub ttl_known : (slack before : ℕ) (rs : List Reception) (seen : List (Query × List Reception)) → SeenAlike before rs seen
-    → (told : RecordValue) → reaches told before (told.ttl - slack) (seen_at seen (question_of told)) ≡ had_ttl slack rs told
+pub ttl_known : (slack before : ℕ) (rs : List Reception) (seen : List (KeyValue × List Reception)) → SeenAlike before rs seen
+    → (told : RecordValue) → reaches told before (told.ttl - slack) (seen_at seen (record_key told)) ≡ had_ttl slack rs told
 ttl_known slack before rs seen same told =
     let from : before ≡ max 0 before = omega arith in
-    ap (λ n. reaches told n (told.ttl - slack) (seen_at seen (question_of told))) from ∙ sym (same told 0 (told.ttl - slack))
+    ap (λ n. reaches told n (told.ttl - slack) (seen_at seen (record_key told))) from ∙ sym (same told 0 (told.ttl - slack))
     ∙ sym (any_same (λ r. is_same_record r.found told && nat_le told.ttl (r.found.ttl + slack))
     (is_reaching told 0 (told.ttl - slack)) rs (λ r. ttl_reach (is_same_record r.found told) slack told.ttl r))
 
@@ -104,10 +105,10 @@ from_reach : (b : Bool) (before u : ℕ) (r : Reception)
 from_reach true before u r = grind (arith, nat_tests)
 from_reach false before u r = refl
 
-pub deadline_known : (before : ℕ) (rs : List Reception) (seen : List (Query × List Reception)) → SeenAlike before rs seen
-    → (told : RecordValue) → last_from before told (seen_at seen (question_of told)) ≡ last_deadline rs told
+pub deadline_known : (before : ℕ) (rs : List Reception) (seen : List (KeyValue × List Reception)) → SeenAlike before rs seen
+    → (told : RecordValue) → last_from before told (seen_at seen (record_key told)) ≡ last_deadline rs told
 deadline_known before rs seen same told =
-    let near = seen_at seen (question_of told) in
+    let near = seen_at seen (record_key told) in
     sym (same_numbers (last_deadline rs told) (last_from before told near) (λ u.
     best-reach (λ r. is_same_record r.found told) deadline 0 rs u
     ∙ ap (λ b. nat_le u 0 || b)
@@ -140,10 +141,10 @@ tried_known e i s moment q told =
 
 -- what is known of a record by the index is what is known by all that was received
 pub facts_known : (e : EvidenceValue) (i : IndexValue) → Stands e i → (now : Moment) (q : Query) (told : RecordValue) (f : Facts)
-    → f.received ≡ reaches told i.oldest 0 (seen_at i.seen (question_of told))
-    → f.allowed ≡ reaches told (max (reach (milliseconds_of now) told.ttl - grace i.slack) i.oldest) 0 (seen_at i.seen (question_of told))
-    → f.had_ttl ≡ reaches told i.oldest (told.ttl - i.slack) (seen_at i.seen (question_of told))
-    → f.deadline ≡ last_from i.oldest told (seen_at i.seen (question_of told))
+    → f.received ≡ reaches told i.oldest 0 (seen_at i.seen (record_key told))
+    → f.allowed ≡ reaches told (max (reach (milliseconds_of now) told.ttl - grace i.slack) i.oldest) 0 (seen_at i.seen (record_key told))
+    → f.had_ttl ≡ reaches told i.oldest (told.ttl - i.slack) (seen_at i.seen (record_key told))
+    → f.deadline ≡ last_from i.oldest told (seen_at i.seen (record_key told))
     → f.tried ≡ tried_in i f.deadline q (question_of told)
     → f ≡ facts_of e now q told
 facts_known e i s now q told f received allowed ttl last tried =

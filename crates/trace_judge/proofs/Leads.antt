@@ -7,7 +7,6 @@ use Rattle.std.proofs.lemmas.Bool.Decides.{nat_tests}
 use Rattle.hickory_proto_core.specs.Codes.{class_code, type_code}
 use Rattle.hickory_proto_core.specs.Name.{NameValue, name_eq}
 use Rattle.hickory_proto_core.specs.NameLaws.{name_equiv}
-use Rattle.hickory_proto_core.specs.Query.{query_eq}
 use Rattle.hickory_proto_core.specs.Records.{DataValue, RecordValue, cname_data, data_eq, data_equiv, data_type}
 use Rattle.hickory_proto_core.specs.codes.dns_class.DNSClass.{DNSClass}
 use Rattle.hickory_proto_core.specs.codes.record_type.RecordType.TheVariants as type
@@ -16,9 +15,10 @@ use Rattle.trace_judge.specs.Aliases.{is_alias_outlived, leads, next_name}
 use Rattle.trace_judge.specs.Denials.{alias_target}
 use Rattle.trace_judge.specs.Evidence.{EvidenceValue}
 use Rattle.trace_judge.specs.Index.{IndexValue, Stands, alias_key, alias_step, is_reaching, leads_in, leads_in_by, reaches, seen_at}
-use Rattle.trace_judge.specs.Receptions.{deadline, grace, is_same_record, question_of}
+use Rattle.trace_judge.specs.Receptions.{deadline, grace, is_same_record}
+use Rattle.trace_judge.specs.RecordKeys.{KeyValue, key_eq, key_octets, key_target, no_target, record_key}
 use Rattle.trace_judge.specs.declared.receptions.Reception.{Reception}
-use Rattle.trace_judge.proofs.Keys.{same_equiv, seen_same}
+use Rattle.trace_judge.proofs.Keys.{key_from, same_equiv, seen_same}
 use Rattle.trace_judge.proofs.Tests.{any_same, found_in, same_tests}
 
 -- only data of a CNAME have a target
@@ -61,26 +61,28 @@ whole_of class from P b r t is leads c n k =
     (and_from (class_code r.dns_class == class_code class) (name_eq r.name from) c n) k))
     ∙ ap (λ d. option_map_or P (alias_target d) false) is ∙ leads
 
--- the question of an alias
+-- the key of an alias
 alias_question : (class : DNSClass) (from : NameValue) (r : RecordValue) (t : NameValue) → r.rdata ≡ cname_data t
     → (class_code r.dns_class == class_code class) ≡ true → name_eq r.name from ≡ true
-    → query_eq (question_of r) (alias_key class from) ≡ true
+    → key_eq (record_key r) (alias_key class from) ≡ true
 alias_question class from r t is c n =
-    and_from (name_eq r.name from && (type_code (data_type r.rdata) == type_code type.CNAME)) (class_code r.dns_class == class_code class)
+    key_from (record_key r) (alias_key class from) (and_from (name_eq r.name from && (type_code (data_type r.rdata) == type_code type.CNAME)) (class_code r.dns_class == class_code class)
     (and_from (name_eq r.name from) (type_code (data_type r.rdata) == type_code type.CNAME) n
-    (eq-eqb (type_code (data_type r.rdata)) (type_code type.CNAME) (ap (λ d. type_code (data_type d)) is))) c
+    (eq-eqb (type_code (data_type r.rdata)) (type_code type.CNAME) (ap (λ d. type_code (data_type d)) is))) c)
+    (ap (λ d. name_eq (key_target d) no_target) is) (ap key_octets is)
 
 -- equal names are led from alike
-leads-same : (until : ℕ) (seen : List (Query × List Reception)) (class : DNSClass) (to : NameValue) (hops : ℕ) (x y : NameValue)
+leads-same : (until : ℕ) (seen : List (KeyValue × List Reception)) (class : DNSClass) (to : NameValue) (hops : ℕ) (x y : NameValue)
     → name_eq x y ≡ true → leads_in until seen class to hops x ≡ leads_in until seen class to hops y
 unfolding leads_in
 leads-same until seen class to zero x y e = name_equiv.congr x y to e
 leads-same until seen class to (suc hops) x y e =
     let turned : (r : Reception) → name_eq r.found.name x ≡ name_eq r.found.name y
     = λ r. name_equiv.symm r.found.name x ∙ name_equiv.congr x y r.found.name e ∙ name_equiv.symm y r.found.name in
-    let keys : query_eq (alias_key class x) (alias_key class y) ≡ true
-    = and_from (name_eq x y && true) (class_code class == class_code class) (and_from (name_eq x y) true e refl)
-    (eq-eqb (class_code class) (class_code class) refl) in
+    let keys : key_eq (alias_key class x) (alias_key class y) ≡ true
+    = key_from (alias_key class x) (alias_key class y)
+    (and_from (name_eq x y && true) (class_code class == class_code class) (and_from (name_eq x y) true e refl)
+    (eq-eqb (class_code class) (class_code class) refl)) refl refl in
     ap (λ b. b || list_any (leads_in_by until seen class to hops x) (seen_at seen (alias_key class x))) (name_equiv.congr x y to e)
     ∙ ap (λ rs. name_eq y to || list_any (leads_in_by until seen class to hops x) rs) (seen_same (alias_key class x) (alias_key class y) keys seen)
     ∙ ap (λ b. name_eq y to || b) (any_same (leads_in_by until seen class to hops x) (leads_in_by until seen class to hops y)
@@ -127,12 +129,12 @@ here r until k =
     and_from (is_same_record r.found r.found) (nat_le until (deadline r) && nat_le 0 r.found.ttl)
     (same_equiv.refl r.found) (and_from (nat_le until (deadline r)) (nat_le 0 r.found.ttl) k (grind (arith, nat_tests)))
 
-abbrev pub SeenAlike : ℕ → List Reception → List (Query × List Reception) → Type 0
+abbrev pub SeenAlike : ℕ → List Reception → List (KeyValue × List Reception) → Type 0
 SeenAlike before rs seen =
-    (told : RecordValue) (until ttl : ℕ) → reaches told until ttl rs ≡ reaches told (max until before) ttl (seen_at seen (question_of told))
+    (told : RecordValue) (until ttl : ℕ) → reaches told until ttl rs ≡ reaches told (max until before) ttl (seen_at seen (record_key told))
 
 -- an alias leads on by the index as by all receptions
-alias_there : (slack at before : ℕ) (rs : List Reception) (seen : List (Query × List Reception)) → SeenAlike before rs seen
+alias_there : (slack at before : ℕ) (rs : List Reception) (seen : List (KeyValue × List Reception)) → SeenAlike before rs seen
     → (class : DNSClass) (from : NameValue) (P Q : NameValue → Bool) → ((x : NameValue) → P x ≡ Q x)
     → ((x y : NameValue) → name_eq x y ≡ true → Q x ≡ Q y)
     → list_any (λ r. option_map_or P (next_name slack at class from r) false) rs ≡ true
@@ -144,15 +146,15 @@ alias_there slack at before rs seen same class from P Q alike respects h =
     let reached : reaches r.0.found until 0 rs ≡ true
     = r.2 (is_reaching r.0.found until 0) (here r.0 until (sym (late slack at (deadline r.0)) ∙ p.5)) in
     let key = alias_question class from r.0.found p.0 p.1 p.3 p.4 in
-    let found = found_in (is_reaching r.0.found (max until before) 0) (seen_at seen (question_of r.0.found)) (sym (same r.0.found until 0) ∙ reached) in
+    let found = found_in (is_reaching r.0.found (max until before) 0) (seen_at seen (record_key r.0.found)) (sym (same r.0.found until 0) ∙ reached) in
     let s = found.0 in
     let hit = and_parts (is_same_record s.found r.0.found) (nat_le (max until before) (deadline s) && nat_le 0 s.found.ttl) found.1 in
     let far = and_parts (nat_le (max until before) (deadline s)) (nat_le 0 s.found.ttl) hit.1 in
     let is_one = led_by class from Q (max until before) r.0.found s p.0 p.1 (sym (alike p.0) ∙ p.2) p.3 p.4 hit.0 far.0 respects in
     let test = λ (x : Reception). option_map_or Q (alias_step (max until before) class from x) false in
-    ap (list_any test) (sym (seen_same (question_of r.0.found) (alias_key class from) key seen)) ∙ found.2 test is_one
+    ap (list_any test) (sym (seen_same (record_key r.0.found) (alias_key class from) key seen)) ∙ found.2 test is_one
 
-alias_back : (slack at before : ℕ) (rs : List Reception) (seen : List (Query × List Reception)) → SeenAlike before rs seen
+alias_back : (slack at before : ℕ) (rs : List Reception) (seen : List (KeyValue × List Reception)) → SeenAlike before rs seen
     → (class : DNSClass) (from : NameValue) (P Q : NameValue → Bool) → ((x : NameValue) → P x ≡ Q x)
     → ((x y : NameValue) → name_eq x y ≡ true → Q x ≡ Q y)
     → list_any (λ r. option_map_or Q (alias_step (max (at - grace slack) before) class from r) false) (seen_at seen (alias_key class from)) ≡ true
@@ -163,8 +165,8 @@ alias_back slack at before rs seen same class from P Q alike respects h =
     let r = found_in (λ r. option_map_or Q (alias_step m class from r) false) (seen_at seen (alias_key class from)) h in
     let p = parts_of class from Q (nat_le m (deadline r.0)) r.0.found r.1 in
     let key = alias_question class from r.0.found p.0 p.1 p.3 p.4 in
-    let reached : reaches r.0.found m 0 (seen_at seen (question_of r.0.found)) ≡ true
-    = ap (reaches r.0.found m 0) (seen_same (question_of r.0.found) (alias_key class from) key seen)
+    let reached : reaches r.0.found m 0 (seen_at seen (record_key r.0.found)) ≡ true
+    = ap (reaches r.0.found m 0) (seen_same (record_key r.0.found) (alias_key class from) key seen)
     ∙ r.2 (is_reaching r.0.found m 0) (here r.0 m p.5) in
     let found = found_in (is_reaching r.0.found until 0) rs (same r.0.found until 0 ∙ reached) in
     let s = found.0 in
@@ -177,7 +179,7 @@ alias_back slack at before rs seen same class from P Q alike respects h =
     (alike t.0 ∙ sym (respects p.0 t.0 t.2) ∙ p.2) (class_of class r.0.found s.found same_class.1 p.3)
     (name_of from r.0.found s.found same_class.0 p.4) (late slack at (deadline s) ∙ far.0))
 
-pub leads-alike : (slack at before : ℕ) (rs : List Reception) (seen : List (Query × List Reception)) → SeenAlike before rs seen
+pub leads-alike : (slack at before : ℕ) (rs : List Reception) (seen : List (KeyValue × List Reception)) → SeenAlike before rs seen
     → (class : DNSClass) (to : NameValue) (hops : ℕ) (from : NameValue)
     → leads slack at rs class to hops from ≡ leads_in (max (at - grace slack) before) seen class to hops from
 unfolding leads leads_in

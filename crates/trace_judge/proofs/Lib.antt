@@ -11,4 +11,5 @@ pub mod Standing
 pub mod Sections
 pub mod Owning
 pub mod MadeFound
+pub mod Embedded
 pub mod Made

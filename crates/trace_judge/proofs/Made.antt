@@ -1,19 +1,19 @@
 -- What makes records and denials: the same record makes the same, and it is found by its question.
 use Rattle.std.proofs.Common.{◌≡◌, ◌+◌, ◌-◌, ℕ, Bool, true, false, ◌&&◌, ◌||◌, ◌==◌, cond, get_or, length, max, nat_eq, nat_le, not, reverse, List, [], ◌∷◌, Option, None, Some, refl, ap, ap₂, sym, ◌∙◌, arith}
-use Rattle.std.specs.List.{ends_with}
+use Rattle.std.specs.List.{ends_with, list_any}
 use Rattle.std.specs.Ordering.{bool_cmp, nat_cmp, ordering_then}
 use Rattle.std.specs.Cmp.Lexicographic.{bytes_decides, pointwise, slice_cmp}
-use Rattle.std.proofs.lemmas.Bool.{and_from, and_parts, eq-eqb, eqb-true}
+use Rattle.std.proofs.lemmas.Bool.{and_from, and_parts, cond-true, eq-eqb, eqb-true}
 use Rattle.std.proofs.lemmas.Bool.Decides.{nat_tests}
 use Rattle.std.proofs.lemmas.List.{length-map}
 use Rattle.hickory_proto_core.specs.Codes.{class_code, type_code, type_of}
 use Rattle.hickory_proto_core.specs.Name.{NameValue, is_zone_of, lower_label, lower_labels, name_eq, trimmed_name}
 use Rattle.hickory_proto_core.specs.NameLaws.{label_lists_Decides, name_equiv, same_from_name_eq}
-use Rattle.hickory_proto_core.specs.Query.{query_eq}
 use Rattle.hickory_proto_core.specs.Records.{DataValue, RecordValue, a_data, aaaa_data, cname_data, unknown_data, data_eq, data_type}
 use Rattle.hickory_proto_core.specs.codes.dns_class.DNSClass.{DNSClass}
 use Rattle.hickory_proto_core.specs.codes.record_type.RecordType.TheVariants as type
 use Rattle.synthesis.specs.Dname.{is_substitution}
+use Rattle.synthesis.specs.Dns64.{is_embedded}
 use Rattle.synthesis.specs.Nsec.{is_before, is_delegation, is_less, lacks_type, name_denied_by, type_denied_by}
 use Rattle.synthesis.specs.Nsec3.{ChainValue, Nsec3Value, covers, is_between_if, is_in_chain, is_opt_out, is_usable, owner_of, read_chain, read_nsec3}
 use Rattle.synthesis.specs.TypeBits.{has_type}
@@ -22,17 +22,20 @@ use Rattle.synthesis.specs.declared.dns64.Prefix.{Prefix}
 use Rattle.trace_judge.specs.Evidence.{EvidenceValue}
 use Rattle.trace_judge.specs.Hashed.{chain_passes, data_pass, is_hashed, is_of_chain}
 use Rattle.trace_judge.specs.Index.{IndexValue, IsOfType, Respects, Stands, any_late, any_owner, chains_in, is_late, is_unknown, seen_at, type_key}
-use Rattle.trace_judge.specs.MadeIndex.{is_alias_made_at, is_data_made_in, is_kept_chain, late, octets_pass, said_test}
+use Rattle.trace_judge.specs.MadeIndex.{address_key, embeds, is_alias_made_at, is_data_made_in, is_kept_chain, late, makes_address_by, octets_pass, said_test}
 use Rattle.trace_judge.specs.Making.{any_lasts, denies_as, denies_by, embeds_as, is_data_made, lasts, leads_as, makes_address, makes_alias, makes_denial}
-use Rattle.trace_judge.specs.Receptions.{deadline, grace, is_same_record, question_of}
+use Rattle.trace_judge.specs.Receptions.{deadline, grace, is_same_record}
+use Rattle.trace_judge.specs.RecordKeys.{is_sought, key_eq, key_octets, key_target, no_target, record_key, sought_key}
 use Rattle.trace_judge.specs.declared.denials.Denied.{Denied}
 use Rattle.trace_judge.specs.declared.denials.Denied.TheVariants.{WholeName, OneType}
 use Rattle.trace_judge.specs.declared.hashed.Says.{Says}
 use Rattle.trace_judge.specs.declared.hashed.Says.TheVariants.{Encloses, IsBare}
 use Rattle.trace_judge.specs.declared.receptions.Reception.{Reception}
+use Rattle.trace_judge.proofs.Embedded.{address_inside}
+use Rattle.trace_judge.proofs.Keys.{key_from}
 use Rattle.trace_judge.proofs.MadeFound.{Asks, late_by, made-alike, some-same}
 use Rattle.trace_judge.proofs.Owning.{chain_late}
-use Rattle.trace_judge.proofs.Tests.{any_same}
+use Rattle.trace_judge.proofs.Tests.{any-or, any_same}
 
 -- ---- the same data
 
@@ -64,18 +67,22 @@ class_from class a b p q = grind (arith, nat_tests)
 name_from : (n : NameValue) (a b : RecordValue) → name_eq a.name b.name ≡ true → name_eq a.name n ≡ true → name_eq b.name n ≡ true
 name_from n a b p q = sym (name_equiv.congr a.name b.name n p) ∙ q
 
--- a record of this class, name and type answers that question
-asks_by : (class : DNSClass) (name : NameValue) (code : ℕ) (a : RecordValue) → (class_code a.dns_class == class_code class) ≡ true
-    → name_eq a.name name ≡ true → type_code (data_type a.rdata) ≡ type_code (type_of code)
-    → query_eq (question_of a) (type_key class name (type_of code)) ≡ true
-asks_by class name code a c n t =
-    and_from (name_eq a.name name && (type_code (data_type a.rdata) == type_code (type_of code))) (class_code a.dns_class == class_code class)
-    (and_from (name_eq a.name name) (type_code (data_type a.rdata) == type_code (type_of code)) n
-    (eq-eqb (type_code (data_type a.rdata)) (type_code (type_of code)) t)) c
-
 unknown_type : (code c : ℕ) (bytes : List ℕ) (d : DataValue) → d ≡ unknown_data c bytes → (c == code) ≡ true
     → type_code (data_type d) ≡ type_code (type_of code)
 unknown_type code c bytes d e h = ap (λ x. type_code (data_type x)) e ∙ ap (λ n. type_code (type_of n)) (eqb-true c code h)
+
+-- a record of this class, name and type, which is looked for by its question alone, has that key
+asks_by : (class : DNSClass) (name : NameValue) (code : ℕ) (a : RecordValue) → (class_code a.dns_class == class_code class) ≡ true
+    → name_eq a.name name ≡ true → ((c : ℕ) × (bytes : List ℕ) × (a.rdata ≡ unknown_data c bytes) × ((c == code) ≡ true))
+    → is_sought code ≡ true → key_eq (record_key a) (sought_key (type_key class name (type_of code))) ≡ true
+asks_by class name code a c n d sought =
+    let t = unknown_type code d.0 d.1 a.rdata d.2 d.3 in
+    key_from (record_key a) (sought_key (type_key class name (type_of code)))
+    (and_from (name_eq a.name name && (type_code (data_type a.rdata) == type_code (type_of code))) (class_code a.dns_class == class_code class)
+    (and_from (name_eq a.name name) (type_code (data_type a.rdata) == type_code (type_of code)) n
+    (eq-eqb (type_code (data_type a.rdata)) (type_code (type_of code)) t)) c)
+    (ap (λ x. name_eq (key_target x) no_target) d.2)
+    (ap key_octets d.2 ∙ cond-true (is_sought d.0) [] d.1 (ap is_sought (eqb-true d.0 code d.3) ∙ sought))
 
 -- ---- DNAME
 
@@ -100,43 +107,87 @@ alias_respects told target count = λ a b same made.
     (ap leads (e ∙ sym d.2) ∙ outer.1)
 
 alias_asks : (told : RecordValue) (target : NameValue) (count : ℕ)
-    → Asks (makes_alias told target count) (type_key told.dns_class (trimmed_name count told.name) (type_of 39))
+    → Asks (makes_alias told target count) (sought_key (type_key told.dns_class (trimmed_name count told.name) (type_of 39)))
 alias_asks told target count = λ a made.
     let owner = trimmed_name count told.name in
     let outer = and_parts ((class_code a.dns_class == class_code told.dns_class) && name_eq a.name owner) (leads_as told.name count target a.rdata) made in
     let inner = and_parts (class_code a.dns_class == class_code told.dns_class) (name_eq a.name owner) outer.0 in
     let d = leads_of told.name count target a.rdata outer.1 in
-    asks_by told.dns_class owner 39 a inner.0 inner.1 (unknown_type 39 d.0 d.1 a.rdata d.2 d.3)
+    asks_by told.dns_class owner 39 a inner.0 inner.1 d refl
 
 -- ---- DNS64
 
-embeds_of : (prefixes : List Prefix) (segments : List ℕ) (d : DataValue) → embeds_as prefixes segments d ≡ true
-    → (octets : List ℕ) × (d ≡ a_data octets)
-embeds_of prefixes segments (a_data octets) h = (octets, refl)
-embeds_of prefixes segments _ h = absurd (let no : false ≡ true = h in cc)
+embeds_of : (prefix : Prefix) (segments : List ℕ) (d : DataValue) → embeds prefix segments d ≡ true
+    → (octets : List ℕ) × (d ≡ a_data octets) × (is_embedded prefix octets segments ≡ true)
+embeds_of prefix segments (a_data octets) h = (octets, refl, h)
+embeds_of prefix segments _ h = absurd (let no : false ≡ true = h in cc)
 
-address_respects : (prefixes : List Prefix) (told : RecordValue) (segments : List ℕ) → Respects (makes_address prefixes told segments)
-address_respects prefixes told segments = λ a b same made.
-    let embeds = embeds_as prefixes segments in
-    let outer = and_parts ((class_code a.dns_class == class_code told.dns_class) && name_eq a.name told.name) (embeds a.rdata) made in
+address_respects : (told : RecordValue) (segments : List ℕ) (prefix : Prefix) → Respects (makes_address_by told segments prefix)
+address_respects told segments prefix = λ a b same made.
+    let makes = embeds prefix segments in
+    let outer = and_parts ((class_code a.dns_class == class_code told.dns_class) && name_eq a.name told.name) (makes a.rdata) made in
     let inner = and_parts (class_code a.dns_class == class_code told.dns_class) (name_eq a.name told.name) outer.0 in
     let s = parts_same a b same in
-    let d = embeds_of prefixes segments a.rdata outer.1 in
+    let d = embeds_of prefix segments a.rdata outer.1 in
     let e = equal_address d.0 b.rdata (ap (λ x. data_eq x b.rdata) (sym d.1) ∙ s.2) in
-    and_from ((class_code b.dns_class == class_code told.dns_class) && name_eq b.name told.name) (embeds b.rdata)
+    and_from ((class_code b.dns_class == class_code told.dns_class) && name_eq b.name told.name) (makes b.rdata)
     (and_from (class_code b.dns_class == class_code told.dns_class) (name_eq b.name told.name)
     (class_from told.dns_class a b s.1 inner.0) (name_from told.name a b s.0 inner.1))
-    (ap embeds (e ∙ sym d.1) ∙ outer.1)
+    (ap makes (e ∙ sym d.1) ∙ outer.1)
 
-address_asks : (prefixes : List Prefix) (told : RecordValue) (segments : List ℕ)
-    → Asks (makes_address prefixes told segments) (type_key told.dns_class told.name type.A)
-address_asks prefixes told segments = λ a made.
-    let outer = and_parts ((class_code a.dns_class == class_code told.dns_class) && name_eq a.name told.name) (embeds_as prefixes segments a.rdata) made in
+address_asks : (told : RecordValue) (segments : List ℕ) (prefix : Prefix)
+    → Asks (makes_address_by told segments prefix) (address_key prefix told segments)
+address_asks told segments prefix = λ a made.
+    let outer = and_parts ((class_code a.dns_class == class_code told.dns_class) && name_eq a.name told.name) (embeds prefix segments a.rdata) made in
     let inner = and_parts (class_code a.dns_class == class_code told.dns_class) (name_eq a.name told.name) outer.0 in
-    let d = embeds_of prefixes segments a.rdata outer.1 in
-    and_from (name_eq a.name told.name && (type_code (data_type a.rdata) == type_code type.A)) (class_code a.dns_class == class_code told.dns_class)
+    let d = embeds_of prefix segments a.rdata outer.1 in
+    key_from (record_key a) (address_key prefix told segments)
+    (and_from (name_eq a.name told.name && (type_code (data_type a.rdata) == type_code type.A)) (class_code a.dns_class == class_code told.dns_class)
     (and_from (name_eq a.name told.name) (type_code (data_type a.rdata) == type_code type.A) inner.1
-    (eq-eqb (type_code (data_type a.rdata)) (type_code type.A) (ap (λ x. type_code (data_type x)) d.1))) inner.0
+    (eq-eqb (type_code (data_type a.rdata)) (type_code type.A) (ap (λ x. type_code (data_type x)) d.1))) inner.0)
+    (ap (λ x. name_eq (key_target x) no_target) d.1)
+    (ap key_octets d.1 ∙ sym (address_inside prefix d.0 segments d.2))
+
+-- one prefix more
+embeds_more : (b : Bool) (prefix : Prefix) (more : List Prefix) (segments : List ℕ) (d : DataValue)
+    → (b && embeds_as (prefix ∷ more) segments d) ≡ ((b && embeds prefix segments d) || (b && embeds_as more segments d))
+embeds_more true prefix more segments (a_data octets) = refl
+embeds_more true prefix more segments _ = refl
+embeds_more false prefix more segments d = refl
+
+no_prefix : (b : Bool) (segments : List ℕ) (d : DataValue) (l : Bool) → ((b && embeds_as [] segments d) && l) ≡ false
+no_prefix true segments (a_data octets) l = refl
+no_prefix true segments _ l = refl
+no_prefix false segments d l = refl
+
+late_either : (a b l : Bool) → ((a || b) && l) ≡ ((a && l) || (b && l))
+late_either true b true = refl
+late_either true true false = refl
+late_either true false false = refl
+late_either false b l = refl
+
+none_passes : {X : Type 0} (p : X → Bool) → ((x : X) → p x ≡ false) → (xs : List X) → list_any p xs ≡ false
+none_passes p none [] = refl
+none_passes p none (x ∷ xs) = ap (λ b. b || list_any p xs) (none x) ∙ none_passes p none xs
+
+-- the address is made with one of the prefixes
+prefixes_alike : (slack until : ℕ) (prefixes : List Prefix) (told : RecordValue) (segments : List ℕ) (rs : List Reception)
+    → list_any (λ prefix. any_lasts slack until (makes_address_by told segments prefix) rs) prefixes
+    ≡ any_lasts slack until (makes_address prefixes told segments) rs
+prefixes_alike slack until [] told segments rs =
+    sym (none_passes (λ r. makes_address [] told segments r.found && nat_le until (deadline r + grace slack))
+    (λ r. no_prefix ((class_code r.found.dns_class == class_code told.dns_class) && name_eq r.found.name told.name) segments r.found.rdata
+    (nat_le until (deadline r + grace slack))) rs)
+prefixes_alike slack until (prefix ∷ more) told segments rs =
+    let lasts_so = λ (r : Reception). nat_le until (deadline r + grace slack) in
+    let here = λ (r : Reception). (class_code r.found.dns_class == class_code told.dns_class) && name_eq r.found.name told.name in
+    let first = λ (r : Reception). makes_address_by told segments prefix r.found && lasts_so r in
+    let others = λ (r : Reception). makes_address more told segments r.found && lasts_so r in
+    ap (λ b. list_any first rs || b) (prefixes_alike slack until more told segments rs)
+    ∙ sym (any-or first others rs)
+    ∙ sym (any_same (λ r. makes_address (prefix ∷ more) told segments r.found && lasts_so r) (λ r. first r || others r) rs
+    (λ r. ap (λ b. b && lasts_so r) (embeds_more (here r) prefix more segments r.found.rdata)
+    ∙ late_either (here r && embeds prefix segments r.found.rdata) (here r && embeds_as more segments r.found.rdata) (lasts_so r)))
 
 -- ---- records
 
@@ -146,14 +197,18 @@ data-made e i s until told (cname_data target) =
     some-same (length told.name.labels) (is_alias_made_at i (late i until) told target)
     (λ count. any_lasts e.slack until (makes_alias told target count) e.received)
     (λ count. ap (λ n. any_late (max (until - grace n) i.oldest) (makes_alias told target count)
-    (seen_at i.seen (type_key told.dns_class (trimmed_name count told.name) (type_of 39)))) s.slack_is
-    ∙ made-alike (makes_alias told target count) (type_key told.dns_class (trimmed_name count told.name) (type_of 39))
+    (seen_at i.seen (sought_key (type_key told.dns_class (trimmed_name count told.name) (type_of 39))))) s.slack_is
+    ∙ made-alike (makes_alias told target count) (sought_key (type_key told.dns_class (trimmed_name count told.name) (type_of 39)))
     e.slack until i.oldest e.received i.seen s.seen_are (alias_respects told target count) (alias_asks told target count))
 data-made e i s until told (aaaa_data segments) =
-    ap₂ (λ n ps. any_late (max (until - grace n) i.oldest) (makes_address ps told segments)
-    (seen_at i.seen (type_key told.dns_class told.name type.A))) s.slack_is s.dns64_is
-    ∙ made-alike (makes_address e.dns64 told segments) (type_key told.dns_class told.name type.A)
-    e.slack until i.oldest e.received i.seen s.seen_are (address_respects e.dns64 told segments) (address_asks e.dns64 told segments)
+    ap₂ (λ n ps. list_any (λ prefix. any_late (max (until - grace n) i.oldest) (makes_address_by told segments prefix)
+    (seen_at i.seen (address_key prefix told segments))) ps) s.slack_is s.dns64_is
+    ∙ any_same (λ prefix. any_late (max (until - grace e.slack) i.oldest) (makes_address_by told segments prefix)
+    (seen_at i.seen (address_key prefix told segments)))
+    (λ prefix. any_lasts e.slack until (makes_address_by told segments prefix) e.received) e.dns64
+    (λ prefix. made-alike (makes_address_by told segments prefix) (address_key prefix told segments)
+    e.slack until i.oldest e.received i.seen s.seen_are (address_respects told segments prefix) (address_asks told segments prefix))
+    ∙ prefixes_alike e.slack until e.dns64 told segments e.received
 data-made e i s until told _ = refl
 
 -- ---- NSEC
@@ -258,11 +313,11 @@ hashed_unknown class test = λ a made.
 
 hashed_asks : (class : DNSClass) (test : NameValue → Option Nsec3Value → Bool) (hashed : NameValue)
     → ((a : NameValue) (o : Option Nsec3Value) → test a o ≡ true → name_eq a hashed ≡ true)
-    → Asks (is_hashed class test) (type_key class hashed (type_of 50))
+    → Asks (is_hashed class test) (sought_key (type_key class hashed (type_of 50)))
 hashed_asks class test hashed named = λ a made.
     let p = and_parts (class_code a.dns_class == class_code class) (data_pass (test a.name) a.rdata) made in
     let d = hashed_of (test a.name) a.rdata p.1 in
-    asks_by class hashed 50 a p.0 (named a.name (read_nsec3 d.1) d.4) (unknown_type 50 d.0 d.1 a.rdata d.2 d.3)
+    asks_by class hashed 50 a p.0 (named a.name (read_nsec3 d.1) d.4) (d.0, d.1, d.2, d.3) refl
 
 -- owners that are equal are in one chain
 length_same : (a b : NameValue) → lower_labels a.labels ≡ lower_labels b.labels → length a.labels ≡ length b.labels
@@ -308,12 +363,12 @@ covers_alike chain hashed a b (Some n) h =
     λ i. (c i) && not (is_opt_out n) && (m i)
 
 pub said-made : (e : EvidenceValue) (i : IndexValue) → Stands e i → (until : ℕ) (class : DNSClass) (chain : ChainValue) (w : Says) (hashed : NameValue)
-    → any_late (late i until) (is_hashed class (said_test chain w hashed)) (seen_at i.seen (type_key class hashed (type_of 50)))
+    → any_late (late i until) (is_hashed class (said_test chain w hashed)) (seen_at i.seen (sought_key (type_key class hashed (type_of 50))))
     ≡ lasts e until (is_hashed class (said_test chain w hashed))
 said-made e i s until class chain w hashed =
     let makes = is_hashed class (said_test chain w hashed) in
-    ap (λ m. any_late (max (until - grace m) i.oldest) makes (seen_at i.seen (type_key class hashed (type_of 50)))) s.slack_is
-    ∙ made-alike makes (type_key class hashed (type_of 50)) e.slack until i.oldest e.received i.seen s.seen_are
+    ap (λ m. any_late (max (until - grace m) i.oldest) makes (seen_at i.seen (sought_key (type_key class hashed (type_of 50))))) s.slack_is
+    ∙ made-alike makes (sought_key (type_key class hashed (type_of 50))) e.slack until i.oldest e.received i.seen s.seen_are
     (hashed_respects class (said_test chain w hashed) (said_alike chain w hashed))
     (hashed_asks class (said_test chain w hashed) hashed (said_named chain w hashed))
 
@@ -348,20 +403,20 @@ kept_respects class zone test = λ a b same made.
     (ap (octets_pass test zone) (e ∙ sym d.2) ∙ outer.1)
 
 kept_asks : (class : DNSClass) (zone : NameValue) (test : ChainValue → Bool)
-    → Asks (is_kept_chain class zone test) (type_key class zone (type_of 51))
+    → Asks (is_kept_chain class zone test) (sought_key (type_key class zone (type_of 51)))
 kept_asks class zone test = λ a made.
     let outer = and_parts ((class_code a.dns_class == class_code class) && name_eq a.name zone) (octets_pass test zone a.rdata) made in
     let inner = and_parts (class_code a.dns_class == class_code class) (name_eq a.name zone) outer.0 in
     let d = kept_of test zone a.rdata outer.1 in
-    asks_by class zone 51 a inner.0 inner.1 (unknown_type 51 d.0 d.1 a.rdata d.2 d.3)
+    asks_by class zone 51 a inner.0 inner.1 (d.0, d.1, d.2, d.3) refl
 
 pub chain-made : (e : EvidenceValue) (i : IndexValue) → Stands e i → (until : ℕ) (class : DNSClass) (zone : NameValue) (test : ChainValue → Bool)
-    → any_late (late i until) (is_kept_chain class zone test) (seen_at i.gaps.chains (type_key class zone (type_of 51)))
+    → any_late (late i until) (is_kept_chain class zone test) (seen_at i.gaps.chains (sought_key (type_key class zone (type_of 51))))
     ≡ lasts e until (is_of_chain class zone test)
 chain-made e i s until class zone test =
     let makes = is_kept_chain class zone test in
-    ap (λ m. any_late (max (until - grace m) i.oldest) makes (seen_at i.gaps.chains (type_key class zone (type_of 51)))) s.slack_is
-    ∙ made-alike makes (type_key class zone (type_of 51)) e.slack until i.oldest (chains_in e.received) i.gaps.chains s.gaps_are.chains_are
+    ap (λ m. any_late (max (until - grace m) i.oldest) makes (seen_at i.gaps.chains (sought_key (type_key class zone (type_of 51))))) s.slack_is
+    ∙ made-alike makes (sought_key (type_key class zone (type_of 51))) e.slack until i.oldest (chains_in e.received) i.gaps.chains s.gaps_are.chains_are
     (kept_respects class zone test) (kept_asks class zone test)
     ∙ sym (lasts-late e.slack until makes (chains_in e.received))
     ∙ chain_late (until - grace e.slack) class zone test e.received

@@ -19,7 +19,6 @@ use Rattle.hickory_proto_core.specs.Name.{NameValue, base_of, name_cmp, name_eq}
 use Rattle.hickory_proto_core.specs.NameLaws.{name_equiv, name_ties}
 use Rattle.hickory_proto_core.specs.Records.{DataValue, RecordValue, unknown_data}
 use Rattle.hickory_proto_core.specs.codes.dns_class.DNSClass.{DNSClass}
-use Rattle.hickory_proto_core.specs.declared.query.Query.{Query}
 use Rattle.synthesis.specs.Nsec3.{ChainValue, Nsec3Value, chain_octets, chain_of, is_usable, read_chain, read_nsec3}
 use Rattle.synthesis.specs.Nsec3 as nsec3
 use Rattle.trace_judge.specs.Below.{some_below}
@@ -27,6 +26,7 @@ use Rattle.trace_judge.specs.Hashed.{chain_passes, data_of_chain, is_of_chain}
 use Rattle.trace_judge.specs.Index.{AddsOwner, ForgetsOwners, GapsSee, GapsValue, OwnersSee, Respects, SeesAs, any_late, any_owner, chain_by, chain_record, chains_in, is_lasting, is_late, is_outdone, is_unknown, with_chain, with_reception}
 use Rattle.trace_judge.specs.MadeIndex.{is_kept_chain}
 use Rattle.trace_judge.specs.Receptions.{deadline, is_same_record}
+use Rattle.trace_judge.specs.RecordKeys.{KeyValue}
 use Rattle.trace_judge.specs.declared.event.Moment.{Moment}
 use Rattle.trace_judge.specs.declared.receptions.Reception.{Reception}
 use Rattle.trace_judge.proofs.Seen.{any-with}
@@ -331,7 +331,7 @@ gaps_nsec from gaps nsec rs new is adds sees = record {
   chains_are = subst (SeesAs from gaps.chains) (sym (chains_other rs new (other_type new.found.rdata is))) sees.chains_are;
 }
 
-pub gaps_nsec3 : (from : ℕ) (gaps : GapsValue) (nsec3 : List (NameValue × List Reception)) (chains : List (Query × List Reception))
+pub gaps_nsec3 : (from : ℕ) (gaps : GapsValue) (nsec3 : List (NameValue × List Reception)) (chains : List (KeyValue × List Reception))
     (rs : List Reception) (new : Reception)
     → is_unknown 50 new.found.rdata ≡ true → AddsOwner new gaps.nsec3 nsec3
     → SeesAs from chains (chains_in rs ++ chain_by new.moment new.found new.found.rdata) → GapsSee from gaps rs

@@ -3,13 +3,12 @@ use Rattle.std.proofs.Common.{◌≡◌, ◌≤◌, ℕ, Bool, true, false, not,
 use Rattle.std.specs.List.{list_any}
 use Rattle.std.proofs.lemmas.Bool.{and_from, and_parts, and_left, cases_Bool, cond-true, cond-false, le-leb, or_cases, or_left, or_right, not_from_false, false_from_ne_true}
 use Rattle.std.proofs.lemmas.Map.Entries.{option_filter}
-use Rattle.hickory_proto_core.specs.Query.{query_eq}
 use Rattle.hickory_proto_core.specs.Records.{RecordValue}
-use Rattle.hickory_proto_core.specs.declared.query.Query.{Query}
 use Rattle.trace_judge.specs.Index.{Adds, is_lasting, is_outdone, is_reaching, reaches, seen_at, with_reception}
-use Rattle.trace_judge.specs.Receptions.{deadline, is_same_record, question_of}
+use Rattle.trace_judge.specs.Receptions.{deadline, is_same_record}
+use Rattle.trace_judge.specs.RecordKeys.{KeyValue, key_eq, record_key}
 use Rattle.trace_judge.specs.declared.receptions.Reception.{Reception}
-use Rattle.trace_judge.proofs.Keys.{same_equiv, same_question, seen_same}
+use Rattle.trace_judge.proofs.Keys.{same_equiv, same_key, seen_same}
 use Rattle.trace_judge.proofs.Tests.{any-filter, any-push, any_weaker, found_in, le_trans, same_tests}
 
 -- what outdoes a reception reaches where it does
@@ -63,22 +62,22 @@ pub reaches-with : (told : RecordValue) (until ttl : ℕ) (new : Reception) (rs 
     → reaches told until ttl (with_reception new rs) ≡ (reaches told until ttl rs || is_reaching told until ttl new)
 reaches-with told until ttl new rs = any-with (is_reaching told until ttl) (outdone_reaches told until ttl) new rs
 
--- a reception was put to the question that it answers, and other questions keep what they had
-pub adds_from : (new : Reception) (before after : List (Query × List Reception))
-    → ((q : Query) → seen_at after q
-    ≡ cond (query_eq (question_of new.found) q) (with_reception new (seen_at before (question_of new.found))) (seen_at before q))
+-- a reception was put to its key, and other keys keep what they had
+pub adds_from : (new : Reception) (before after : List (KeyValue × List Reception))
+    → ((q : KeyValue) → seen_at after q
+    ≡ cond (key_eq (record_key new.found) q) (with_reception new (seen_at before (record_key new.found))) (seen_at before q))
     → Adds new before after
 adds_from new before after put = λ told until ttl.
-    let key = question_of new.found in let q = question_of told in
+    let key = record_key new.found in let q = record_key told in
     let at = reaches told until ttl in
-    elim (cases_Bool (query_eq key q)) [
-      | inl e ↦ ap at (put q ∙ cond-true (query_eq key q) (with_reception new (seen_at before key)) (seen_at before q) e)
+    elim (cases_Bool (key_eq key q)) [
+      | inl e ↦ ap at (put q ∙ cond-true (key_eq key q) (with_reception new (seen_at before key)) (seen_at before q) e)
           ∙ reaches-with told until ttl new (seen_at before key)
           ∙ ap (λ rs. at rs || is_reaching told until ttl new) (seen_same key q e before)
-      | inr e ↦ ap at (put q ∙ cond-false (query_eq key q) (with_reception new (seen_at before key)) (seen_at before q) e)
+      | inr e ↦ ap at (put q ∙ cond-false (key_eq key q) (with_reception new (seen_at before key)) (seen_at before q) e)
           ∙ sym (or_other (at (seen_at before q)) (is_reaching told until ttl new) (and_left (is_same_record new.found told)
           (nat_le until (deadline new) && nat_le ttl new.found.ttl) (false_from_ne_true (is_same_record new.found told)
-          (λ s. let no : true ≡ false = sym (same_question new.found told s) ∙ e in cc))))
+          (λ s. let no : true ≡ false = sym (same_key new.found told s) ∙ e in cc))))
     ] where
       or_other : (a b : Bool) → b ≡ false → (a || b) ≡ a
       or_other true b e = refl

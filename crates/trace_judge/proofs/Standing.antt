@@ -14,7 +14,8 @@ use Rattle.trace_judge.specs.Forgetting.{latest, oldest}
 use Rattle.trace_judge.specs.Index.{DeniedValue, Forgets, ForgetsDenials, ForgetsGaps, ForgetsMoments, GapsSee, GapsStand, GapsValue, SeesAs, Stands, any_late, chains_in, denied_at, is_late, is_reaching, is_since, latest_at, reaches, seen_at}
 use Rattle.trace_judge.specs.Judging.{DeniesAs, JudgeValue, Keeps, NotesAs, evidence_of, index_of}
 use Rattle.trace_judge.specs.Options.{OptionsValue}
-use Rattle.trace_judge.specs.Receptions.{deadline, is_same_record, question_of, reception_at, receptions}
+use Rattle.trace_judge.specs.Receptions.{deadline, is_same_record, reception_at, receptions}
+use Rattle.trace_judge.specs.RecordKeys.{KeyValue, record_key}
 use Rattle.trace_judge.specs.Trace.{milliseconds_of}
 use Rattle.trace_judge.specs.declared.asks.Ask.{Ask}
 use Rattle.trace_judge.specs.declared.denials.Denial.{Denial}
@@ -47,9 +48,9 @@ moment_kept false before since n = none (nat_le before n) where
 later_max : (a b : ℕ) → b ≤ max a b
 later_max a b = omega arith
 
-pub seen-stands : (before : ℕ) (seen : List (Query × List Reception)) (rs : List Reception) → SeesAs before seen rs
+pub seen-stands : (before : ℕ) (seen : List (KeyValue × List Reception)) (rs : List Reception) → SeesAs before seen rs
     → (told : RecordValue) (until ttl : ℕ)
-    → reaches told until ttl (filter (λ r. nat_le before (deadline r)) rs) ≡ reaches told (max until before) ttl (seen_at seen (question_of told))
+    → reaches told until ttl (filter (λ r. nat_le before (deadline r)) rs) ≡ reaches told (max until before) ttl (seen_at seen (record_key told))
 seen-stands before seen rs sees told until ttl =
     any-filter (λ r. nat_le before (deadline r)) (is_reaching told until ttl) rs
     ∙ any_same (λ r. nat_le before (deadline r) && is_reaching told until ttl r) (is_reaching told (max until before) ttl) rs
@@ -96,7 +97,7 @@ denials-stand before index ds denies class name denied until =
 
 -- ---- as time goes on
 
-pub sees-later : (a b : ℕ) (seen : List (Query × List Reception)) (rs : List Reception) → a ≤ b → SeesAs a seen rs → SeesAs b seen rs
+pub sees-later : (a b : ℕ) (seen : List (KeyValue × List Reception)) (rs : List Reception) → a ≤ b → SeesAs a seen rs → SeesAs b seen rs
 sees-later a b seen rs below sees = λ told until ttl k. sees told until ttl (omega arith)
 
 pub gaps-later : (a b : ℕ) (gaps : GapsValue) (rs : List Reception) → a ≤ b → GapsSee a gaps rs → GapsSee b gaps rs
@@ -120,9 +121,9 @@ oldest-later slack a b = omega arith
 
 -- ---- one more
 
-pub sees-push : (before : ℕ) (was is : List (Query × List Reception)) (rs : List Reception) (new : Reception) → SeesAs before was rs
-    → ((told : RecordValue) (until ttl : ℕ) → reaches told until ttl (seen_at is (question_of told))
-    ≡ (reaches told until ttl (seen_at was (question_of told)) || is_reaching told until ttl new))
+pub sees-push : (before : ℕ) (was is : List (KeyValue × List Reception)) (rs : List Reception) (new : Reception) → SeesAs before was rs
+    → ((told : RecordValue) (until ttl : ℕ) → reaches told until ttl (seen_at is (record_key told))
+    ≡ (reaches told until ttl (seen_at was (record_key told)) || is_reaching told until ttl new))
     → SeesAs before is (rs ++ new ∷ [])
 sees-push before was is rs new sees adds = λ told until ttl k.
     adds told until ttl ∙ ap (λ b. b || is_reaching told until ttl new) (sees told until ttl k)
@@ -138,7 +139,7 @@ notes-push before was is among new notes adds = λ q since k.
 
 -- ---- less
 
-pub sees-forgetting : (before : ℕ) (was is : List (Query × List Reception)) (rs : List Reception) → Forgets before was is → SeesAs before was rs → SeesAs before is rs
+pub sees-forgetting : (before : ℕ) (was is : List (KeyValue × List Reception)) (rs : List Reception) → Forgets before was is → SeesAs before was rs → SeesAs before is rs
 sees-forgetting before was is rs forgets sees = λ told until ttl k. forgets told until ttl k ∙ sees told until ttl k
 
 pub gaps-forgetting : (before : ℕ) (was is : GapsValue) (rs : List Reception) → ForgetsGaps before was is → GapsSee before was rs
@@ -173,7 +174,7 @@ stands-kept options past judge now before kept is =
       start_is = ap (λ o. unwrap_or o now) kept.start_is;
       seen_are = λ told until ttl. seen-stands from judge.seen (receptions past)
           (sees-later (oldest options.slack (latest past)) from judge.seen (receptions past) later kept.seen_are) told until ttl
-          ∙ ap (λ n. reaches told (max until n) ttl (seen_at judge.seen (question_of told))) (sym is);
+          ∙ ap (λ n. reaches told (max until n) ttl (seen_at judge.seen (record_key told))) (sym is);
       gaps_are = subst (λ n. GapsStand n judge.gaps (filter (λ r. nat_le from (deadline r)) (receptions past))) (sym is)
           (gaps-stand from judge.gaps (receptions past)
           (gaps-later (oldest options.slack (latest past)) from judge.gaps (receptions past) later kept.gaps_are));

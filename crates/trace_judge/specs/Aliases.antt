@@ -21,7 +21,8 @@ unfoldable pub leads : ℕ → ℕ → List Reception → DNSClass → NameValue
 leads slack at received class to zero from = name_eq from to
 leads slack at received class to (suc hops) from =
     name_eq from to
-    || list_any (λ r. option_map_or (leads slack at received class to hops) (next_name slack at class from r) false) received
+    || list_any (λ r. option_map_or (leads slack at received class to hops) (next_name slack at class from r) false)
+    received
 
 -- this alias leads on from a name, and so many more to the other
 abbrev pub leads_by : ℕ → ℕ → List Reception → DNSClass → NameValue → ℕ → NameValue → Reception → Bool

@@ -109,7 +109,8 @@ is_pseudo r = record_type_code r == 41
 -- by what is known of it
 abbrev pub known_findings : EvidenceValue → Moment → Place → RecordValue → Facts → List Finding
 known_findings e now place told f =
-    if f.received then received_findings now place told f else unknown_findings e now place told.name (is_made e now told)
+    if f.received then received_findings now place told f
+    else unknown_findings e now place told.name (is_made e now told)
 
 abbrev pub record_findings : EvidenceValue → Moment → Query → Place → RecordValue → List Finding
 record_findings e now q place told =

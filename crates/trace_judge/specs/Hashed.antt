@@ -1,5 +1,5 @@
--- Denials that are made of NSEC3 records (RFC 5155, section 8; RFC 8198, section 5.2). `lasts` says of a test of records
--- whether one that passes it was received, and may be kept for as long as the denial is told.
+-- Denials that are made of NSEC3 records (RFC 5155, section 8; RFC 8198, section 5.2). `lasts` says of a test of
+-- records whether one that passes it was received, and may be kept for as long as the denial is told.
 use Rattle.std.specs.Prelude.{◌+◌, ℕ, Bool, true, false, ◌&&◌, ◌||◌, ◌==◌, length, Option, None, Some}
 use Rattle.hickory_proto_core.specs.Codes.{class_code, type_code}
 use Rattle.hickory_proto_core.specs.Name.{NameValue, base_of, name_eq, trimmed_name}
@@ -41,7 +41,8 @@ abbrev pub wild_test : ChainValue → Denied → NameValue → NameValue → Opt
 wild_test chain WholeName = covers chain
 wild_test chain (OneType t) = λ hashed. is_bare chain hashed (type_code t)
 
--- the name is not there, with so many labels as its closest encloser, and what its wildcard would stand for is not either
+-- the name is not there, with so many labels as its closest encloser, and what its wildcard would stand for is not
+-- either
 abbrev pub is_missing : ((RecordValue → Bool) → Bool) → DNSClass → ChainValue → NameValue → Denied → ℕ → Bool
 is_missing lasts class chain name denied count =
     is_encloser lasts class chain name count
@@ -71,7 +72,8 @@ data_of_chain test zone other = false
 -- a record belongs to a chain of the zone, directly below which its owner is, and the chain passes the test
 abbrev pub is_of_chain : DNSClass → NameValue → (ChainValue → Bool) → RecordValue → Bool
 is_of_chain class zone test by =
-    ((class_code by.dns_class == class_code class) && name_eq (base_of by.name) zone) && data_of_chain test zone by.rdata
+    ((class_code by.dns_class == class_code class) && name_eq (base_of by.name) zone)
+    && data_of_chain test zone by.rdata
 
 -- The denial is made in some chain, of which so many of the name's last labels are the zone.
 abbrev pub is_denied_hashed : ((RecordValue → Bool) → Bool) → DNSClass → NameValue → Denied → Bool

@@ -16,7 +16,8 @@ use Rattle.synthesis.specs.declared.dns64.Prefix.{Prefix}
 use Rattle.trace_judge.specs.Asks.{is_ask_from}
 use Rattle.trace_judge.specs.Denials.{alias_target, covers_until, denial_deadline}
 use Rattle.trace_judge.specs.Evidence.{EvidenceValue}
-use Rattle.trace_judge.specs.Receptions.{deadline, is_same_record, question_of}
+use Rattle.trace_judge.specs.Receptions.{deadline, is_same_record}
+use Rattle.trace_judge.specs.RecordKeys.{KeyValue, key_eq, record_key, sought_key}
 use Rattle.trace_judge.specs.declared.denials.Denial.{Denial}
 use Rattle.trace_judge.specs.declared.denials.Denied.{Denied}
 use Rattle.trace_judge.specs.declared.denials.Denied.TheVariants.{WholeName, OneType}
@@ -54,28 +55,28 @@ with_reception new rs =
 abbrev pub is_lasting : ℕ → List Reception → Bool
 is_lasting before rs = list_any (λ r. nat_le before (deadline r)) rs
 
--- what was received for a question
-abbrev pub seen_at : List (Query × List Reception) → Query → List Reception
-seen_at seen q = unwrap_or (lookup (query_eq q) seen) []
+-- what was received under a key
+abbrev pub seen_at : List (KeyValue × List Reception) → KeyValue → List Reception
+seen_at seen k = unwrap_or (lookup (key_eq k) seen) []
 
 -- a reception was put in
-abbrev pub Adds : Reception → List (Query × List Reception) → List (Query × List Reception) → Type 0
+abbrev pub Adds : Reception → List (KeyValue × List Reception) → List (KeyValue × List Reception) → Type 0
 Adds new before after =
-    (told : RecordValue) (until ttl : ℕ) → reaches told until ttl (seen_at after (question_of told))
-    ≡ (reaches told until ttl (seen_at before (question_of told)) || is_reaching told until ttl new)
+    (told : RecordValue) (until ttl : ℕ) → reaches told until ttl (seen_at after (record_key told))
+    ≡ (reaches told until ttl (seen_at before (record_key told)) || is_reaching told until ttl new)
 
 -- nothing is forgotten but what ran out before this moment
-abbrev pub Forgets : ℕ → List (Query × List Reception) → List (Query × List Reception) → Type 0
+abbrev pub Forgets : ℕ → List (KeyValue × List Reception) → List (KeyValue × List Reception) → Type 0
 Forgets moment before after =
     (told : RecordValue) (until ttl : ℕ) → moment ≤ until
-    → reaches told until ttl (seen_at after (question_of told))
-    ≡ reaches told until ttl (seen_at before (question_of told))
+    → reaches told until ttl (seen_at after (record_key told))
+    ≡ reaches told until ttl (seen_at before (record_key told))
 
 -- from a moment on, the index says what these receptions do
-abbrev pub SeesAs : ℕ → List (Query × List Reception) → List Reception → Type 0
+abbrev pub SeesAs : ℕ → List (KeyValue × List Reception) → List Reception → Type 0
 SeesAs before seen rs =
     (told : RecordValue) (until ttl : ℕ) → before ≤ until
-    → reaches told until ttl (seen_at seen (question_of told)) ≡ reaches told until ttl rs
+    → reaches told until ttl (seen_at seen (record_key told)) ≡ reaches told until ttl rs
 
 -- ---- records that say what is not there
 
@@ -120,8 +121,8 @@ abbrev pub ForgetsOwners : ℕ → List (NameValue × List Reception) → List (
 ForgetsOwners moment before after =
     (makes : RecordValue → Bool) (from : ℕ) → moment ≤ from → any_owner from makes after ≡ any_owner from makes before
 
--- The chain of an NSEC3 record, kept as a record of its zone: as an NSEC3PARAM record (of type 51) it says how the names
--- are hashed (RFC 5155, section 4), and it lasts for as long.
+-- The chain of an NSEC3 record, kept as a record of its zone: as an NSEC3PARAM record (of type 51) it says how the
+-- names are hashed (RFC 5155, section 4), and it lasts for as long.
 abbrev pub chain_record : RecordValue → ChainValue → RecordValue
 chain_record r chain = record {
   name = chain.zone;
@@ -151,7 +152,7 @@ chains_in rs = flat_map (λ r. chain_by r.moment r.found r.found.rdata) rs
 pub record GapsValue : Type 0 where
   pub nsec : List (NameValue × List Reception)
   pub nsec3 : List (NameValue × List Reception)
-  pub chains : List (Query × List Reception)
+  pub chains : List (KeyValue × List Reception)
 
 -- from a moment on, they say what these receptions do
 pub record GapsSee (before : ℕ) (gaps : GapsValue) (rs : List Reception) : Type 0 where
@@ -172,7 +173,8 @@ pub record GapsStand (before : ℕ) (gaps : GapsValue) (rs : List Reception) : T
   pub nsec3_are : (makes : RecordValue → Bool) (from : ℕ) → Respects makes → IsOfType 50 makes
       → any_owner (max from before) makes gaps.nsec3 ≡ any_late from makes rs
   pub chains_are : (told : RecordValue) (until ttl : ℕ)
-      → reaches told until ttl (chains_in rs) ≡ reaches told (max until before) ttl (seen_at gaps.chains (question_of told))
+      → reaches told until ttl (chains_in rs)
+      ≡ reaches told (max until before) ttl (seen_at gaps.chains (record_key told))
 
 -- ---- the latest moment of each question
 
@@ -271,8 +273,8 @@ ForgetsDenials moment before after =
 
 -- ---- aliases
 
-abbrev pub alias_key : DNSClass → NameValue → Query
-alias_key class name = type_key class name type.CNAME
+abbrev pub alias_key : DNSClass → NameValue → KeyValue
+alias_key class name = sought_key (type_key class name type.CNAME)
 
 -- where a reception of an alias that runs out at this moment or later leads from a name
 abbrev pub alias_step : ℕ → DNSClass → NameValue → Reception → Option NameValue
@@ -281,14 +283,14 @@ alias_step until class from r =
     then alias_target r.found.rdata else None
 
 -- so many such aliases at the most lead from a name to this one
-unfoldable pub leads_in : ℕ → List (Query × List Reception) → DNSClass → NameValue → ℕ → NameValue → Bool
+unfoldable pub leads_in : ℕ → List (KeyValue × List Reception) → DNSClass → NameValue → ℕ → NameValue → Bool
 leads_in until seen class to zero from = name_eq from to
 leads_in until seen class to (suc hops) from =
     name_eq from to
     || list_any (λ r. option_map_or (leads_in until seen class to hops) (alias_step until class from r) false)
     (seen_at seen (alias_key class from))
 
-abbrev pub leads_in_by : ℕ → List (Query × List Reception) → DNSClass → NameValue → ℕ → NameValue → Reception → Bool
+abbrev pub leads_in_by : ℕ → List (KeyValue × List Reception) → DNSClass → NameValue → ℕ → NameValue → Reception → Bool
 leads_in_by until seen class to hops from r =
     option_map_or (leads_in until seen class to hops) (alias_step until class from r) false
 
@@ -304,7 +306,7 @@ pub record IndexValue : Type 0 where
   pub own : List RecordValue
   pub dns64 : List Prefix
   pub start : Moment
-  pub seen : List (Query × List Reception)
+  pub seen : List (KeyValue × List Reception)
   pub gaps : GapsValue
   pub asked : List (Query × ℕ)
   pub answered : List (Query × ℕ)
@@ -325,7 +327,7 @@ pub record Stands (e : EvidenceValue) (i : IndexValue) : Type 0 where
   pub dns64_is : i.dns64 ≡ e.dns64
   pub start_is : i.start ≡ e.start
   pub seen_are : (told : RecordValue) (until ttl : ℕ)
-      → reaches told until ttl e.received ≡ reaches told (max until i.oldest) ttl (seen_at i.seen (question_of told))
+      → reaches told until ttl e.received ≡ reaches told (max until i.oldest) ttl (seen_at i.seen (record_key told))
   pub gaps_are : GapsStand i.oldest i.gaps e.received
   pub asked_are : (q : Query) (since : ℕ)
       → list_any (is_ask_from q since) e.asks ≡ is_since (max since i.oldest) (latest_at i.asked q)

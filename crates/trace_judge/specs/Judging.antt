@@ -10,6 +10,7 @@ use Rattle.trace_judge.specs.Findings.{told_findings, when}
 use Rattle.trace_judge.specs.Forgetting.{latest, oldest}
 use Rattle.trace_judge.specs.Index.{DeniedValue, Forgets, ForgetsDenials, ForgetsGaps, ForgetsMoments, GapsSee, GapsValue, IndexValue, SeesAs, count_at, is_since, latest_at, times, type_key, whole_key}
 use Rattle.trace_judge.specs.Receptions.{deadline, receptions}
+use Rattle.trace_judge.specs.RecordKeys.{KeyValue}
 use Rattle.trace_judge.specs.Trace.{is_counted, milliseconds_of, open_questions, start_in}
 use Rattle.trace_judge.specs.declared.asks.Ask.{Ask}
 use Rattle.trace_judge.specs.declared.classes.Class.TheVariants.{Unasked}
@@ -57,7 +58,7 @@ pub record JudgeValue : Type 0 where
   pub start : Option Moment
   pub clock : ℕ
   pub open_counts : List (Query × ℕ)
-  pub seen : List (Query × List Reception)
+  pub seen : List (KeyValue × List Reception)
   pub gaps : GapsValue
   pub asked : List (Query × ℕ)
   pub answered : List (Query × ℕ)

@@ -2,6 +2,7 @@ pub mod Options
 pub mod Replies
 pub mod Trace
 pub mod Receptions
+pub mod RecordKeys
 pub mod Denials
 pub mod Aliases
 pub mod Asks

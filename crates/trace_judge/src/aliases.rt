@@ -3,7 +3,7 @@ ghost use Rattle.std.specs.Prelude.{◌≡◌, IfOk, option_copied};
 ghost use Rattle.std.specs.List.{list_any};
 ghost use Rattle.trace_judge.specs.Aliases.{is_alias_outlived};
 ghost use Rattle.trace_judge.specs.Evidence.{EvidenceValue};
-ghost use Rattle.trace_judge.specs.Index.{Stands, alias_step, leads_in, leads_in_by};
+ghost use Rattle.trace_judge.specs.Index.{Stands, alias_key, alias_step, leads_in, leads_in_by, seen_at};
 ghost use Rattle.trace_judge.specs.Trace.{milliseconds_of};
 
 use crate::denials::{alias_target, is_same_name};
@@ -26,7 +26,8 @@ pub fn is_alias_outlived(
     owner: &Name,
 ) -> Result<bool, AllocError>
     ensures { (e : EvidenceValue) → Stands e evidence.now
-        → IfOk result (λ outlived. outlived ≡ is_alias_outlived e.slack e.received (milliseconds_of now) query.now owner.now) }
+        → IfOk result (λ outlived. outlived
+        ≡ is_alias_outlived e.slack e.received (milliseconds_of now) query.now owner.now) }
 {
     let class = query.query_class;
     let oldest = evidence.oldest;
@@ -34,8 +35,9 @@ pub fn is_alias_outlived(
         .in_milliseconds()
         .saturating_sub(grace(evidence.slack))
         .max(oldest);
-    let led = leads(HOPS, oldest, evidence.seen, class, &query.name, owner)?;
-    let leads = leads(HOPS, current, evidence.seen, class, &query.name, owner)?;
+    let seen = evidence.seen;
+    let led = leads(HOPS, oldest, seen, class, &query.name, owner)?;
+    let leads = leads(HOPS, current, seen, class, &query.name, owner)?;
     Ok(led && !leads)
 }
 
@@ -57,8 +59,19 @@ fn leads(
     if hops == 0 {
         return Ok(false);
     }
-    let key = type_key(class, from, RecordType::CNAME)?;
-    any_leads(hops - 1, until, seen, class, from, to, seen.of(&key))
+    let aliases = aliases_of(seen, class, from)?;
+    any_leads(hops - 1, until, seen, class, from, to, aliases)
+}
+
+// The aliases of a name that were received.
+fn aliases_of<'a>(
+    seen: &'a Sightings,
+    class: DNSClass,
+    name: &Name,
+) -> Result<&'a [Reception], AllocError>
+    ensures { IfOk result (λ rs. rs.now ≡ seen_at seen.now (alias_key class name.now)) }
+{
+    Ok(seen.sought(type_key(class, name, RecordType::CNAME)?))
 }
 
 // Whether some of these aliases leads on from a name, and so many more to another.

@@ -6,8 +6,8 @@ pub enum Class {
     /// It was received, and with the TTL that was told reaches this many milliseconds past the latest moment that a
     /// reception of it allows.
     Stale(u64),
-    /// It is stale, this many milliseconds after it ran out, told with a TTL of 30 seconds at the most, and its question
-    /// was asked since and not answered: so a resolver may serve it (RFC 8767).
+    /// It is stale, this many milliseconds after it ran out, told with a TTL of 30 seconds at the most, and its
+    /// question was asked since and not answered: so a resolver may serve it (RFC 8767).
     ServedStale(u64),
     /// Its TTL is above each that it was received with.
     Raised,

@@ -9,7 +9,7 @@ use crate::event::{Moment, Reply};
 use crate::evidence::Evidence;
 use crate::latest::{LatestMoments, is_since};
 use crate::receptions::{Reception, grace, is_same_record, reach};
-use crate::sightings::question_of;
+use crate::record_key::record_key;
 use hickory_proto_core::{Query, Record};
 use std::alloc::AllocError;
 
@@ -49,12 +49,12 @@ pub fn facts_of(
     ensures { (e : EvidenceValue) → Stands e evidence.now
         → IfOk result (λ f. f ≡ facts_of e now query.now told.now) }
 {
-    let key = question_of(told)?;
+    let key = record_key(evidence.alloc, told)?;
     let oldest = evidence.oldest;
     let seen = evidence.seen.of(&key);
     let until = reach(now, told.ttl).saturating_sub(grace(evidence.slack));
     let deadline = last_from(oldest, seen, told);
-    let tried = was_tried(evidence, deadline, query, &key);
+    let tried = was_tried(evidence, deadline, query, key.question());
     Ok(Facts {
         received: reaches(seen, told, oldest, 0),
         allowed: reaches(seen, told, until.max(oldest), 0),

@@ -64,7 +64,7 @@ fn is_denied_at(
 {
     let zone = trimmed(name, count)?;
     let key = type_key(dns_class, &zone, RecordType::from(51))?;
-    let received = evidence.gaps.chains().of(&key);
+    let received = evidence.gaps.chains().sought(key);
     any_chain(evidence, until, dns_class, name, denied, &zone, received)
 }
 
@@ -259,7 +259,7 @@ fn is_said(
         chain,
         &hashed,
         wanted,
-        evidence.seen.of(&key),
+        evidence.seen.sought(key),
     ))
 }
 

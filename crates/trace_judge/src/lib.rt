@@ -20,6 +20,7 @@ pub mod open;
 pub mod options;
 pub mod owners;
 pub mod receptions;
+pub mod record_key;
 pub mod records;
 pub mod sightings;
 pub mod trace;

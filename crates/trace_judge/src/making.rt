@@ -1,14 +1,15 @@
 //! What a resolver may make by itself of what it received, and what it has of its own.
-ghost use Rattle.std.specs.Prelude.{◌≡◌, ◌&&◌, ◌==◌, IfOk, length};
+ghost use Rattle.std.specs.Prelude.{◌≡◌, ◌&&◌, ◌==◌, ◌+◌, ◌≤◌, IfOk, OnOk, length};
 ghost use Rattle.std.specs.List.{list_any};
-ghost use Rattle.std.specs.Net.Addr.{ipv6_segments};
+ghost use Rattle.std.specs.Net.Addr.{ipv6_octets, ipv6_segments};
 ghost use Rattle.hickory_proto_core.specs.Codes.{class_code};
 ghost use Rattle.hickory_proto_core.specs.Name.{name_eq};
 ghost use Rattle.hickory_proto_core.specs.Records.{data_of};
 ghost use Rattle.trace_judge.specs.Evidence.{EvidenceValue};
 ghost use Rattle.trace_judge.specs.Index.{Stands, any_late};
-ghost use Rattle.trace_judge.specs.MadeIndex.{is_address_made_in, is_alias_made_at, is_alias_made_in, is_data_made_in, late};
-ghost use Rattle.trace_judge.specs.Making.{embeds_as, has_own_name, is_denial_made, is_made, is_own, lasts, leads_as, makes_address, makes_alias, makes_denial};
+ghost use Rattle.trace_judge.specs.MadeIndex.{address_key, behind, embeds, inside, is_address_made_by, is_address_made_in, is_alias_made_at, is_alias_made_in, is_data_made_in, late, makes_address_by};
+ghost use Rattle.trace_judge.specs.Making.{has_own_name, is_denial_made, is_made, is_own, lasts, leads_as, makes_alias, makes_denial};
+ghost use Rattle.trace_judge.specs.RecordKeys.{first_four};
 ghost use Rattle.trace_judge.specs.Receptions.{is_same_record};
 
 use crate::denials::{Denied, last_name};
@@ -20,6 +21,7 @@ use crate::gap::Gap;
 use crate::hashed::is_denied_hashed;
 use crate::owners::any_owner;
 use crate::receptions::{Reception, grace, is_same_record, reach};
+use crate::record_key::{RecordKey, octets_key};
 use hickory_proto_core::{DNSClass, Name, RData, Record, RecordType};
 use std::alloc::{AllocError, Global};
 use std::net::Ipv6Addr;
@@ -108,7 +110,7 @@ fn is_alias_made_at(
         told,
         target,
         count,
-        evidence.seen.of(&key),
+        evidence.seen.sought(key),
     )
 }
 
@@ -176,72 +178,151 @@ fn is_address_made(
     ensures { IfOk result
         (λ made. made ≡ is_address_made_in evidence.now from told.now (ipv6_segments address.now)) }
 {
-    let key = type_key(told.dns_class, &told.name, RecordType::A)?;
+    any_prefix_makes(evidence, from, told, address, evidence.dns64)
+}
+
+// Whether the address may be made with some of these prefixes.
+fn any_prefix_makes(
+    evidence: &Evidence,
+    from: u64,
+    told: &Record,
+    address: &Ipv6Addr,
+    prefixes: &[Prefix],
+) -> Result<bool, AllocError>
+    ensures { IfOk result (λ made. made
+        ≡ list_any (is_address_made_by evidence.now from told.now (ipv6_segments address.now)) prefixes.now) }
+{
+    for prefix in prefixes {
+        if is_address_made_by(evidence, from, told, address, prefix)? {
+            return Ok(true);
+        }
+    }
+    Ok(false)
+}
+
+fn is_address_made_by(
+    evidence: &Evidence,
+    from: u64,
+    told: &Record,
+    address: &Ipv6Addr,
+    prefix: &Prefix,
+) -> Result<bool, AllocError>
+    ensures { IfOk result (λ made. made
+        ≡ is_address_made_by evidence.now from told.now (ipv6_segments address.now) prefix.now) }
+{
+    let key = address_key(evidence.alloc, prefix, told, address)?;
     let received = evidence.seen.of(&key);
-    any_makes_address(
-        evidence.alloc,
-        from,
-        evidence.dns64,
-        told,
-        address,
-        received,
-    )
+    any_makes_address(evidence.alloc, from, prefix, told, address, received)
+}
+
+// The key of the A records that can make the address with a prefix.
+fn address_key(
+    alloc: Global,
+    prefix: &Prefix,
+    told: &Record,
+    address: &Ipv6Addr,
+) -> Result<RecordKey, AllocError>
+    ensures { IfOk result (λ k. k ≡ address_key prefix.now told.now (ipv6_segments address.now)) }
+{
+    let query = type_key(told.dns_class, &told.name, RecordType::A)?;
+    let octets = octets_inside(alloc, prefix, address)?;
+    Ok(octets_key(alloc, query, octets))
+}
+
+// The octets of the IPv4 address that an IPv6 address has inside, with this prefix.
+fn octets_inside(alloc: Global, prefix: &Prefix, address: &Ipv6Addr) -> Result<Vec<u8>, AllocError>
+    ensures { IfOk result (λ octets. octets.items
+        ≡ first_four (inside prefix.now.octets (behind prefix.now (ipv6_octets address.now)))) }
+{
+    let octets = address.octets();
+    let rest = behind(prefix, &octets);
+    let mut found = inside(alloc, usize::from(prefix.octets), rest)?;
+    keep_four(&mut found)?;
+    Ok(found)
+}
+
+// What stands behind the octets of a prefix that count.
+fn behind<'a>(prefix: &Prefix, octets: &'a [u8; 16]) -> &'a [u8]
+    ensures value { result.now ≡ behind prefix.now octets.now }
+    ensures length { 16 ≤ prefix.now.octets + length result.now }
+{
+    let front = prefix.address.octets();
+    let count = front.len().min(usize::from(prefix.octets));
+    &octets[count..]
+}
+
+// The IPv4 address there: all of it, or what stands around the ninth octet of the sixteen (RFC 6052, section 2.2).
+fn inside(alloc: Global, count: usize, rest: &[u8]) -> Result<Vec<u8>, AllocError>
+    requires { 16 ≤ count + length rest.now }
+    ensures { IfOk result (λ octets. octets.items ≡ inside count rest.now) }
+{
+    let mut octets = Vec::new(alloc);
+    if count == 12 {
+        octets.extend_from_slice(rest)?;
+        return Ok(octets);
+    }
+    octets.extend_from_slice(&rest[..8_usize.saturating_sub(count)])?;
+    octets.extend_from_slice(&rest[9_usize.saturating_sub(count)..])?;
+    Ok(octets)
+}
+
+fn keep_four(octets: &mut Vec<u8>) -> Result<(), AllocError>
+    ensures { OnOk result (octets.new.items ≡ first_four octets.old.items) }
+{
+    octets.extend_from_slice(&[0; 4])?;
+    octets.truncate(4);
+    Ok(())
 }
 
 fn any_makes_address(
     alloc: Global,
     from: u64,
-    prefixes: &[Prefix],
+    prefix: &Prefix,
     told: &Record,
     address: &Ipv6Addr,
     received: &[Reception],
 ) -> Result<bool, AllocError>
     ensures { IfOk result (λ made. made
-        ≡ any_late from (makes_address prefixes.now told.now (ipv6_segments address.now)) received.now) }
+        ≡ any_late from (makes_address_by told.now (ipv6_segments address.now) prefix.now) received.now) }
 {
     for r in received {
-        if makes_address(alloc, prefixes, told, address, &r.found)? && from <= r.deadline() {
+        if makes_address_by(alloc, told, address, prefix, &r.found)? && from <= r.deadline() {
             return Ok(true);
         }
     }
     Ok(false)
 }
 
-fn makes_address(
+fn makes_address_by(
     alloc: Global,
-    prefixes: &[Prefix],
     told: &Record,
     address: &Ipv6Addr,
+    prefix: &Prefix,
     by: &Record,
 ) -> Result<bool, AllocError>
     ensures { IfOk result
-        (λ made. made ≡ makes_address prefixes.now told.now (ipv6_segments address.now) by.now) }
+        (λ made. made ≡ makes_address_by told.now (ipv6_segments address.now) prefix.now by.now) }
 {
     if is_named(by, told.dns_class, &told.name) {
-        embeds_as(alloc, prefixes, address, &by.rdata)
+        embeds(alloc, prefix, address, &by.rdata)
     } else {
         Ok(false)
     }
 }
 
-fn embeds_as(
+fn embeds(
     alloc: Global,
-    prefixes: &[Prefix],
+    prefix: &Prefix,
     address: &Ipv6Addr,
     by: &RData,
 ) -> Result<bool, AllocError>
     ensures { IfOk result
-        (λ made. made ≡ embeds_as prefixes.now (ipv6_segments address.now) (data_of by.now)) }
+        (λ made. made ≡ embeds prefix.now (ipv6_segments address.now) (data_of by.now)) }
 {
-    let RData::A(embedded) = by else {
-        return Ok(false);
-    };
-    for prefix in prefixes {
-        if is_embedded(alloc, prefix, embedded, address)? {
-            return Ok(true);
-        }
+    match by {
+        RData::A(embedded) => is_embedded(alloc, prefix, embedded, address),
+        _ => Ok(false),
     }
-    Ok(false)
 }
 
 // ---- denials

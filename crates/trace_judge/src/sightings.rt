@@ -1,19 +1,20 @@
-//! What was received, by the question that it answers.
+//! What was received, by the keys of its records.
 ghost use Rattle.std.specs.Prelude.{◌≡◌, [], IfOk, OnOk, filter, not};
 ghost use Rattle.std.specs.List.{list_any};
 ghost use Rattle.trace_judge.specs.Index.{Adds, Forgets, is_lasting, is_outdone, seen_at, with_reception};
-ghost use Rattle.trace_judge.specs.Receptions.{question_of};
+ghost use Rattle.trace_judge.specs.RecordKeys.{sought_key};
 
 use crate::receptions::{Reception, is_same_record};
-use hickory_proto_core::{Query, Record};
+use crate::record_key::{RecordKey, record_key, sought_key};
+use hickory_proto_core::Query;
 use std::alloc::{AllocError, Global};
 use std::collections::HashMap;
 use std::marker::Model;
 
-// How many questions there are before any are forgotten.
+// How many keys there are before any are forgotten.
 const FEW: usize = 1024;
 
-/// What was received for one question.
+/// What was received under one key.
 #[derive(Drop)]
 pub struct Seen {
     receptions: Vec<Reception>,
@@ -86,21 +87,21 @@ fn is_outdone(by: &Reception, r: &Reception) -> bool
         && r.found.ttl <= by.found.ttl
 }
 
-/// What was received, by the question that it answers.
+/// What was received, by the keys of its records.
 #[derive(Drop)]
 pub struct Sightings {
     alloc: Global,
-    seen: HashMap<Query, Seen>,
-    // How many questions there are before any are forgotten.
+    seen: HashMap<RecordKey, Seen>,
+    // How many keys there are before any are forgotten.
     many: usize,
 }
 
 impl Model for Sightings {
     ghost use Rattle.std.specs.Prelude.{List};
-    ghost use Rattle.hickory_proto_core.specs.declared.query.Query.{Query};
+    ghost use Rattle.trace_judge.specs.RecordKeys.{KeyValue};
     ghost use Rattle.trace_judge.specs.declared.receptions.Reception.{Reception};
 
-    ghost Value = { List (Query × List Reception) };
+    ghost Value = { List (KeyValue × List Reception) };
 
     ghost view = { λ s. s.seen.entries };
 }
@@ -117,21 +118,28 @@ impl Sightings {
         }
     }
 
-    /// What was received for a question.
-    pub fn of(&self, query: &Query) -> &[Reception]
-        ensures { result.now ≡ seen_at self.now query.now }
+    /// What was received under a key.
+    pub fn of(&self, key: &RecordKey) -> &[Reception]
+        ensures { result.now ≡ seen_at self.now key.now }
     {
-        match self.seen.get(query) {
+        match self.seen.get(key) {
             Some(seen) => seen.as_slice(),
             None => &[],
         }
+    }
+
+    /// What was received for a question, of what is looked for by its question alone.
+    pub fn sought(&self, query: Query) -> &[Reception]
+        ensures { result.now ≡ seen_at self.now (sought_key query) }
+    {
+        self.of(&sought_key(self.alloc, query))
     }
 
     /// One more reception.
     pub fn add(&mut self, new: Reception) -> Result<(), AllocError>
         ensures { OnOk result (Adds new self.old self.new) }
     {
-        let key = question_of(&new.found)?;
+        let key = record_key(self.alloc, &new.found)?;
         let mut seen = self.seen.remove(&key).unwrap_or(Seen::new(self.alloc));
         seen.add(new)?;
         self.seen.insert(key, seen)?;
@@ -150,19 +158,8 @@ impl Sightings {
     }
 }
 
-fn drop_ended(seen: &mut HashMap<Query, Seen>, moment: u64)
+fn drop_ended(seen: &mut HashMap<RecordKey, Seen>, moment: u64)
     ensures { Forgets moment seen.old.entries seen.new.entries }
 {
     seen.retain(|_, s| s.is_lasting(moment));
-}
-
-/// The question that a record answers.
-pub fn question_of(r: &Record) -> Result<Query, AllocError>
-    ensures { IfOk result (λ q. q ≡ question_of r.now) }
-{
-    Ok(Query {
-        name: Clone::clone(&r.name)?,
-        query_type: r.record_type(),
-        query_class: r.dns_class,
-    })
 }
