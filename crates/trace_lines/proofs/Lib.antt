@@ -1,1 +1,3 @@
 pub mod WrongCounts
+pub mod Whole
+pub mod HostLines

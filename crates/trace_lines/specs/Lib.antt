@@ -4,3 +4,6 @@ pub mod Lines
 pub mod Reading
 pub mod Printing
 pub mod Reports
+pub mod Whole
+pub mod HostRecords
+pub mod Settings

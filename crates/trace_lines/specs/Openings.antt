@@ -36,4 +36,5 @@ abbrev pub opening_of : List ℕ → List (List ℕ) → Result Opening LineFaul
 opening_of verb fields =
     if is_text (codes "asked") verb then (asked_of fields >>= (λ q. Ok (Asked q))) else (
     if is_text (codes "received") verb then (head_of fields >>= (λ h. Ok (Received h))) else (
-    if is_text (codes "told") verb then (head_of fields >>= (λ h. Ok (Told h))) else Err (wrong_field UnknownWord verb)))
+    if is_text (codes "told") verb then (head_of fields >>= (λ h. Ok (Told h))) else
+    Err (wrong_field UnknownWord verb)))

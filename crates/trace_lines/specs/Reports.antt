@@ -129,7 +129,8 @@ pub record SessionValue : Type 0 where
   pub found : Bool
 
 -- these events were heard, the latest first, and no others
-pub record HasHeard (options : OptionsValue) (strict : Strictness) (past : List Placed) (session : SessionValue) : Type 0 where
+pub record HasHeard (options : OptionsValue) (strict : Strictness) (past : List Placed)
+    (session : SessionValue) : Type 0 where
   pub strictness_is : session.strictness ≡ strict
   pub judge_is : Keeps options (heard past) session.judge
   pub counts_are : session.counts ≡ counts_of options past
