@@ -1,6 +1,8 @@
 //! Judges a trace of a resolver: what it told its clients, by what it received of its upstream.
 #![tactic(auto)]
 
+ghost use Rattle.std.specs.Prelude.{◌≡◌, if◌then◌else◌};
+
 mod arguments;
 mod error;
 
@@ -11,19 +13,22 @@ use std::process::ExitCode;
 use std::{fs, mem};
 use trace_lines::{Settings, TraceError, report};
 
-// The status where anything was found.
-const FOUND: u8 = 1;
-
 fn main(rt: HostRuntime) -> ExitCode {
     match run(&rt) {
-        Ok(false) => ExitCode::SUCCESS,
-        Ok(true) => ExitCode::from(FOUND),
+        Ok(found) => ExitCode::from(status_of(found)),
         Err(error) => {
             let status = error.status();
             let _ = rt.eprintln(error);
             ExitCode::from(status)
         }
     }
+}
+
+// The status of a trace that was judged to its end: 1 where anything was found.
+fn status_of(found: bool) -> u8
+    ensures { result ≡ (if found then 1 else 0) }
+{
+    u8::from(found)
 }
 
 // Whether anything was found.
