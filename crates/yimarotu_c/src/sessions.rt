@@ -123,7 +123,11 @@ pub(crate) fn take(alloc: Global, session: &mut YimarotuSession) -> Option<Box<S
     ensures gives { option_map (λ b. b.value) result ≡ session.old.inside.value }
     ensures closed { session.new.inside.value ≡ None }
 {
-    content(mem::replace(session, closed(alloc)))
+    let YimarotuSession { is_open, inside } = mem::replace(session, closed(alloc));
+    if !is_open {
+        return None;
+    }
+    Some(inside.into_parts().into_box())
 }
 
 // Puts a session in the place of none.
@@ -131,7 +135,10 @@ pub(crate) fn put(session: &mut YimarotuSession, inside: Box<Session>)
     requires { session.old.inside.value ≡ None }
     ensures { session.new.inside.value ≡ Some inside.value }
 {
-    *session = opened(inside);
+    *session = YimarotuSession {
+        is_open: true,
+        inside: Inside::of(Parts::of(inside)),
+    };
 }
 
 fn closed(alloc: Global) -> YimarotuSession
@@ -141,23 +148,4 @@ fn closed(alloc: Global) -> YimarotuSession
         is_open: false,
         inside: Inside::none(alloc),
     }
-}
-
-fn opened(inside: Box<Session>) -> YimarotuSession
-    ensures { result.inside.value ≡ Some inside.value }
-{
-    YimarotuSession {
-        is_open: true,
-        inside: Inside::of(Parts::of(inside)),
-    }
-}
-
-fn content(session: YimarotuSession) -> Option<Box<Session>>
-    ensures { option_map (λ b. b.value) result ≡ session.inside.value }
-{
-    let YimarotuSession { is_open, inside } = session;
-    if !is_open {
-        return None;
-    }
-    Some(inside.into_parts().into_box())
 }
