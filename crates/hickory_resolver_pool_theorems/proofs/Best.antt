@@ -1,0 +1,290 @@
+-- What a transaction would tell, were it over now, and what each event does to it: it stays, or is what the event tells.
+use Rattle.std.proofs.Common.{◌≡◌, ℕ, Bool, true, false, cond, ltb, List, [], ◌∷◌, ◌++◌, length, map, drop, refl}
+use Rattle.std.specs.Prelude.{Option, None, Some, IfSome, filter, not, ◌+◌}
+use Rattle.std.specs.List.{list_any}
+use Rattle.std.specs.Option.{option_map_or}
+use Rattle.hickory_resolver_tries.specs.declared.outcome.ReplyOutcome.{ReplyOutcome}
+use Rattle.hickory_resolver_tries.specs.declared.outcome.ReplyOutcome.TheVariants as came
+use Rattle.hickory_resolver_transactions.specs.Candidates.{is_tried, is_blocked, waits_as, waits_on, is_due, way_of, way_of_try, uncounted, sent_with, without_channel, requeued, freed_one, has_failed_by}
+use Rattle.hickory_resolver_transactions.specs.Outcomes.{better, rank_of}
+use Rattle.hickory_resolver_transactions.specs.Table.{has_room, may_change_to_tcp, may_begin_tcp, after_reply, after_refused_opt, after_other_letters, after_deadline, after_closed_stream, again_if, then_in, then_of_reply, then_of_refused_opt, then_of_other_letters, stays_believed}
+use Rattle.hickory_resolver_transactions.specs.Transaction.{TransactionState, replacing, putting, noting, with_late, noted_of_closed, kept_in, keeping, acted, acted_late, picked, candidate_at, late_at, late_came_to, late_replied, came_to, opt_was_refused, other_letters_came, failed_at, failed_in, failed, blocked_in, blocked, freed, expired_in, late_expired, expired, wants_round, with_round, chosen, sent, unsent}
+use Rattle.hickory_resolver_transactions.specs.Transaction as transaction
+use Rattle.hickory_resolver_transactions.specs.declared.candidate.Candidate.{Candidate}
+use Rattle.hickory_resolver_transactions.specs.declared.candidate.LateTry.{LateTry}
+use Rattle.hickory_resolver_transactions.specs.declared.candidate.Made.{Made}
+use Rattle.hickory_resolver_transactions.specs.declared.candidate.Progress.{Progress}
+use Rattle.hickory_resolver_transactions.specs.declared.candidate.Progress.TheVariants as progress
+use Rattle.hickory_resolver_transactions.specs.declared.candidate.Transport.{Transport}
+use Rattle.hickory_resolver_transactions.specs.declared.candidate.Transport.TheVariants.{Udp, Tcp}
+use Rattle.hickory_resolver_transactions.specs.declared.candidate.Try.{Try}
+use Rattle.hickory_resolver_transactions.specs.declared.outcome.Outcome.{Outcome}
+use Rattle.hickory_resolver_transactions.specs.declared.outcome.Outcome.TheVariants as told
+use Rattle.hickory_resolver_transactions.specs.declared.table.Then.{Then}
+use Rattle.hickory_resolver_transactions.specs.declared.table.Then.TheVariants.{Ends, Leaves, Rests, Again, Nothing}
+
+-- the reply that ended it, or the best that was noted
+abbrev pub best_of : Option ℕ → Option Outcome → Option Outcome
+best_of (Some reply) noted = Some (told.Reply reply)
+best_of None noted = noted
+
+abbrev pub best : TransactionState → Option Outcome
+best s = best_of s.ended s.noted
+
+-- what a reply of this number is noted as
+abbrev pub told_by : ReplyOutcome → ℕ → Outcome
+told_by came.Answer reply = told.Reply reply
+told_by came.Negative reply = told.Reply reply
+told_by came.Truncated reply = told.Cut reply
+told_by other reply = told.Code reply
+
+module _ (P : Outcome → Type 0) (unreachable : P told.Unreachable) (timeout : P told.Timeout) where
+  abbrev pub Tells : TransactionState → Type 0
+  Tells s = IfSome (best s) P
+
+  better-told : (old : Option Outcome) (new : Outcome) → IfSome old P → P new → IfSome (better old new) P
+  better-told None new h k = k
+  better-told (Some o) new h k = by (ltb (rank_of new) (rank_of o))
+    where
+      by : (is_better : Bool) → IfSome (cond is_better (Some new) (Some o)) P
+      by true = k
+      by false = h
+
+  told-noted : (ended : Option ℕ) (noted after : Option Outcome) → (IfSome noted P → IfSome after P)
+      → IfSome (best_of ended noted) P → IfSome (best_of ended after) P
+  told-noted None noted after f h = f h
+  told-noted (Some reply) noted after f h = h
+
+  tells-noting : (s : TransactionState) → Tells s → (o : Outcome) → P o → Tells (noting o s)
+  tells-noting s h o k = told-noted s.ended s.noted (better s.noted o) (λ old. better-told s.noted o old k) h
+
+  closed-told : (ls : List LateTry) (noted : Option Outcome) → IfSome noted P → IfSome (noted_of_closed ls noted) P
+  closed-told [] noted h = h
+  closed-told (l ∷ ls) noted h = by l.has_failed
+    where
+      by : (failed : Bool) → IfSome (cond failed (better noted told.Unreachable) noted) P
+      by true = better-told noted told.Unreachable h unreachable
+      by false = h
+
+  tells-late : (s : TransactionState) → Tells s → (l : LateTry) → Tells (with_late l s)
+  tells-late s h l = by (ltb (length s.late) 2)
+    where
+      by : (few : Bool) → Tells (cond few (record s { late = s.late ++ l ∷ [] })
+          (record s { late = drop 1 s.late ++ l ∷ []; noted = noted_of_closed s.late s.noted }))
+      by true = h
+      by false = told-noted s.ended s.noted (noted_of_closed s.late s.noted) (λ old. closed-told s.late s.noted old) h
+
+  tells-kept : (s : TransactionState) → Tells s → (p : Progress) (place : ℕ) → Tells (kept_in p place s)
+  tells-kept s h progress.Queued place = h
+  tells-kept s h (progress.Again way due) place = h
+  tells-kept s h (progress.Blocked way due) place = h
+  tells-kept s h (progress.Waiting t) place = tells-late s h (record { place = place; tried = t; has_failed = false })
+  tells-kept s h progress.Tried place = h
+  tells-kept s h progress.Gone place = h
+
+  tells-keeping : (s : TransactionState) → Tells s → (keeps : Bool) (c : Candidate) → Tells (keeping keeps c s)
+  tells-keeping s h true c = tells-kept s h c.progress c.place
+  tells-keeping s h false c = h
+
+  -- what is done tells what may be told
+  abbrev MayTell : Then → Type 0
+  MayTell (Ends reply) = P (told.Reply reply)
+  MayTell (Leaves o) = P o
+  MayTell (Rests o) = P o
+  MayTell (Again way) = Unit {0}
+  MayTell Nothing = Unit {0}
+
+  tells-acted : (s : TransactionState) → Tells s → (t : Then) → MayTell t → (keeps : Bool) (c : Candidate)
+      → Tells (acted t keeps c s)
+  tells-acted s h (Ends reply) k keeps c = k
+  tells-acted s h (Leaves o) k keeps c =
+      tells-noting (putting progress.Gone c (keeping keeps c s)) (tells-keeping s h keeps c) o k
+  tells-acted s h (Rests o) k keeps c =
+      tells-noting (putting progress.Tried c (keeping keeps c s)) (tells-keeping s h keeps c) o k
+  tells-acted s h (Again way) k keeps c = tells-keeping s h keeps c
+  tells-acted s h Nothing k keeps c = h
+
+  tells-acted_late : (s : TransactionState) → Tells s → (t : Then) → MayTell t → (c : Candidate)
+      → Tells (acted_late t c s)
+  tells-acted_late s h (Ends reply) k c = k
+  tells-acted_late s h (Leaves o) k c = tells-noting (putting progress.Gone c s) h o k
+  tells-acted_late s h (Rests o) k c = h
+  tells-acted_late s h (Again way) k c = by (is_tried c.progress)
+    where
+      by : (rests : Bool) → Tells (cond rests (putting (progress.Again way None) c s) s)
+      by true = h
+      by false = h
+  tells-acted_late s h Nothing k c = h
+
+  may-again : (may : Bool) (how : Transport) (opt : Bool) (t : Then) → MayTell t → MayTell (again_if may how opt t)
+  may-again true how opt t k = tt
+  may-again false how opt t k = k
+
+  may-reply : (c : Candidate) (t : Try) (outcome : ReplyOutcome) (reply : ℕ) → P (told_by outcome reply)
+      → MayTell (after_reply c t outcome reply)
+  may-reply c t came.Answer reply k = k
+  may-reply c t came.Negative reply k = by c.is_trusted
+    where
+      by : (trusted : Bool) → MayTell (cond trusted (Ends reply) (Leaves (told.Reply reply)))
+      by true = k
+      by false = k
+  may-reply c t came.Truncated reply k =
+      may-again (may_change_to_tcp c t) Tcp t.form.with_opt (Leaves (told.Cut reply)) k
+  may-reply c t came.WithoutOpt reply k =
+      may-again (has_room t.transport c) t.transport false (Leaves (told.Code reply)) k
+  may-reply c t came.BadRest reply k = k
+  may-reply c t (came.Code code) reply k = k
+  may-reply c t came.Lame reply k = k
+
+  may-then : (after : Try → Then) (p : Progress) → ((t : Try) → MayTell (after t)) → MayTell (then_in after p)
+  may-then after progress.Queued f = tt
+  may-then after (progress.Again way due) f = tt
+  may-then after (progress.Blocked way due) f = tt
+  may-then after (progress.Waiting t) f = f t
+  may-then after progress.Tried f = tt
+  may-then after progress.Gone f = tt
+
+  -- ---- events
+
+  module _ (s : TransactionState) (h : Tells s) where
+    pub tells-came : (channel id : ℕ) (outcome : ReplyOutcome) (reply : ℕ) → P (told_by outcome reply)
+        → Tells (transaction.came channel id outcome reply s)
+    tells-came channel id outcome reply k = by (picked (waits_as channel id) s)
+      where
+        at : (l : LateTry) (found : Option Candidate)
+            → Tells (option_map_or (λ c. late_came_to c l.tried outcome reply s) found s)
+        at l None = h
+        at l (Some c) =
+            tells-acted_late s h (after_reply c l.tried outcome reply) (may-reply c l.tried outcome reply k) c
+
+        late : (found : Option LateTry) → Tells (option_map_or (λ l. late_replied outcome reply l s) found s)
+        late None = h
+        late (Some l) = at l (candidate_at l.place s)
+
+        by : (found : Option Candidate) → Tells (option_map_or (λ c. came_to c outcome reply s) found
+            (option_map_or (λ l. late_replied outcome reply l s) (late_at channel id s) s))
+        by None = late (late_at channel id s)
+        by (Some c) =
+            tells-acted s h (then_of_reply c outcome reply)
+            (may-then (λ t. after_reply c t outcome reply) c.progress (λ t. may-reply c t outcome reply k))
+            (stays_believed outcome) c
+
+    pub tells-opt : (channel id : ℕ) → Tells (opt_was_refused channel id s)
+    tells-opt channel id = by (picked (waits_as channel id) s)
+      where
+        by : (found : Option Candidate) → Tells (option_map_or (λ c. acted (then_of_refused_opt c) false c s) found s)
+        by None = h
+        by (Some c) =
+            tells-acted s h (then_of_refused_opt c)
+            (may-then (after_refused_opt c) c.progress
+            (λ t. may-again (has_room t.transport c) t.transport false Nothing tt)) false c
+
+    pub tells-letters : (channel id : ℕ) → Tells (other_letters_came channel id s)
+    tells-letters channel id = by (picked (waits_as channel id) s)
+      where
+        by : (found : Option Candidate) → Tells (option_map_or (λ c. acted (then_of_other_letters c) true c s) found s)
+        by None = h
+        by (Some c) =
+            tells-acted s h (then_of_other_letters c)
+            (may-then (after_other_letters c) c.progress
+            (λ t. may-again (may_begin_tcp c t) Tcp t.form.with_opt Nothing tt)) true c
+
+    tells-failed_at : (c : Candidate) (how : Transport) (t : Try) → Tells (failed_at c c.progress how t s)
+    tells-failed_at c Udp t = tells-late s h (record { place = c.place; tried = t; has_failed = true })
+    tells-failed_at c Tcp t =
+        tells-acted s h (after_closed_stream c t)
+        (may-again (has_room Tcp c) Tcp t.form.with_opt (Rests told.Unreachable) unreachable) false c
+
+    tells-failed_in : (c : Candidate) (p : Progress) → Tells (failed_in c p s)
+    tells-failed_in c progress.Queued = h
+    tells-failed_in c (progress.Again way due) = h
+    tells-failed_in c (progress.Blocked way due) = h
+    tells-failed_in c (progress.Waiting t) = tells-failed_at c t.transport t
+    tells-failed_in c progress.Tried = h
+    tells-failed_in c progress.Gone = h
+
+    pub tells-failed : (channel : ℕ) → Tells (failed channel s)
+    tells-failed channel = by (picked (waits_on channel) s)
+      where
+        by : (found : Option Candidate) → Tells (option_map_or (λ c. failed_in c c.progress s) found s)
+        by None = h
+        by (Some c) = tells-failed_in c c.progress
+
+    tells-blocked_in : (c : Candidate) (p : Progress) → Tells (blocked_in c p s)
+    tells-blocked_in c progress.Queued = h
+    tells-blocked_in c (progress.Again way due) = h
+    tells-blocked_in c (progress.Blocked way due) = h
+    tells-blocked_in c (progress.Waiting t) = h
+    tells-blocked_in c progress.Tried = h
+    tells-blocked_in c progress.Gone = h
+
+    pub tells-blocked : (channel : ℕ) → Tells (blocked channel s)
+    tells-blocked channel = by (picked (waits_on channel) s)
+      where
+        by : (found : Option Candidate) → Tells (option_map_or (λ c. blocked_in c c.progress s) found s)
+        by None = h
+        by (Some c) = tells-blocked_in c c.progress
+
+    pub tells-freed : Tells (freed s)
+    tells-freed = by (picked is_blocked s)
+      where
+        by : (found : Option Candidate) → Tells (option_map_or (λ c. replacing (freed_one c) s) found s)
+        by None = h
+        by (Some c) = h
+
+    pub tells-unsent : (due : ℕ) → Tells (unsent due s)
+    tells-unsent due = by (chosen s)
+      where
+        by : (found : Option Candidate)
+            → Tells (option_map_or (λ c. replacing (without_channel due c) s) found s)
+        by None = h
+        by (Some c) = h
+
+    pub tells-sent : (made : Made) → Tells (sent made s)
+    tells-sent made = by (chosen s)
+      where
+        by : (found : Option Candidate)
+            → Tells (option_map_or (λ c. replacing (sent_with made s.settings c) s) found s)
+        by None = h
+        by (Some c) = h
+
+    pub tells-round : (order : List ℕ) → Tells (with_round order s)
+    tells-round order = by (wants_round s)
+      where
+        by : (wants : Bool) → Tells (cond wants (record s {
+          candidates = map {A = Candidate} requeued s.candidates;
+          order = order;
+          round = s.round + 1;
+        }) s)
+        by true = h
+        by false = h
+
+    tells-expired_in : (c : Candidate) (p : Progress) → Tells (expired_in c p s)
+    tells-expired_in c progress.Queued = h
+    tells-expired_in c (progress.Again way due) = h
+    tells-expired_in c (progress.Blocked way due) = tells-noting (putting progress.Tried c s) h told.Timeout timeout
+    tells-expired_in c (progress.Waiting t) =
+        tells-acted s h (after_deadline s.settings.tcp_on_error c t) (by s.settings.tcp_on_error) true c
+      where
+        by : (tcp : Bool) → MayTell (after_deadline tcp c t)
+        by true = may-again (may_begin_tcp c t) Tcp t.form.with_opt (Rests told.Timeout) timeout
+        by false = timeout
+    tells-expired_in c progress.Tried = h
+    tells-expired_in c progress.Gone = h
+
+    tells-late_expired : (now : ℕ) → Tells (late_expired now s)
+    tells-late_expired now = by (list_any (has_failed_by now) s.late)
+      where
+        by : (some : Bool) → Tells (cond some
+            (noting told.Unreachable (record s { late = filter (λ l. not (has_failed_by now l)) s.late })) s)
+        by true =
+            tells-noting (record s { late = filter (λ l. not (has_failed_by now l)) s.late }) h told.Unreachable unreachable
+        by false = h
+
+    pub tells-expired : (now : ℕ) → Tells (expired now s)
+    tells-expired now = by (picked (is_due now) s)
+      where
+        by : (found : Option Candidate)
+            → Tells (option_map_or (λ c. expired_in c c.progress s) found (late_expired now s))
+        by None = tells-late_expired now
+        by (Some c) = tells-expired_in c c.progress

@@ -1,0 +1,6 @@
+pub mod Ends
+pub mod Failures
+pub mod Handles
+pub mod MadeUp
+pub mod Runs
+pub mod Wire

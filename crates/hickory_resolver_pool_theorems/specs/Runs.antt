@@ -1,0 +1,18 @@
+-- What happened to a pool, one thing after another.
+use Rattle.std.specs.Prelude.{List, [], ◌∷◌, Option}
+use Rattle.hickory_resolver_pool.specs.Laws.{PoolEvent, after_event}
+use Rattle.hickory_resolver_pool.specs.Pool.{PoolState, Steps}
+use Rattle.hickory_resolver_pool.specs.declared.pool.Action.{Action}
+
+-- to the pool as it stood then: an event, or a step and what the program had to do for it
+pub data Happening : Type 0 where
+  came : PoolState → PoolEvent → Happening
+  did : PoolState → Option Action → Happening
+
+-- The latest is the first of these. Events and steps come in any order.
+pub data Runs (start : PoolState) : List Happening → PoolState → Type 0 where
+  at_first : Runs start [] start
+  by_event : (past : List Happening) (s : PoolState) (e : PoolEvent) → Runs start past s
+      → Runs start (came s e ∷ past) (after_event s e)
+  by_step : (past : List Happening) (s after : PoolState) (r : Option Action) → Steps s r after → Runs start past s
+      → Runs start (did s r ∷ past) after
