@@ -70,7 +70,7 @@ module _ {A : Type 0} (P : A → Type 0) where
   all-index (x ∷ xs) zero d k all = all.0
   all-index (x ∷ xs) (suc i) d k all = all-index xs i d k all.1
 
-all-swap_removed : {K V : Type 0} (P : K × V → Type 0) (test : K → Bool) (es : List (K × V)) → AllByRecursion P es
+pub all-swap_removed : {K V : Type 0} (P : K × V → Type 0) (test : K → Bool) (es : List (K × V)) → AllByRecursion P es
     → AllByRecursion P (swap_remove_entry test es)
 all-swap_removed P test [] all = tt
 all-swap_removed {K} {V} P test (e ∷ es) all = by (position test (keys_of (e ∷ es)))
@@ -82,10 +82,42 @@ all-swap_removed {K} {V} P test (e ∷ es) all = by (position test (keys_of (e �
         all-take P (length (e ∷ es) - 1) (slice_set (e ∷ es) i (slice_index_or (e ∷ es) (length (e ∷ es) - 1) e))
         (all-set P (e ∷ es) i (slice_index_or (e ∷ es) (length (e ∷ es) - 1) e) last all)
 
+-- what is put away
+pub record IsPut (c : CurrentState) (s t : PoolState) : Type 0 where
+  pub entries : t.traffic.table.entries ≡ insert_entry nat_cmp s.traffic.table.entries c.number c.entry
+  pub none : t.current ≡ None
+  pub askers : t.traffic.askers ≡ s.traffic.askers
+  pub questions : t.questions ≡ s.questions
+
+pub put-is : (what : Doing) (c : CurrentState) (s : PoolState) → IsPut c s (put_by what c s)
+put-is PutsBack c s = record { entries = refl; none = refl; askers = refl; questions = refl }
+put-is Rests c s = record { entries = refl; none = refl; askers = refl; questions = refl }
+put-is Ends c s = record { entries = refl; none = refl; askers = refl; questions = refl }
+put-is Refused c s = record { entries = refl; none = refl; askers = refl; questions = refl }
+put-is Hears c s = record { entries = refl; none = refl; askers = refl; questions = refl }
+put-is Doubts c s = record { entries = refl; none = refl; askers = refl; questions = refl }
+put-is Stalls c s = record { entries = refl; none = refl; askers = refl; questions = refl }
+put-is Fails c s = record { entries = refl; none = refl; askers = refl; questions = refl }
+put-is Quits c s = record { entries = refl; none = refl; askers = refl; questions = refl }
+put-is Expires c s = record { entries = refl; none = refl; askers = refl; questions = refl }
+put-is Frees c s = record { entries = refl; none = refl; askers = refl; questions = refl }
+put-is (Leaves place) c s = record { entries = refl; none = refl; askers = refl; questions = refl }
+put-is Draws c s = record { entries = refl; none = refl; askers = refl; questions = refl }
+put-is (BeginsRound place) c s = record { entries = refl; none = refl; askers = refl; questions = refl }
+put-is Blocks c s = record { entries = refl; none = refl; askers = refl; questions = refl }
+put-is Sends c s = record { entries = refl; none = refl; askers = refl; questions = refl }
+put-is (Dates due) c s = record { entries = refl; none = refl; askers = refl; questions = refl }
+
 -- ---- of each transaction, by its number and what it asks
 
-abbrev next_of : PoolState → ℕ
+abbrev pub next_of : PoolState → ℕ
 next_of s = s.traffic.askers.next_transaction
+
+-- one that begins by this event asks this
+abbrev pub AsksFor : PoolState → PoolEvent → AskedOf → Type 0
+AsksFor s (is_asked group query options dnssec at) key =
+    (list_of group s.traffic ≡ Some key.0) × (key.1 ≡ question_of query options dnssec)
+AsksFor s other key = ⊥
 
 module _ (G : ℕ → AskedOf → Type 0) where
   abbrev At : ℕ × EntryState → Type 0
@@ -224,45 +256,6 @@ module _ (G : ℕ → AskedOf → Type 0) where
 
   -- ---- steps
 
-  put-entries : (what : Doing) (c : CurrentState) (s : PoolState)
-      → (put_by what c s).traffic.table.entries ≡ insert_entry nat_cmp s.traffic.table.entries c.number c.entry
-  put-entries PutsBack c s = refl
-  put-entries Rests c s = refl
-  put-entries Ends c s = refl
-  put-entries Refused c s = refl
-  put-entries Hears c s = refl
-  put-entries Doubts c s = refl
-  put-entries Stalls c s = refl
-  put-entries Fails c s = refl
-  put-entries Quits c s = refl
-  put-entries Expires c s = refl
-  put-entries Frees c s = refl
-  put-entries (Leaves place) c s = refl
-  put-entries Draws c s = refl
-  put-entries (BeginsRound place) c s = refl
-  put-entries Blocks c s = refl
-  put-entries Sends c s = refl
-  put-entries (Dates due) c s = refl
-
-  put-none : (what : Doing) (c : CurrentState) (s : PoolState) → (put_by what c s).current ≡ None
-  put-none PutsBack c s = refl
-  put-none Rests c s = refl
-  put-none Ends c s = refl
-  put-none Refused c s = refl
-  put-none Hears c s = refl
-  put-none Doubts c s = refl
-  put-none Stalls c s = refl
-  put-none Fails c s = refl
-  put-none Quits c s = refl
-  put-none Expires c s = refl
-  put-none Frees c s = refl
-  put-none (Leaves place) c s = refl
-  put-none Draws c s = refl
-  put-none (BeginsRound place) c s = refl
-  put-none Blocks c s = refl
-  put-none Sends c s = refl
-  put-none (Dates due) c s = refl
-
   each-by : (s t : PoolState) → t ≡ s → OfEach s → OfEach t
   each-by s t is w = subst OfEach (sym is) w
 
@@ -288,8 +281,9 @@ module _ (G : ℕ → AskedOf → Type 0) where
     each-stepped : (c : CurrentState) → AtCurrent c → (ends puts : Bool) (what : Doing) → StepsBy ends puts what c s r t → OfEach t
     each-stepped c own true puts what is = each-by (let_go c s) t is.pool (record { table = w.table; worked = tt })
     each-stepped c own false true what is = each-by (put_by what c s) t is.pool (record {
-      table = subst AllEntries (sym (put-entries what c s)) (entries-inserted c.number c.entry s.traffic.table.entries w.table own);
-      worked = subst (λ (o : Option CurrentState). IfSome o AtCurrent) (sym (put-none what c s)) tt;
+      table = subst AllEntries (sym (put-is what c s).entries)
+          (entries-inserted c.number c.entry s.traffic.table.entries w.table own);
+      worked = subst (λ (o : Option CurrentState). IfSome o AtCurrent) (sym (put-is what c s).none) tt;
     })
     each-stepped c own false false what is = each-done c own what t.current refl is.done
 
@@ -306,61 +300,69 @@ module _ (G : ℕ → AskedOf → Type 0) where
         by true steps = each-starts steps
         by false steps = each-in s.current refl steps
 
-  -- ---- events: a new one has the next number
+  -- ---- events: a new one has the next number, and asks what is asked for
 
-  abbrev MayBegin : TrafficState → TrafficState → Type 0
-  MayBegin t u = (key : AskedOf) → t.askers.next_transaction < u.askers.next_transaction → G t.askers.next_transaction key
+  module _ (K : AskedOf → Type 0) where
+    abbrev MayBegin : TrafficState → TrafficState → Type 0
+    MayBegin t u =
+        (key : AskedOf) → K key → t.askers.next_transaction < u.askers.next_transaction → G t.askers.next_transaction key
 
-  module _ (t : TrafficState) (w : AllEntries t.table.entries) where
-    entries-joined : (n at : ℕ) → AllEntries (joined n at t).table.entries
-    entries-joined n at = by (joiner n t.askers)
+    module _ (t : TrafficState) (w : AllEntries t.table.entries) where
+      entries-joined : (n at : ℕ) → AllEntries (joined n at t).table.entries
+      entries-joined n at = by (joiner n t.askers)
+        where
+          by : (a : Option Asker) → AllEntries
+              (option_map_or (λ b. ticked at (record t { askers = ask.joined n t.askers })) a t).table.entries
+          by None = w
+          by (Some a) = w
+
+      entries-begun : (list : ℕ) (question : PoolQuestion) (settings : Settings) (at : ℕ) → K (list, question)
+          → MayBegin t (begun list question settings at t) → AllEntries (begun list question settings at t).table.entries
+      entries-begun list question settings at k new = by (list_at list t.groups) new
+        where
+          more : (l : GroupListState) → G t.askers.next_transaction (list, question)
+              → AllEntries (insert_entry nat_cmp t.table.entries t.askers.next_transaction (entry_of list question settings l))
+          more l g = entries-inserted t.askers.next_transaction (entry_of list question settings l) t.table.entries w g
+
+          grows : (p : Place) → place_for t.askers ≡ p
+              → t.askers.next_transaction < (ask.begun_in p (until_of at t) t.askers).next_transaction
+              → t.askers.next_transaction < (ask.begun (until_of at t) t.askers).next_transaction
+          grows p is less =
+              subst (λ (q : Place). t.askers.next_transaction < (ask.begun_in q (until_of at t) t.askers).next_transaction) (sym is) less
+
+          place : (p : Place) (l : GroupListState) → place_for t.askers ≡ p
+              → MayBegin t (begun_as p (entry_of list question settings l) list at t)
+              → AllEntries (begun_as p (entry_of list question settings l) list at t).table.entries
+          place Overloaded l is new = w
+          place InFlight l is new = more l (new (list, question) k (grows InFlight is (omega arith)))
+          place Waits l is new = more l (new (list, question) k (grows Waits is (omega arith)))
+
+          by : (l : Option GroupListState)
+              → MayBegin t (option_map_or (begun_with list question settings at t) l (ticked at t))
+              → AllEntries (option_map_or (begun_with list question settings at t) l (ticked at t)).table.entries
+          by None new = w
+          by (Some l) new = place (place_for t.askers) l refl new
+
+    entries-asked : (key : AskedOf) (settings : Settings) (at : ℕ) (s : PoolState) → AllEntries s.traffic.table.entries
+        → K key → MayBegin s.traffic (ask_of key settings at s).traffic
+        → AllEntries (ask_of key settings at s).traffic.table.entries
+    entries-asked key settings at s w k new = by (joiner_of key s) new
       where
-        by : (a : Option Asker) → AllEntries
-            (option_map_or (λ b. ticked at (record t { askers = ask.joined n t.askers })) a t).table.entries
-        by None = w
-        by (Some a) = w
+        joins : (n : Option ℕ) → AllEntries (option_map_or (join_in at s) n s).traffic.table.entries
+        joins None = w
+        joins (Some n) = entries-joined s.traffic w n at
 
-    entries-begun : (list : ℕ) (question : PoolQuestion) (settings : Settings) (at : ℕ)
-        → MayBegin t (begun list question settings at t) → AllEntries (begun list question settings at t).table.entries
-    entries-begun list question settings at new = by (list_at list t.groups) new
-      where
-        more : (l : GroupListState) → G t.askers.next_transaction (list, question)
-            → AllEntries (insert_entry nat_cmp t.table.entries t.askers.next_transaction (entry_of list question settings l))
-        more l k = entries-inserted t.askers.next_transaction (entry_of list question settings l) t.table.entries w k
+        by : (a : Option Asker) → MayBegin s.traffic (join_or_begin a key settings at s).traffic
+            → AllEntries (join_or_begin a key settings at s).traffic.table.entries
+        by None new = entries-begun s.traffic w key.0 key.1 settings at k new
+        by (Some a) new = joins (pool.number_of key s.questions)
 
-        place : (p : Place) (l : GroupListState) → place_for t.askers ≡ p
-            → MayBegin t (begun_as p (entry_of list question settings l) list at t)
-            → AllEntries (begun_as p (entry_of list question settings l) list at t).table.entries
-        place Overloaded l is new = w
-        place InFlight l is new =
-            more l (new (list, question) (subst (λ (q : Place). t.askers.next_transaction < (ask.begun_in q (until_of at t) t.askers).next_transaction) (sym is) (omega arith)))
-        place Waits l is new =
-            more l (new (list, question) (subst (λ (q : Place). t.askers.next_transaction < (ask.begun_in q (until_of at t) t.askers).next_transaction) (sym is) (omega arith)))
-
-        by : (l : Option GroupListState)
-            → MayBegin t (option_map_or (begun_with list question settings at t) l (ticked at t))
-            → AllEntries (option_map_or (begun_with list question settings at t) l (ticked at t)).table.entries
-        by None new = w
-        by (Some l) new = place (place_for t.askers) l refl new
-
-  entries-asked : (key : AskedOf) (settings : Settings) (at : ℕ) (s : PoolState) → AllEntries s.traffic.table.entries
-      → MayBegin s.traffic (ask_of key settings at s).traffic → AllEntries (ask_of key settings at s).traffic.table.entries
-  entries-asked key settings at s w new = by (joiner_of key s) new
-    where
-      joins : (n : Option ℕ) → AllEntries (option_map_or (join_in at s) n s).traffic.table.entries
-      joins None = w
-      joins (Some n) = entries-joined s.traffic w n at
-
-      by : (a : Option Asker) → MayBegin s.traffic (join_or_begin a key settings at s).traffic
-          → AllEntries (join_or_begin a key settings at s).traffic.table.entries
-      by None new = entries-begun s.traffic w key.0 key.1 settings at new
-      by (Some a) new = joins (pool.number_of key s.questions)
-
-  entries-asks : (list : Option ℕ) (question : PoolQuestion) (settings : Settings) (at : ℕ) (s : PoolState)
-      → AllEntries s.traffic.table.entries → MayBegin s.traffic (after_asking list question settings at s).traffic
-      → AllEntries (after_asking list question settings at s).traffic.table.entries
-  entries-asks None question settings at s w new = w
-  entries-asks (Some list) question settings at s w new = entries-asked (list, question) settings at s w new
+    entries-asks : (list : Option ℕ) (question : PoolQuestion) (settings : Settings) (at : ℕ) (s : PoolState)
+        → AllEntries s.traffic.table.entries → ((l : ℕ) → list ≡ Some l → K (l, question))
+        → MayBegin s.traffic (after_asking list question settings at s).traffic
+        → AllEntries (after_asking list question settings at s).traffic.table.entries
+    entries-asks None question settings at s w k new = w
+    entries-asks (Some list) question settings at s w k new = entries-asked (list, question) settings at s w (k list refl) new
 
   entries-came : (channel : ℕ) (octets : List ℕ) (at : ℕ) (t : TrafficState) → AllEntries t.table.entries
       → AllEntries (came channel octets at t).table.entries
@@ -378,18 +380,21 @@ module _ (G : ℕ → AskedOf → Type 0) where
       by None = w
       by (Some c) = w
 
-  entries-event : (s : PoolState) (e : PoolEvent) → AllEntries s.traffic.table.entries
-      → MayBegin s.traffic (after_event s e).traffic → AllEntries (after_event s e).traffic.table.entries
+  abbrev pub Begins : PoolState → PoolEvent → Type 0
+  Begins s e = (key : AskedOf) → AsksFor s e key → next_of s < next_of (after_event s e) → G (next_of s) key
+
+  entries-event : (s : PoolState) (e : PoolEvent) → AllEntries s.traffic.table.entries → Begins s e
+      → AllEntries (after_event s e).traffic.table.entries
   entries-event s (time_passes at) w new = w
   entries-event s (group_has group servers) w new = w
   entries-event s (is_asked group query options dnssec at) w new =
-      entries-asks (list_of group s.traffic) (question_of query options dnssec) (settings_for s.options options) at s w new
+      entries-asks (AsksFor s (is_asked group query options dnssec at)) (list_of group s.traffic)
+      (question_of query options dnssec) (settings_for s.options options) at s w (λ l is. (is, refl)) new
   entries-event s (octets_come channel octets at) w new = entries-came channel octets at s.traffic w
   entries-event s (channel_fails f at) w new = entries-failed f at s.traffic w
   entries-event s (is_forgotten a) w new = w
 
-  pub each-event : (s : PoolState) (e : PoolEvent) → OfEach s → MayBegin s.traffic (after_event s e).traffic
-      → OfEach (after_event s e)
+  pub each-event : (s : PoolState) (e : PoolEvent) → OfEach s → Begins s e → OfEach (after_event s e)
   each-event s e w new = record {
     table = entries-event s e w.table new;
     worked = subst (λ (c : Option CurrentState). IfSome c AtCurrent) (sym (current-event s e)) w.worked;

@@ -1,5 +1,5 @@
 -- A run over a pool, from octets to octets.
-use Rattle.std.proofs.Common.{◌≡◌, ℕ, List, [], ◌∷◌, ◌++◌, refl, ap, sym, subst, ◌∙◌, append_assoc, inl, inr, ◌⊎◌}
+use Rattle.std.proofs.Common.{◌≡◌, ℕ, true, List, [], ◌∷◌, ◌++◌, refl, ap, sym, subst, ◌∙◌, append_assoc, inl, inr, ◌⊎◌}
 use Rattle.std.specs.Prelude.{Option, Some, Ok, Err}
 use Rattle.std.specs.List.{AllByRecursion}
 use Rattle.hickory_proto_core.specs.Handles.{OutcomeValue, Leads}
@@ -10,15 +10,18 @@ use Rattle.hickory_proto_core.specs.declared.net_error.NetError.TheVariants as e
 use Rattle.hickory_proto_core.specs.declared.recorded.Exchange.{Exchange}
 use Rattle.hickory_resolver_config.specs.ResolverConfig.{OptionsValue}
 use Rattle.hickory_resolver_theorems.proofs.PromisesHold.{promised_run}
+use Rattle.hickory_resolver_tries.specs.Question.{question_of, question_eq}
 use Rattle.hickory_resolver_tries.specs.declared.pool_question.DnssecOptions.{DnssecOptions}
 use Rattle.hickory_resolver_pool.specs.Laws.{after_event}
 use Rattle.hickory_resolver_pool.specs.Over.{OverValue, IsCoreOutcome}
 use Rattle.hickory_resolver_pool.specs.Pool.{PoolState, no_servers}
 use Rattle.hickory_resolver_pool.specs.declared.limits.PoolLimits.{PoolLimits}
 use Rattle.hickory_resolver_pool.specs.declared.pool.Action.TheVariants.{Over}
-use Rattle.hickory_resolver_pool_theorems.specs.Handles.{IsReadOfOctets, PoolHandle, asking, IsTold, IsFailed, PoolStep, CameAsOctets, IsPoolOf, FromOctetsToOctets}
+use Rattle.hickory_resolver_pool_theorems.specs.Handles.{IsReadOfOctets, CameFor, PoolHandle, asking, IsTold, IsFailed, PoolStep, CameAsOctets, IsPoolOf, FromOctetsToOctets}
 use Rattle.hickory_resolver_pool_theorems.specs.MadeUp.{IsBelievedReply}
 use Rattle.hickory_resolver_pool_theorems.specs.Runs.{Happening, came, did, Runs, at_first, by_event, by_step}
+use Rattle.hickory_resolver_pool_theorems.proofs.Asked.{known-runs, asks-it, own-runs, end-asks}
+use Rattle.hickory_resolver_pool_theorems.proofs.Overs.{told-at_end}
 use Rattle.hickory_resolver_pool_theorems.proofs.Told.{core_is_told_what_came}
 use Rattle.hickory_resolver_pool_theorems.proofs.Wires.{reply-more}
 
@@ -86,25 +89,43 @@ module _ (options : OptionsValue) (limits : PoolLimits) (seed : List ℕ) (group
     past_is = f.past_is;
   }
 
+  -- what is told is of an equal question
+  same-asked : (before : PoolHandle) (request : DnsRequest) (outcome : OutcomeValue) (after : PoolHandle)
+      → IsPoolOf options limits seed before → (t : IsTold group dnssec before request outcome after)
+      → question_eq (question_of request.query request.options dnssec) t.over.question ≡ true
+  same-asked before request outcome after is t =
+      let known = known-runs options limits seed before.past before.pool is in
+      let it = asks-it before.pool group request.query request.options dnssec t.now known t.asker t.asks in
+      let question = question_of request.query request.options dnssec in
+      end-asks it.list question t.asker.transaction t.last t.over
+      (own-runs (it.list, question) t.asker.transaction (after_event before.pool (asking group dnssec request t.now))
+      t.waited t.last t.runs it.own)
+      t.transaction (told-at_end t.over t.last after.pool t.ends)
+
   step-octets : (before : PoolHandle) (request : DnsRequest) (outcome : OutcomeValue) (after : PoolHandle)
       → IsPoolOf options limits seed before → Step before request outcome after
-      → (m : MessageValue) → outcome ≡ Ok m → (o : OverValue) × IsReadOfOctets after.past o m
+      → (m : MessageValue) → outcome ≡ Ok m → CameFor after.past (question_of request.query request.options dnssec) m
   step-octets before request outcome after is (inl t) m e = by t.told
     where
-      by : (outcome ≡ Err error.OutOfMemory) ⊎ IsCoreOutcome t.over outcome → (o : OverValue) × IsReadOfOctets after.past o m
+      by : (outcome ≡ Err error.OutOfMemory) ⊎ IsCoreOutcome t.over outcome
+          → CameFor after.past (question_of request.query request.options dnssec) m
       by (inl none) = let no_such : Ok m ≡ Err error.OutOfMemory = sym e ∙ none in absurd cc
       by (inr told) =
           let past = t.waited ++ came before.pool (asking group dnssec request t.now) ∷ before.past in
           let read = core_is_told_what_came options limits seed past t.last after.pool t.over m
               (told-later before request outcome after is t) t.ends
               (subst (λ (x : OutcomeValue). IsCoreOutcome t.over x) e told) in
-          (t.over, subst (λ (p : List Happening). IsReadOfOctets p t.over m) (sym t.past_is)
-          (read-more (did t.last (Some (Over t.over))) past t.over m read))
+          record {
+            over = t.over;
+            read = subst (λ (p : List Happening). IsReadOfOctets p t.over m) (sym t.past_is)
+                (read-more (did t.last (Some (Over t.over))) past t.over m read);
+            same = same-asked before request outcome after is t;
+          }
   step-octets before request outcome after is (inr f) m e = absurd (f.fails m e)
 
   all-octets : (request : DnsRequestOptions) (before after : PoolHandle) (xs : List Exchange)
       → IsPoolOf options limits seed before → Leads Step request before xs after
-      → AllByRecursion (CameAsOctets after.past) xs × IsLater before after
+      → AllByRecursion (CameAsOctets after.past request dnssec) xs × IsLater before after
   all-octets request before after [] is end =
       (tt, record {
         pool = subst (λ (h : PoolHandle). IsPoolOf options limits seed h) (sym end) is;
@@ -115,9 +136,14 @@ module _ (options : OptionsValue) (limits : PoolLimits) (seed : List ℕ) (group
       let asked : DnsRequest = record { query = x.query; options = request } in
       let next = step-later before asked x.outcome mid is sent in
       let more = all-octets request mid after xs next.pool rest in
-      ((λ m e. let found = step-octets before asked x.outcome mid is sent m e in
-      (found.0, subst (λ (p : List Happening). IsReadOfOctets p found.0 m) (sym more.1.past_is)
-      (read-on more.1.more mid.past found.0 m found.1)), more.0), record {
+      let here : CameAsOctets after.past request dnssec x =
+      λ m e. let found = step-octets before asked x.outcome mid is sent m e in record {
+        over = found.over;
+        read = subst (λ (p : List Happening). IsReadOfOctets p found.over m) (sym more.1.past_is)
+            (read-on more.1.more mid.past found.over m found.read);
+        same = found.same;
+      } in
+      ((here, more.0), record {
         pool = more.1.pool;
         more = more.1.more ++ next.more;
         past_is = more.1.past_is ∙ ap (λ (p : List Happening). more.1.more ++ p) next.past_is

@@ -1,3 +1,4 @@
+pub mod Asked
 pub mod Askings
 pub mod Best
 pub mod Boxes

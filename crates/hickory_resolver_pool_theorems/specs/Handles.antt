@@ -1,5 +1,5 @@
 -- A pool as a handle of the core, from octets to octets.
-use Rattle.std.specs.Prelude.{◌≡◌, ◌⊎◌, ℕ, false, List, ◌∷◌, ◌++◌, Contains, Some, Ok, Err}
+use Rattle.std.specs.Prelude.{◌≡◌, ◌⊎◌, ℕ, true, false, List, ◌∷◌, ◌++◌, Contains, Some, Ok, Err}
 use Rattle.std.specs.List.{AllByRecursion}
 use Rattle.hickory_proto_core.specs.Handles.{OutcomeValue, HandleStep, Leads}
 use Rattle.hickory_proto_core.specs.Messages.{MessageValue}
@@ -18,8 +18,9 @@ use Rattle.hickory_resolver_theorems.specs.Promises.{PromisedRun}
 use Rattle.hickory_resolver_tries.specs.GivenBack.{given_back}
 use Rattle.hickory_resolver_tries.specs.Heads.{head_of}
 use Rattle.hickory_resolver_tries.specs.Outcome.{is_truncated}
-use Rattle.hickory_resolver_tries.specs.Question.{question_of}
+use Rattle.hickory_resolver_tries.specs.Question.{question_of, question_eq}
 use Rattle.hickory_resolver_tries.specs.declared.pool_question.DnssecOptions.{DnssecOptions}
+use Rattle.hickory_resolver_tries.specs.declared.pool_question.PoolQuestion.{PoolQuestion}
 use Rattle.hickory_resolver_pool.specs.Laws.{PoolEvent, is_asked, after_event}
 use Rattle.hickory_resolver_pool.specs.Over.{OverValue, IsCoreOutcome}
 use Rattle.hickory_resolver_pool.specs.Pool.{PoolState, no_servers, list_of, asking_told, Steps}
@@ -92,15 +93,22 @@ PoolStep group dnssec before request outcome after =
 
 -- ---- from octets to octets
 
--- where a response came back, it is what octets spell that came and were believed
-abbrev pub CameAsOctets : List Happening → Exchange → Type 0
-CameAsOctets past x = (m : MessageValue) → x.outcome ≡ Ok m → (o : OverValue) × IsReadOfOctets past o m
+-- this response is what octets spell that came for an equal question, case of the name aside, and were believed
+pub record CameFor (past : List Happening) (question : PoolQuestion) (m : MessageValue) : Type 0 where
+  pub over : OverValue
+  pub read : IsReadOfOctets past over m
+  pub same : question_eq question over.question ≡ true
+
+-- where a response came back, it came so for what was asked
+abbrev pub CameAsOctets : List Happening → DnsRequestOptions → DnssecOptions → Exchange → Type 0
+CameAsOctets past options dnssec x =
+    (m : MessageValue) → x.outcome ≡ Ok m → CameFor past (question_of x.query options dnssec) m
 
 abbrev pub IsPoolOf : OptionsValue → PoolLimits → List ℕ → PoolHandle → Type 0
 IsPoolOf options limits seed h = Runs (no_servers options limits seed) h.past h.pool
 
 -- A run of a resolver over a pool keeps all that is promised of runs, and each response of its exchanges is what octets
--- spell: so of what it answers nothing outlives what was received on the wire.
+-- spell that came for its question: so of what it answers nothing outlives what was received on the wire.
 abbrev pub FromOctetsToOctets : Type 0
 FromOctetsToOctets =
     (options : OptionsValue) (limits : PoolLimits) (seed : List ℕ) (group : ℕ) (dnssec : DnssecOptions)
@@ -109,4 +117,4 @@ FromOctetsToOctets =
     → IsPoolOf options limits seed before
     → LedRun (PoolStep group dnssec) s before requests steps exchanges after cache
     → PromisedRun (PoolStep group dnssec) s before requests steps exchanges after cache
-    × AllByRecursion (CameAsOctets after.past) exchanges
+    × AllByRecursion (CameAsOctets after.past s.request_options dnssec) exchanges
