@@ -134,7 +134,7 @@ end-for todo.Refuse n e t h = inl refl
 
 -- ---- failures are told last
 
-not-over : (o : Option Outcome) (a : Option (List ℕ)) (list : List ℕ) → a ≡ Some list
+pub not-over : (o : Option Outcome) (a : Option (List ℕ)) (list : List ℕ) → a ≡ Some list
     → (is_some o || is_none a) ≡ true → o ≡ None → ⊥
 not-over None None list is h none = let no_such : None ≡ Some list = is in cc
 not-over None (Some other) list is h none = true≢false (sym h)

@@ -25,6 +25,9 @@ use Rattle.hickory_resolver_pool_theorems.specs.Wire.{WasSent, CameOn}
 use Rattle.hickory_resolver_pool_theorems.specs.MadeUp.{IsBelievedReply, told_of_reply}
 use Rattle.hickory_resolver_pool_theorems.proofs.Tries.{AreSent, sent-try, sent-heard, sent-as, none-sent, try-is}
 use Rattle.hickory_resolver_pool_theorems.proofs.Best.{best_of, best, told_by, Tells, tells-came, tells-opt, tells-letters}
+use Rattle.hickory_resolver_transactions.specs.Laws.{reply_came, opt_refused, letters_differ}
+use Rattle.hickory_resolver_pool_theorems.specs.Causes.{IsMade}
+use Rattle.hickory_resolver_pool_theorems.proofs.Causes.{made-first, made-next}
 use Rattle.hickory_resolver_pool_theorems.proofs.Wires as wires
 
 -- this reply is kept
@@ -50,6 +53,7 @@ pub record IsHeld (P : Try → Type 0) (past : List Happening) (n : ℕ) (f : Fl
   pub tries : AreSent P f.transaction
   pub keeps : IfSome (best f.transaction) (KeepsBest past n f.question f.kept)
   pub old : IfSome f.kept (IsOld f.replies)
+  pub made : IsMade f.transaction
 
 -- it was sent for a transaction with this question
 abbrev pub Was : List Happening → ℕ → PoolQuestion → Try → Type 0
@@ -59,7 +63,12 @@ Was past n q t = WasSent past n t.channel t.form.id (octets_of_try q t.form)
 
 pub held-first : (P : Try → Type 0) (past : List Happening) (n : ℕ) (settings : Settings) (servers : List ServerState)
     (q : PoolQuestion) → IsHeld P past n (flight_of settings servers q)
-held-first P past n settings servers q = record { tries = none-sent P settings servers; keeps = tt; old = tt }
+held-first P past n settings servers q = record {
+  tries = none-sent P settings servers;
+  keeps = tt;
+  old = tt;
+  made = made-first settings servers;
+}
 
 -- ---- the same, later
 
@@ -97,11 +106,17 @@ held-more P Q a past n f gives h = record {
   keeps = if-some (KeepsBest past n f.question f.kept) (KeepsBest (a ∷ past) n f.question f.kept) (best f.transaction)
       (keeps-more a past n f.question f.kept) h.keeps;
   old = h.old;
+  made = h.made;
 }
 
 pub held-as : (P Q : Try → Type 0) (past : List Happening) (n : ℕ) (f : FlightState) → ((t : Try) → P t → Q t)
     → IsHeld P past n f → IsHeld Q past n f
-held-as P Q past n f gives h = record { tries = sent-as P Q gives f.transaction h.tries; keeps = h.keeps; old = h.old }
+held-as P Q past n f gives h = record {
+  tries = sent-as P Q gives f.transaction h.tries;
+  keeps = h.keeps;
+  old = h.old;
+  made = h.made;
+}
 
 -- ---- a change of the transaction that tells no reply
 
@@ -110,8 +125,14 @@ pub held-changed : (P : Try → Type 0) (past : List Happening) (n : ℕ) (f : F
     → (AreSent P f.transaction → AreSent P (change f.transaction))
     → (Tells (KeepsBest past n f.question f.kept) tt tt f.transaction
     → Tells (KeepsBest past n f.question f.kept) tt tt (change f.transaction))
+    → (IsMade f.transaction → IsMade (change f.transaction))
     → IsHeld P past n (changed change f)
-held-changed P past n f change h sent tells = record { tries = sent h.tries; keeps = tells h.keeps; old = h.old }
+held-changed P past n f change h sent tells made = record {
+  tries = sent h.tries;
+  keeps = tells h.keeps;
+  old = h.old;
+  made = made h.made;
+}
 
 -- ---- a reply comes
 
@@ -242,6 +263,7 @@ module _ (past : List Happening) (n : ℕ) (f : FlightState) where
         tries = sent;
         keeps = keeps-best after.ended after.noted best-or;
         old = old-kept (names f.replies after);
+        made = made-next f.transaction (reply_came channel id outcome f.replies) h.made;
       }
 
     held-heard_as : (b : Belief) (t : Try) → try_at channel id f.transaction ≡ Some t
@@ -252,11 +274,13 @@ module _ (past : List Happening) (n : ℕ) (f : FlightState) where
       tries = sent;
       keeps = tells-letters (KeepsBest past n f.question f.kept) tt tt f.transaction h.keeps channel id;
       old = h.old;
+      made = made-next f.transaction (letters_differ channel id) h.made;
     }
     held-heard_as belief.OptRefused t waits is sent = record {
       tries = sent;
       keeps = tells-opt (KeepsBest past n f.question f.kept) tt tt f.transaction h.keeps channel id;
       old = h.old;
+      made = made-next f.transaction (opt_refused channel id) h.made;
     }
     held-heard_as belief.NotBelieved t waits is sent = h
 

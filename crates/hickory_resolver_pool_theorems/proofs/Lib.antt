@@ -2,6 +2,7 @@ pub mod Asked
 pub mod Askings
 pub mod Best
 pub mod Boxes
+pub mod Causes
 pub mod Ends
 pub mod Failures
 pub mod Flights
@@ -10,10 +11,12 @@ pub mod Keys
 pub mod MadeUp
 pub mod Overs
 pub mod Pools
+pub mod Reasons
 pub mod Refusals
 pub mod Scenes
 pub mod Sendings
 pub mod Told
 pub mod Traces
 pub mod Tries
+pub mod Unanswered
 pub mod Wires

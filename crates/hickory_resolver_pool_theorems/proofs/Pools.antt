@@ -59,6 +59,8 @@ use Rattle.hickory_resolver_pool_theorems.specs.Runs.{Happening}
 use Rattle.hickory_resolver_pool_theorems.specs.Wire.{CameOn}
 use Rattle.hickory_resolver_pool_theorems.proofs.Tries.{AreSent, sent-failed, sent-blocked, sent-freed, sent-round, sent-expired}
 use Rattle.hickory_resolver_pool_theorems.proofs.Best.{tells-failed, tells-blocked, tells-freed, tells-round, tells-expired}
+use Rattle.hickory_resolver_transactions.specs.Laws.{round_begins, channel_failed, no_channel, channel_free, time_passed}
+use Rattle.hickory_resolver_pool_theorems.proofs.Causes.{made-next}
 use Rattle.hickory_resolver_pool_theorems.proofs.Boxes.{IsBox, box-message, box-without_message, box-failures, box-without_stream, box-cut}
 use Rattle.hickory_resolver_pool_theorems.proofs.Flights.{IsHeld, KeepsBest, Was, held-first, held-more, held-as, held-changed, held-heard}
 use Rattle.hickory_resolver_pool_theorems.proofs.Keys.{at-is}
@@ -159,7 +161,8 @@ module _ (past : List Happening) where
     flying-failed channel = record {
       flight = held-changed (W n p) past n f.flight (failed channel) w.flight
           (λ a. sent-failed (W n p) tr a channel)
-          (λ k. tells-failed (KeepsBest past n p f.flight.kept) tt tt tr k channel);
+          (λ k. tells-failed (KeepsBest past n p f.flight.kept) tt tt tr k channel)
+          (λ m. made-next tr (channel_failed channel) m);
       question = w.question;
     }
 
@@ -167,7 +170,8 @@ module _ (past : List Happening) where
     flying-blocked channel = record {
       flight = held-changed (W n p) past n f.flight (blocked channel) w.flight
           (λ a. sent-blocked (W n p) tr a channel)
-          (λ k. tells-blocked (KeepsBest past n p f.flight.kept) tt tt tr k channel);
+          (λ k. tells-blocked (KeepsBest past n p f.flight.kept) tt tt tr k channel)
+          (λ m. made-next tr (no_channel channel) m);
       question = w.question;
     }
 
@@ -175,7 +179,8 @@ module _ (past : List Happening) where
     flying-freed = record {
       flight = held-changed (W n p) past n f.flight freed w.flight
           (λ a. sent-freed (W n p) tr a)
-          (λ k. tells-freed (KeepsBest past n p f.flight.kept) tt tt tr k);
+          (λ k. tells-freed (KeepsBest past n p f.flight.kept) tt tt tr k)
+          (λ m. made-next tr channel_free m);
       question = w.question;
     }
 
@@ -183,7 +188,8 @@ module _ (past : List Happening) where
     flying-expired now = record {
       flight = held-changed (W n p) past n f.flight (expired now) w.flight
           (λ a. sent-expired (W n p) tr a now)
-          (λ k. tells-expired (KeepsBest past n p f.flight.kept) tt tt tr k now);
+          (λ k. tells-expired (KeepsBest past n p f.flight.kept) tt tt tr k now)
+          (λ m. made-next tr (time_passed now) m);
       question = w.question;
     }
 
@@ -191,7 +197,8 @@ module _ (past : List Happening) where
     flying-round order = record {
       flight = held-changed (W n p) past n f.flight (with_round order) w.flight
           (λ a. sent-round (W n p) tr a order)
-          (λ k. tells-round (KeepsBest past n p f.flight.kept) tt tt tr k order);
+          (λ k. tells-round (KeepsBest past n p f.flight.kept) tt tt tr k order)
+          (λ m. made-next tr (round_begins order) m);
       question = w.question;
     }
 

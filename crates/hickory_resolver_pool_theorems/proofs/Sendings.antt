@@ -22,6 +22,8 @@ use Rattle.hickory_resolver_transactions.specs.declared.candidate.Candidate.{Can
 use Rattle.hickory_resolver_transactions.specs.declared.candidate.Made.{Made}
 use Rattle.hickory_resolver_transactions.specs.declared.candidate.Try.{Try}
 use Rattle.hickory_resolver_transactions.specs.declared.transaction.Wanted.{Wanted}
+use Rattle.hickory_resolver_transactions.specs.Laws.{is_sent, has_no_room}
+use Rattle.hickory_resolver_pool_theorems.proofs.Causes.{made-next}
 use Rattle.hickory_resolver_traffic.specs.Doing.{outgoing_of}
 use Rattle.hickory_resolver_traffic.specs.Traffic.{OutgoingValue}
 use Rattle.hickory_resolver_pool_theorems.specs.Runs.{Happening}
@@ -113,6 +115,7 @@ module _ (past : List Happening) (n : ℕ) (q : PoolQuestion) where
         (λ c e. inr (goes c e));
     keeps = tells-sent (KeepsBest past n f.question f.kept) tt tt f.transaction h.keeps made;
     old = h.old;
+    made = made-next f.transaction (is_sent made) h.made;
   }
 
   flying-same : (f : FlyingState) (next : Option OutgoingValue) (channels : ChannelsState) → IsFlying W past n q f
@@ -186,7 +189,8 @@ module _ (past : List Happening) (n : ℕ) (q : PoolQuestion) where
           flight = held-changed (Sent past None p.shared.channels n p.flying.flight.question) past n p.flying.flight
               (unsent step.until) same.flight
               (λ t. sent-unsent (Sent past None p.shared.channels n p.flying.flight.question) tr t step.until)
-              (λ k. tells-unsent (KeepsBest past n p.flying.flight.question p.flying.flight.kept) tt tt tr k step.until);
+              (λ k. tells-unsent (KeepsBest past n p.flying.flight.question p.flying.flight.kept) tt tt tr k step.until)
+              (λ m. made-next tr (has_no_room step.until) m);
           question = w.question;
         }
 

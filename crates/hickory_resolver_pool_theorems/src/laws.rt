@@ -1,6 +1,7 @@
 //! What holds of a pool after every list of events and steps.
 ghost use Rattle.hickory_resolver_pool_theorems.specs.MadeUp.{NothingIsMadeUp};
 ghost use Rattle.hickory_resolver_pool_theorems.specs.Handles.{CoreIsToldWhatCame, FromOctetsToOctets};
+ghost use Rattle.hickory_resolver_pool_theorems.specs.Causes.{TimeoutsRanOut, UnreachableOnesFailed, TransactionsStayBounded};
 ghost use Rattle.hickory_resolver_pool_theorems.specs.Ends.{RestsUntilDue};
 ghost use Rattle.hickory_resolver_pool_theorems.specs.Failures.{OverloadedOnlyWithoutPlace, FailuresAreToldLast};
 
@@ -36,4 +37,22 @@ pub fn overloaded_only_without_place()
 /// waited for, and no further round may begin; and what is told is the best that was noted.
 pub fn failures_are_told_last()
     ensures { FailuresAreToldLast }
+{}
+
+/// A timeout is told only of a transaction for which time passed up to a moment at which a try of it was to have been
+/// answered, or a channel to have come free for it, whatever comes.
+pub fn timeouts_ran_out()
+    ensures { TimeoutsRanOut }
+{}
+
+/// That no server was reached is told only where a channel failed on which a try of the transaction waited, or where nothing
+/// was noted of any server, whatever comes.
+pub fn unreachable_ones_failed()
+    ensures { UnreachableOnesFailed }
+{}
+
+/// Each transaction of a pool stays within its bounds, whatever comes: rounds, messages to a server in a round by one
+/// transport, tries that wait at once, late tries.
+pub fn transactions_stay_bounded()
+    ensures { TransactionsStayBounded }
 {}

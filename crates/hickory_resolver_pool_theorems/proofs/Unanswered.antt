@@ -1,0 +1,166 @@
+-- Why a transaction came to nothing, and that each is bounded.
+use Rattle.std.proofs.Common.{◌≡◌, ℕ, Bool, true, false, ◌&&◌, not, List, [], ◌∷◌, refl, ap, sym, subst, ◌∙◌, inl, inr, ◌⊎◌}
+use Rattle.std.specs.Prelude.{Option, None, Some, IfSome, unwrap_or}
+use Rattle.std.specs.List.{AllByRecursion}
+use Rattle.hickory_resolver_askers.specs.Askers.{askers_of}
+use Rattle.hickory_resolver_transactions.specs.Laws.{IsBounded}
+use Rattle.hickory_resolver_transactions.specs.Transaction.{TransactionState, begun_with, told, outcome_of, is_idle, may_go_on}
+use Rattle.hickory_resolver_transactions.specs.declared.outcome.Outcome.{Outcome}
+use Rattle.hickory_resolver_transactions.specs.declared.outcome.Outcome.TheVariants as kind
+use Rattle.hickory_resolver_transactions.proofs.Bounded.{stays_bounded}
+use Rattle.hickory_resolver_traffic.specs.Doing.{doing, doing_for}
+use Rattle.hickory_resolver_traffic.specs.Table.{CurrentState, EntryState}
+use Rattle.hickory_resolver_traffic.specs.declared.doing.Doing.{Doing}
+use Rattle.hickory_resolver_traffic.specs.declared.doing.Doing.TheVariants.{Refused}
+use Rattle.hickory_resolver_traffic.specs.declared.entry.ToDo.{ToDo}
+use Rattle.hickory_resolver_traffic.specs.declared.entry.ToDo.TheVariants as todo
+use Rattle.hickory_resolver_pool.specs.Over.{OverValue, told_as}
+use Rattle.hickory_resolver_pool.specs.Pool.{PoolState, no_servers, told_outcome, outcome_in}
+use Rattle.hickory_resolver_pool.specs.declared.over.PoolOutcome.{PoolOutcome}
+use Rattle.hickory_resolver_pool.specs.declared.over.PoolOutcome.TheVariants.{Unreachable, Timeout, Overloaded}
+use Rattle.hickory_resolver_pool_theorems.specs.Causes.{IsMade, IsTimeout, IsUnreachable, TimeoutsRanOut, UnreachableOnesFailed, HasBoundedTransactions, TransactionsStayBounded}
+use Rattle.hickory_resolver_pool_theorems.specs.Runs.{Happening, Runs}
+use Rattle.hickory_resolver_pool_theorems.proofs.Best.{best_of, best}
+use Rattle.hickory_resolver_pool_theorems.proofs.Causes.{Cause, has-cause}
+use Rattle.hickory_resolver_pool_theorems.proofs.Failures.{end-for, IsEnding, not-over}
+use Rattle.hickory_resolver_pool_theorems.proofs.Overs.{IsEnd, told-at_end}
+use Rattle.hickory_resolver_pool_theorems.proofs.Pools.{IsEntryAt, IsCurrent}
+use Rattle.hickory_resolver_pool_theorems.proofs.Traces.{SentIn, holds-first, holds-runs}
+
+is-timeout : (o : Outcome) → told_as o ≡ Timeout → o ≡ kind.Timeout
+is-timeout (kind.Reply number) e = absurd cc
+is-timeout (kind.Cut number) e = absurd cc
+is-timeout (kind.Code number) e = absurd cc
+is-timeout kind.Unreachable e = absurd cc
+is-timeout kind.Timeout e = refl
+
+is-unreachable : (o : Outcome) → told_as o ≡ Unreachable → o ≡ kind.Unreachable
+is-unreachable (kind.Reply number) e = absurd cc
+is-unreachable (kind.Cut number) e = absurd cc
+is-unreachable (kind.Code number) e = absurd cc
+is-unreachable kind.Unreachable e = refl
+is-unreachable kind.Timeout e = absurd cc
+
+best-timeout : (ended : Option ℕ) (over : Bool) (noted : Option Outcome)
+    → told_outcome (told ended over noted) ≡ Timeout → best_of ended noted ≡ Some kind.Timeout
+best-timeout (Some number) over noted e = absurd cc
+best-timeout None true None e = absurd cc
+best-timeout None true (Some o) e = ap (λ (x : Outcome). Some x) (is-timeout o e)
+best-timeout None false noted e = absurd cc
+
+best-unreachable : (ended : Option ℕ) (over : Bool) (noted : Option Outcome)
+    → told_outcome (told ended over noted) ≡ Unreachable → (told ended over noted ≡ None → ⊥)
+    → (best_of ended noted ≡ Some kind.Unreachable) ⊎ (noted ≡ None)
+best-unreachable (Some number) over noted e is = absurd cc
+best-unreachable None true None e is = inr refl
+best-unreachable None true (Some o) e is = inl (ap (λ (x : Outcome). Some x) (is-unreachable o e))
+best-unreachable None false noted e is = absurd (is refl)
+
+-- a transaction that is not refused ends with its outcome
+pub record IsEnded (s : PoolState) (o : OverValue) (end : IsEnd s o) : Type 0 where
+  pub outcome : o.outcome ≡ told_outcome (outcome_of end.current.entry.flying.flight.transaction)
+  pub over : outcome_of end.current.entry.flying.flight.transaction ≡ None → ⊥
+
+is-ended : (s : PoolState) (o : OverValue) (end : IsEnd s o) → (o.outcome ≡ Overloaded → ⊥) → IsEnded s o end
+is-ended s o end other = by (end-for end.current.to_do end.current.number end.current.entry s.traffic end.ends)
+  where
+    by : (end.current.to_do ≡ todo.Refuse)
+        ⊎ IsEnding (doing end.current s.traffic) end.current.number end.current.entry s.traffic → IsEnded s o end
+    by (inl refuse) =
+        let what : doing end.current s.traffic ≡ Refused =
+            ap (λ (d : ToDo). doing_for d end.current.number end.current.entry s.traffic) refuse in
+        let outcome : o.outcome ≡ Overloaded =
+            ap (λ (x : OverValue). x.outcome) end.told ∙ ap (λ (d : Doing). outcome_in d end.current.entry) what in
+        absurd (other outcome)
+    by (inr ending) = record {
+      outcome = ap (λ (x : OverValue). x.outcome) end.told
+          ∙ ap (λ (d : Doing). outcome_in d end.current.entry) ending.ends;
+      over = not-over (outcome_of end.current.entry.flying.flight.transaction)
+          (askers_of end.current.number s.traffic.askers) end.askers end.asked_by ending.ending;
+    }
+
+not-timeout : (o : PoolOutcome) → o ≡ Timeout → o ≡ Overloaded → ⊥
+not-timeout o one other = let no_such : Timeout ≡ Overloaded = sym one ∙ other in cc
+
+not-unreachable : (o : PoolOutcome) → o ≡ Unreachable → o ≡ Overloaded → ⊥
+not-unreachable o one other = let no_such : Unreachable ≡ Overloaded = sym one ∙ other in cc
+
+module _ (past : List Happening) (s : PoolState) (o : OverValue) (end : IsEnd s o)
+    (own : IsCurrent (SentIn past s) past end.current) where
+  abbrev tr : TransactionState
+  tr = end.current.entry.flying.flight.transaction
+
+  abbrev made : IsMade tr
+  made = own.flight.made
+
+  timeout-by : IsEnded s o end → o.outcome ≡ Timeout → IsTimeout s o
+  timeout-by ended is =
+      let best_is = best-timeout tr.ended (is_idle tr && not (may_go_on tr)) tr.noted (sym ended.outcome ∙ is) in
+      record {
+        current = end.current;
+        works = end.works;
+        number = sym (ap (λ (x : OverValue). x.transaction) end.told);
+        made = made;
+        ran_out = subst (λ (b : Option Outcome). IfSome b (Cause (begun_with made.settings made.servers) made.events))
+            best_is (has-cause tr made);
+      }
+
+  unreachable-by : IsEnded s o end → o.outcome ≡ Unreachable → IsUnreachable s o
+  unreachable-by ended is =
+      by (best-unreachable tr.ended (is_idle tr && not (may_go_on tr)) tr.noted (sym ended.outcome ∙ is) ended.over)
+    where
+      by : (best_of tr.ended tr.noted ≡ Some kind.Unreachable) ⊎ (tr.noted ≡ None) → IsUnreachable s o
+      by (inl best_is) = record {
+        current = end.current;
+        works = end.works;
+        number = sym (ap (λ (x : OverValue). x.transaction) end.told);
+        made = made;
+        failed = inl (subst (λ (b : Option Outcome). IfSome b (Cause (begun_with made.settings made.servers) made.events))
+            best_is (has-cause tr made));
+      }
+      by (inr none) = record {
+        current = end.current;
+        works = end.works;
+        number = sym (ap (λ (x : OverValue). x.transaction) end.told);
+        made = made;
+        failed = inr none;
+      }
+
+pub timeouts_ran_out : TimeoutsRanOut
+timeouts_ran_out options limits seed past s after o runs steps is =
+    let end = told-at_end o s after steps in
+    let held = holds-runs (no_servers options limits seed) past s (holds-first options limits seed) runs in
+    let own = subst (λ (x : Option CurrentState). IfSome x (IsCurrent (SentIn past s) past)) end.works held.current in
+    timeout-by past s o end own (is-ended s o end (not-timeout o.outcome is)) is
+
+pub unreachable_ones_failed : UnreachableOnesFailed
+unreachable_ones_failed options limits seed past s after o runs steps is =
+    let end = told-at_end o s after steps in
+    let held = holds-runs (no_servers options limits seed) past s (holds-first options limits seed) runs in
+    let own = subst (λ (x : Option CurrentState). IfSome x (IsCurrent (SentIn past s) past)) end.works held.current in
+    unreachable-by past s o end own (is-ended s o end (not-unreachable o.outcome is)) is
+
+-- ---- each is bounded
+
+bounded-made : (t : TransactionState) → IsMade t → IsBounded t
+bounded-made t m = subst IsBounded (sym m.made) (stays_bounded m.settings m.servers m.events)
+
+bounded-all : (past : List Happening) (s : PoolState) (es : List (ℕ × EntryState))
+    → AllByRecursion (IsEntryAt (SentIn past s) past) es
+    → AllByRecursion (λ p. IsBounded p.1.flying.flight.transaction) es
+bounded-all past s [] all = tt
+bounded-all past s (e ∷ es) all =
+    (bounded-made e.1.flying.flight.transaction all.0.flight.made, bounded-all past s es all.1)
+
+bounded-one : (past : List Happening) (s : PoolState) (c : Option CurrentState) → IfSome c (IsCurrent (SentIn past s) past)
+    → IfSome c (λ x. IsBounded x.entry.flying.flight.transaction)
+bounded-one past s None k = tt
+bounded-one past s (Some c) k = bounded-made c.entry.flying.flight.transaction k.flight.made
+
+pub transactions_stay_bounded : TransactionsStayBounded
+transactions_stay_bounded options limits seed past s runs =
+    let held = holds-runs (no_servers options limits seed) past s (holds-first options limits seed) runs in
+    record {
+      table = bounded-all past s s.traffic.table.entries held.traffic.table;
+      worked = bounded-one past s s.current held.current;
+    }
