@@ -272,7 +272,7 @@ module _ (G : ℕ → AskedOf → Type 0) where
     each-done c own what (Some after) at is =
         let same = same-done what (scene_of s c) (record { traffic = t.traffic; current = after }) is in
         let mine : G after.number after.entry.asked =
-            subst (λ (n : ℕ). G n after.entry.asked) (sym same.number) (subst (λ (a : AskedOf). G c.number a) (sym same.asked) own) in
+        subst (λ (n : ℕ). G n after.entry.asked) (sym same.number) (subst (λ (a : AskedOf). G c.number a) (sym same.asked) own) in
         record {
           table = subst AllEntries (sym same.entries) w.table;
           worked = subst (λ (o : Option CurrentState). IfSome o AtCurrent) (sym at) mine;

@@ -1,4 +1,5 @@
--- What a transaction would tell, were it over now, and what each event does to it: it stays, or is what the event tells.
+-- What a transaction would tell, were it over now, and what each event does to it: it stays, or is what the event
+-- tells.
 use Rattle.std.proofs.Common.{◌≡◌, ℕ, Bool, true, false, cond, ltb, List, [], ◌∷◌, ◌++◌, length, map, drop, refl}
 use Rattle.std.specs.Prelude.{Option, None, Some, IfSome, filter, not, ◌+◌}
 use Rattle.std.specs.List.{list_any}

@@ -93,7 +93,6 @@ module _ (past : List Happening) (i : InboxState) (b : IsBox past i) where
     apart = apart-removed channel i.streams b.apart;
   }
     where
-
       by : (q : ℕ) (same : Bool) → eqb q channel ≡ same
           → Rest past q (octets_in q (remove_entry (is_at (nat_cmp channel)) i.streams))
       by q true e =
@@ -160,7 +159,6 @@ module _ (past : List Happening) (i : InboxState) (b : IsBox past i) where
       apart = apart-set channel rest i.streams b.apart;
     }
       where
-
         before : IsRestOf (stream_on channel past) held
         before = subst (Rest past channel) has (b.streams channel)
 
@@ -262,7 +260,6 @@ module _ (past : List Happening) (i : InboxState) (b : IsBox past i) where
       apart = apart (octets_in channel i.streams) refl;
     }
       where
-
         stream_is : is_open_stream channel s ≡ true
         stream_is =
             ap (λ (o : Option Channel). option_map_or (λ x. is_stream_kind x.kind) o false) has

@@ -1,5 +1,5 @@
 -- What a transaction tells has its cause among its events.
-use Rattle.std.proofs.Common.{◌≡◌, ℕ, List, [], ◌∷◌, ◌++◌, refl, ap, sym, subst, ◌∙◌, append_assoc, append-nil}
+use Rattle.std.proofs.Common.{◌≡◌, ◌≤◌, ℕ, List, [], ◌∷◌, ◌++◌, refl, ap, sym, subst, ◌∙◌, append_assoc, append-nil}
 use Rattle.std.specs.Prelude.{Option, None, Some, IfSome}
 use Rattle.std.specs.List.{AllByRecursion}
 use Rattle.std.proofs.lemmas.List.Sums.{fold-append}
@@ -25,10 +25,18 @@ made-next t e m = record {
   events = m.events ++ e ∷ [];
   made = ap (λ (x : TransactionState). after_event x e) m.made
       ∙ sym (fold-append after_event (begun_with m.settings m.servers) m.events (e ∷ []));
+  rounds = m.rounds;
 }
 
-pub made-first : (settings : Settings) (servers : List ServerState) → IsMade (begun_with settings servers)
-made-first settings servers = record { settings = settings; servers = servers; events = []; made = refl }
+pub made-first : (settings : Settings) (servers : List ServerState) → 1 ≤ settings.rounds
+    → IsMade (begun_with settings servers)
+made-first settings servers some = record {
+  settings = settings;
+  servers = servers;
+  events = [];
+  made = refl;
+  rounds = some;
+}
 
 -- ---- causes
 
@@ -126,7 +134,7 @@ module _ (start : TransactionState) where
       subst (λ (es : List TransactionEvent). Well (Cause start es) (after_events start es)) (sym (append-nil done)) h
   well-events done (event ∷ rest) h =
       let one = subst (λ (s : TransactionState). Well (Cause start (done ++ event ∷ [])) s)
-          (sym (fold-append after_event start done (event ∷ []))) (well-event done event h) in
+      (sym (fold-append after_event start done (event ∷ []))) (well-event done event h) in
       let all = well-events (done ++ event ∷ []) rest one in
       subst (λ (es : List TransactionEvent). Well (Cause start es) (after_events start es))
       (append_assoc done (event ∷ []) rest) all

@@ -167,8 +167,8 @@ module _ (t : TrafficState) where
       let out = option_map outgoing_task t.outgoing in
       let rest = option_or (came_in t) (ran_out t) in
       let all = none-other (option_or out rest)
-          (or-other out rest (map-other outgoing_task t.outgoing outgoing-other) (or-other (came_in t) (ran_out t) came-other ran-other))
-          (ap (λ (what : Task). is_admit what) e) in
+      (or-other out rest (map-other outgoing_task t.outgoing outgoing-other) (or-other (came_in t) (ran_out t) came-other ran-other))
+      (ap (λ (what : Task). is_admit what) e) in
       let one = or-none out rest all in
       let two = or-none (came_in t) (ran_out t) one.1 in
       let three = or-none (due_in t) (option_or (late_in t) (option_or (free_in t) (idle_in t))) two.1 in

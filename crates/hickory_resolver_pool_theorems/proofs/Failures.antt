@@ -150,16 +150,16 @@ failures_are_told_last s after o steps fails = by-end (told-at_end o s after ste
             → CameToNothing s o
         by (inl refuse) =
             let what : doing end.current s.traffic ≡ Refused =
-                ap (λ (d : ToDo). doing_for d end.current.number end.current.entry s.traffic) refuse in
+            ap (λ (d : ToDo). doing_for d end.current.number end.current.entry s.traffic) refuse in
             let outcome : o.outcome ≡ Overloaded =
-                ap (λ (x : OverValue). x.outcome) end.told ∙ ap (λ (d : Doing). outcome_in d end.current.entry) what in
+            ap (λ (x : OverValue). x.outcome) end.told ∙ ap (λ (d : Doing). outcome_in d end.current.entry) what in
             absurd (subst IsFailure outcome fails)
         by (inr ending) =
             let tr = end.current.entry.flying.flight.transaction in
             let outcome : o.outcome ≡ told_outcome (outcome_of tr) =
-                ap (λ (x : OverValue). x.outcome) end.told ∙ ap (λ (d : Doing). outcome_in d end.current.entry) ending.ends in
+            ap (λ (x : OverValue). x.outcome) end.told ∙ ap (λ (d : Doing). outcome_in d end.current.entry) ending.ends in
             let last = last-told tr.ended (is_idle tr) (may_go_on tr) tr.noted (subst IsFailure outcome fails)
-                (not-over (outcome_of tr) (askers_of end.current.number s.traffic.askers) end.askers end.asked_by ending.ending) in
+            (not-over (outcome_of tr) (askers_of end.current.number s.traffic.askers) end.askers end.asked_by ending.ending) in
             record {
               current = end.current;
               works = end.works;

@@ -1,5 +1,5 @@
 -- A question in flight: its tries were sent, and the reply that it keeps is of octets that came and were believed.
-use Rattle.std.proofs.Common.{◌≡◌, ◌<◌, ◌+◌, ℕ, Bool, true, false, cond, List, [], ◌∷◌, ◌++◌, refl, ap, sym, subst, ◌∙◌, inl, inr, ◌⊎◌, eqb, eqb-true, eq-eqb, arith, true≢false, ◌&&◌}
+use Rattle.std.proofs.Common.{◌≡◌, ◌≤◌, ◌<◌, ◌+◌, ℕ, Bool, true, false, cond, List, [], ◌∷◌, ◌++◌, refl, ap, sym, subst, ◌∙◌, inl, inr, ◌⊎◌, eqb, eqb-true, eq-eqb, arith, true≢false, ◌&&◌}
 use Rattle.std.specs.Prelude.{Option, None, Some, IfSome}
 use Rattle.std.specs.Option.{option_map_or, option_or, option_and_then}
 use Rattle.hickory_resolver_servers.specs.Server.{ServerState}
@@ -62,12 +62,12 @@ Was past n q t = WasSent past n t.channel t.form.id (octets_of_try q t.form)
 -- ---- before the first step
 
 pub held-first : (P : Try → Type 0) (past : List Happening) (n : ℕ) (settings : Settings) (servers : List ServerState)
-    (q : PoolQuestion) → IsHeld P past n (flight_of settings servers q)
-held-first P past n settings servers q = record {
+    (q : PoolQuestion) → 1 ≤ settings.rounds → IsHeld P past n (flight_of settings servers q)
+held-first P past n settings servers q some = record {
   tries = none-sent P settings servers;
   keeps = tt;
   old = tt;
-  made = made-first settings servers;
+  made = made-first settings servers some;
 }
 
 -- ---- the same, later

@@ -75,7 +75,7 @@ module _ (options : OptionsValue) (limits : PoolLimits) (seed : List ℕ) (group
       → IsPoolOf options limits seed before → Step before request outcome after → IsLater before after
   step-later before request outcome after is (inl t) =
       let whole = by_step (t.waited ++ came before.pool (asking group dnssec request t.now) ∷ before.past) t.last after.pool
-          (Some (Over t.over)) t.ends (told-later before request outcome after is t) in
+      (Some (Over t.over)) t.ends (told-later before request outcome after is t) in
       record {
         pool = subst (λ (past : List Happening). Runs (no_servers options limits seed) past after.pool) (sym t.past_is) whole;
         more = did t.last (Some (Over t.over)) ∷ t.waited ++ came before.pool (asking group dnssec request t.now) ∷ [];
@@ -113,8 +113,8 @@ module _ (options : OptionsValue) (limits : PoolLimits) (seed : List ℕ) (group
       by (inr told) =
           let past = t.waited ++ came before.pool (asking group dnssec request t.now) ∷ before.past in
           let read = core_is_told_what_came options limits seed past t.last after.pool t.over m
-              (told-later before request outcome after is t) t.ends
-              (subst (λ (x : OutcomeValue). IsCoreOutcome t.over x) e told) in
+          (told-later before request outcome after is t) t.ends
+          (subst (λ (x : OutcomeValue). IsCoreOutcome t.over x) e told) in
           record {
             over = t.over;
             read = subst (λ (p : List Happening). IsReadOfOctets p t.over m) (sym t.past_is)
@@ -126,12 +126,14 @@ module _ (options : OptionsValue) (limits : PoolLimits) (seed : List ℕ) (group
   all-octets : (request : DnsRequestOptions) (before after : PoolHandle) (xs : List Exchange)
       → IsPoolOf options limits seed before → Leads Step request before xs after
       → AllByRecursion (CameAsOctets after.past request dnssec) xs × IsLater before after
-  all-octets request before after [] is end =
-      (tt, record {
-        pool = subst (λ (h : PoolHandle). IsPoolOf options limits seed h) (sym end) is;
-        more = [];
-        past_is = ap (λ (h : PoolHandle). h.past) end;
-      })
+  all-octets request before after [] is end = (
+    tt,
+    record {
+      pool = subst (λ (h : PoolHandle). IsPoolOf options limits seed h) (sym end) is;
+      more = [];
+      past_is = ap (λ (h : PoolHandle). h.past) end;
+    },
+  )
   all-octets request before after (x ∷ xs) is (mid, sent, rest) =
       let asked : DnsRequest = record { query = x.query; options = request } in
       let next = step-later before asked x.outcome mid is sent in
@@ -142,15 +144,18 @@ module _ (options : OptionsValue) (limits : PoolLimits) (seed : List ℕ) (group
         read = subst (λ (p : List Happening). IsReadOfOctets p found.over m) (sym more.1.past_is)
             (read-on more.1.more mid.past found.over m found.read);
         same = found.same;
-      } in
-      ((here, more.0), record {
-        pool = more.1.pool;
-        more = more.1.more ++ next.more;
-        past_is = more.1.past_is ∙ ap (λ (p : List Happening). more.1.more ++ p) next.past_is
-            ∙ sym (append_assoc more.1.more next.more before.past);
-      })
+      } in (
+        (here, more.0),
+        record {
+          pool = more.1.pool;
+          more = more.1.more ++ next.more;
+          past_is = more.1.past_is ∙ ap (λ (p : List Happening). more.1.more ++ p) next.past_is
+              ∙ sym (append_assoc more.1.more next.more before.past);
+        },
+      )
 
 pub from_octets_to_octets : FromOctetsToOctets
-from_octets_to_octets options limits seed group dnssec s before after requests steps exchanges cache is run =
-    (promised_run (PoolStep group dnssec) s before requests steps exchanges after cache run,
-    (all-octets options limits seed group dnssec s.request_options before after exchanges is run.led).0)
+from_octets_to_octets options limits seed group dnssec s before after requests steps exchanges cache is run = (
+  promised_run (PoolStep group dnssec) s before requests steps exchanges after cache run,
+  (all-octets options limits seed group dnssec s.request_options before after exchanges is run.led).0,
+)

@@ -11,10 +11,12 @@ pub mod Keys
 pub mod MadeUp
 pub mod Overs
 pub mod Pools
+pub mod Reaching
 pub mod Reasons
 pub mod Refusals
 pub mod Scenes
 pub mod Sendings
+pub mod Servers
 pub mod Told
 pub mod Traces
 pub mod Tries

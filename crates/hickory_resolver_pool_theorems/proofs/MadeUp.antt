@@ -88,18 +88,18 @@ nothing_is_made_up options limits seed past s after o runs steps reply = by-end 
         let c : CurrentState = end.current in
         let held = holds-runs (no_servers options limits seed) past s (holds-first options limits seed) runs in
         let own : IsCurrent (SentIn past s) past c =
-            subst (λ (x : Option CurrentState). IfSome x (IsCurrent (SentIn past s) past)) end.works held.current in
+        subst (λ (x : Option CurrentState). IfSome x (IsCurrent (SentIn past s) past)) end.works held.current in
         let f = c.entry.flying.flight in
         let is_reply : is_of_reply (outcome_in (doing c s.traffic) c.entry) ≡ true =
-            ap (λ (x : OverValue). is_of_reply x.outcome) (sym end.told) ∙ reply in
+        ap (λ (x : OverValue). is_of_reply x.outcome) (sym end.told) ∙ reply in
         let same = ends-in (doing c s.traffic) c.entry end.ends is_reply in
         let found = end-told past c.number f.question f.kept f.transaction.ended
-            (is_idle f.transaction && not (may_go_on f.transaction)) f.transaction.noted own.flight.keeps
-            (ap (λ (x : PoolOutcome). is_of_reply x) (sym same) ∙ is_reply) in
+        (is_idle f.transaction && not (may_go_on f.transaction)) f.transaction.noted own.flight.keeps
+        (ap (λ (x : PoolOutcome). is_of_reply x) (sym same) ∙ is_reply) in
         let believed : IsBelievedReply past c.number c.entry.asked.1 (outcome_in (doing c s.traffic) c.entry) found.0 =
-            subst (λ (x : PoolOutcome). IsBelievedReply past c.number c.entry.asked.1 x found.0) (sym same)
-            (subst (λ (x : PoolQuestion). IsBelievedReply past c.number x (told_outcome (outcome_of f.transaction)) found.0)
-            own.question found.2) in
+        subst (λ (x : PoolOutcome). IsBelievedReply past c.number c.entry.asked.1 x found.0) (sym same)
+        (subst (λ (x : PoolQuestion). IsBelievedReply past c.number x (told_outcome (outcome_of f.transaction)) found.0)
+        own.question found.2) in
         let over : OverValue = over_of (doing c s.traffic) c end.askers in
         subst (λ (x : OverValue). HasBelievedReply past x x.kept) (sym end.told)
         (subst (λ (k : Option KeptValue). HasBelievedReply past over k) (sym found.1) believed)

@@ -1,5 +1,5 @@
--- A pool, whatever happens: what it has in hand came while its channel was open, each try of a transaction was sent, or goes
--- out next, and the reply that is kept of it is of octets that came and were believed.
+-- A pool, whatever happens: what it has in hand came while its channel was open, each try of a transaction was sent, or
+-- goes out next, and the reply that is kept of it is of octets that came and were believed.
 use Rattle.std.proofs.Common.{◌≡◌, ℕ, ◌+◌, ◌-◌, ◌^◌, Bool, true, false, cond, List, [], ◌∷◌, ◌++◌, min, refl, ap, ap₂, sym, subst, ◌∙◌, inl, inr, ◌⊎◌, true≢false}
 use Rattle.std.specs.Prelude.{Option, None, Some, IfSome, unwrap_or}
 use Rattle.std.specs.declared.cmp.Ordering.{Ordering}

@@ -1,5 +1,5 @@
--- What a transaction would tell has its reason: a timeout, that a deadline passed; that no server was reached, that a channel
--- failed.
+-- What a transaction would tell has its reason: a timeout, that a deadline passed; that no server was reached, that a
+-- channel failed.
 use Rattle.std.proofs.Common.{◌≡◌, ℕ, Bool, true, false, cond, ltb, ◌&&◌, ◌||◌, leb, sym, true≢false, List, [], ◌∷◌, ◌++◌, length, map, drop, refl}
 use Rattle.std.specs.Prelude.{Option, None, Some, IfSome, filter, not, ◌+◌}
 use Rattle.std.specs.List.{AllByRecursion, list_any}

@@ -164,4 +164,3 @@ same-done PutsBack x y is = same-by x y x is (same-self x)
 same-done Refused x y is = same-by x y x is (same-self x)
 same-done Ends x y is = same-by x y x is (same-self x)
 same-done Rests x y is = same-by x y x is (same-self x)
-

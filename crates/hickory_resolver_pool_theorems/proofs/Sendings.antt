@@ -159,8 +159,8 @@ module _ (past : List Happening) (n : ℕ) (q : PoolQuestion) where
     on-open kind place channel e =
         let after = joined channel (try_drawn p.shared.draws).id step.transaction p.shared.channels in
         let has = subst (λ (m : ℕ). transaction_at channel (try_drawn p.shared.draws).id after ≡ Some m) own
-            (joined-has channel (try_drawn p.shared.draws).id step.transaction p.shared.channels
-            (open-is kind place (try_drawn p.shared.draws).id p.servers p.shared.channels channel e)) in
+        (joined-has channel (try_drawn p.shared.draws).id step.transaction p.shared.channels
+        (open-is kind place (try_drawn p.shared.draws).id p.servers p.shared.channels channel e)) in
         record {
           flight = flight-sent p.flying.flight (made channel)
               (option_map (outgoing_of list) (out_on step kind place p false channel)) after w.flight
@@ -173,7 +173,7 @@ module _ (past : List Happening) (n : ℕ) (q : PoolQuestion) where
     on-new kind place channel e =
         let after = opened_for (number_of place p.servers) kind (try_drawn p.shared.draws).id step.transaction p.shared.channels in
         let has = subst (λ (m : ℕ). transaction_at channel (try_drawn p.shared.draws).id after ≡ Some m) own
-            (opened-has (number_of place p.servers) kind (try_drawn p.shared.draws).id step.transaction channel p.shared.channels e) in
+        (opened-has (number_of place p.servers) kind (try_drawn p.shared.draws).id step.transaction channel p.shared.channels e) in
         record {
           flight = flight-sent p.flying.flight (made channel)
               (option_map (outgoing_of list) (out_on step kind place p true channel)) after w.flight

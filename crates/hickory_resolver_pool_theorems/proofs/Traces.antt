@@ -1,5 +1,5 @@
 -- What holds of a pool and what happened to it holds after each event and each step.
-use Rattle.std.proofs.Common.{◌≡◌, ℕ, Bool, true, false, cond, List, [], ◌∷◌, ◌++◌, refl, ap, ap₂, sym, subst, ◌∙◌, inl, inr, ◌⊎◌}
+use Rattle.std.proofs.Common.{◌≡◌, ◌≤◌, ℕ, Bool, true, false, cond, arith, List, [], ◌∷◌, ◌++◌, refl, ap, ap₂, sym, subst, ◌∙◌, inl, inr, ◌⊎◌}
 use Rattle.std.specs.Prelude.{Option, None, Some, IfSome, unwrap_or}
 use Rattle.std.specs.List.{AllByRecursion}
 use Rattle.std.specs.Ordering.{nat_cmp}
@@ -12,6 +12,7 @@ use Rattle.hickory_resolver_askers.specs.declared.asker.Place.{Place}
 use Rattle.hickory_resolver_askers.specs.declared.asker.Place.TheVariants.{InFlight, Waits, Overloaded}
 use Rattle.hickory_resolver_channels.specs.Channels.{ChannelsState, channel_at}
 use Rattle.hickory_resolver_channels.specs.declared.channel.Channel.{Channel}
+use Rattle.hickory_proto_core.specs.declared.dns_request.DnsRequestOptions.{DnsRequestOptions}
 use Rattle.hickory_resolver_config.specs.ResolverConfig.{OptionsValue}
 use Rattle.hickory_resolver_tries.specs.Question.{question_of}
 use Rattle.hickory_resolver_tries.specs.Tries.{octets_of_try}
@@ -110,14 +111,14 @@ module _ (past : List Happening) (s : PoolState) (e : PoolEvent) (w : Holds past
         by None = traffic
         by (Some a) = record { box = box; table = entries }
 
-    traffic-begun : (list : ℕ) (question : PoolQuestion) (settings : Settings) (at : ℕ)
+    traffic-begun : (list : ℕ) (question : PoolQuestion) (settings : Settings) (at : ℕ) → 1 ≤ settings.rounds
         → IsTraffic Q now (begun list question settings at s.traffic)
-    traffic-begun list question settings at = by (list_at list s.traffic.groups)
+    traffic-begun list question settings at some = by (list_at list s.traffic.groups)
       where
         first : (l : GroupListState) → IsEntry Q now s.traffic.askers.next_transaction (entry_of list question settings l)
         first l = record {
           flight = held-first (Q s.traffic.askers.next_transaction question) now s.traffic.askers.next_transaction
-              settings l.servers.servers question;
+              settings l.servers.servers question some;
           question = refl;
         }
 
@@ -138,21 +139,22 @@ module _ (past : List Happening) (s : PoolState) (e : PoolEvent) (w : Holds past
         by None = record { box = box; table = entries }
         by (Some l) = place (place_for s.traffic.askers) l
 
-    traffic-asked : (key : AskedOf) (settings : Settings) (at : ℕ) → IsTraffic Q now (ask_of key settings at s).traffic
-    traffic-asked key settings at = by (joiner_of key s)
+    traffic-asked : (key : AskedOf) (settings : Settings) (at : ℕ) → 1 ≤ settings.rounds
+        → IsTraffic Q now (ask_of key settings at s).traffic
+    traffic-asked key settings at some = by (joiner_of key s)
       where
         joins : (n : Option ℕ) → IsTraffic Q now (option_map_or (join_in at s) n s).traffic
         joins None = traffic
         joins (Some n) = traffic-joined n at
 
         by : (a : Option Asker) → IsTraffic Q now (join_or_begin a key settings at s).traffic
-        by None = traffic-begun key.0 key.1 settings at
+        by None = traffic-begun key.0 key.1 settings at some
         by (Some a) = joins (pool.number_of key s.questions)
 
-    traffic-asks : (list : Option ℕ) (question : PoolQuestion) (settings : Settings) (at : ℕ)
+    traffic-asks : (list : Option ℕ) (question : PoolQuestion) (settings : Settings) (at : ℕ) → 1 ≤ settings.rounds
         → IsTraffic Q now (after_asking list question settings at s).traffic
-    traffic-asks None question settings at = record { box = box; table = entries }
-    traffic-asks (Some list) question settings at = traffic-asked (list, question) settings at
+    traffic-asks None question settings at some = record { box = box; table = entries }
+    traffic-asks (Some list) question settings at some = traffic-asked (list, question) settings at some
 
     traffic-failed : (f : ChannelFailure) (at : ℕ) → IsTraffic Q now (failed f at s.traffic)
     traffic-failed f at = by (channel_at f.channel s.traffic.shared.channels)
@@ -279,6 +281,10 @@ traffic-came past s channel octets at w = by (channel_at channel s.traffic.share
       table = all;
     }
 
+-- a question has a round at least
+some-rounds : (o : OptionsValue) (request : DnsRequestOptions) → 1 ≤ (settings_for o request).rounds
+some-rounds o request = omega arith
+
 traffic-event : (past : List Happening) (s : PoolState) (e : PoolEvent) → Holds past s
     → IsTraffic (SentIn (event_of s e ∷ past) s) (event_of s e ∷ past) (after_event s e).traffic
 traffic-event past s (time_passes at) w =
@@ -288,6 +294,7 @@ traffic-event past s (group_has group servers) w =
 traffic-event past s (is_asked group query options dnssec at) w =
     traffic-asks past s (is_asked group query options dnssec at) w (λ q. refl)
     (list_of group s.traffic) (question_of query options dnssec) (settings_for s.options options) at
+    (some-rounds s.options options)
 traffic-event past s (octets_come channel octets at) w = traffic-came past s channel octets at w
 traffic-event past s (channel_fails f at) w = traffic-failed past s (channel_fails f at) w (λ q. refl) f at
 traffic-event past s (is_forgotten a) w =
@@ -446,7 +453,7 @@ module _ (past : List Happening) (s t : PoolState) (r : Option Action) where
       holds-done what None is at = absurd is
       holds-done what (Some after) is at =
           let done = scene-done past what (scene_of s c) (record { traffic = t.traffic; current = after }) is
-              (record { traffic = calmed.traffic; current = own }) in
+          (record { traffic = calmed.traffic; current = own }) in
           holds-later (record {
             traffic = done.traffic;
             current = subst (λ (o : Option CurrentState). IfSome o (IsCurrent (SentIn past t) past)) (sym at) done.current;

@@ -1,4 +1,5 @@
--- Tries of which something holds: what a transaction, and a question in flight, does keeps it of each that waits or is late.
+-- Tries of which something holds: what a transaction, and a question in flight, does keeps it of each that waits or is
+-- late.
 use Rattle.std.proofs.Common.{◌≡◌, ℕ, Bool, true, false, cond, not, ◌&&◌, ◌||◌, eqb, ltb, List, [], ◌∷◌, ◌++◌, length, map, drop, refl, ap, subst, ◌∙◌, append_assoc, ◌+◌}
 use Rattle.std.specs.Prelude.{Option, None, Some, Contains, find, filter, unwrap_or}
 use Rattle.std.specs.List.{AllByRecursion, list_any, enumerate_from}
@@ -419,7 +420,7 @@ none-sent P settings servers = record { waiting = none-waits P 0 servers; late =
 
 -- ---- the try that is found on a channel with a number has these
 
-found-passes : {A : Type 0} (test : A → Bool) (xs : List A) (x : A) → find test xs ≡ Some x → test x ≡ true
+pub found-passes : {A : Type 0} (test : A → Bool) (xs : List A) (x : A) → find test xs ≡ Some x → test x ≡ true
 found-passes test [] x e = absurd cc
 found-passes {A} test (y ∷ ys) x e = by (test y) refl (found-passes test ys x) e
   where

@@ -25,6 +25,7 @@ use Rattle.hickory_resolver_pool_theorems.proofs.Causes.{Cause, has-cause}
 use Rattle.hickory_resolver_pool_theorems.proofs.Failures.{end-for, IsEnding, not-over}
 use Rattle.hickory_resolver_pool_theorems.proofs.Overs.{IsEnd, told-at_end}
 use Rattle.hickory_resolver_pool_theorems.proofs.Pools.{IsEntryAt, IsCurrent}
+use Rattle.hickory_resolver_pool_theorems.proofs.Servers.{none-asked}
 use Rattle.hickory_resolver_pool_theorems.proofs.Traces.{SentIn, holds-first, holds-runs}
 
 is-timeout : (o : Outcome) → told_as o ≡ Timeout → o ≡ kind.Timeout
@@ -56,6 +57,20 @@ best-unreachable None true None e is = inr refl
 best-unreachable None true (Some o) e is = inl (ap (λ (x : Outcome). Some x) (is-unreachable o e))
 best-unreachable None false noted e is = absurd (is refl)
 
+-- where that is told, nothing is left
+pub record IsOut (ended : Option ℕ) (idle more : Bool) : Type 0 where
+  pub ended_is : ended ≡ None
+  pub idle_is : idle ≡ true
+  pub more_is : more ≡ false
+
+is-out : (ended : Option ℕ) (idle more : Bool) (noted : Option Outcome)
+    → told_outcome (told ended (idle && not more) noted) ≡ Unreachable
+    → (told ended (idle && not more) noted ≡ None → ⊥) → IsOut ended idle more
+is-out (Some number) idle more noted e over = absurd cc
+is-out None true false noted e over = record { ended_is = refl; idle_is = refl; more_is = refl }
+is-out None true true noted e over = absurd (over refl)
+is-out None false more noted e over = absurd (over refl)
+
 -- a transaction that is not refused ends with its outcome
 pub record IsEnded (s : PoolState) (o : OverValue) (end : IsEnd s o) : Type 0 where
   pub outcome : o.outcome ≡ told_outcome (outcome_of end.current.entry.flying.flight.transaction)
@@ -68,9 +83,9 @@ is-ended s o end other = by (end-for end.current.to_do end.current.number end.cu
         ⊎ IsEnding (doing end.current s.traffic) end.current.number end.current.entry s.traffic → IsEnded s o end
     by (inl refuse) =
         let what : doing end.current s.traffic ≡ Refused =
-            ap (λ (d : ToDo). doing_for d end.current.number end.current.entry s.traffic) refuse in
+        ap (λ (d : ToDo). doing_for d end.current.number end.current.entry s.traffic) refuse in
         let outcome : o.outcome ≡ Overloaded =
-            ap (λ (x : OverValue). x.outcome) end.told ∙ ap (λ (d : Doing). outcome_in d end.current.entry) what in
+        ap (λ (x : OverValue). x.outcome) end.told ∙ ap (λ (d : Doing). outcome_in d end.current.entry) what in
         absurd (other outcome)
     by (inr ending) = record {
       outcome = ap (λ (x : OverValue). x.outcome) end.told
@@ -123,7 +138,9 @@ module _ (past : List Happening) (s : PoolState) (o : OverValue) (end : IsEnd s 
         works = end.works;
         number = sym (ap (λ (x : OverValue). x.transaction) end.told);
         made = made;
-        failed = inr none;
+        failed =
+            let last = is-out tr.ended (is_idle tr) (may_go_on tr) tr.noted (sym ended.outcome ∙ is) ended.over in
+            inr (none-asked made.settings made.servers made.events made.rounds tr made.made none last.ended_is last.idle_is last.more_is);
       }
 
 pub timeouts_ran_out : TimeoutsRanOut

@@ -1,5 +1,5 @@
 -- Why nothing came of a transaction: each has its cause among what the transaction went through.
-use Rattle.std.specs.Prelude.{◌≡◌, ◌⊎◌, ℕ, List, ◌∷◌, ◌++◌, Option, None, Some, IfSome}
+use Rattle.std.specs.Prelude.{◌≡◌, ◌≤◌, ◌⊎◌, ℕ, false, List, ◌∷◌, ◌++◌, Option, None, Some, IfSome}
 use Rattle.std.specs.List.{AllByRecursion}
 use Rattle.hickory_resolver_config.specs.ResolverConfig.{OptionsValue}
 use Rattle.hickory_resolver_servers.specs.Server.{ServerState}
@@ -16,12 +16,13 @@ use Rattle.hickory_resolver_pool.specs.declared.over.PoolOutcome.TheVariants.{Un
 use Rattle.hickory_resolver_pool.specs.declared.pool.Action.TheVariants.{Over}
 use Rattle.hickory_resolver_pool_theorems.specs.Runs.{Happening, Runs}
 
--- from its servers on, these events made the transaction what it is
+-- from its servers on, with a round at least, these events made the transaction what it is
 pub record IsMade (t : TransactionState) : Type 0 where
   pub settings : Settings
   pub servers : List ServerState
   pub events : List TransactionEvent
   pub made : t ≡ after_events (begun_with settings servers) events
+  pub rounds : 1 ≤ settings.rounds
 
 -- time passed up to a moment at which a try of it was to have been answered, or a channel to have come free for it
 pub record HasRunOut (start : TransactionState) (events : List TransactionEvent) : Type 0 where
@@ -50,14 +51,18 @@ pub record IsTimeout (s : PoolState) (o : OverValue) : Type 0 where
   pub made : IsMade current.entry.flying.flight.transaction
   pub ran_out : HasRunOut (begun_with made.settings made.servers) made.events
 
--- or nothing was noted of any server
+-- a server without a port, which cannot be asked
+abbrev pub HasNoPort : Candidate → Type 0
+HasNoPort c = (c.has_udp ≡ false) × (c.has_tcp ≡ false)
+
+-- a channel failed, or there is no server that can be asked
 pub record IsUnreachable (s : PoolState) (o : OverValue) : Type 0 where
   pub current : CurrentState
   pub works : s.current ≡ Some current
   pub number : current.number ≡ o.transaction
   pub made : IsMade current.entry.flying.flight.transaction
   pub failed : HasFailed (begun_with made.settings made.servers) made.events
-      ⊎ (current.entry.flying.flight.transaction.noted ≡ None)
+      ⊎ AllByRecursion HasNoPort current.entry.flying.flight.transaction.candidates
 
 abbrev pub TimeoutsRanOut : Type 0
 TimeoutsRanOut =
@@ -73,8 +78,8 @@ UnreachableOnesFailed =
 
 -- ---- each transaction is bounded
 
--- Each transaction that there is stays within its bounds: rounds, messages to a server in a round by one transport, tries
--- that wait at once, late tries.
+-- Each transaction that there is stays within its bounds: rounds, messages to a server in a round by one transport,
+-- tries that wait at once, late tries.
 pub record HasBoundedTransactions (s : PoolState) : Type 0 where
   pub table : AllByRecursion (λ p. IsBounded p.1.flying.flight.transaction) s.traffic.table.entries
   pub worked : IfSome s.current (λ c. IsBounded c.entry.flying.flight.transaction)

@@ -36,8 +36,8 @@ OverloadedOnlyWithoutPlace =
 
 -- ---- nothing came of it
 
--- The transaction is the one that is worked on: it waits for no reply and no channel, no round is left to it, or no server,
--- and what is told is the best that was noted; where nothing was noted, that no server was reached.
+-- The transaction is the one that is worked on: it waits for no reply and no channel, no round is left to it, or no
+-- server, and what is told is the best that was noted; where nothing was noted, that no server was reached.
 pub record CameToNothing (s : PoolState) (o : OverValue) : Type 0 where
   pub current : CurrentState
   pub works : s.current ≡ Some current
@@ -55,7 +55,8 @@ IsFailure Unreachable = Unit {0}
 IsFailure Timeout = Unit {0}
 IsFailure Overloaded = ⊥
 
--- A timeout, that no server was reached, a code, and that a reply was cut, are told only where nothing is left to wait for.
+-- A timeout, that no server was reached, a code, and that a reply was cut, are told only where nothing is left to wait
+-- for.
 abbrev pub FailuresAreToldLast : Type 0
 FailuresAreToldLast =
     (s after : PoolState) (o : OverValue) → Steps s (Some (Over o)) after → IsFailure o.outcome → CameToNothing s o

@@ -32,8 +32,8 @@ use Rattle.hickory_resolver_pool_theorems.specs.Runs.{Happening, came, did, Runs
 
 -- ---- what the core is told
 
--- A response that the core is told is what octets spell that came for the question and were believed: the whole message,
--- each of its records as it was received, with the letters that were asked.
+-- A response that the core is told is what octets spell that came for the question and were believed: the whole
+-- message, each of its records as it was received, with the letters that were asked.
 pub record IsReadOfOctets (past : List Happening) (o : OverValue) (m : MessageValue) : Type 0 where
   pub reply : KeptValue
   pub believed : IsBelievedReply past o.transaction o.question o.outcome reply
@@ -58,8 +58,8 @@ pub record PoolHandle : Type 0 where
 abbrev pub asking : ℕ → DnssecOptions → DnsRequest → ℕ → PoolEvent
 asking group dnssec request now = is_asked group request.query request.options dnssec now
 
--- One asks, and waits, whatever happens meanwhile, until the pool says of its transaction that it is over. What it is told
--- is told to the core, unless there is no memory to copy it.
+-- One asks, and waits, whatever happens meanwhile, until the pool says of its transaction that it is over. What it is
+-- told is told to the core, unless there is no memory to copy it.
 pub record IsTold
     (group : ℕ) (dnssec : DnssecOptions) (before : PoolHandle) (request : DnsRequest) (outcome : OutcomeValue)
     (after : PoolHandle)
@@ -69,7 +69,8 @@ pub record IsTold
   pub waited : List Happening
   pub last : PoolState
   pub over : OverValue
-  pub asks : asking_told (list_of group before.pool.traffic) (question_of request.query request.options dnssec) before.pool
+  pub asks :
+      asking_told (list_of group before.pool.traffic) (question_of request.query request.options dnssec) before.pool
       ≡ asked.Asker asker
   pub runs : Runs (after_event before.pool (asking group dnssec request now)) waited last
   pub ends : Steps last (Some (Over over)) after.pool

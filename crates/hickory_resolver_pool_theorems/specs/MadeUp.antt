@@ -28,10 +28,10 @@ told_of_reply reply.Negative = Response
 told_of_reply reply.Truncated = Cut
 told_of_reply other = Code
 
--- A reply to this question of a transaction. Once what happened earlier had happened, a message of the question had been
--- sent for this transaction on a channel; these octets had come on that very channel while it was open; and they were
--- believed as a reply to that message. The message that is told is what they spell, unless they were cut or spell none,
--- with the letters that were asked; and it is told as what they come to.
+-- A reply to this question of a transaction. Once what happened earlier had happened, a message of the question had
+-- been sent for this transaction on a channel; these octets had come on that very channel while it was open; and they
+-- were believed as a reply to that message. The message that is told is what they spell, unless they were cut or spell
+-- none, with the letters that were asked; and it is told as what they come to.
 pub record IsBelievedReply
     (past : List Happening) (transaction : ℕ) (question : PoolQuestion) (told : PoolOutcome) (k : KeptValue)
     : Type 0 where

@@ -1,6 +1,6 @@
 -- What happened to a pool, one thing after another.
 use Rattle.std.specs.Prelude.{List, [], ◌∷◌, Option}
-use Rattle.hickory_resolver_pool.specs.Laws.{PoolEvent, after_event}
+use Rattle.hickory_resolver_pool.specs.Laws.{PoolEvent, after_event, Reached}
 use Rattle.hickory_resolver_pool.specs.Pool.{PoolState, Steps}
 use Rattle.hickory_resolver_pool.specs.declared.pool.Action.{Action}
 
@@ -16,3 +16,11 @@ pub data Runs (start : PoolState) : List Happening → PoolState → Type 0 wher
       → Runs start (came s e ∷ past) (after_event s e)
   by_step : (past : List Happening) (s after : PoolState) (r : Option Action) → Steps s r after → Runs start past s
       → Runs start (did s r ∷ past) after
+
+-- what is reached from a pool by events and steps is what happens to it, and the other way round
+pub record IsReachedByRuns (start s : PoolState) : Type 0 where
+  pub happens : Reached start s → (past : List Happening) × Runs start past s
+  pub reached : (past : List Happening) → Runs start past s → Reached start s
+
+abbrev pub ReachedIsWhatHappens : Type 0
+ReachedIsWhatHappens = (start s : PoolState) → IsReachedByRuns start s

@@ -1,12 +1,18 @@
 //! What holds of a pool after every list of events and steps.
+ghost use Rattle.hickory_resolver_pool_theorems.specs.Runs.{ReachedIsWhatHappens};
 ghost use Rattle.hickory_resolver_pool_theorems.specs.MadeUp.{NothingIsMadeUp};
 ghost use Rattle.hickory_resolver_pool_theorems.specs.Handles.{CoreIsToldWhatCame, FromOctetsToOctets};
 ghost use Rattle.hickory_resolver_pool_theorems.specs.Causes.{TimeoutsRanOut, UnreachableOnesFailed, TransactionsStayBounded};
 ghost use Rattle.hickory_resolver_pool_theorems.specs.Ends.{RestsUntilDue};
 ghost use Rattle.hickory_resolver_pool_theorems.specs.Failures.{OverloadedOnlyWithoutPlace, FailuresAreToldLast};
 
-/// What is told as a response, as a cut reply or as a code is of octets that came on a channel on which a message of its
-/// transaction had been sent, and that were believed as a reply to it, whatever comes.
+/// What is reached from a pool by events and steps is what happens to it, and the other way round.
+pub fn reached_is_what_happens()
+    ensures { ReachedIsWhatHappens }
+{}
+
+/// What is told as a response, as a cut reply or as a code is of octets that came on a channel on which a message of
+/// its transaction had been sent, and that were believed as a reply to it, whatever comes.
 pub fn nothing_is_made_up()
     ensures { NothingIsMadeUp }
 {}
@@ -16,14 +22,14 @@ pub fn core_is_told_what_came()
     ensures { CoreIsToldWhatCame }
 {}
 
-/// A run of a resolver over a pool keeps all that is promised of runs, and each response of its exchanges is what octets
-/// spell that came and were believed: from octets to octets nothing outlives what was received.
+/// A run of a resolver over a pool keeps all that is promised of runs, and each response of its exchanges is what
+/// octets spell that came and were believed: from octets to octets nothing outlives what was received.
 pub fn from_octets_to_octets()
     ensures { FromOctetsToOctets }
 {}
 
-/// Where nothing is left to be done, what a pool waits for lies behind the latest moment that it was told: a tick at its next
-/// deadline, or later, leaves something to be done.
+/// Where nothing is left to be done, what a pool waits for lies behind the latest moment that it was told: a tick at
+/// its next deadline, or later, leaves something to be done.
 pub fn rests_until_due()
     ensures { RestsUntilDue }
 {}
@@ -33,8 +39,8 @@ pub fn overloaded_only_without_place()
     ensures { OverloadedOnlyWithoutPlace }
 {}
 
-/// A timeout, that no server was reached, a code, and that a reply was cut, are told only where no try and no channel is
-/// waited for, and no further round may begin; and what is told is the best that was noted.
+/// A timeout, that no server was reached, a code, and that a reply was cut, are told only where no try and no channel
+/// is waited for, and no further round may begin; and what is told is the best that was noted.
 pub fn failures_are_told_last()
     ensures { FailuresAreToldLast }
 {}
@@ -45,8 +51,8 @@ pub fn timeouts_ran_out()
     ensures { TimeoutsRanOut }
 {}
 
-/// That no server was reached is told only where a channel failed on which a try of the transaction waited, or where nothing
-/// was noted of any server, whatever comes.
+/// That no server was reached is told only where a channel failed on which a try of the transaction waited, or where
+/// none of its servers has a port, whatever comes.
 pub fn unreachable_ones_failed()
     ensures { UnreachableOnesFailed }
 {}
