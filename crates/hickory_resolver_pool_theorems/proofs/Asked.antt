@@ -1,5 +1,5 @@
 -- Who is told that a transaction is over asked what it asks.
-use Rattle.std.proofs.Common.{◌≡◌, ◌≤◌, ◌<◌, ◌+◌, ◌-◌, ◌^◌, min, ℕ, Bool, true, false, cond, ◌&&◌, ◌||◌, List, [], ◌∷◌, ◌++◌, refl, ap, sym, subst, ◌∙◌, inl, inr, ◌⊎◌, true≢false, arith}
+use Rattle.std.proofs.Common.{◌≡◌, ◌≤◌, ◌<◌, ◌+◌, ◌-◌, ◌^◌, min, ℕ, Bool, true, false, cond, ◌&&◌, ◌||◌, List, [], ◌∷◌, refl, ap, sym, subst, ◌∙◌, true≢false, arith}
 use Rattle.std.specs.Prelude.{Option, None, Some, IfSome, nat_eq}
 use Rattle.std.specs.Cmp.{IsEquivalence, and_equiv, on_equiv, nat_eq_equiv}
 use Rattle.std.specs.List.{AllByRecursion}
@@ -29,7 +29,7 @@ use Rattle.hickory_resolver_traffic.specs.Groups.{GroupListState, list_at}
 use Rattle.hickory_resolver_traffic.specs.Inbox.{MessageValue, first_message, first_failure}
 use Rattle.hickory_resolver_traffic.specs.Table.{CurrentState, EntryState}
 use Rattle.hickory_resolver_traffic.specs.Tasks.{task_of, after_task, closed, freed_by, freed_by_first, without_taken}
-use Rattle.hickory_resolver_traffic.specs.Traffic.{TrafficState, ticked, until_of, begun_as, begun_with, entry_of, begun_asker, came_on, came, failed_on, failed, joined, begun}
+use Rattle.hickory_resolver_traffic.specs.Traffic.{TrafficState, ticked, until_of, begun_as, begun_with, entry_of, begun_asker, came_on, failed_on, joined, begun}
 use Rattle.hickory_resolver_traffic.specs.declared.doing.Doing.{Doing}
 use Rattle.hickory_resolver_traffic.specs.declared.inbox.ChannelFailure.{ChannelFailure}
 use Rattle.hickory_resolver_traffic.specs.declared.inbox.Failure.{Failure}
@@ -40,13 +40,12 @@ use Rattle.hickory_resolver_pool.specs.Laws.{PoolEvent, time_passes, group_has, 
 use Rattle.hickory_resolver_pool.specs.Pool.{PoolState, AskedOf, asked_eq, no_servers, settings_for, list_of, joiner_of, join_in, join_or_begin, ask_of, after_asking, asking_told, told_to_joiner, asked_by, with_question, started, Starts, IsDoneTo, scene_of, is_end, is_put, StepsBy, StepsIn, StepsAs, Steps, let_go, put_by, without_question, is_its_own}
 use Rattle.hickory_resolver_pool.specs.Pool as pool
 use Rattle.hickory_resolver_pool.specs.declared.pool.Action.{Action}
-use Rattle.hickory_resolver_pool.specs.declared.pool.Asked.{Asked}
 use Rattle.hickory_resolver_pool.specs.declared.pool.Asked.TheVariants as told
 use Rattle.hickory_resolver_pool_theorems.specs.Runs.{Happening, Runs, at_first, by_event, by_step}
-use Rattle.hickory_resolver_pool_theorems.proofs.Askings.{all-swap_removed, OfEach, AsksFor, Begins, next_of, put-is, each-step, each-event}
+use Rattle.hickory_resolver_pool_theorems.proofs.Askings.{all-swap_removed, OfEach, AsksFor, next_of, put-is, each-step, each-event}
 use Rattle.hickory_resolver_pool.specs.Over.{OverValue}
 use Rattle.hickory_resolver_pool_theorems.proofs.Overs.{IsEnd}
-use Rattle.hickory_resolver_pool_theorems.proofs.Scenes.{IsSame, same-done}
+use Rattle.hickory_resolver_pool_theorems.proofs.Scenes.{same-done}
 
 -- ---- equal questions
 

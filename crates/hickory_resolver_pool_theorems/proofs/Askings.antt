@@ -1,7 +1,6 @@
 -- What a transaction asks stays what it asks, and who joins one asks the same.
-use Rattle.std.proofs.Common.{◌≡◌, ◌≤◌, ◌<◌, ◌+◌, ◌-◌, ◌^◌, min, suc, zero, ℕ, Bool, true, false, cond, ◌&&◌, ◌||◌, List, [], ◌∷◌, ◌++◌, length, take, refl, ap, sym, subst, ◌∙◌, inl, inr, ◌⊎◌, true≢false, arith}
+use Rattle.std.proofs.Common.{◌≡◌, ◌<◌, ◌+◌, ◌-◌, ◌^◌, min, suc, zero, ℕ, Bool, true, false, cond, List, [], ◌∷◌, length, take, refl, ap, sym, subst, arith}
 use Rattle.std.specs.Prelude.{Option, None, Some, IfSome, slice_set, slice_index_or, position, swap_remove}
-use Rattle.std.specs.Cmp.{IsEquivalence, and_equiv, on_equiv, nat_eq_equiv}
 use Rattle.std.specs.declared.cmp.Ordering.{Ordering}
 use Rattle.std.specs.declared.cmp.Ordering.TheVariants.{Less, Equal, Greater}
 use Rattle.std.specs.Ordering.{nat_cmp, is_eq, match_ordering}
@@ -10,27 +9,24 @@ use Rattle.std.specs.Map.{lookup, remove_entry, keys_of}
 use Rattle.std.specs.BTreeMap.{insert_entry, is_at}
 use Rattle.std.specs.Option.{is_some, option_map, option_map_or, option_and_then}
 use Rattle.indexmap.specs.IndexMap.{swap_remove_entry}
-use Rattle.indexmap.specs.IndexMap as index
 use Rattle.hickory_resolver_askers.specs.Askers.{AskersState, WaitingValue, joiner, to_admit, place_for, is_flying, is_waiting, given_in, asker_given}
 use Rattle.hickory_resolver_askers.specs.Askers as ask
 use Rattle.hickory_resolver_askers.specs.declared.asker.Asker.{Asker}
-use Rattle.hickory_resolver_askers.specs.declared.asker.Forgotten.{Forgotten}
-use Rattle.hickory_resolver_askers.specs.declared.asker.Forgotten.TheVariants as left
 use Rattle.hickory_resolver_askers.specs.declared.asker.Place.{Place}
 use Rattle.hickory_resolver_askers.specs.declared.asker.Place.TheVariants.{InFlight, Waits, Overloaded}
 use Rattle.hickory_resolver_channels.specs.Channels.{channel_at}
 use Rattle.hickory_resolver_channels.specs.declared.channel.Channel.{Channel}
-use Rattle.hickory_resolver_tries.specs.Question.{question_of, question_eq, question_equiv}
+use Rattle.hickory_resolver_tries.specs.Question.{question_of}
 use Rattle.hickory_resolver_tries.specs.declared.pool_question.PoolQuestion.{PoolQuestion}
 use Rattle.hickory_resolver_transactions.specs.declared.settings.Settings.{Settings}
-use Rattle.hickory_resolver_traffic.specs.Doing.{doing, doubts_message, doubts_first, one_freed, is_empty}
+use Rattle.hickory_resolver_traffic.specs.Doing.{doing, doubts_message, one_freed, is_empty}
 use Rattle.hickory_resolver_traffic.specs.Groups.{GroupListState, list_at}
 use Rattle.hickory_resolver_traffic.specs.Inbox.{MessageValue, first_message, first_failure}
 use Rattle.hickory_resolver_traffic.specs.Openings.{OpeningValue}
 use Rattle.hickory_resolver_traffic.specs.Table.{CurrentState, EntryState, entry_at}
 use Rattle.hickory_resolver_traffic.specs.Tasks.{task_of, after_task, did, closed, freed_by, freed_by_first, without_taken, took_up, taken_up, did_open, did_write, opening_of}
 use Rattle.hickory_resolver_traffic.specs.Tasks as tasks
-use Rattle.hickory_resolver_traffic.specs.Traffic.{TrafficState, OutgoingValue, ticked, until_of, begun_as, begun_with, entry_of, begun_asker, came_on, came, failed_on, failed, joined, begun}
+use Rattle.hickory_resolver_traffic.specs.Traffic.{TrafficState, OutgoingValue, ticked, until_of, begun_as, begun_with, entry_of, came_on, came, failed_on, failed, joined, begun}
 use Rattle.hickory_resolver_traffic.specs.declared.doing.Doing.{Doing}
 use Rattle.hickory_resolver_traffic.specs.declared.entry.ToDo.{ToDo}
 use Rattle.hickory_resolver_traffic.specs.declared.entry.ToDo.TheVariants.{GoOn}
@@ -45,11 +41,8 @@ use Rattle.hickory_resolver_pool.specs.Laws.{PoolEvent, time_passes, group_has, 
 use Rattle.hickory_resolver_pool.specs.Pool.{PoolState, AskedOf, asked_eq, no_servers, settings_for, list_of, joiner_of, join_in, join_or_begin, ask_of, after_asking, asking_told, asked_of, told_to_joiner, asked_by, with_question, current_after, started, Starts, Carries, IsDoneTo, scene_of, is_end, is_put, StepsBy, StepsIn, StepsAs, Steps, let_go, put_by, without_question, is_its_own}
 use Rattle.hickory_resolver_pool.specs.Pool as pool
 use Rattle.hickory_resolver_pool.specs.declared.pool.Action.{Action}
-use Rattle.hickory_resolver_pool.specs.declared.pool.Asked.{Asked}
-use Rattle.hickory_resolver_pool.specs.declared.pool.Asked.TheVariants as told
-use Rattle.hickory_resolver_pool_theorems.specs.Runs.{Happening, Runs, at_first, by_event, by_step}
 use Rattle.hickory_resolver_pool_theorems.proofs.Keys.{at-is}
-use Rattle.hickory_resolver_pool_theorems.proofs.Scenes.{IsSame, same-done}
+use Rattle.hickory_resolver_pool_theorems.proofs.Scenes.{same-done}
 use Rattle.hickory_resolver_pool_theorems.proofs.Traces.{current-event}
 
 -- ---- lists

@@ -1,9 +1,9 @@
 -- What came and was not read yet came on its channel while it was open.
-use Rattle.std.proofs.Common.{◌≡◌, ℕ, ◌+◌, ◌*◌, Bool, true, false, cond, not, ◌&&◌, List, [], ◌∷◌, ◌++◌, length, take, drop, min, refl, ap, ap₂, sym, subst, ◌∙◌, append_assoc, append-nil, inl, inr, eqb, eqb-true, eq-eqb, true≢false, arith, take-append-drop, length-take}
+use Rattle.std.proofs.Common.{◌≡◌, ℕ, ◌+◌, ◌*◌, Bool, true, false, cond, not, ◌&&◌, List, [], ◌∷◌, ◌++◌, length, take, drop, refl, ap, ap₂, sym, subst, ◌∙◌, append_assoc, inl, inr, eqb, eqb-true, eq-eqb, true≢false, arith, take-append-drop, length-take}
 use Rattle.std.specs.Prelude.{Contains, Option, None, Some, IfSome, nat_lt, slice_get}
 use Rattle.std.specs.Ordering.{nat_cmp}
 use Rattle.std.specs.List.{AllByRecursion}
-use Rattle.std.specs.Map.{lookup, remove_entry, set_value}
+use Rattle.std.specs.Map.{remove_entry, set_value}
 use Rattle.std.specs.BTreeMap.{insert_entry, is_at}
 use Rattle.std.specs.Option.{option_map_or, option_and_then}
 use Rattle.std.proofs.lemmas.Bool.{ltb-false}
@@ -14,7 +14,7 @@ use Rattle.hickory_resolver_channels.specs.declared.channel.ChannelKind.{Channel
 use Rattle.hickory_resolver_channels.specs.declared.channel.ChannelKind.TheVariants.{Datagram, Stream}
 use Rattle.hickory_resolver_tries.specs.Stream.{first_of}
 use Rattle.hickory_resolver_traffic.specs.Doing.{is_stream_kind}
-use Rattle.hickory_resolver_traffic.specs.Inbox.{MessageValue, InboxState, empty_inbox, with_message, with_octets, with_piece, with_failure, without_failure, without_message, without_unread, without_stream, octets_in, first_message, first_on, cut_off, cut_on}
+use Rattle.hickory_resolver_traffic.specs.Inbox.{MessageValue, InboxState, empty_inbox, with_message, with_octets, with_piece, without_message, without_unread, without_stream, octets_in, first_message, cut_off, cut_on}
 use Rattle.hickory_resolver_traffic.specs.Traffic.{taken_in}
 use Rattle.hickory_resolver_traffic.specs.declared.inbox.ChannelFailure.{ChannelFailure}
 use Rattle.hickory_resolver_pool.specs.Laws.{octets_come}
@@ -22,7 +22,7 @@ use Rattle.hickory_resolver_pool.specs.Pool.{PoolState}
 use Rattle.hickory_resolver_pool.specs.declared.pool.Action.{Action}
 use Rattle.hickory_resolver_pool_theorems.specs.Runs.{Happening, came, did}
 use Rattle.hickory_resolver_pool_theorems.specs.Wire.{CameOn, IsMessageOf, datagrams_on, stream_on, is_open_datagram, is_open_stream}
-use Rattle.hickory_resolver_pool_theorems.proofs.Keys.{Apart, at-is, apart-is, nat-self, found-inserted, found-set, others-inserted, others-set, others-removed, apart-set, apart-inserted, apart-removed, gone-removed}
+use Rattle.hickory_resolver_pool_theorems.proofs.Keys.{Apart, apart-is, nat-self, found-inserted, found-set, others-inserted, others-set, others-removed, apart-set, apart-inserted, apart-removed, gone-removed}
 use Rattle.hickory_resolver_pool_theorems.proofs.Wires.{came-more}
 
 -- what is left of a stream

@@ -1,27 +1,25 @@
 -- Where nothing is left to be done, what is waited for lies ahead.
-use Rattle.std.proofs.Common.{◌≡◌, ◌<◌, ℕ, Bool, true, false, cond, min, refl, ap, ap₂, sym, subst, ◌∙◌, true≢false, leb, leb-false, arith}
-use Rattle.std.specs.Prelude.{Option, None, Some, IfSome, List, slice_get, unwrap_or}
+use Rattle.std.proofs.Common.{◌≡◌, ◌<◌, ℕ, Bool, true, false, cond, refl, ap, ap₂, sym, subst, ◌∙◌, true≢false, leb, leb-false, arith}
+use Rattle.std.specs.Prelude.{Option, None, Some, IfSome, slice_get, unwrap_or}
 use Rattle.std.specs.Option.{is_some, option_map, option_map_or, option_or, option_and_then}
 use Rattle.hickory_resolver_askers.specs.Askers.{AskersState, WaitingValue, first_waiting, if_late, late_one, to_admit}
 use Rattle.hickory_resolver_askers.specs.Askers as ask
 use Rattle.hickory_resolver_channels.specs.Channels.{channel_at, transaction_at, first_try, first_idle}
 use Rattle.hickory_resolver_tries.specs.Heads.{head_of}
 use Rattle.hickory_resolver_traffic.specs.Doing.{doing, closed_by, id_of}
-use Rattle.hickory_resolver_traffic.specs.Table.{CurrentState, TableState, has_entry, first_due, first_blocked}
+use Rattle.hickory_resolver_traffic.specs.Table.{CurrentState, has_entry, first_due, first_blocked}
 use Rattle.hickory_resolver_traffic.specs.Inbox.{MessageValue, first_message, first_failure, first_unread}
 use Rattle.hickory_resolver_traffic.specs.declared.inbox.ChannelFailure.{ChannelFailure}
 use Rattle.hickory_resolver_traffic.specs.Tasks.{task_of, after_task, did, outgoing_task, took_up, did_open, did_write, taken_up, opening_of, if_by, if_kept_enough, came_in, ran_out, due_in, late_in, free_in, idle_in, free_one, message_in, failure_in, message_task, failure_task, failed_task, hears_or_doubts, passes_or_doubts, is_response, fails_or_drops, without_taken, expires_or_undates, refuses_or_strays, frees_or_unblocks, earlier, next_deadline}
 use Rattle.hickory_resolver_traffic.specs.Openings.{OpeningValue}
 use Rattle.hickory_resolver_traffic.specs.Traffic.{TrafficState, OutgoingValue}
-use Rattle.hickory_resolver_traffic.specs.declared.entry.ToDo.{ToDo}
 use Rattle.hickory_resolver_traffic.specs.declared.entry.ToDo.TheVariants.{GoOn, Hear, Fail, Expire, Free, Refuse}
 use Rattle.hickory_resolver_traffic.specs.declared.doing.Doing.{Doing}
 use Rattle.hickory_resolver_traffic.specs.declared.starting.Did.{Did}
 use Rattle.hickory_resolver_traffic.specs.declared.starting.Did.TheVariants as done
 use Rattle.hickory_resolver_traffic.specs.declared.tasks.Task.{Task}
 use Rattle.hickory_resolver_traffic.specs.declared.tasks.Task.TheVariants as task
-use Rattle.hickory_resolver_pool.specs.Pool.{PoolState, action_of, current_after, started, close_or_continue, over_or_continue, let_go_action, Starts, StepsBy, StepsIn, StepsAs, Steps, scene_of, is_end, is_put}
-use Rattle.hickory_resolver_pool.specs.declared.pool.Action.{Action}
+use Rattle.hickory_resolver_pool.specs.Pool.{PoolState, action_of, current_after, started, close_or_continue, let_go_action, Starts, StepsBy, StepsIn, StepsAs, Steps, scene_of, is_end, is_put}
 use Rattle.hickory_resolver_pool.specs.declared.pool.Action.TheVariants as action
 use Rattle.hickory_resolver_pool_theorems.specs.Ends.{IsAtRest, RestsUntilDue}
 

@@ -1,47 +1,29 @@
 -- What is told where there is no answer.
-use Rattle.std.proofs.Common.{◌≡◌, ◌≤◌, ℕ, ◌-◌, Bool, true, false, cond, not, ◌&&◌, ◌||◌, List, [], ◌∷◌, ◌++◌, refl, ap, ap₂, sym, subst, ◌∙◌, inl, inr, ◌⊎◌, true≢false, leb, leb-true}
-use Rattle.std.specs.Prelude.{Option, None, Some, IfSome, unwrap_or, slice_get}
-use Rattle.std.specs.Option.{is_some, is_none, option_map, option_map_or, option_or, option_and_then}
-use Rattle.hickory_resolver_askers.specs.Askers.{WaitingValue, first_waiting, late_one, if_late, to_admit, askers_of}
-use Rattle.hickory_resolver_channels.specs.Channels.{channel_at, transaction_at, first_try, first_idle, has_place}
-use Rattle.hickory_resolver_flights.specs.Flights.{changed}
-use Rattle.hickory_resolver_flights.specs.declared.heard.Heard.{Heard}
-use Rattle.hickory_resolver_flights.specs.declared.heard.Heard.TheVariants.{Nothing, OtherLetters, OptRefused, Reply}
-use Rattle.hickory_resolver_steps.specs.Ending.{first_done, try_at_place}
-use Rattle.hickory_resolver_steps.specs.declared.flying.SentTry.{SentTry}
-use Rattle.hickory_resolver_tries.specs.Heads.{head_of}
-use Rattle.hickory_resolver_transactions.specs.Transaction.{TransactionState, told, outcome_of, is_idle, may_go_on, wants_round, wanted, freed, next_deadline}
+use Rattle.std.proofs.Common.{◌≡◌, ℕ, Bool, true, false, cond, not, ◌&&◌, ◌||◌, List, refl, ap, sym, subst, ◌∙◌, inl, inr, ◌⊎◌, true≢false}
+use Rattle.std.specs.Prelude.{Option, None, Some, unwrap_or}
+use Rattle.std.specs.Option.{is_some, is_none, option_map_or}
+use Rattle.hickory_resolver_askers.specs.Askers.{askers_of}
+use Rattle.hickory_resolver_channels.specs.Channels.{has_place}
+use Rattle.hickory_resolver_steps.specs.Ending.{first_done}
+use Rattle.hickory_resolver_transactions.specs.Transaction.{told, outcome_of, is_idle, may_go_on, wants_round, wanted, next_deadline}
 use Rattle.hickory_resolver_transactions.specs.declared.outcome.Outcome.{Outcome}
 use Rattle.hickory_resolver_transactions.specs.declared.outcome.Outcome.TheVariants as kind
-use Rattle.hickory_resolver_traffic.specs.Doing.{Scene, IsDone, hears_octets, after_first, heard_of_first, hears_first, hears, doubts, fails_on, after_failed, fails, act_on, stalls_on, stalls, leaving_at, leave_at, closed_at, freed_if, leaves, quits_at, after_quit, quits, place_on, with_to_do, expires, frees, then_do, changing, draws, blocks, sends, dates, with_round_parts, is_stream, is_ending, is_due, is_empty, going_on, forward, round_or_place, sends_or_blocks, at_rest, same_moment, by_failure, doing, doing_for, id_of}
-use Rattle.hickory_resolver_traffic.specs.Inbox.{MessageValue, first_message, first_failure, first_unread}
-use Rattle.hickory_resolver_traffic.specs.Table.{CurrentState, EntryState, has_entry, is_blocked, entry_at, first_due, without_blocked}
-use Rattle.hickory_resolver_traffic.specs.Tasks.{task_of, did, outgoing_task, took_up, taken_up, did_open, did_write, opening_of, if_by, came_in, ran_out, due_in, late_in, free_in, idle_in, free_one, message_in, failure_in, message_task, failure_task, failed_task, hears_or_doubts, passes_or_doubts, is_response, fails_or_drops, expires_or_undates, refuses_or_strays, frees_or_unblocks}
-use Rattle.hickory_resolver_traffic.specs.Tasks as tasks
-use Rattle.hickory_resolver_traffic.specs.Openings.{OpeningValue}
-use Rattle.hickory_resolver_traffic.specs.Traffic.{TrafficState, OutgoingValue}
-use Rattle.hickory_resolver_traffic.specs.declared.acting.ServerAct.TheVariants.{Fail}
+use Rattle.hickory_resolver_traffic.specs.Doing.{fails, is_ending, is_due, is_empty, going_on, forward, round_or_place, sends_or_blocks, at_rest, same_moment, by_failure, doing, doing_for}
+use Rattle.hickory_resolver_traffic.specs.Inbox.{first_failure}
+use Rattle.hickory_resolver_traffic.specs.Table.{EntryState, is_blocked}
+use Rattle.hickory_resolver_traffic.specs.Traffic.{TrafficState}
 use Rattle.hickory_resolver_traffic.specs.declared.doing.Doing.{Doing}
-use Rattle.hickory_resolver_traffic.specs.declared.doing.Doing.TheVariants.{Hears, Doubts, Stalls, Fails, Quits, PutsBack, Expires, Frees, Refused, Leaves, Ends, Draws, BeginsRound, Blocks, Sends, Dates, Rests}
+use Rattle.hickory_resolver_traffic.specs.declared.doing.Doing.TheVariants.{PutsBack, Expires, Refused, Leaves, Ends, Draws, BeginsRound, Blocks, Sends, Dates, Rests}
 use Rattle.hickory_resolver_traffic.specs.declared.entry.ToDo.{ToDo}
 use Rattle.hickory_resolver_traffic.specs.declared.entry.ToDo.TheVariants as todo
 use Rattle.hickory_resolver_traffic.specs.declared.inbox.ChannelFailure.{ChannelFailure}
 use Rattle.hickory_resolver_traffic.specs.declared.inbox.Failure.{Failure}
 use Rattle.hickory_resolver_traffic.specs.declared.inbox.Failure.TheVariants as failure
-use Rattle.hickory_resolver_traffic.specs.declared.starting.Did.{Did}
-use Rattle.hickory_resolver_traffic.specs.declared.starting.Did.TheVariants as done
-use Rattle.hickory_resolver_traffic.specs.declared.tasks.Task.{Task}
-use Rattle.hickory_resolver_traffic.specs.declared.tasks.Task.TheVariants as task
-use Rattle.hickory_resolver_pool.specs.Laws.{PoolEvent, after_event}
 use Rattle.hickory_resolver_pool.specs.Over.{OverValue, told_as}
-use Rattle.hickory_resolver_pool.specs.Pool.{PoolState, current_after, started, told_outcome, outcome_in, over_of, Starts, IsDoneTo, StepsBy, StepsIn, StepsAs, Steps, scene_of, is_end, is_put, let_go, put_by}
-use Rattle.hickory_resolver_pool.specs.declared.over.PoolOutcome.{PoolOutcome}
-use Rattle.hickory_resolver_pool.specs.declared.over.PoolOutcome.TheVariants.{Response, Cut, Code, Unreachable, Timeout, Overloaded}
-use Rattle.hickory_resolver_pool.specs.declared.pool.Action.{Action}
-use Rattle.hickory_resolver_pool_theorems.specs.Failures.{WaitedInVain, OverloadedOnlyWithoutPlace, CameToNothing, IsFailure, FailuresAreToldLast}
-use Rattle.hickory_resolver_pool_theorems.specs.Runs.{Happening, came as event_of, did as step_of, Runs, at_first, by_event, by_step}
+use Rattle.hickory_resolver_pool.specs.Pool.{told_outcome, outcome_in, is_end}
+use Rattle.hickory_resolver_pool.specs.declared.over.PoolOutcome.TheVariants.{Overloaded}
+use Rattle.hickory_resolver_pool_theorems.specs.Failures.{CameToNothing, IsFailure, FailuresAreToldLast}
 use Rattle.hickory_resolver_pool_theorems.proofs.Overs.{IsEnd, told-at_end}
-use Rattle.hickory_resolver_pool_theorems.proofs.Traces.{current-event}
 
 -- ---- failures
 

@@ -1,5 +1,5 @@
 -- A question in flight: its tries were sent, and the reply that it keeps is of octets that came and were believed.
-use Rattle.std.proofs.Common.{◌≡◌, ◌≤◌, ◌<◌, ◌+◌, ℕ, Bool, true, false, cond, List, [], ◌∷◌, ◌++◌, refl, ap, sym, subst, ◌∙◌, inl, inr, ◌⊎◌, eqb, eqb-true, eq-eqb, arith, true≢false, ◌&&◌}
+use Rattle.std.proofs.Common.{◌≡◌, ◌≤◌, ◌<◌, ◌+◌, ℕ, Bool, true, false, cond, List, [], ◌∷◌, refl, ap, sym, subst, ◌∙◌, inl, inr, ◌⊎◌, eqb, eqb-true, eq-eqb, arith, true≢false, ◌&&◌}
 use Rattle.std.specs.Prelude.{Option, None, Some, IfSome}
 use Rattle.std.specs.Option.{option_map_or, option_or, option_and_then}
 use Rattle.hickory_resolver_servers.specs.Server.{ServerState}
@@ -11,15 +11,13 @@ use Rattle.hickory_resolver_tries.specs.declared.belief.Belief.TheVariants as be
 use Rattle.hickory_resolver_tries.specs.declared.outcome.ReplyOutcome.{ReplyOutcome}
 use Rattle.hickory_resolver_tries.specs.declared.outcome.ReplyOutcome.TheVariants as reply
 use Rattle.hickory_resolver_tries.specs.declared.pool_question.PoolQuestion.{PoolQuestion}
-use Rattle.hickory_resolver_transactions.specs.Candidates.{is_try}
-use Rattle.hickory_resolver_transactions.specs.Transaction.{TransactionState, try_at, reply_of, with_round, unsent, failed, blocked, freed, expired, came}
+use Rattle.hickory_resolver_transactions.specs.Transaction.{TransactionState, try_at, reply_of, came}
 use Rattle.hickory_resolver_transactions.specs.declared.candidate.Try.{Try}
 use Rattle.hickory_resolver_transactions.specs.declared.outcome.Outcome.{Outcome}
 use Rattle.hickory_resolver_transactions.specs.declared.outcome.Outcome.TheVariants as told
 use Rattle.hickory_resolver_transactions.specs.declared.settings.Settings.{Settings}
 use Rattle.hickory_resolver_flights.specs.Flights.{FlightState, KeptValue, flight_of, changed, kept_of, names, replied, heard_as, heard_by, heard}
 use Rattle.hickory_resolver_pool.specs.Over.{told_as}
-use Rattle.hickory_resolver_pool.specs.declared.over.PoolOutcome.{PoolOutcome}
 use Rattle.hickory_resolver_pool_theorems.specs.Runs.{Happening}
 use Rattle.hickory_resolver_pool_theorems.specs.Wire.{WasSent, CameOn}
 use Rattle.hickory_resolver_pool_theorems.specs.MadeUp.{IsBelievedReply, told_of_reply}

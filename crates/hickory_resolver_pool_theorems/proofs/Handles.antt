@@ -1,6 +1,6 @@
 -- A run over a pool, from octets to octets.
-use Rattle.std.proofs.Common.{◌≡◌, ℕ, true, List, [], ◌∷◌, ◌++◌, refl, ap, sym, subst, ◌∙◌, append_assoc, inl, inr, ◌⊎◌}
-use Rattle.std.specs.Prelude.{Option, Some, Ok, Err}
+use Rattle.std.proofs.Common.{◌≡◌, ℕ, true, List, [], ◌∷◌, ◌++◌, ap, sym, subst, ◌∙◌, append_assoc, inl, inr, ◌⊎◌}
+use Rattle.std.specs.Prelude.{Some, Ok, Err}
 use Rattle.std.specs.List.{AllByRecursion}
 use Rattle.hickory_proto_core.specs.Handles.{OutcomeValue, Leads}
 use Rattle.hickory_proto_core.specs.Messages.{MessageValue}
@@ -17,8 +17,7 @@ use Rattle.hickory_resolver_pool.specs.Over.{OverValue, IsCoreOutcome}
 use Rattle.hickory_resolver_pool.specs.Pool.{PoolState, no_servers}
 use Rattle.hickory_resolver_pool.specs.declared.limits.PoolLimits.{PoolLimits}
 use Rattle.hickory_resolver_pool.specs.declared.pool.Action.TheVariants.{Over}
-use Rattle.hickory_resolver_pool_theorems.specs.Handles.{IsReadOfOctets, CameFor, PoolHandle, asking, IsTold, IsFailed, PoolStep, CameAsOctets, IsPoolOf, FromOctetsToOctets}
-use Rattle.hickory_resolver_pool_theorems.specs.MadeUp.{IsBelievedReply}
+use Rattle.hickory_resolver_pool_theorems.specs.Handles.{IsReadOfOctets, CameFor, PoolHandle, asking, IsTold, PoolStep, CameAsOctets, IsPoolOf, FromOctetsToOctets}
 use Rattle.hickory_resolver_pool_theorems.specs.Runs.{Happening, came, did, Runs, at_first, by_event, by_step}
 use Rattle.hickory_resolver_pool_theorems.proofs.Asked.{known-runs, asks-it, own-runs, end-asks}
 use Rattle.hickory_resolver_pool_theorems.proofs.Overs.{told-at_end}

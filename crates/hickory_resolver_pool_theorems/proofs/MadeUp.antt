@@ -1,6 +1,6 @@
 -- Nothing is made up.
-use Rattle.std.proofs.Common.{◌≡◌, ℕ, Bool, true, false, ◌&&◌, not, List, [], refl, ap, sym, subst, ◌∙◌, true≢false, inl, inr, ◌⊎◌}
-use Rattle.std.specs.Prelude.{Option, None, Some, IfSome, unwrap_or}
+use Rattle.std.proofs.Common.{◌≡◌, ℕ, Bool, true, false, ◌&&◌, not, List, refl, ap, sym, subst, ◌∙◌, true≢false}
+use Rattle.std.specs.Prelude.{Option, None, Some, IfSome}
 use Rattle.hickory_resolver_flights.specs.Flights.{KeptValue}
 use Rattle.hickory_resolver_transactions.specs.Transaction.{told, outcome_of, is_idle, may_go_on}
 use Rattle.hickory_resolver_transactions.specs.declared.outcome.Outcome.{Outcome}
@@ -12,7 +12,7 @@ use Rattle.hickory_resolver_traffic.specs.declared.doing.Doing.{Doing}
 use Rattle.hickory_resolver_traffic.specs.declared.doing.Doing.TheVariants.{Hears, Doubts, Stalls, Fails, Quits, PutsBack, Expires, Frees, Refused, Leaves, Ends, Draws, BeginsRound, Blocks, Sends, Dates, Rests}
 use Rattle.hickory_resolver_pool.specs.Over.{OverValue, told_as, is_of_reply}
 use Rattle.hickory_resolver_pool.specs.declared.over.PoolOutcome.{PoolOutcome}
-use Rattle.hickory_resolver_pool.specs.Pool.{PoolState, no_servers, told_outcome, outcome_in, over_of, is_end}
+use Rattle.hickory_resolver_pool.specs.Pool.{no_servers, told_outcome, outcome_in, over_of, is_end}
 use Rattle.hickory_resolver_pool_theorems.specs.Runs.{Happening}
 use Rattle.hickory_resolver_pool_theorems.specs.MadeUp.{IsBelievedReply, HasBelievedReply, NothingIsMadeUp}
 use Rattle.hickory_resolver_pool_theorems.proofs.Best.{best_of}

@@ -1,5 +1,5 @@
 -- What is told of a transaction is told at its end, of the transaction that is worked on.
-use Rattle.std.proofs.Common.{◌≡◌, ℕ, Bool, true, false, List, refl, ap, sym, subst, ◌∙◌}
+use Rattle.std.proofs.Common.{◌≡◌, ℕ, Bool, true, false, List, refl}
 use Rattle.std.specs.Prelude.{Option, None, Some}
 use Rattle.std.specs.Option.{is_some}
 use Rattle.hickory_resolver_askers.specs.Askers.{askers_of}
@@ -11,8 +11,7 @@ use Rattle.hickory_resolver_traffic.specs.declared.doing.Doing.{Doing}
 use Rattle.hickory_resolver_traffic.specs.declared.starting.Did.{Did}
 use Rattle.hickory_resolver_traffic.specs.declared.starting.Did.TheVariants as done
 use Rattle.hickory_resolver_pool.specs.Over.{OverValue}
-use Rattle.hickory_resolver_pool.specs.Pool.{PoolState, action_of, close_or_continue, over_of, over_or_continue, Starts, StepsBy, StepsIn, StepsAs, Steps, scene_of, is_end, is_put}
-use Rattle.hickory_resolver_pool.specs.declared.pool.Action.{Action}
+use Rattle.hickory_resolver_pool.specs.Pool.{PoolState, action_of, close_or_continue, over_of, over_or_continue, StepsBy, StepsIn, StepsAs, Steps, scene_of, is_end, is_put}
 use Rattle.hickory_resolver_pool.specs.declared.pool.Action.TheVariants as action
 
 -- it was worked on, and had come to its end

@@ -1,44 +1,36 @@
 -- A pool, whatever happens: what it has in hand came while its channel was open, each try of a transaction was sent, or
 -- goes out next, and the reply that is kept of it is of octets that came and were believed.
-use Rattle.std.proofs.Common.{◌≡◌, ℕ, ◌+◌, ◌-◌, ◌^◌, Bool, true, false, cond, List, [], ◌∷◌, ◌++◌, min, refl, ap, ap₂, sym, subst, ◌∙◌, inl, inr, ◌⊎◌, true≢false}
-use Rattle.std.specs.Prelude.{Option, None, Some, IfSome, unwrap_or}
+use Rattle.std.proofs.Common.{◌≡◌, ℕ, ◌+◌, ◌-◌, ◌^◌, Bool, true, false, cond, List, [], ◌∷◌, ◌++◌, min, refl, ap, sym, subst, ◌∙◌, inl}
+use Rattle.std.specs.Prelude.{Option, None, Some, IfSome}
 use Rattle.std.specs.declared.cmp.Ordering.{Ordering}
 use Rattle.std.specs.declared.cmp.Ordering.TheVariants.{Less, Equal, Greater}
 use Rattle.std.specs.Ordering.{nat_cmp, is_eq, match_ordering}
 use Rattle.std.specs.List.{AllByRecursion}
 use Rattle.std.specs.Map.{lookup, remove_entry}
 use Rattle.std.specs.BTreeMap.{insert_entry, is_at}
-use Rattle.std.specs.Option.{is_some, option_map, option_map_or, option_or, option_and_then}
+use Rattle.std.specs.Option.{is_some, option_map, option_map_or, option_and_then}
 use Rattle.hickory_resolver_askers.specs.Askers.{WaitingValue, joiner, to_admit, place_for}
 use Rattle.hickory_resolver_askers.specs.Askers as ask
-use Rattle.hickory_resolver_askers.specs.declared.asker.Asker.{Asker}
-use Rattle.hickory_resolver_askers.specs.declared.asker.Place.{Place}
-use Rattle.hickory_resolver_askers.specs.declared.asker.Place.TheVariants.{InFlight, Waits, Overloaded}
-use Rattle.hickory_resolver_channels.specs.Channels.{ChannelsState, channel_at}
-use Rattle.hickory_resolver_channels.specs.declared.channel.Channel.{Channel}
 use Rattle.hickory_resolver_flights.specs.Flights.{FlightState, heard, heard_as, heard_by, changed}
 use Rattle.hickory_resolver_flights.specs.declared.heard.Heard.{Heard}
 use Rattle.hickory_resolver_flights.specs.declared.heard.Heard.TheVariants.{Nothing, OtherLetters, OptRefused, Reply}
-use Rattle.hickory_resolver_servers.specs.Server.{ServerState}
 use Rattle.hickory_resolver_steps.specs.Ending.{try_at_place}
-use Rattle.hickory_resolver_steps.specs.Steps.{Parts, FlyingState, SendingValue, sent, out}
+use Rattle.hickory_resolver_steps.specs.Steps.{Parts, FlyingState, sent, out}
 use Rattle.hickory_resolver_steps.specs.declared.flying.SentTry.{SentTry}
 use Rattle.hickory_resolver_transactions.specs.Transaction.{TransactionState, wanted, with_round, failed, expired, blocked, freed, try_at}
 use Rattle.hickory_resolver_transactions.specs.declared.candidate.Try.{Try}
-use Rattle.hickory_resolver_transactions.specs.declared.settings.Settings.{Settings}
 use Rattle.hickory_resolver_tries.specs.Belief.{belief_of}
-use Rattle.hickory_resolver_tries.specs.Question.{question_of}
 use Rattle.hickory_resolver_tries.specs.declared.belief.Belief.{Belief}
 use Rattle.hickory_resolver_tries.specs.declared.belief.Belief.TheVariants as belief
 use Rattle.hickory_resolver_tries.specs.declared.pool_question.PoolQuestion.{PoolQuestion}
-use Rattle.hickory_resolver_traffic.specs.Acting.{Acted, acted, acted_with, acted_on, acted_value, value_with, nothing_acted, parts_of, step_of, with_flight}
-use Rattle.hickory_resolver_traffic.specs.Doing.{Scene, IsDone, act_on, before_act, with_acted, moment_of, hears_octets, hear_of, id_of, after_first, heard_of_first, hears_first, hears, doubted, doubts_message, doubts_first, doubts, after_failed, fails_on, fails, stalls_on, stalls, leave_at, leaving_at, closed_at, freed_if, one_freed, leaves, is_empty, quits_at, quits, place_on, after_quit, with_to_do, then_do, with_inbox, changing, expires, frees, draws, with_round_parts, blocks, sends, outgoing_of, with_outgoing, dates, is_stream, in_order_of, IsRound, BeginsWith, round_of, doing}
+use Rattle.hickory_resolver_traffic.specs.Acting.{Acted, acted, acted_with, acted_on, value_with, nothing_acted, parts_of, step_of, with_flight}
+use Rattle.hickory_resolver_traffic.specs.Doing.{Scene, IsDone, act_on, before_act, with_acted, moment_of, hears_octets, id_of, after_first, heard_of_first, hears_first, hears, doubts_message, doubts_first, doubts, after_failed, fails_on, fails, stalls_on, stalls, leave_at, leaving_at, closed_at, freed_if, one_freed, leaves, is_empty, quits_at, quits, place_on, after_quit, with_to_do, then_do, with_inbox, changing, expires, frees, draws, with_round_parts, blocks, sends, outgoing_of, with_outgoing, dates, is_stream, BeginsWith, round_of}
 use Rattle.hickory_resolver_traffic.specs.Groups.{GroupListState, list_in, list_at}
-use Rattle.hickory_resolver_traffic.specs.Inbox.{InboxState, MessageValue, first_message, first_failure, without_message, without_failure, with_failure, cut_on}
+use Rattle.hickory_resolver_traffic.specs.Inbox.{InboxState, MessageValue, first_message, first_failure, without_message, without_failure, with_failure}
 use Rattle.hickory_resolver_traffic.specs.Table.{CurrentState, EntryState, entry_at, without_blocked}
 use Rattle.hickory_resolver_traffic.specs.Tasks.{task_of, after_task, outgoing_task, opened_outgoing, came_in, ran_out, closed, freed_by, freed_by_first, without_taken, taken_up, took_up, did_open, did_write, sent_of, opening_of, ended}
 use Rattle.hickory_resolver_traffic.specs.Tasks as tasks
-use Rattle.hickory_resolver_traffic.specs.Traffic.{TrafficState, OutgoingValue, ticked, begun_as, begun_with, entry_of, came_on, came, failed_on, failed as failed_by, joined, begun}
+use Rattle.hickory_resolver_traffic.specs.Traffic.{TrafficState, OutgoingValue, came_on}
 use Rattle.hickory_resolver_traffic.specs.Openings.{OpeningValue}
 use Rattle.hickory_resolver_traffic.specs.declared.acting.ServerAct.{ServerAct}
 use Rattle.hickory_resolver_traffic.specs.declared.acting.ServerAct.TheVariants.{Hear, Fail, Expire, Send}
@@ -46,25 +38,24 @@ use Rattle.hickory_resolver_traffic.specs.declared.acting.Moment.{Moment}
 use Rattle.hickory_resolver_traffic.specs.declared.doing.Doing.{Doing}
 use Rattle.hickory_resolver_traffic.specs.declared.doing.Doing.TheVariants.{Hears, Doubts, Stalls, Fails, Quits, PutsBack, Expires, Frees, Refused, Leaves, Ends, Draws, BeginsRound, Blocks, Sends, Dates, Rests}
 use Rattle.hickory_resolver_traffic.specs.declared.entry.ToDo.{ToDo}
-use Rattle.hickory_resolver_traffic.specs.declared.entry.ToDo.TheVariants.{GoOn, Quit, PutBack}
+use Rattle.hickory_resolver_traffic.specs.declared.entry.ToDo.TheVariants.{GoOn, PutBack}
 use Rattle.hickory_resolver_traffic.specs.declared.inbox.ChannelFailure.{ChannelFailure}
 use Rattle.hickory_resolver_traffic.specs.declared.inbox.Failure.{Failure}
 use Rattle.hickory_resolver_traffic.specs.declared.inbox.Failure.TheVariants as failure
-use Rattle.hickory_resolver_traffic.specs.declared.starting.Did.{Did}
 use Rattle.hickory_resolver_traffic.specs.declared.starting.Did.TheVariants as done
 use Rattle.hickory_resolver_traffic.specs.declared.tasks.Task.{Task}
 use Rattle.hickory_resolver_traffic.specs.declared.tasks.Task.TheVariants as task
 use Rattle.hickory_resolver_pool.specs.Pool.{current_after}
 use Rattle.hickory_resolver_pool_theorems.specs.Runs.{Happening}
 use Rattle.hickory_resolver_pool_theorems.specs.Wire.{CameOn}
-use Rattle.hickory_resolver_pool_theorems.proofs.Tries.{AreSent, sent-failed, sent-blocked, sent-freed, sent-round, sent-expired}
+use Rattle.hickory_resolver_pool_theorems.proofs.Tries.{sent-failed, sent-blocked, sent-freed, sent-round, sent-expired}
 use Rattle.hickory_resolver_pool_theorems.proofs.Best.{tells-failed, tells-blocked, tells-freed, tells-round, tells-expired}
 use Rattle.hickory_resolver_transactions.specs.Laws.{round_begins, channel_failed, no_channel, channel_free, time_passed}
 use Rattle.hickory_resolver_pool_theorems.proofs.Causes.{made-next}
 use Rattle.hickory_resolver_pool_theorems.proofs.Boxes.{IsBox, box-message, box-without_message, box-failures, box-without_stream, box-cut}
-use Rattle.hickory_resolver_pool_theorems.proofs.Flights.{IsHeld, KeepsBest, Was, held-first, held-more, held-as, held-changed, held-heard}
+use Rattle.hickory_resolver_pool_theorems.proofs.Flights.{IsHeld, KeepsBest, Was, held-as, held-changed, held-heard}
 use Rattle.hickory_resolver_pool_theorems.proofs.Keys.{at-is}
-use Rattle.hickory_resolver_pool_theorems.proofs.Sendings.{GoesOut, Sent, IsFlying, flying-sent}
+use Rattle.hickory_resolver_pool_theorems.proofs.Sendings.{Sent, IsFlying, flying-sent}
 
 abbrev pub IsGood : Type 1
 IsGood = ℕ → PoolQuestion → Try → Type 0

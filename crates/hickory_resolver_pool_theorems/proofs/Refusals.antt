@@ -1,26 +1,20 @@
 -- A transaction is refused only where it waited in vain for a place.
-use Rattle.std.proofs.Common.{◌≡◌, ◌≤◌, ◌-◌, ℕ, Bool, true, false, cond, List, [], ◌∷◌, ◌++◌, refl, ap, sym, subst, ◌∙◌, inl, inr, ◌⊎◌, true≢false, leb, leb-true}
+use Rattle.std.proofs.Common.{◌≡◌, ℕ, Bool, true, false, cond, List, [], ◌∷◌, refl, ap, sym, subst, ◌∙◌, inl, inr, ◌⊎◌, leb, leb-true}
 use Rattle.std.specs.Prelude.{Option, None, Some, IfSome, unwrap_or, slice_get}
 use Rattle.std.specs.Option.{is_some, option_map, option_map_or, option_or, option_and_then}
 use Rattle.hickory_resolver_askers.specs.Askers.{WaitingValue, first_waiting, late_one, if_late, to_admit}
 use Rattle.hickory_resolver_channels.specs.Channels.{channel_at, transaction_at, first_try, first_idle}
-use Rattle.hickory_resolver_flights.specs.Flights.{changed}
-use Rattle.hickory_resolver_flights.specs.declared.heard.Heard.{Heard}
-use Rattle.hickory_resolver_flights.specs.declared.heard.Heard.TheVariants.{Nothing, OtherLetters, OptRefused, Reply}
-use Rattle.hickory_resolver_steps.specs.Ending.{try_at_place}
-use Rattle.hickory_resolver_steps.specs.declared.flying.SentTry.{SentTry}
 use Rattle.hickory_resolver_tries.specs.Heads.{head_of}
-use Rattle.hickory_resolver_transactions.specs.Transaction.{outcome_of, wanted, freed}
+use Rattle.hickory_resolver_transactions.specs.Transaction.{outcome_of}
 use Rattle.hickory_resolver_transactions.specs.declared.outcome.Outcome.{Outcome}
 use Rattle.hickory_resolver_transactions.specs.declared.outcome.Outcome.TheVariants as kind
-use Rattle.hickory_resolver_traffic.specs.Doing.{Scene, IsDone, hears_octets, after_first, heard_of_first, hears_first, hears, doubts, fails_on, after_failed, fails, act_on, stalls_on, stalls, leaving_at, leave_at, closed_at, freed_if, leaves, quits_at, after_quit, quits, place_on, with_to_do, expires, frees, then_do, changing, draws, blocks, sends, dates, with_round_parts, is_stream, doing, doing_for, id_of}
+use Rattle.hickory_resolver_traffic.specs.Doing.{doing, id_of}
 use Rattle.hickory_resolver_traffic.specs.Inbox.{MessageValue, first_message, first_failure, first_unread}
-use Rattle.hickory_resolver_traffic.specs.Table.{CurrentState, EntryState, has_entry, entry_at, first_due, without_blocked}
+use Rattle.hickory_resolver_traffic.specs.Table.{CurrentState, EntryState, has_entry, entry_at, first_due}
 use Rattle.hickory_resolver_traffic.specs.Tasks.{task_of, did, outgoing_task, took_up, taken_up, did_open, did_write, opening_of, if_by, if_kept_enough, came_in, ran_out, due_in, late_in, free_in, idle_in, free_one, message_in, failure_in, message_task, failure_task, failed_task, hears_or_doubts, passes_or_doubts, is_response, fails_or_drops, expires_or_undates, refuses_or_strays, frees_or_unblocks}
 use Rattle.hickory_resolver_traffic.specs.Tasks as tasks
 use Rattle.hickory_resolver_traffic.specs.Openings.{OpeningValue}
 use Rattle.hickory_resolver_traffic.specs.Traffic.{TrafficState, OutgoingValue}
-use Rattle.hickory_resolver_traffic.specs.declared.acting.ServerAct.TheVariants.{Fail}
 use Rattle.hickory_resolver_traffic.specs.declared.doing.Doing.{Doing}
 use Rattle.hickory_resolver_traffic.specs.declared.doing.Doing.TheVariants.{Hears, Doubts, Stalls, Fails, Quits, PutsBack, Expires, Frees, Refused, Leaves, Ends, Draws, BeginsRound, Blocks, Sends, Dates, Rests}
 use Rattle.hickory_resolver_traffic.specs.declared.entry.ToDo.{ToDo}
@@ -29,17 +23,15 @@ use Rattle.hickory_resolver_traffic.specs.declared.inbox.ChannelFailure.{Channel
 use Rattle.hickory_resolver_traffic.specs.declared.starting.Did.TheVariants as done
 use Rattle.hickory_resolver_traffic.specs.declared.tasks.Task.{Task}
 use Rattle.hickory_resolver_traffic.specs.declared.tasks.Task.TheVariants as task
-use Rattle.hickory_resolver_pool.specs.Laws.{PoolEvent, after_event}
-use Rattle.hickory_resolver_pool.specs.Over.{OverValue, told_as}
-use Rattle.hickory_resolver_pool.specs.Pool.{PoolState, no_servers, current_after, started, told_outcome, outcome_in, Starts, IsDoneTo, StepsBy, StepsIn, StepsAs, Steps, scene_of, is_end, is_put, let_go, put_by}
-use Rattle.hickory_resolver_pool.specs.declared.over.PoolOutcome.{PoolOutcome}
-use Rattle.hickory_resolver_pool.specs.declared.over.PoolOutcome.TheVariants.{Response, Cut, Code, Unreachable, Timeout, Overloaded}
+use Rattle.hickory_resolver_pool.specs.Over.{OverValue}
+use Rattle.hickory_resolver_pool.specs.Pool.{PoolState, no_servers, current_after, told_outcome, outcome_in, Starts, IsDoneTo, StepsBy, StepsIn, StepsAs, Steps, scene_of, is_end, is_put, put_by}
+use Rattle.hickory_resolver_pool.specs.declared.over.PoolOutcome.TheVariants.{Overloaded}
 use Rattle.hickory_resolver_pool.specs.declared.pool.Action.{Action}
 use Rattle.hickory_resolver_pool_theorems.specs.Failures.{WaitedInVain, OverloadedOnlyWithoutPlace}
 use Rattle.hickory_resolver_pool_theorems.specs.Runs.{Happening, came as event_of, did as step_of, Runs, at_first, by_event, by_step}
 use Rattle.hickory_resolver_pool_theorems.proofs.Failures.{end-for, IsEnding}
 use Rattle.hickory_resolver_pool_theorems.proofs.Overs.{IsEnd, told-at_end}
-use Rattle.hickory_resolver_pool_theorems.proofs.Scenes.{IsSame, same-done}
+use Rattle.hickory_resolver_pool_theorems.proofs.Scenes.{same-done}
 use Rattle.hickory_resolver_pool_theorems.proofs.Traces.{current-event}
 
 vain-more : (a : Happening) (past : List Happening) (n : ℕ) → WaitedInVain past n → WaitedInVain (a ∷ past) n

@@ -1,5 +1,5 @@
 -- What is done with the transaction that is worked on leaves all others, who asks, and what was asked.
-use Rattle.std.proofs.Common.{◌≡◌, ◌+◌, ◌-◌, ◌^◌, min, ℕ, Bool, true, false, cond, [], ◌∷◌, ◌++◌, refl, sym, subst, ◌∙◌}
+use Rattle.std.proofs.Common.{◌≡◌, ◌+◌, ◌-◌, ◌^◌, min, ℕ, Bool, true, false, cond, [], refl, sym, subst, ◌∙◌}
 use Rattle.std.specs.Prelude.{Option, None, Some}
 use Rattle.std.specs.Option.{is_some, option_map_or}
 use Rattle.hickory_resolver_flights.specs.Flights.{changed}

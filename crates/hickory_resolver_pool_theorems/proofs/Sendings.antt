@@ -1,17 +1,17 @@
 -- What is sent for a question in flight: its new try goes out next, and the others were sent.
-use Rattle.std.proofs.Common.{◌≡◌, ◌+◌, ℕ, Bool, true, false, cond, List, [], ◌∷◌, ◌++◌, refl, ap, sym, subst, ◌∙◌, inl, inr, ◌⊎◌, true≢false}
-use Rattle.std.specs.Prelude.{Option, None, Some, IfSome}
+use Rattle.std.proofs.Common.{◌≡◌, ◌+◌, ℕ, Bool, true, false, cond, List, refl, ap, sym, subst, inl, inr, ◌⊎◌, true≢false}
+use Rattle.std.specs.Prelude.{Option, None, Some}
 use Rattle.std.specs.Option.{is_some, option_map, option_map_or, option_and_then}
-use Rattle.hickory_resolver_channels.specs.Channels.{ChannelsState, channel_at, transaction_at, number_given, has_place, joinable, joined_to, joined, opened_for, pair_cmp, with_one_more, new_channel}
+use Rattle.hickory_resolver_channels.specs.Channels.{ChannelsState, transaction_at, number_given, has_place, joinable, joined_to, joined, opened_for, pair_cmp, with_one_more, new_channel}
 use Rattle.std.specs.Ordering.{nat_cmp}
 use Rattle.std.specs.BTreeMap.{insert_entry}
 use Rattle.hickory_resolver_channels.specs.Draws.{try_drawn}
 use Rattle.hickory_resolver_channels.specs.declared.channel.Channel.{Channel}
 use Rattle.hickory_resolver_channels.specs.declared.channel.ChannelKind.{ChannelKind}
 use Rattle.hickory_resolver_channels.specs.declared.channel.ChannelKind.TheVariants.{Datagram, Stream}
-use Rattle.hickory_resolver_flights.specs.Flights.{FlightState, octets_to_send, sent_by, changed}
+use Rattle.hickory_resolver_flights.specs.Flights.{FlightState, sent_by, changed}
 use Rattle.hickory_resolver_steps.specs.Lists.{ListState, number_of, stream_of}
-use Rattle.hickory_resolver_steps.specs.Steps.{Parts, FlyingState, SendingValue, kind_of, if_joinable, stream_for, stream_in, made_on, sent_on_open, sent_on_new, sent_on, sent_to, sent_as, sent, octets_on, sending_of, out_on, out_to, out_as, out}
+use Rattle.hickory_resolver_steps.specs.Steps.{Parts, FlyingState, SendingValue, kind_of, if_joinable, stream_for, stream_in, made_on, sent_on_open, sent_on_new, sent_on, sent_to, sent_as, sent, sending_of, out_on, out_to, out_as, out}
 use Rattle.hickory_resolver_steps.specs.declared.flying.Step.{Step}
 use Rattle.hickory_resolver_tries.specs.Tries.{octets_of_try}
 use Rattle.hickory_resolver_tries.specs.declared.pool_question.PoolQuestion.{PoolQuestion}
@@ -28,7 +28,7 @@ use Rattle.hickory_resolver_traffic.specs.Doing.{outgoing_of}
 use Rattle.hickory_resolver_traffic.specs.Traffic.{OutgoingValue}
 use Rattle.hickory_resolver_pool_theorems.specs.Runs.{Happening}
 use Rattle.hickory_resolver_pool_theorems.proofs.Keys.{found-inserted, pair-self}
-use Rattle.hickory_resolver_pool_theorems.proofs.Tries.{AreSent, sent-sent, sent-unsent, sent-as}
+use Rattle.hickory_resolver_pool_theorems.proofs.Tries.{sent-sent, sent-unsent, sent-as}
 use Rattle.hickory_resolver_pool_theorems.proofs.Best.{tells-sent, tells-unsent}
 use Rattle.hickory_resolver_pool_theorems.proofs.Flights.{IsHeld, KeepsBest, Was, held-as, held-changed}
 

@@ -1,11 +1,11 @@
 -- Where nothing was noted of any server, none of them can be asked.
-use Rattle.std.proofs.Common.{◌≡◌, ◌≤◌, ◌<◌, ◌+◌, ℕ, Bool, true, false, cond, not, ◌&&◌, ◌||◌, ltb, lt-ltb, List, [], ◌∷◌, ◌++◌, length, map, drop, refl, ap, ap₂, sym, subst, ◌∙◌, inl, inr, ◌⊎◌, eqb, true≢false, arith}
-use Rattle.std.specs.Prelude.{Option, None, Some, filter, nat_lt, unwrap_or}
+use Rattle.std.proofs.Common.{◌≡◌, ◌≤◌, ◌+◌, ℕ, Bool, true, false, cond, not, ◌&&◌, ◌||◌, ltb, lt-ltb, List, [], ◌∷◌, ◌++◌, length, map, drop, refl, ap, ap₂, sym, subst, ◌∙◌, inl, inr, ◌⊎◌, eqb, true≢false, arith}
+use Rattle.std.specs.Prelude.{Option, None, Some, filter, unwrap_or}
 use Rattle.std.specs.List.{AllByRecursion, list_any, enumerate_from}
-use Rattle.std.specs.Option.{is_some, is_none, option_map_or}
+use Rattle.std.specs.Option.{is_some, option_map_or}
 use Rattle.hickory_resolver_servers.specs.Server.{ServerState}
 use Rattle.hickory_resolver_tries.specs.declared.outcome.ReplyOutcome.{ReplyOutcome}
-use Rattle.hickory_resolver_transactions.specs.Candidates.{candidate_of, is_tried, is_busy, is_blocked, waits_as, waits_on, is_due, way_of, way_of_try, uncounted, counted, sent_with, without_channel, blocked_as, requeued, freed_one, freed_progress, has_failed_by}
+use Rattle.hickory_resolver_transactions.specs.Candidates.{candidate_of, is_tried, is_busy, is_blocked, waits_as, waits_on, is_due, way_of_try, uncounted, sent_with, without_channel, blocked_as, requeued, freed_one, freed_progress, has_failed_by}
 use Rattle.hickory_resolver_transactions.specs.Laws.{TransactionEvent, round_begins, is_sent, has_no_room, reply_came, opt_refused, letters_differ, channel_failed, no_channel, channel_free, time_passed, after_event, after_events}
 use Rattle.hickory_resolver_transactions.specs.Outcomes.{better, rank_of}
 use Rattle.hickory_resolver_transactions.specs.Table.{after_reply, after_deadline, after_closed_stream, then_of_reply, then_of_refused_opt, then_of_other_letters, stays_believed}

@@ -1,5 +1,5 @@
 -- What the core is told as a response is what octets spell.
-use Rattle.std.proofs.Common.{◌≡◌, ℕ, Bool, true, false, cond, List, refl, ap, sym, subst, ◌∙◌, true≢false}
+use Rattle.std.proofs.Common.{◌≡◌, ℕ, Bool, true, false, cond, List, refl, ap, sym, ◌∙◌}
 use Rattle.std.specs.Prelude.{Option, None, Some, Result, Ok, Err}
 use Rattle.std.specs.Option.{option_and_then}
 use Rattle.hickory_proto_core.specs.Messages.{MessageValue}
@@ -8,7 +8,6 @@ use Rattle.hickory_proto_wire.specs.declared.wire_error.WireFault.{WireFault}
 use Rattle.hickory_proto_wire.specs.declared.wire_message.WireMessage.{WireMessage}
 use Rattle.hickory_proto_core.specs.Name.{NameValue}
 use Rattle.hickory_resolver_flights.specs.Flights.{KeptValue}
-use Rattle.hickory_resolver_tries.specs.GivenBack.{given_back}
 use Rattle.hickory_resolver_tries.specs.Heads.{head_of}
 use Rattle.hickory_resolver_tries.specs.Outcome.{is_truncated, message_if, with_letters}
 use Rattle.hickory_resolver_pool.specs.Over.{OverValue, is_of_reply, reply_of, answered_with, IsToldToCore, IsCoreOutcome}
@@ -16,7 +15,7 @@ use Rattle.hickory_resolver_pool.specs.Over as over
 use Rattle.hickory_resolver_pool.specs.declared.over.PoolOutcome.{PoolOutcome}
 use Rattle.hickory_resolver_pool.specs.declared.over.PoolOutcome.TheVariants.{Response, Cut, Code, Unreachable, Timeout, Overloaded}
 use Rattle.hickory_resolver_pool_theorems.specs.Handles.{IsReadOfOctets, CoreIsToldWhatCame}
-use Rattle.hickory_resolver_pool_theorems.specs.MadeUp.{IsBelievedReply, HasBelievedReply}
+use Rattle.hickory_resolver_pool_theorems.specs.MadeUp.{HasBelievedReply}
 use Rattle.hickory_resolver_pool_theorems.specs.Runs.{Happening}
 use Rattle.hickory_resolver_pool_theorems.proofs.MadeUp.{nothing_is_made_up}
 

@@ -1,5 +1,5 @@
 -- What holds of a pool and what happened to it holds after each event and each step.
-use Rattle.std.proofs.Common.{◌≡◌, ◌≤◌, ℕ, Bool, true, false, cond, arith, List, [], ◌∷◌, ◌++◌, refl, ap, ap₂, sym, subst, ◌∙◌, inl, inr, ◌⊎◌}
+use Rattle.std.proofs.Common.{◌≡◌, ◌≤◌, ℕ, Bool, true, false, cond, arith, List, [], ◌∷◌, ◌++◌, refl, ap, ap₂, sym, subst, ◌∙◌, inl, inr}
 use Rattle.std.specs.Prelude.{Option, None, Some, IfSome, unwrap_or}
 use Rattle.std.specs.List.{AllByRecursion}
 use Rattle.std.specs.Ordering.{nat_cmp}
@@ -21,7 +21,6 @@ use Rattle.hickory_resolver_transactions.specs.declared.candidate.Try.{Try}
 use Rattle.hickory_resolver_transactions.specs.declared.settings.Settings.{Settings}
 use Rattle.hickory_resolver_traffic.specs.Doing.{doing}
 use Rattle.hickory_resolver_traffic.specs.Groups.{GroupListState, list_at}
-use Rattle.hickory_resolver_traffic.specs.Openings.{SentValue}
 use Rattle.hickory_resolver_traffic.specs.Table.{CurrentState, EntryState}
 use Rattle.hickory_resolver_traffic.specs.Tasks.{task_of, after_task, outgoing_task, opened_outgoing, came_in, ran_out, written, did_write, sent_of}
 use Rattle.hickory_resolver_traffic.specs.Tasks as tasks
@@ -38,11 +37,11 @@ use Rattle.hickory_resolver_pool.specs.declared.limits.PoolLimits.{PoolLimits}
 use Rattle.hickory_resolver_pool.specs.declared.pool.Action.{Action}
 use Rattle.hickory_resolver_pool.specs.declared.pool.Action.TheVariants.{Send}
 use Rattle.hickory_resolver_pool_theorems.specs.Runs.{Happening, came as event_of, did as step_of, Runs, at_first, by_event, by_step}
-use Rattle.hickory_resolver_pool_theorems.specs.Wire.{WasSent, sent_value, stream_on}
+use Rattle.hickory_resolver_pool_theorems.specs.Wire.{sent_value, stream_on}
 use Rattle.hickory_resolver_pool_theorems.proofs.Boxes.{IsBox, box-first, box-step, box-later, box-closed, box-open, box-failures}
-use Rattle.hickory_resolver_pool_theorems.proofs.Flights.{IsHeld, Was, held-first, held-more}
-use Rattle.hickory_resolver_pool_theorems.proofs.Pools.{IsGood, W, IsEntry, IsEntryAt, IsCurrent, IsTraffic, IsScene, table-inserted, traffic-sent_as, current-sent_as, scene-done, traffic-task, current-did}
-use Rattle.hickory_resolver_pool_theorems.proofs.Sendings.{GoesOut, Sent, IsFlying}
+use Rattle.hickory_resolver_pool_theorems.proofs.Flights.{held-first, held-more}
+use Rattle.hickory_resolver_pool_theorems.proofs.Pools.{IsGood, W, IsEntry, IsEntryAt, IsCurrent, IsTraffic, table-inserted, traffic-sent_as, current-sent_as, scene-done, traffic-task, current-did}
+use Rattle.hickory_resolver_pool_theorems.proofs.Sendings.{Sent}
 use Rattle.hickory_resolver_pool_theorems.proofs.Wires.{sent-more}
 
 pub record IsPool (P : IsGood) (past : List Happening) (s : PoolState) : Type 0 where

@@ -1,7 +1,7 @@
 -- Tries of which something holds: what a transaction, and a question in flight, does keeps it of each that waits or is
 -- late.
-use Rattle.std.proofs.Common.{◌≡◌, ℕ, Bool, true, false, cond, not, ◌&&◌, ◌||◌, eqb, ltb, List, [], ◌∷◌, ◌++◌, length, map, drop, refl, ap, subst, ◌∙◌, append_assoc, ◌+◌}
-use Rattle.std.specs.Prelude.{Option, None, Some, Contains, find, filter, unwrap_or}
+use Rattle.std.proofs.Common.{◌≡◌, ℕ, Bool, true, false, cond, not, ◌||◌, eqb, ltb, List, [], ◌∷◌, ◌++◌, length, map, drop, refl, ap, subst, ◌∙◌, ◌+◌}
+use Rattle.std.specs.Prelude.{Option, None, Some, find, filter, unwrap_or}
 use Rattle.std.specs.List.{AllByRecursion, list_any, enumerate_from}
 use Rattle.std.specs.Option.{is_some, option_map, option_map_or, option_or, option_and_then}
 use Rattle.hickory_resolver_servers.specs.Server.{ServerState}
@@ -26,7 +26,7 @@ use Rattle.hickory_resolver_transactions.specs.declared.outcome.Outcome.{Outcome
 use Rattle.hickory_resolver_transactions.specs.declared.outcome.Outcome.TheVariants as told
 use Rattle.hickory_resolver_transactions.specs.declared.table.Then.{Then}
 use Rattle.hickory_resolver_transactions.specs.declared.table.Then.TheVariants.{Ends, Leaves, Rests, Again, Nothing}
-use Rattle.hickory_resolver_flights.specs.Flights.{FlightState, flight_of, heard_as, heard_by, heard}
+use Rattle.hickory_resolver_flights.specs.Flights.{FlightState, heard_as, heard_by, heard}
 use Rattle.hickory_resolver_transactions.specs.declared.settings.Settings.{Settings}
 
 -- ---- tries of which something holds

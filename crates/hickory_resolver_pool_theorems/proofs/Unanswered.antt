@@ -1,6 +1,6 @@
 -- Why a transaction came to nothing, and that each is bounded.
 use Rattle.std.proofs.Common.{◌≡◌, ℕ, Bool, true, false, ◌&&◌, not, List, [], ◌∷◌, refl, ap, sym, subst, ◌∙◌, inl, inr, ◌⊎◌}
-use Rattle.std.specs.Prelude.{Option, None, Some, IfSome, unwrap_or}
+use Rattle.std.specs.Prelude.{Option, None, Some, IfSome}
 use Rattle.std.specs.List.{AllByRecursion}
 use Rattle.hickory_resolver_askers.specs.Askers.{askers_of}
 use Rattle.hickory_resolver_transactions.specs.Laws.{IsBounded}
@@ -18,9 +18,9 @@ use Rattle.hickory_resolver_pool.specs.Over.{OverValue, told_as}
 use Rattle.hickory_resolver_pool.specs.Pool.{PoolState, no_servers, told_outcome, outcome_in}
 use Rattle.hickory_resolver_pool.specs.declared.over.PoolOutcome.{PoolOutcome}
 use Rattle.hickory_resolver_pool.specs.declared.over.PoolOutcome.TheVariants.{Unreachable, Timeout, Overloaded}
-use Rattle.hickory_resolver_pool_theorems.specs.Causes.{IsMade, IsTimeout, IsUnreachable, TimeoutsRanOut, UnreachableOnesFailed, HasBoundedTransactions, TransactionsStayBounded}
-use Rattle.hickory_resolver_pool_theorems.specs.Runs.{Happening, Runs}
-use Rattle.hickory_resolver_pool_theorems.proofs.Best.{best_of, best}
+use Rattle.hickory_resolver_pool_theorems.specs.Causes.{IsMade, IsTimeout, IsUnreachable, TimeoutsRanOut, UnreachableOnesFailed, TransactionsStayBounded}
+use Rattle.hickory_resolver_pool_theorems.specs.Runs.{Happening}
+use Rattle.hickory_resolver_pool_theorems.proofs.Best.{best_of}
 use Rattle.hickory_resolver_pool_theorems.proofs.Causes.{Cause, has-cause}
 use Rattle.hickory_resolver_pool_theorems.proofs.Failures.{end-for, IsEnding, not-over}
 use Rattle.hickory_resolver_pool_theorems.proofs.Overs.{IsEnd, told-at_end}

@@ -1,9 +1,8 @@
 -- What was sent and what came stays so, whatever happens after it.
-use Rattle.std.proofs.Common.{◌≡◌, ℕ, Bool, true, false, cond, List, [], ◌∷◌, ◌++◌, refl, ap, sym, subst, ◌∙◌, append_assoc, append-nil, inl, inr, ◌⊎◌, eqb, eqb-true, ◌&&◌}
-use Rattle.std.specs.Prelude.{Contains, Option, None, Some}
-use Rattle.std.proofs.lemmas.List.Elements.{Contains-append_left, Contains-push}
-use Rattle.hickory_resolver_pool.specs.Laws.{PoolEvent, time_passes, group_has, is_asked, octets_come, channel_fails, is_forgotten}
-use Rattle.hickory_resolver_pool.specs.Pool.{PoolState}
+use Rattle.std.proofs.Common.{◌≡◌, ℕ, Bool, true, false, cond, List, [], ◌∷◌, ◌++◌, refl, ap, sym, ◌∙◌, append_assoc, append-nil, inl, inr, eqb, ◌&&◌}
+use Rattle.std.specs.Prelude.{Contains}
+use Rattle.std.proofs.lemmas.List.Elements.{Contains-append_left}
+use Rattle.hickory_resolver_pool.specs.Laws.{time_passes, group_has, is_asked, octets_come, channel_fails, is_forgotten}
 use Rattle.hickory_resolver_flights.specs.Flights.{KeptValue}
 use Rattle.hickory_resolver_tries.specs.declared.pool_question.PoolQuestion.{PoolQuestion}
 use Rattle.hickory_resolver_pool.specs.declared.over.PoolOutcome.{PoolOutcome}

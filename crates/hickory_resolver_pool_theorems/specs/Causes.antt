@@ -1,5 +1,5 @@
 -- Why nothing came of a transaction: each has its cause among what the transaction went through.
-use Rattle.std.specs.Prelude.{◌≡◌, ◌≤◌, ◌⊎◌, ℕ, false, List, ◌∷◌, ◌++◌, Option, None, Some, IfSome}
+use Rattle.std.specs.Prelude.{◌≡◌, ◌≤◌, ◌⊎◌, ℕ, false, List, ◌∷◌, ◌++◌, Some, IfSome}
 use Rattle.std.specs.List.{AllByRecursion}
 use Rattle.hickory_resolver_config.specs.ResolverConfig.{OptionsValue}
 use Rattle.hickory_resolver_servers.specs.Server.{ServerState}
@@ -8,7 +8,7 @@ use Rattle.hickory_resolver_transactions.specs.Laws.{TransactionEvent, channel_f
 use Rattle.hickory_resolver_transactions.specs.Transaction.{TransactionState, begun_with, picked}
 use Rattle.hickory_resolver_transactions.specs.declared.candidate.Candidate.{Candidate}
 use Rattle.hickory_resolver_transactions.specs.declared.settings.Settings.{Settings}
-use Rattle.hickory_resolver_traffic.specs.Table.{CurrentState, EntryState}
+use Rattle.hickory_resolver_traffic.specs.Table.{CurrentState}
 use Rattle.hickory_resolver_pool.specs.Over.{OverValue}
 use Rattle.hickory_resolver_pool.specs.Pool.{PoolState, no_servers, Steps}
 use Rattle.hickory_resolver_pool.specs.declared.limits.PoolLimits.{PoolLimits}

@@ -1,5 +1,5 @@
 -- It waits only for what is still to come.
-use Rattle.std.specs.Prelude.{◌≡◌, ◌<◌, ℕ, Option, None, Some}
+use Rattle.std.specs.Prelude.{◌≡◌, ◌<◌, ℕ, None, Some}
 use Rattle.hickory_resolver_traffic.specs.Tasks.{next_deadline}
 use Rattle.hickory_resolver_pool.specs.Pool.{PoolState, Steps}
 

@@ -2,7 +2,7 @@
 use Rattle.std.specs.Prelude.{◌≡◌, ◌≤◌, ℕ, true, false, List, ◌∷◌, ◌++◌, unwrap_or, Option, Some}
 use Rattle.hickory_resolver_askers.specs.Askers.{WaitingValue, first_waiting}
 use Rattle.hickory_resolver_config.specs.ResolverConfig.{OptionsValue}
-use Rattle.hickory_resolver_transactions.specs.Transaction.{TransactionState, is_idle, may_go_on}
+use Rattle.hickory_resolver_transactions.specs.Transaction.{is_idle, may_go_on}
 use Rattle.hickory_resolver_transactions.specs.declared.outcome.Outcome.TheVariants as noted
 use Rattle.hickory_resolver_traffic.specs.Table.{CurrentState}
 use Rattle.hickory_resolver_pool.specs.Over.{OverValue, told_as}

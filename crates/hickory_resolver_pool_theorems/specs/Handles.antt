@@ -1,7 +1,7 @@
 -- A pool as a handle of the core, from octets to octets.
 use Rattle.std.specs.Prelude.{◌≡◌, ◌⊎◌, ℕ, true, false, List, ◌∷◌, ◌++◌, Contains, Some, Ok, Err}
 use Rattle.std.specs.List.{AllByRecursion}
-use Rattle.hickory_proto_core.specs.Handles.{OutcomeValue, HandleStep, Leads}
+use Rattle.hickory_proto_core.specs.Handles.{OutcomeValue, HandleStep}
 use Rattle.hickory_proto_core.specs.Messages.{MessageValue}
 use Rattle.hickory_proto_core.specs.declared.dns_request.DnsRequest.{DnsRequest}
 use Rattle.hickory_proto_core.specs.declared.dns_request.DnsRequestOptions.{DnsRequestOptions}

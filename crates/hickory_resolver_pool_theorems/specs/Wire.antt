@@ -1,5 +1,5 @@
 -- What went over channels: messages that were sent, and octets that came.
-use Rattle.std.specs.Prelude.{◌≡◌, ◌⊎◌, ℕ, ◌+◌, ◌*◌, Bool, false, not, ◌&&◌, ◌==◌, List, [], ◌∷◌, ◌++◌, length, Contains, Option, Some, if◌then◌else◌}
+use Rattle.std.specs.Prelude.{◌≡◌, ◌⊎◌, ℕ, ◌+◌, ◌*◌, Bool, false, not, ◌&&◌, ◌==◌, List, [], ◌∷◌, ◌++◌, length, Contains, Some, if◌then◌else◌}
 use Rattle.std.specs.Option.{option_map_or}
 use Rattle.hickory_resolver_channels.specs.Channels.{channel_at, transaction_at}
 use Rattle.hickory_resolver_channels.specs.declared.channel.ChannelKind.{ChannelKind}
@@ -8,7 +8,6 @@ use Rattle.hickory_resolver_traffic.specs.Openings.{SentValue}
 use Rattle.hickory_resolver_traffic.specs.Tasks.{written}
 use Rattle.hickory_resolver_pool.specs.Laws.{octets_come}
 use Rattle.hickory_resolver_pool.specs.Pool.{PoolState}
-use Rattle.hickory_resolver_pool.specs.declared.pool.Action.{Action}
 use Rattle.hickory_resolver_pool.specs.declared.pool.Action.TheVariants.{Send}
 use Rattle.hickory_resolver_pool_theorems.specs.Runs.{Happening, came, did}
 
