@@ -17,6 +17,7 @@ pub mod Refusals
 pub mod Scenes
 pub mod Sendings
 pub mod Servers
+pub mod Ticks
 pub mod Told
 pub mod Traces
 pub mod Tries

@@ -1,5 +1,5 @@
 -- Where nothing was noted of any server, none of them can be asked.
-use Rattle.std.proofs.Common.{◌≡◌, ◌≤◌, ◌+◌, ℕ, Bool, true, false, cond, not, ◌&&◌, ◌||◌, ltb, lt-ltb, List, [], ◌∷◌, ◌++◌, length, map, drop, refl, ap, ap₂, sym, subst, ◌∙◌, inl, inr, ◌⊎◌, eqb, true≢false, arith}
+use Rattle.std.proofs.Common.{◌≡◌, ◌≤◌, ◌+◌, ℕ, Bool, true, false, cond, not, ◌&&◌, ◌||◌, ltb, lt-ltb, List, [], ◌∷◌, ◌++◌, length, map, drop, refl, ap, ap₂, sym, subst, ◌∙◌, inl, inr, ◌⊎◌, eqb, eqb-true, true≢false, arith}
 use Rattle.std.specs.Prelude.{Option, None, Some, filter, unwrap_or}
 use Rattle.std.specs.List.{AllByRecursion, list_any, enumerate_from}
 use Rattle.std.specs.Option.{is_some, option_map_or}
@@ -43,10 +43,39 @@ AreFit round failed cs = AllByRecursion (IsFit round failed) cs
 abbrev any_failed : List LateTry → Bool
 any_failed ls = list_any (λ l. l.has_failed) ls
 
+-- the servers stand in the order of their places
+abbrev pub HasPlaces : ℕ → List Candidate → Type 0
+HasPlaces n [] = Unit {0}
+HasPlaces n (c ∷ cs) = (c.place ≡ n) × HasPlaces (n + 1) cs
+
+places-replaced : (n : ℕ) (new : Candidate) (cs : List Candidate) → HasPlaces n cs → HasPlaces n (replaced new cs)
+places-replaced n new [] all = tt
+places-replaced n new (c ∷ cs) all = by (eqb c.place new.place) refl (places-replaced (n + 1) new cs all.1)
+  where
+    by : (same : Bool) → eqb c.place new.place ≡ same → HasPlaces (n + 1) (replaced new cs)
+        → HasPlaces n (cond same (new ∷ cs) (c ∷ replaced new cs))
+    by true e more = (sym (eqb-true c.place new.place e) ∙ all.0, all.1)
+    by false e more = (all.0, more)
+
+places-requeued : (n : ℕ) (cs : List Candidate) → HasPlaces n cs → HasPlaces n (map requeued cs)
+places-requeued n [] all = tt
+places-requeued n (c ∷ cs) all = (by (is_tried c.progress), places-requeued (n + 1) cs all.1)
+  where
+    by : (rests : Bool)
+        → (cond {A = Candidate} rests (record c { udp_sends = 0; tcp_sends = 0; progress = progress.Queued }) c).place ≡ n
+    by true = all.0
+    by false = all.0
+
+places-first : (n : ℕ) (servers : List ServerState)
+    → HasPlaces n (map (λ p. candidate_of p.0 p.1) (enumerate_from n servers))
+places-first n [] = tt
+places-first n (x ∷ xs) = (refl, places-first (n + 1) xs)
+
 -- while nothing was noted; and it has a round
 record Untold (s : TransactionState) : Type 0 where
   fits : s.noted ≡ None → s.ended ≡ None → AreFit s.round (any_failed s.late) s.candidates
   rounds : 1 ≤ s.settings.rounds
+  places : HasPlaces 0 s.candidates
 
 -- ---- lists
 
@@ -106,16 +135,18 @@ untold-noting : (s : TransactionState) → Untold s → (o : Outcome) → Untold
 untold-noting s h o = record {
   fits = λ noted ended. absurd (better-some s.noted o noted);
   rounds = h.rounds;
+  places = h.places;
 }
 
 untold-ending : (s : TransactionState) → Untold s → (reply : ℕ) → Untold (record s { ended = Some reply })
-untold-ending s h reply = record { fits = λ noted ended. absurd cc; rounds = h.rounds }
+untold-ending s h reply = record { fits = λ noted ended. absurd cc; rounds = h.rounds; places = h.places }
 
 untold-replacing : (s : TransactionState) → Untold s → (c : Candidate) → IsFit s.round (any_failed s.late) c
     → Untold (replacing c s)
 untold-replacing s h c k = record {
   fits = λ noted ended. fit-replaced s.round (any_failed s.late) c s.candidates k (h.fits noted ended);
   rounds = h.rounds;
+  places = places-replaced 0 c s.candidates h.places;
 }
 
 -- one that is gone, or rests, of which something is noted
@@ -123,6 +154,7 @@ untold-noted : (s : TransactionState) → Untold s → (c : Candidate) (o : Outc
 untold-noted s h c o = record {
   fits = λ noted ended. absurd (better-some s.noted o noted);
   rounds = h.rounds;
+  places = places-replaced 0 c s.candidates h.places;
 }
 
 late-first : (l : LateTry) (ls : List LateTry) (noted : Option Outcome) → noted_of_closed ls noted ≡ None
@@ -145,6 +177,7 @@ untold-late s h l = by (ltb (length s.late) 2)
           all-failed s.round (any_failed s.late) (any_failed (s.late ++ l ∷ [])) (any-pushed s.late l) s.candidates
           (h.fits noted ended);
       rounds = h.rounds;
+      places = h.places;
     }
     by false = record {
       fits = λ noted ended.
@@ -152,6 +185,7 @@ untold-late s h l = by (ltb (length s.late) 2)
           all-failed s.round (any_failed s.late) (any_failed (drop 1 s.late ++ l ∷ [])) both.1 s.candidates
           (h.fits both.0 ended);
       rounds = h.rounds;
+      places = h.places;
     }
 
 untold-kept : (s : TransactionState) → Untold s → (p : Progress) (place : ℕ) → Untold (kept_in p place s)
@@ -341,6 +375,7 @@ module _ (s : TransactionState) (h : Untold s) where
       by true = record {
         fits = λ noted ended. all-requeued s.round (any_failed s.late) s.candidates (h.fits noted ended);
         rounds = h.rounds;
+        places = places-requeued 0 s.candidates h.places;
       }
       by false = h
 
@@ -361,6 +396,7 @@ module _ (s : TransactionState) (h : Untold s) where
       by true = record {
         fits = λ noted ended. absurd (better-some s.noted told.Unreachable noted);
         rounds = h.rounds;
+        places = h.places;
       }
       by false = h
 
@@ -452,9 +488,18 @@ pub none-asked : (settings : Settings) (servers : List ServerState) (events : Li
     → t.noted ≡ None → t.ended ≡ None → is_idle t ≡ true → may_go_on t ≡ false → AllByRecursion HasNoPort t.candidates
 none-asked settings servers events some t made noted ended idle stops =
     let first : Untold (begun_with settings servers) =
-    record { fits = λ x y. all-first 0 servers; rounds = some } in
+    record { fits = λ x y. all-first 0 servers; rounds = some; places = places-first 0 servers } in
     let untold : Untold t =
     subst Untold (sym made) (untold-events (begun_with settings servers) events first) in
     let both = both-false (list_any (λ c. is_busy c.progress) t.candidates) (any_failed t.late) idle in
     no-port t.round t.settings.rounds untold.rounds t.candidates
     (subst (λ (f : Bool). AreFit t.round f t.candidates) both.1 (untold.fits noted ended)) both.0 stops
+
+pub has-places : (settings : Settings) (servers : List ServerState) (events : List TransactionEvent) → 1 ≤ settings.rounds
+    → (t : TransactionState) → t ≡ after_events (begun_with settings servers) events → HasPlaces 0 t.candidates
+has-places settings servers events some t made =
+    let first : Untold (begun_with settings servers) =
+    record { fits = λ x y. all-first 0 servers; rounds = some; places = places-first 0 servers } in
+    let untold : Untold t =
+    subst Untold (sym made) (untold-events (begun_with settings servers) events first) in
+    untold.places

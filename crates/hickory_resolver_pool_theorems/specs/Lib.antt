@@ -4,4 +4,5 @@ pub mod Failures
 pub mod Handles
 pub mod MadeUp
 pub mod Runs
+pub mod Ticks
 pub mod Wire

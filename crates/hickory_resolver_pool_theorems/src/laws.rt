@@ -4,6 +4,7 @@ ghost use Rattle.hickory_resolver_pool_theorems.specs.MadeUp.{NothingIsMadeUp};
 ghost use Rattle.hickory_resolver_pool_theorems.specs.Handles.{CoreIsToldWhatCame, FromOctetsToOctets};
 ghost use Rattle.hickory_resolver_pool_theorems.specs.Causes.{TimeoutsRanOut, UnreachableOnesFailed, TransactionsStayBounded};
 ghost use Rattle.hickory_resolver_pool_theorems.specs.Ends.{RestsUntilDue};
+ghost use Rattle.hickory_resolver_pool_theorems.specs.Ticks.{EachTickLowers};
 ghost use Rattle.hickory_resolver_pool_theorems.specs.Failures.{OverloadedOnlyWithoutPlace, FailuresAreToldLast};
 
 /// What is reached from a pool by events and steps is what happens to it, and the other way round.
@@ -61,4 +62,10 @@ pub fn unreachable_ones_failed()
 /// transport, tries that wait at once, late tries.
 pub fn transactions_stay_bounded()
     ensures { TransactionsStayBounded }
+{}
+
+/// A tick at the moment up to which a transaction waits, or past it, has it wait for less: of fewer servers a try or a wait
+/// for a channel is left, or of fewer tries a channel that failed is still to be noted.
+pub fn each_tick_lowers()
+    ensures { EachTickLowers }
 {}
