@@ -83,8 +83,8 @@ impl Askers {
         waiting_at(&self.waiting, transaction).is_some()
     }
 
-    // Whether one more may be in flight.
-    fn has_place(&self) -> bool
+    /// Whether one more may be in flight.
+    pub fn has_place(&self) -> bool
         ensures { result ≡ has_place self.now }
     {
         self.in_flight.len() < self.limits.transactions

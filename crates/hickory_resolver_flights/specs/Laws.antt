@@ -5,7 +5,7 @@ use Rattle.hickory_resolver_servers.specs.Server.{ServerState}
 use Rattle.hickory_resolver_tries.specs.Belief.{belief_of}
 use Rattle.hickory_resolver_tries.specs.declared.belief.Belief.TheVariants.{Believed}
 use Rattle.hickory_resolver_tries.specs.declared.pool_question.PoolQuestion.{PoolQuestion}
-use Rattle.hickory_resolver_transactions.specs.Transaction.{with_round, unsent, failed, blocked, freed, expired, try_at}
+use Rattle.hickory_resolver_transactions.specs.Transaction.{with_round, unsent, failed, blocked, freed, expired, without_oldest, try_at}
 use Rattle.hickory_resolver_transactions.specs.declared.candidate.Made.{Made}
 use Rattle.hickory_resolver_transactions.specs.declared.candidate.Try.{Try}
 use Rattle.hickory_resolver_transactions.specs.declared.settings.Settings.{Settings}
@@ -21,6 +21,7 @@ pub data FlightEvent : Type 0 where
   channel_failed : ℕ → FlightEvent
   no_channel : ℕ → FlightEvent
   channel_free : FlightEvent
+  oldest_given_up : FlightEvent
   time_passed : ℕ → FlightEvent
 
 abbrev pub after_event : FlightState → FlightEvent → FlightState
@@ -31,6 +32,7 @@ after_event s (octets_came channel id octets) = heard channel id octets s
 after_event s (channel_failed channel) = changed (failed channel) s
 after_event s (no_channel channel) = changed (blocked channel) s
 after_event s channel_free = changed freed s
+after_event s oldest_given_up = changed without_oldest s
 after_event s (time_passed now) = changed (expired now) s
 
 abbrev pub after_events : FlightState → List FlightEvent → FlightState

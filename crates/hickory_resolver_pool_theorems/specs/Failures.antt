@@ -1,5 +1,5 @@
 -- What is told where there is no answer.
-use Rattle.std.specs.Prelude.{◌≡◌, ◌≤◌, ℕ, true, false, List, ◌∷◌, ◌++◌, unwrap_or, Option, Some}
+use Rattle.std.specs.Prelude.{◌≡◌, ◌≤◌, ℕ, true, false, List, ◌∷◌, ◌++◌, length, unwrap_or, Option, Some}
 use Rattle.hickory_resolver_askers.specs.Askers.{WaitingValue, first_waiting}
 use Rattle.hickory_resolver_config.specs.ResolverConfig.{OptionsValue}
 use Rattle.hickory_resolver_transactions.specs.Transaction.{is_idle, may_go_on}
@@ -16,9 +16,9 @@ use Rattle.hickory_resolver_pool_theorems.specs.Runs.{Happening, did, Runs}
 
 -- ---- there was no place
 
--- A step of the pool was made while this transaction was the first of those that wait for a place, and the moment up to
--- which it waits had passed.
-pub record WaitedInVain (past : List Happening) (transaction : ℕ) : Type 0 where
+-- A step of the pool was made while this transaction was the first of those that wait for a place, the moment up to
+-- which it waits had passed, and there was no place: as many were in flight as the limits say.
+pub record WaitedInVain (limits : PoolLimits) (past : List Happening) (transaction : ℕ) : Type 0 where
   pub later : List Happening
   pub earlier : List Happening
   pub pool : PoolState
@@ -27,12 +27,13 @@ pub record WaitedInVain (past : List Happening) (transaction : ℕ) : Type 0 whe
   pub happened : past ≡ later ++ did pool action ∷ earlier
   pub first : first_waiting pool.traffic.askers ≡ Some (transaction, waiting)
   pub late : waiting.until ≤ pool.traffic.clock
+  pub no_place : length pool.traffic.askers.in_flight ≡ limits.transactions
 
 abbrev pub OverloadedOnlyWithoutPlace : Type 0
 OverloadedOnlyWithoutPlace =
     (options : OptionsValue) (limits : PoolLimits) (seed : List ℕ) (past : List Happening) (s after : PoolState)
     → (o : OverValue) → Runs (no_servers options limits seed) past s → Steps s (Some (Over o)) after
-    → o.outcome ≡ Overloaded → WaitedInVain past o.transaction
+    → o.outcome ≡ Overloaded → WaitedInVain limits past o.transaction
 
 -- ---- nothing came of it
 

@@ -17,7 +17,7 @@ use Rattle.hickory_resolver_steps.specs.Steps.{FlyingState, SendingValue}
 use Rattle.hickory_resolver_steps.specs.declared.ending.Ended.{Ended}
 use Rattle.hickory_resolver_steps.specs.declared.flying.SentTry.{SentTry}
 use Rattle.hickory_resolver_tries.specs.Heads.{head_of}
-use Rattle.hickory_resolver_transactions.specs.Transaction.{outcome_of, wants_round, wanted, next_deadline, places_left, with_round, blocked, freed}
+use Rattle.hickory_resolver_transactions.specs.Transaction.{TransactionState, outcome_of, wants_round, wanted, has_late, next_deadline, places_left, with_round, blocked, freed, without_oldest}
 use Rattle.hickory_resolver_traffic.specs.Acting.{Acted, ActedValue, acted_on, value_on, later, with_flight}
 use Rattle.hickory_resolver_traffic.specs.Groups.{GroupListState, list_at, changed_list}
 use Rattle.hickory_resolver_traffic.specs.Inbox.{InboxState, MessageValue, first_message, without_message, first_failure, with_failure, without_failure}
@@ -28,7 +28,7 @@ use Rattle.hickory_resolver_traffic.specs.declared.acting.ServerAct.TheVariants 
 use Rattle.hickory_resolver_traffic.specs.declared.acting.Moment.{Moment}
 use Rattle.hickory_resolver_traffic.specs.declared.choices.TheConstants.{IDLE_FOR}
 use Rattle.hickory_resolver_traffic.specs.declared.doing.Doing.{Doing}
-use Rattle.hickory_resolver_traffic.specs.declared.doing.Doing.TheVariants.{Hears, Doubts, Stalls, Fails, Quits, PutsBack, Expires, Frees, Refused, Leaves, Ends, Draws, BeginsRound, Blocks, Sends, Dates, Rests}
+use Rattle.hickory_resolver_traffic.specs.declared.doing.Doing.TheVariants.{Hears, Doubts, Stalls, Fails, Quits, PutsBack, Expires, Frees, Refused, Leaves, Ends, Draws, BeginsRound, GivesUp, Blocks, Sends, Dates, Rests}
 use Rattle.hickory_resolver_traffic.specs.declared.entry.ToDo.{ToDo}
 use Rattle.hickory_resolver_traffic.specs.declared.entry.ToDo.TheVariants.{GoOn, Hear, Doubt, Fail, Quit, PutBack, Expire, Free, Refuse}
 use Rattle.hickory_resolver_traffic.specs.declared.inbox.ChannelFailure.{ChannelFailure}
@@ -57,10 +57,12 @@ at_rest e =
     if same_moment (next_deadline e.flying.flight.transaction) e.due then Rests
     else Dates (next_deadline e.flying.flight.transaction)
 
--- where there may be no channel more, it is noted first that it waits for one
-abbrev pub sends_or_blocks : ℕ → TrafficState → Doing
-sends_or_blocks n s =
-    if has_place s.shared.channels || is_blocked n s.table then Sends else Blocks
+-- Where there may be no channel more, its late tries give up theirs, the oldest first. Only with none left it is noted
+-- that it waits for one.
+abbrev pub sends_or_blocks : ℕ → TransactionState → TrafficState → Doing
+sends_or_blocks n t s =
+    if has_place s.shared.channels then Sends else (
+    if has_late t then GivesUp else (if is_blocked n s.table then Sends else Blocks))
 
 abbrev pub round_or_place : EntryState → Doing
 round_or_place e = option_map_or BeginsRound e.place Draws
@@ -68,7 +70,7 @@ round_or_place e = option_map_or BeginsRound e.place Draws
 abbrev pub forward : ℕ → EntryState → TrafficState → Doing
 forward n e s =
     if wants_round e.flying.flight.transaction then round_or_place e else (
-    if is_some (wanted e.flying.flight.transaction) then sends_or_blocks n s else at_rest e)
+    if is_some (wanted e.flying.flight.transaction) then sends_or_blocks n e.flying.flight.transaction s else at_rest e)
 
 -- a deadline of it has come
 abbrev pub is_due : EntryState → TrafficState → Bool
@@ -318,6 +320,9 @@ draws x = record {
   current = record x.current { entry = record x.current.entry { place = Some (next_drawn x.traffic.shared.draws).0 } };
 }
 
+abbrev pub gives_up : Scene → Scene
+gives_up x = record { traffic = x.traffic; current = changing (changed without_oldest) x.current }
+
 abbrev pub blocks : Scene → Scene
 blocks x = record {
   traffic = record x.traffic { table = with_blocked x.current.number x.traffic.table };
@@ -405,6 +410,7 @@ IsDone Frees x y = y ≡ frees x
 IsDone (Leaves place) x y = y ≡ leaves place x
 IsDone Draws x y = y ≡ draws x
 IsDone (BeginsRound place) x y = BeginsRoundIn place x y
+IsDone GivesUp x y = y ≡ gives_up x
 IsDone Blocks x y = y ≡ blocks x
 IsDone Sends x y = y ≡ sends x
 IsDone (Dates due) x y = y ≡ dates due x

@@ -81,6 +81,10 @@ if_kept_enough s p = if nat_le (kept_until s p.0) s.clock then Some p else None
 abbrev pub expires_or_undates : TableState → ℕ × ℕ → Task
 expires_or_undates t due = if has_entry due.1 t then TakesUp due.1 Expire else Undates due.0 due.1
 
+-- one that waits for a place is refused only where there is none
+abbrev pub refused_one : TrafficState → Option ℕ
+refused_one s = if ask.has_place s.askers then None else late_one s.clock s.askers
+
 abbrev pub refuses_or_strays : TableState → ℕ → Task
 refuses_or_strays t n = if has_entry n t then TakesUp n Refuse else Strays n
 
@@ -102,7 +106,7 @@ abbrev pub due_in : TrafficState → Option Task
 due_in s = option_map (expires_or_undates s.table) (option_and_then (if_by s.clock) (first_due s.table))
 
 abbrev pub late_in : TrafficState → Option Task
-late_in s = option_map (refuses_or_strays s.table) (late_one s.clock s.askers)
+late_in s = option_map (refuses_or_strays s.table) (refused_one s)
 
 abbrev pub free_in : TrafficState → Option Task
 free_in s = option_map (frees_or_unblocks s.table) (free_one s)

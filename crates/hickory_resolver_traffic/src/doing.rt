@@ -41,6 +41,8 @@ pub enum Doing {
     Draws,
     /// A round begins, which goes in turn from this place.
     BeginsRound(usize),
+    /// There is no channel for what it wants: the oldest of its late tries is given up.
+    GivesUp,
     /// It is noted that it waits for a channel.
     Blocks,
     /// What it wants is sent.
@@ -132,10 +134,14 @@ impl Traffic {
         self.shared.channels.number_given().is_some()
     }
 
-    fn sends_or_blocks(&self, number: u64) -> Doing
-        ensures { result ≡ sends_or_blocks number self.now }
+    fn sends_or_blocks(&self, number: u64, transaction: &Transaction) -> Doing
+        ensures { result ≡ sends_or_blocks number transaction.now self.now }
     {
-        if self.has_place() || self.table.is_blocked(number) {
+        if self.has_place() {
+            Doing::Sends
+        } else if transaction.has_late() {
+            Doing::GivesUp
+        } else if self.table.is_blocked(number) {
             Doing::Sends
         } else {
             Doing::Blocks
@@ -149,7 +155,7 @@ impl Traffic {
         if transaction.wants_round() {
             entry.round_or_place()
         } else if transaction.wanted().is_some() {
-            self.sends_or_blocks(number)
+            self.sends_or_blocks(number, transaction)
         } else {
             entry.at_rest()
         }

@@ -6,7 +6,7 @@ use Rattle.hickory_resolver_servers.specs.Server.{ServerState}
 use Rattle.hickory_resolver_tries.specs.declared.outcome.ReplyOutcome.{ReplyOutcome}
 use Rattle.hickory_resolver_transactions.specs.Candidates.{is_waiting, try_made, sent_with, freed_one, blocked_as, without_channel}
 use Rattle.hickory_resolver_transactions.specs.Table.{sends_by}
-use Rattle.hickory_resolver_transactions.specs.Transaction.{TransactionState, begun_with, came, opt_was_refused, other_letters_came, failed, blocked, freed, expired, with_round, sent, unsent, outcome_of, wants_round, wanted, next_deadline}
+use Rattle.hickory_resolver_transactions.specs.Transaction.{TransactionState, begun_with, came, opt_was_refused, other_letters_came, failed, blocked, freed, expired, without_oldest, with_round, sent, unsent, outcome_of, wants_round, wanted, next_deadline}
 use Rattle.hickory_resolver_transactions.specs.declared.candidate.Candidate.{Candidate}
 use Rattle.hickory_resolver_transactions.specs.declared.candidate.Made.{Made}
 use Rattle.hickory_resolver_transactions.specs.declared.candidate.Progress.{Progress}
@@ -29,6 +29,7 @@ pub data TransactionEvent : Type 0 where
   channel_failed : ℕ → TransactionEvent
   no_channel : ℕ → TransactionEvent
   channel_free : TransactionEvent
+  oldest_given_up : TransactionEvent
   time_passed : ℕ → TransactionEvent
 
 abbrev pub after_event : TransactionState → TransactionEvent → TransactionState
@@ -41,6 +42,7 @@ after_event s (letters_differ channel id) = other_letters_came channel id s
 after_event s (channel_failed channel) = failed channel s
 after_event s (no_channel channel) = blocked channel s
 after_event s channel_free = freed s
+after_event s oldest_given_up = without_oldest s
 after_event s (time_passed now) = expired now s
 
 abbrev pub after_events : TransactionState → List TransactionEvent → TransactionState

@@ -71,11 +71,16 @@ abbrev pub noted_of_closed : List LateTry → Option Outcome → Option Outcome
 noted_of_closed [] noted = noted
 noted_of_closed (l ∷ ls) noted = if l.has_failed then better noted Unreachable else noted
 
--- one late try more; where there are too many, the oldest is given up
+-- the oldest late try is given up, where there is one
+abbrev pub without_oldest : TransactionState → TransactionState
+without_oldest s = record s { late = drop 1 s.late; noted = noted_of_closed s.late s.noted }
+
+abbrev pub late_too : LateTry → TransactionState → TransactionState
+late_too l s = record s { late = s.late ++ l ∷ [] }
+
+-- one late try more, in the place of the oldest where there are as many as there may be
 abbrev pub with_late : LateTry → TransactionState → TransactionState
-with_late l s =
-    if nat_lt (length s.late) LATE_TRIES then record s { late = s.late ++ l ∷ [] }
-    else record s { late = drop 1 s.late ++ l ∷ []; noted = noted_of_closed s.late s.noted }
+with_late l s = if nat_lt (length s.late) LATE_TRIES then late_too l s else late_too l (without_oldest s)
 
 abbrev pub kept_in : Progress → ℕ → TransactionState → TransactionState
 kept_in (progress.Waiting t) place s = with_late (record { place = place; tried = t; has_failed = false }) s
@@ -92,10 +97,14 @@ acted (Rests outcome) keeps c s = noting outcome (putting progress.Tried c (keep
 acted (Again way) keeps c s = putting (progress.Again way None) c (keeping keeps c s)
 acted Nothing keeps c s = s
 
+-- what came late ends no try that waits at the same server
+abbrev pub gone_unless_waiting : Candidate → TransactionState → TransactionState
+gone_unless_waiting c s = if is_waiting c.progress then s else putting progress.Gone c s
+
 -- the same for a late try: it asks again only where nothing waits at its server
 abbrev pub acted_late : Then → Candidate → TransactionState → TransactionState
 acted_late (Ends reply) c s = record s { ended = Some reply }
-acted_late (Leaves outcome) c s = noting outcome (putting progress.Gone c s)
+acted_late (Leaves outcome) c s = noting outcome (gone_unless_waiting c s)
 acted_late (Again way) c s = if is_tried c.progress then putting (progress.Again way None) c s else s
 acted_late other c s = s
 
@@ -121,12 +130,17 @@ late_replied outcome reply l s =
 abbrev pub came_to : Candidate → ReplyOutcome → ℕ → TransactionState → TransactionState
 came_to c outcome reply s = acted (then_of_reply c outcome reply) (stays_believed outcome) c s
 
+-- a late try that was answered is late no more, unless it is believed on
+abbrev pub without_answered : ReplyOutcome → ℕ → ℕ → TransactionState → TransactionState
+without_answered outcome channel id s =
+    if stays_believed outcome then s else record s { late = filter (λ l. not (is_try channel id l.tried)) s.late }
+
 -- A reply to the try on this channel with this number was believed, and comes to this. Where there is no such try,
 -- nothing changes.
 abbrev pub came : ℕ → ℕ → ReplyOutcome → ℕ → TransactionState → TransactionState
 came channel id outcome reply s =
     option_map_or (λ c. came_to c outcome reply s) (picked (waits_as channel id) s)
-    (option_map_or (λ l. late_replied outcome reply l s) (late_at channel id s) s)
+    (option_map_or (λ l. late_replied outcome reply l (without_answered outcome channel id s)) (late_at channel id s) s)
 
 -- a header alone came that says that OPT is not known
 abbrev pub opt_was_refused : ℕ → ℕ → TransactionState → TransactionState
@@ -238,6 +252,9 @@ sent made s = option_map_or (λ c. replacing (sent_with made s.settings c) s) (c
 -- there is no channel for what was wanted: it waits for one, up to this moment where it did not before
 abbrev pub unsent : ℕ → TransactionState → TransactionState
 unsent due s = option_map_or (λ c. replacing (without_channel due c) s) (chosen s) s
+
+abbrev pub has_late : TransactionState → Bool
+has_late s = nat_lt 0 (length s.late)
 
 -- ---- what it comes to, and up to when it waits
 
