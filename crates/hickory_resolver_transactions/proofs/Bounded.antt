@@ -9,10 +9,10 @@ use Rattle.std.proofs.lemmas.List.Sums.{sum_by-cons, length-filter, count_by-le-
 use Rattle.hickory_resolver_servers.specs.Server.{ServerState}
 use Rattle.hickory_resolver_tries.specs.declared.outcome.ReplyOutcome.{ReplyOutcome}
 use Rattle.hickory_resolver_tries.specs.declared.outcome.ReplyOutcome.TheVariants as came_to
-use Rattle.hickory_resolver_transactions.specs.Candidates.{candidate_of, is_udp, is_again, is_queued, is_waiting, is_blocked, is_tried, waits_as, waits_on, is_due, way_of, way_of_try, way_in, first_way, channel_due_of, sent_with, counted, uncounted, try_made, without_channel, blocked_as, requeued, freed_one, freed_progress, has_failed_by}
-use Rattle.hickory_resolver_transactions.specs.Laws.{TransactionEvent, round_begins, is_sent, has_no_room, reply_came, opt_refused, letters_differ, channel_failed, no_channel, channel_free, time_passed, after_event, after_events, HasRoom, IsWithinSends, IsBounded, StaysBounded}
+use Rattle.hickory_resolver_transactions.specs.Candidates.{candidate_of, is_udp, is_again, is_queued, is_waiting, is_blocked, is_tried, is_try, waits_as, waits_on, is_due, way_of, way_of_try, way_in, first_way, channel_due_of, sent_with, counted, uncounted, try_made, without_channel, blocked_as, requeued, freed_one, freed_progress, has_failed_by}
+use Rattle.hickory_resolver_transactions.specs.Laws.{TransactionEvent, round_begins, is_sent, has_no_room, reply_came, opt_refused, letters_differ, channel_failed, no_channel, channel_free, oldest_given_up, time_passed, after_event, after_events, HasRoom, IsWithinSends, IsBounded, StaysBounded}
 use Rattle.hickory_resolver_transactions.specs.Table.{sends_by, has_room, may_change_to_tcp, may_begin_tcp, again_if, after_reply, after_refused_opt, after_other_letters, after_deadline, after_closed_stream, stays_believed, then_in, then_of_reply, then_of_refused_opt, then_of_other_letters}
-use Rattle.hickory_resolver_transactions.specs.Transaction.{TransactionState, begun_with, replaced, replacing, putting, noting, noted_of_closed, with_late, kept_in, keeping, acted, acted_late, picked, candidate_at, late_at, late_replied, came, opt_was_refused, other_letters_came, failed_at, failed_in, failed, blocked_in, blocked, freed, expired_in, late_expired, expired, wants_round, is_idle, may_go_on, with_round, is_queued_at, first_queued, may_send, chosen, sent, unsent}
+use Rattle.hickory_resolver_transactions.specs.Transaction.{TransactionState, begun_with, replaced, replacing, putting, noting, without_oldest, late_too, with_late, kept_in, keeping, acted, gone_unless_waiting, acted_late, picked, candidate_at, late_at, late_replied, without_answered, came, opt_was_refused, other_letters_came, failed_at, failed_in, failed, blocked_in, blocked, freed, expired_in, late_expired, expired, wants_round, is_idle, may_go_on, with_round, is_queued_at, first_queued, may_send, chosen, sent, unsent}
 use Rattle.hickory_resolver_transactions.specs.declared.candidate.Candidate.{Candidate}
 use Rattle.hickory_resolver_transactions.specs.declared.candidate.LateTry.{LateTry}
 use Rattle.hickory_resolver_transactions.specs.declared.candidate.Made.{Made}
@@ -126,12 +126,32 @@ module _ (s : TransactionState) (b : IsBounded s) where
   bounded-ending : (reply : ℕ) → IsBounded (record s { ended = Some reply })
   bounded-ending reply = record { sends = b.sends; waiting = b.waiting; late = b.late; rounds = b.rounds }
 
+  bounded-oldest : IsBounded (without_oldest s)
+  bounded-oldest = record {
+    sends = b.sends;
+    waiting = b.waiting;
+    late = omega (arith, b.late, length-drop 1 s.late);
+    rounds = b.rounds;
+  }
+
+  bounded-answered : (outcome : ReplyOutcome) (channel id : ℕ) → IsBounded (without_answered outcome channel id s)
+  bounded-answered outcome channel id = by (stays_believed outcome)
+    where
+      by : (stays : Bool)
+          → IsBounded (cond stays s (record s { late = filter (λ l. not (is_try channel id l.tried)) s.late }))
+      by true = b
+      by false = record {
+        sends = b.sends;
+        waiting = b.waiting;
+        late = omega (arith, b.late, length-filter (λ (l : LateTry). not (is_try channel id l.tried)) s.late, count_by-le-length (λ (l : LateTry). not (is_try channel id l.tried)) s.late);
+        rounds = b.rounds;
+      }
+
   bounded-late : (l : LateTry) → IsBounded (with_late l s)
   bounded-late l = by (ltb (length s.late) 2) refl
     where
       by : (few : Bool) → ltb (length s.late) 2 ≡ few
-          → IsBounded (cond few (record s { late = s.late ++ l ∷ [] })
-          (record s { late = drop 1 s.late ++ l ∷ []; noted = noted_of_closed s.late s.noted }))
+          → IsBounded (cond few (late_too l s) (late_too l (without_oldest s)))
       by true e = record {
         sends = b.sends;
         waiting = b.waiting;
@@ -180,11 +200,19 @@ bounded-acted s b (Again way) keeps c w room =
     bounded-putting (keeping keeps c s) (bounded-keeping s b keeps c) (progress.Again way None) c w room refl
 bounded-acted s b Nothing keeps c w room = b
 
+bounded-gone : (s : TransactionState) → IsBounded s → (c : Candidate) → IsWithinSends c
+    → IsBounded (gone_unless_waiting c s)
+bounded-gone s b c w = by (is_waiting c.progress)
+  where
+    by : (waits : Bool) → IsBounded (cond waits s (putting progress.Gone c s))
+    by true = b
+    by false = bounded-putting s b progress.Gone c w tt refl
+
 bounded-acted_late : (s : TransactionState) → IsBounded s → (then : Then) (c : Candidate) → IsWithinSends c
     → RoomIn then c → IsBounded (acted_late then c s)
 bounded-acted_late s b (Ends reply) c w room = bounded-ending s b reply
 bounded-acted_late s b (Leaves o) c w room =
-    bounded-noting (putting progress.Gone c s) (bounded-putting s b progress.Gone c w tt refl) o
+    bounded-noting (gone_unless_waiting c s) (bounded-gone s b c w) o
 bounded-acted_late s b (Rests o) c w room = b
 bounded-acted_late s b (Again way) c w room = by (is_tried c.progress)
   where
@@ -255,13 +283,16 @@ bounded-came : (s : TransactionState) → IsBounded s → (channel id : ℕ) (ou
     → IsBounded (came channel id outcome reply s)
 bounded-came s b channel id outcome reply = by (picked (waits_as channel id) s) refl
   where
-    late : (found : Option LateTry) → IsBounded (option_map_or (λ l. late_replied outcome reply l s) found s)
+    after : TransactionState
+    after = without_answered outcome channel id s
+
+    late : (found : Option LateTry) → IsBounded (option_map_or (λ l. late_replied outcome reply l after) found s)
     late None = b
-    late (Some l) = came-late s b outcome reply l
+    late (Some l) = came-late after (bounded-answered s b outcome channel id) outcome reply l
 
     by : (found : Option Candidate) → picked (waits_as channel id) s ≡ found
         → IsBounded (option_map_or (λ c. acted (then_of_reply c outcome reply) (stays_believed outcome) c s) found
-        (option_map_or (λ l. late_replied outcome reply l s) (late_at channel id s) s))
+        (option_map_or (λ l. late_replied outcome reply l after) (late_at channel id s) s))
     by None e = late (late_at channel id s)
     by (Some c) e =
         let w = all-find (λ x. waits_as channel id x.progress) s.candidates c b.sends e in
@@ -632,6 +663,7 @@ bounded-event s b (letters_differ channel id) = bounded-letters s b channel id
 bounded-event s b (channel_failed channel) = bounded-failed s b channel
 bounded-event s b (no_channel channel) = bounded-blocked s b channel
 bounded-event s b channel_free = bounded-freed s b
+bounded-event s b oldest_given_up = bounded-oldest s b
 bounded-event s b (time_passed now) = bounded-expired s b now
 
 bounded-events : (s : TransactionState) → IsBounded s → (events : List TransactionEvent) → IsBounded (after_events s events)

@@ -6,11 +6,11 @@ use Rattle.std.specs.Option.{option_map_or}
 use Rattle.std.proofs.lemmas.List.Elements.{Contains-append_left, Contains-push}
 use Rattle.hickory_resolver_tries.specs.declared.outcome.ReplyOutcome.{ReplyOutcome}
 use Rattle.hickory_resolver_tries.specs.declared.outcome.ReplyOutcome.TheVariants as came_as
-use Rattle.hickory_resolver_transactions.specs.Candidates.{is_tried, is_blocked, waits_as, waits_on, is_due, has_failed_by, freed_one, requeued, sent_with, without_channel}
-use Rattle.hickory_resolver_transactions.specs.Laws.{TransactionEvent, round_begins, is_sent, has_no_room, reply_came, opt_refused, letters_differ, channel_failed, no_channel, channel_free, time_passed, after_event, after_events, reply_in, replies_in, IsOfReplies, IsToldOf, NothingIsMadeUp}
+use Rattle.hickory_resolver_transactions.specs.Candidates.{is_tried, is_waiting, is_blocked, is_try, waits_as, waits_on, is_due, has_failed_by, freed_one, requeued, sent_with, without_channel}
+use Rattle.hickory_resolver_transactions.specs.Laws.{TransactionEvent, round_begins, is_sent, has_no_room, reply_came, opt_refused, letters_differ, channel_failed, no_channel, channel_free, oldest_given_up, time_passed, after_event, after_events, reply_in, replies_in, IsOfReplies, IsToldOf, NothingIsMadeUp}
 use Rattle.hickory_resolver_transactions.specs.Outcomes.{better, rank_of}
 use Rattle.hickory_resolver_transactions.specs.Table.{has_room, may_change_to_tcp, may_begin_tcp, again_if, after_reply, after_refused_opt, after_other_letters, after_deadline, after_closed_stream, stays_believed, then_in, then_of_reply, then_of_refused_opt, then_of_other_letters}
-use Rattle.hickory_resolver_transactions.specs.Transaction.{TransactionState, begun_with, replacing, putting, noting, noted_of_closed, with_late, kept_in, keeping, acted, acted_late, picked, candidate_at, late_at, late_came_to, late_replied, came_to, came, opt_was_refused, other_letters_came, failed_at, failed_in, failed, blocked_in, blocked, freed, expired_in, late_expired, expired, is_idle, may_go_on, wants_round, with_round, chosen, sent, unsent, told}
+use Rattle.hickory_resolver_transactions.specs.Transaction.{TransactionState, begun_with, replacing, putting, noting, noted_of_closed, without_oldest, late_too, with_late, kept_in, keeping, acted, gone_unless_waiting, acted_late, picked, candidate_at, late_at, late_came_to, late_replied, came_to, without_answered, came, opt_was_refused, other_letters_came, failed_at, failed_in, failed, blocked_in, blocked, freed, expired_in, late_expired, expired, is_idle, may_go_on, wants_round, with_round, chosen, sent, unsent, told}
 use Rattle.hickory_resolver_transactions.specs.declared.candidate.Candidate.{Candidate}
 use Rattle.hickory_resolver_transactions.specs.declared.candidate.LateTry.{LateTry}
 use Rattle.hickory_resolver_transactions.specs.declared.candidate.Made.{Made}
@@ -49,13 +49,15 @@ module _ (rs : List ℕ) where
       by true = told-better noted Unreachable h tt
       by false = h
 
+  sourced-oldest : (s : TransactionState) → IsSourced rs s → IsSourced rs (without_oldest s)
+  sourced-oldest s h = (h.0, told-closed s.late s.noted h.1)
+
   sourced-late : (s : TransactionState) (l : LateTry) → IsSourced rs s → IsSourced rs (with_late l s)
   sourced-late s l h = by (ltb (length s.late) 2)
     where
-      by : (few : Bool) → IsSourced rs (cond few (record s { late = s.late ++ l ∷ [] })
-          (record s { late = drop 1 s.late ++ l ∷ []; noted = noted_of_closed s.late s.noted }))
+      by : (few : Bool) → IsSourced rs (cond few (late_too l s) (late_too l (without_oldest s)))
       by true = h
-      by false = (h.0, told-closed s.late s.noted h.1)
+      by false = sourced-oldest s h
 
   sourced-kept : (s : TransactionState) (p : Progress) (place : ℕ) → IsSourced rs s → IsSourced rs (kept_in p place s)
   sourced-kept s progress.Queued place h = h
@@ -88,10 +90,17 @@ module _ (rs : List ℕ) where
   sourced-acted s (Again way) keeps c h k = sourced-keeping s keeps c h
   sourced-acted s Nothing keeps c h k = h
 
+  sourced-gone : (s : TransactionState) (c : Candidate) → IsSourced rs s → IsSourced rs (gone_unless_waiting c s)
+  sourced-gone s c h = by (is_waiting c.progress)
+    where
+      by : (waits : Bool) → IsSourced rs (cond waits s (putting progress.Gone c s))
+      by true = h
+      by false = h
+
   sourced-acted_late : (s : TransactionState) (t : Then) (c : Candidate) → IsSourced rs s → ThenOf t
       → IsSourced rs (acted_late t c s)
   sourced-acted_late s (Ends reply) c h k = (k, h.1)
-  sourced-acted_late s (Leaves o) c h k = sourced-noting (putting progress.Gone c s) o h k
+  sourced-acted_late s (Leaves o) c h k = sourced-noting (gone_unless_waiting c s) o (sourced-gone s c h) k
   sourced-acted_late s (Rests o) c h k = h
   sourced-acted_late s (Again way) c h k = by (is_tried c.progress)
     where
@@ -140,16 +149,28 @@ module _ (rs : List ℕ) where
         by None = h
         by (Some c) = sourced-acted_late s (after_reply c l.tried outcome reply) c h (then-reply c l.tried outcome reply k)
 
+    sourced-answered : (outcome : ReplyOutcome) (channel id : ℕ) → IsSourced rs (without_answered outcome channel id s)
+    sourced-answered outcome channel id = by (stays_believed outcome)
+      where
+        by : (stays : Bool)
+            → IsSourced rs (cond stays s (record s { late = filter (λ l. not (is_try channel id l.tried)) s.late }))
+        by true = h
+        by false = h
+
+  module _ (s : TransactionState) (h : IsSourced rs s) where
     sourced-came : (channel id : ℕ) (outcome : ReplyOutcome) (reply : ℕ) → Contains rs reply
         → IsSourced rs (came channel id outcome reply s)
     sourced-came channel id outcome reply k = by (picked (waits_as channel id) s)
       where
-        late : (found : Option LateTry) → IsSourced rs (option_map_or (λ l. late_replied outcome reply l s) found s)
+        after : TransactionState
+        after = without_answered outcome channel id s
+
+        late : (found : Option LateTry) → IsSourced rs (option_map_or (λ l. late_replied outcome reply l after) found s)
         late None = h
-        late (Some l) = sourced-late_replied outcome reply l k
+        late (Some l) = sourced-late_replied after (sourced-answered s h outcome channel id) outcome reply l k
 
         by : (found : Option Candidate) → IsSourced rs (option_map_or (λ c. came_to c outcome reply s) found
-            (option_map_or (λ l. late_replied outcome reply l s) (late_at channel id s) s))
+            (option_map_or (λ l. late_replied outcome reply l after) (late_at channel id s) s))
         by None = late (late_at channel id s)
         by (Some c) =
             sourced-acted s (then_of_reply c outcome reply) (stays_believed outcome) c h
@@ -297,6 +318,7 @@ sourced-event rs s (letters_differ channel id) h = sourced-letters (rs ++ []) s 
 sourced-event rs s (channel_failed channel) h = sourced-failed (rs ++ []) s (sourced-more rs [] s h) channel
 sourced-event rs s (no_channel channel) h = sourced-blocked (rs ++ []) s (sourced-more rs [] s h) channel
 sourced-event rs s channel_free h = sourced-freed (rs ++ []) s (sourced-more rs [] s h)
+sourced-event rs s oldest_given_up h = sourced-oldest (rs ++ []) s (sourced-more rs [] s h)
 sourced-event rs s (time_passed now) h = sourced-expired (rs ++ []) s (sourced-more rs [] s h) now
 
 sourced-events : (rs : List ℕ) (s : TransactionState) (events : List TransactionEvent) → IsSourced rs s

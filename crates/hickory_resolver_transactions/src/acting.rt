@@ -1,8 +1,8 @@
 //! The parts of what an event does with a transaction.
 ghost use Rattle.std.specs.Prelude.{◌≡◌, ◌∷◌, [], OnOk, OnErr, None, if◌then◌else◌};
-ghost use Rattle.hickory_resolver_transactions.specs.Candidates.{is_tried};
+ghost use Rattle.hickory_resolver_transactions.specs.Candidates.{is_tried, is_waiting};
 ghost use Rattle.hickory_resolver_transactions.specs.Outcomes.{better};
-ghost use Rattle.hickory_resolver_transactions.specs.Transaction.{replaced, replacing, putting, noting, noted_of_closed, with_late, kept_in, keeping, acted, acted_late};
+ghost use Rattle.hickory_resolver_transactions.specs.Transaction.{replaced, replacing, putting, noting, noted_of_closed, without_oldest, late_too, with_late, kept_in, keeping, acted, gone_unless_waiting, acted_late};
 
 use crate::candidate::{Candidate, LateTry, Progress, Way};
 use crate::changed::replace;
@@ -51,7 +51,7 @@ impl Transaction {
     {
         match what {
             Then::Ends(reply) => self.ended = Some(reply),
-            Then::Leaves(outcome) => self.leave(candidate, outcome),
+            Then::Leaves(outcome) => self.leave_late(candidate, outcome),
             Then::Again(way) => self.ask_again(candidate, way),
             _ => {}
         }
@@ -71,6 +71,16 @@ impl Transaction {
         ensures { self.new ≡ noting outcome (putting Progress.Gone candidate.now self.old) }
     {
         self.put(candidate, Progress::Gone);
+        self.note(outcome);
+    }
+
+    // The same by what came late, which ends no try that waits there.
+    fn leave_late(&mut self, candidate: &Candidate, outcome: Outcome)
+        ensures { self.new ≡ noting outcome (gone_unless_waiting candidate.now self.old) }
+    {
+        if !candidate.progress.is_waiting() {
+            self.put(candidate, Progress::Gone);
+        }
         self.note(outcome);
     }
 
@@ -116,10 +126,19 @@ impl Transaction {
         let is_full = LATE_TRIES <= self.late.len();
         self.late.push(*late)?;
         if is_full {
+            self.give_up_oldest();
+        }
+        Ok(())
+    }
+
+    /// The oldest late try is given up, where there is one.
+    pub fn give_up_oldest(&mut self)
+        ensures { self.new ≡ without_oldest self.old }
+    {
+        if self.has_late() {
             let oldest = self.late.remove(0);
             self.note_closed(&oldest);
         }
-        Ok(())
     }
 
     // A late try is given up.

@@ -3,14 +3,14 @@ ghost use Rattle.std.specs.Prelude.{◌≡◌, find, filter, not, true, OnOk, On
 ghost use Rattle.std.specs.List.{list_any};
 ghost use Rattle.std.specs.Option.{option_map_or};
 ghost use Rattle.hickory_resolver_transactions.specs.Candidates.{is_try, waits_as, waits_on, is_due, is_blocked, freed_one, has_failed_by};
-ghost use Rattle.hickory_resolver_transactions.specs.Transaction.{replaced, replacing, putting, noting, with_late, acted, picked, candidate_at, late_at, late_came_to, late_replied, came_to, came, opt_was_refused, other_letters_came, failed_at, failed_in, failed, blocked_in, blocked, freed, expired_in, late_expired, expired};
+ghost use Rattle.hickory_resolver_transactions.specs.Transaction.{replaced, replacing, putting, noting, with_late, acted, picked, candidate_at, late_at, late_came_to, late_replied, came_to, without_answered, came, opt_was_refused, other_letters_came, failed_at, failed_in, failed, blocked_in, blocked, freed, expired_in, late_expired, expired};
 
 use crate::candidate::{Candidate, LateTry, Progress, Transport, Try};
 use crate::changed::replace;
 use crate::outcome::Outcome;
 use crate::picked::{
-    any_failed_by, candidate_at, first_blocked, first_due, late_at, not_failed_by, waiting_as,
-    waiting_on,
+    any_failed_by, candidate_at, first_blocked, first_due, late_at, not_failed_by, not_sent_as,
+    waiting_as, waiting_on,
 };
 use crate::table::{
     after_closed_stream, after_deadline, after_reply, stays_believed, then_of_other_letters,
@@ -35,10 +35,7 @@ impl Transaction {
     {
         match waiting_as(&self.candidates, channel, id) {
             Some(candidate) => self.came_to(&candidate, outcome, reply),
-            None => {
-                self.came_late(channel, id, outcome, reply);
-                Ok(())
-            }
+            None => self.came_late(channel, id, outcome, reply),
         }
     }
 
@@ -56,13 +53,39 @@ impl Transaction {
     }
 
     // The same of a late try.
-    fn came_late(&mut self, channel: u64, id: u16, outcome: ReplyOutcome, reply: u64)
-        ensures { self.new ≡ option_map_or (λ l. late_replied outcome reply l self.old) (late_at channel id self.old)
-            self.old }
+    fn came_late(
+        &mut self,
+        channel: u64,
+        id: u16,
+        outcome: ReplyOutcome,
+        reply: u64,
+    ) -> Result<(), AllocError>
+        ensures ok { OnOk result (self.new ≡ option_map_or
+            (λ l. late_replied outcome reply l (without_answered outcome channel id self.old))
+            (late_at channel id self.old) self.old) }
+        ensures err { OnErr result (self.new ≡ self.old) }
     {
         if let Some(late) = late_at(&self.late, channel, id) {
+            self.end_answered(outcome, channel, id)?;
             self.late_replied(&late, outcome, reply);
         }
+        Ok(())
+    }
+
+    // It is late no more, unless it is believed on.
+    fn end_answered(
+        &mut self,
+        outcome: ReplyOutcome,
+        channel: u64,
+        id: u16,
+    ) -> Result<(), AllocError>
+        ensures ok { OnOk result (self.new ≡ without_answered outcome channel id self.old) }
+        ensures err { OnErr result (self.new ≡ self.old) }
+    {
+        if !stays_believed(outcome) {
+            self.late = not_sent_as(&self.late, channel, id)?;
+        }
+        Ok(())
     }
 
     fn late_replied(&mut self, late: &LateTry, outcome: ReplyOutcome, reply: u64)

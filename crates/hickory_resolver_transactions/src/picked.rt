@@ -220,6 +220,20 @@ pub(crate) fn any_late_on(late: &[LateTry], channel: u64) -> bool
     late.iter().any(|one| one.tried.channel == channel)
 }
 
+pub(crate) fn not_sent_as(
+    late: &Vec<LateTry>,
+    channel: u64,
+    id: u16,
+) -> Result<Vec<LateTry>, AllocError>
+    ensures { IfOk result (λ v. v.items ≡ filter (λ l. not (is_try channel id l.tried)) late.now.items) }
+{
+    let alloc = *late.allocator();
+    late.iter()
+        .copied()
+        .filter(|one| !one.tried.is(channel, id))
+        .collect(alloc)
+}
+
 pub(crate) fn not_failed_by(late: &Vec<LateTry>, now: u64) -> Result<Vec<LateTry>, AllocError>
     ensures { IfOk result (λ v. v.items ≡ filter (λ l. not (has_failed_by now l)) late.now.items) }
 {

@@ -1,6 +1,6 @@
 //! A transaction, its rounds, and what is sent next.
 ghost use Rattle.std.specs.Prelude.{◌≡◌, [], ◌<◌, ◌+◌, IfOk, OnOk, OnErr, Some};
-ghost use Rattle.hickory_resolver_transactions.specs.Transaction.{begun_with, candidates_of, replacing, putting, is_idle, may_go_on, wants_round, places_left, with_round, may_send, next_of, chosen, wanted, try_to_send, sent, unsent};
+ghost use Rattle.hickory_resolver_transactions.specs.Transaction.{begun_with, candidates_of, replacing, putting, is_idle, may_go_on, wants_round, places_left, with_round, may_send, next_of, chosen, wanted, try_to_send, sent, unsent, has_late};
 
 use crate::candidate::{Candidate, LateTry, Made, Try, Way};
 use crate::changed::{replace, requeue_each};
@@ -157,6 +157,13 @@ impl Transaction {
         if let Some(candidate) = self.chosen() {
             replace(&mut self.candidates, &candidate.without_channel(due));
         }
+    }
+
+    /// Whether there are tries that are not waited for any more, and are believed still.
+    pub fn has_late(&self) -> bool
+        ensures { result ≡ has_late self.now }
+    {
+        !self.late.is_empty()
     }
 
     fn chosen(&self) -> Option<Candidate>
