@@ -9,7 +9,7 @@ use Rattle.hickory_resolver_tries.specs.declared.belief.Belief.TheVariants as be
 use Rattle.hickory_resolver_transactions.specs.Transaction.{try_at}
 use Rattle.hickory_resolver_transactions.specs.declared.candidate.Try.{Try}
 use Rattle.hickory_resolver_flights.specs.Flights.{FlightState, KeptValue, flight_of, names, kept_of, replied, heard_as, heard_by, heard}
-use Rattle.hickory_resolver_flights.specs.Laws.{FlightEvent, round_begins, is_sent, has_no_room, octets_came, channel_failed, no_channel, channel_free, time_passed, after_event, after_events, IsOfOctets, NothingIsMadeUp}
+use Rattle.hickory_resolver_flights.specs.Laws.{FlightEvent, round_begins, is_sent, has_no_room, octets_came, channel_failed, no_channel, channel_free, oldest_given_up, time_passed, after_event, after_events, IsOfOctets, NothingIsMadeUp}
 
 -- ---- the question
 
@@ -32,6 +32,7 @@ same-event s (octets_came channel id octets) = by (try_at channel id s.transacti
 same-event s (channel_failed channel) = refl
 same-event s (no_channel channel) = refl
 same-event s channel_free = refl
+same-event s oldest_given_up = refl
 same-event s (time_passed now) = refl
 
 same-events : (s : FlightState) (events : List FlightEvent) → (after_events s events).question ≡ s.question
@@ -124,6 +125,7 @@ module _ (start : FlightState) (done : List FlightEvent) where
   kept-event (channel_failed channel) h = kept-later (channel_failed channel ∷ []) now.kept h
   kept-event (no_channel channel) h = kept-later (no_channel channel ∷ []) now.kept h
   kept-event channel_free h = kept-later (channel_free ∷ []) now.kept h
+  kept-event oldest_given_up h = kept-later (oldest_given_up ∷ []) now.kept h
   kept-event (time_passed at) h = kept-later (time_passed at ∷ []) now.kept h
 
 kept-events : (start : FlightState) (done rest : List FlightEvent) → KeptOf start done (after_events start done).kept

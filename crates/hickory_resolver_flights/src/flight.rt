@@ -5,7 +5,7 @@ ghost use Rattle.hickory_proto_wire.specs.Messages.{message_of};
 ghost use Rattle.hickory_resolver_tries.specs.Belief.{belief_of};
 ghost use Rattle.hickory_resolver_tries.specs.Heads.{head_of};
 ghost use Rattle.hickory_resolver_tries.specs.Outcome.{is_truncated, message_if, outcome_of};
-ghost use Rattle.hickory_resolver_transactions.specs.Transaction.{came, failed, blocked, freed, expired, with_round, unsent, other_letters_came, opt_was_refused, try_at};
+ghost use Rattle.hickory_resolver_transactions.specs.Transaction.{came, failed, blocked, freed, expired, without_oldest, with_round, unsent, other_letters_came, opt_was_refused, try_at};
 ghost use Rattle.hickory_resolver_flights.specs.Flights.{flight_of, octets_to_send, sent_by, names, settled, replied, heard_as, heard_by, heard, meaning_as, meaning_to, meaning, changed, kept_of};
 
 use crate::heard::Heard;
@@ -223,6 +223,13 @@ impl Flight {
         ensures { self.new ≡ changed freed self.old }
     {
         self.transaction.freed();
+    }
+
+    /// The oldest late try is given up, where there is one.
+    pub fn give_up_oldest(&mut self)
+        ensures { self.new ≡ changed without_oldest self.old }
+    {
+        self.transaction.give_up_oldest();
     }
 
     /// Time passed: the first that was due by now is not waited for any more. A refused call changes nothing.
