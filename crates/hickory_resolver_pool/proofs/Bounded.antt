@@ -32,7 +32,7 @@ use Rattle.hickory_resolver_transactions.specs.declared.transaction.Wanted.{Want
 use Rattle.hickory_resolver_tries.specs.Question.{question_of}
 use Rattle.hickory_resolver_tries.specs.declared.pool_question.PoolQuestion.{PoolQuestion}
 use Rattle.hickory_resolver_traffic.specs.Acting.{Acted, acted, acted_with, acted_on, parts_of, step_of}
-use Rattle.hickory_resolver_traffic.specs.Doing.{Scene, IsDone, act_on, before_act, moment_of, hears_octets, hear_of, after_first, heard_of_first, hears_first, hears, doubts_message, doubts_first, doubts, after_failed, fails_on, fails, stalls_on, stalls, leave_at, leaving_at, closed_at, freed_if, one_freed, leaves, is_empty, idle_until, quits_at, quits, place_on, after_quit, with_to_do, then_do, changing, expires, frees, draws, with_round_parts, blocks, sends, dates, is_stream}
+use Rattle.hickory_resolver_traffic.specs.Doing.{Scene, IsDone, act_on, before_act, moment_of, hears_octets, hear_of, after_first, heard_of_first, hears_first, hears, doubts_message, doubts_first, doubts, after_failed, fails_on, fails, stalls_on, stalls, leave_at, leaving_at, closed_at, freed_if, one_freed, leaves, is_empty, idle_until, quits_at, quits, place_on, after_quit, with_to_do, then_do, changing, expires, frees, draws, with_round_parts, gives_up, blocks, sends, dates, is_stream}
 use Rattle.hickory_resolver_traffic.specs.Groups.{GroupListState, list_in, list_at}
 use Rattle.hickory_resolver_traffic.specs.Inbox.{MessageValue, first_message, first_failure}
 use Rattle.hickory_resolver_traffic.specs.Table.{CurrentState, EntryState, without_blocked}
@@ -42,7 +42,7 @@ use Rattle.hickory_resolver_traffic.specs.declared.acting.Moment.{Moment}
 use Rattle.hickory_resolver_traffic.specs.declared.acting.ServerAct.{ServerAct}
 use Rattle.hickory_resolver_traffic.specs.declared.acting.ServerAct.TheVariants.{Hear, Fail, Expire, Send}
 use Rattle.hickory_resolver_traffic.specs.declared.doing.Doing.{Doing}
-use Rattle.hickory_resolver_traffic.specs.declared.doing.Doing.TheVariants.{Hears, Doubts, Stalls, Fails, Quits, PutsBack, Expires, Frees, Refused, Leaves, Ends, Draws, BeginsRound, Blocks, Sends, Dates, Rests}
+use Rattle.hickory_resolver_traffic.specs.declared.doing.Doing.TheVariants.{Hears, Doubts, Stalls, Fails, Quits, PutsBack, Expires, Frees, Refused, Leaves, Ends, Draws, BeginsRound, GivesUp, Blocks, Sends, Dates, Rests}
 use Rattle.hickory_resolver_traffic.specs.declared.entry.ToDo.TheVariants.{GoOn, PutBack}
 use Rattle.hickory_resolver_traffic.specs.declared.inbox.ChannelFailure.{ChannelFailure}
 use Rattle.hickory_resolver_traffic.specs.declared.inbox.Failure.{Failure}
@@ -252,6 +252,7 @@ module _ (limits : TrafficLimits) where
   tracks-done (BeginsRound place) x y is w =
       tracks-by x y (with_round_parts place x y.current.entry.flying) is.after
       (record { channels = w.channels; askers = w.askers })
+  tracks-done GivesUp x y is w = tracks-by x y (gives_up x) is (record { channels = w.channels; askers = w.askers })
   tracks-done Blocks x y is w = tracks-by x y (blocks x) is (record { channels = w.channels; askers = w.askers })
   tracks-done Sends x y is w =
       let v = tracks-act Send [] x w in
@@ -432,6 +433,7 @@ module _ (limits : TrafficLimits) where
   pool-put (Leaves place) c s w = record { channels = w.channels; askers = w.askers }
   pool-put Draws c s w = record { channels = w.channels; askers = w.askers }
   pool-put (BeginsRound place) c s w = record { channels = w.channels; askers = w.askers }
+  pool-put GivesUp c s w = record { channels = w.channels; askers = w.askers }
   pool-put Blocks c s w = record { channels = w.channels; askers = w.askers }
   pool-put Sends c s w = record { channels = w.channels; askers = w.askers }
   pool-put (Dates due) c s w = record { channels = w.channels; askers = w.askers }
@@ -461,13 +463,18 @@ module _ (limits : TrafficLimits) where
   pool-reached start _ w (by_step before after r is more) =
       pool-as (is_some before.traffic.outgoing) before after r is (pool-reached start before w more)
 
-pub stays_bounded : StaysBounded
-stays_bounded options limits seed s reached =
-    let w = pool-reached (limits_of limits options) (no_servers options limits seed) s
+pub tracked-reached : (options : OptionsValue) (limits : PoolLimits) (seed : List ℕ) (s : PoolState)
+    → Reached (no_servers options limits seed) s → Tracked (limits_of limits options) s.traffic
+tracked-reached options limits seed s reached =
+    pool-reached (limits_of limits options) (no_servers options limits seed) s
     (record {
       channels = record { events = []; made = refl };
       askers = record { events = []; made = refl };
-    }) reached in
+    }) reached
+
+pub stays_bounded : StaysBounded
+stays_bounded options limits seed s reached =
+    let w = tracked-reached options limits seed s reached in
     record {
       channels = subst (λ (c : ChannelsState). channels.IsWithinLimits (limits_of limits options).channels c)
           (sym w.channels.made)

@@ -1,2 +1,2 @@
-mod Bounded
+pub mod Bounded
 mod Stepping

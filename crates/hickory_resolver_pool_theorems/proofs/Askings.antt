@@ -36,7 +36,7 @@ use Rattle.hickory_resolver_traffic.specs.declared.inbox.Failure.TheVariants as 
 use Rattle.hickory_resolver_traffic.specs.declared.starting.Did.TheVariants as done
 use Rattle.hickory_resolver_traffic.specs.declared.tasks.Task.{Task}
 use Rattle.hickory_resolver_traffic.specs.declared.tasks.Task.TheVariants as task
-use Rattle.hickory_resolver_traffic.specs.declared.doing.Doing.TheVariants.{Hears, Doubts, Stalls, Fails, Quits, PutsBack, Expires, Frees, Refused, Leaves, Ends, Draws, BeginsRound, Blocks, Sends, Dates, Rests}
+use Rattle.hickory_resolver_traffic.specs.declared.doing.Doing.TheVariants.{Hears, Doubts, Stalls, Fails, Quits, PutsBack, Expires, Frees, Refused, Leaves, Ends, Draws, BeginsRound, GivesUp, Blocks, Sends, Dates, Rests}
 use Rattle.hickory_resolver_pool.specs.Laws.{PoolEvent, time_passes, group_has, is_asked, octets_come, channel_fails, is_forgotten, after_event}
 use Rattle.hickory_resolver_pool.specs.Pool.{PoolState, AskedOf, asked_eq, no_servers, settings_for, list_of, joiner_of, join_in, join_or_begin, ask_of, after_asking, asking_told, asked_of, told_to_joiner, asked_by, with_question, current_after, started, Starts, Carries, IsDoneTo, scene_of, is_end, is_put, StepsBy, StepsIn, StepsAs, Steps, let_go, put_by, without_question, is_its_own}
 use Rattle.hickory_resolver_pool.specs.Pool as pool
@@ -97,6 +97,7 @@ put-is Frees c s = record { entries = refl; none = refl; askers = refl; question
 put-is (Leaves place) c s = record { entries = refl; none = refl; askers = refl; questions = refl }
 put-is Draws c s = record { entries = refl; none = refl; askers = refl; questions = refl }
 put-is (BeginsRound place) c s = record { entries = refl; none = refl; askers = refl; questions = refl }
+put-is GivesUp c s = record { entries = refl; none = refl; askers = refl; questions = refl }
 put-is Blocks c s = record { entries = refl; none = refl; askers = refl; questions = refl }
 put-is Sends c s = record { entries = refl; none = refl; askers = refl; questions = refl }
 put-is (Dates due) c s = record { entries = refl; none = refl; askers = refl; questions = refl }

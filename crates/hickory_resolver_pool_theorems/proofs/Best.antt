@@ -6,10 +6,10 @@ use Rattle.std.specs.List.{list_any}
 use Rattle.std.specs.Option.{option_map_or}
 use Rattle.hickory_resolver_tries.specs.declared.outcome.ReplyOutcome.{ReplyOutcome}
 use Rattle.hickory_resolver_tries.specs.declared.outcome.ReplyOutcome.TheVariants as came
-use Rattle.hickory_resolver_transactions.specs.Candidates.{is_tried, is_blocked, waits_as, waits_on, is_due, sent_with, without_channel, requeued, freed_one, has_failed_by}
+use Rattle.hickory_resolver_transactions.specs.Candidates.{is_tried, is_waiting, is_blocked, is_try, waits_as, waits_on, is_due, sent_with, without_channel, requeued, freed_one, has_failed_by}
 use Rattle.hickory_resolver_transactions.specs.Outcomes.{better, rank_of}
 use Rattle.hickory_resolver_transactions.specs.Table.{has_room, may_change_to_tcp, may_begin_tcp, after_reply, after_refused_opt, after_other_letters, after_deadline, after_closed_stream, again_if, then_in, then_of_reply, then_of_refused_opt, then_of_other_letters, stays_believed}
-use Rattle.hickory_resolver_transactions.specs.Transaction.{TransactionState, replacing, putting, noting, with_late, noted_of_closed, kept_in, keeping, acted, acted_late, picked, candidate_at, late_at, late_came_to, late_replied, came_to, opt_was_refused, other_letters_came, failed_at, failed_in, failed, blocked_in, blocked, freed, expired_in, late_expired, expired, wants_round, with_round, chosen, sent, unsent}
+use Rattle.hickory_resolver_transactions.specs.Transaction.{TransactionState, replacing, putting, noting, without_oldest, late_too, with_late, noted_of_closed, kept_in, keeping, acted, gone_unless_waiting, acted_late, picked, candidate_at, late_at, late_came_to, late_replied, came_to, without_answered, opt_was_refused, other_letters_came, failed_at, failed_in, failed, blocked_in, blocked, freed, expired_in, late_expired, expired, wants_round, with_round, chosen, sent, unsent}
 use Rattle.hickory_resolver_transactions.specs.Transaction as transaction
 use Rattle.hickory_resolver_transactions.specs.declared.candidate.Candidate.{Candidate}
 use Rattle.hickory_resolver_transactions.specs.declared.candidate.LateTry.{LateTry}
@@ -67,13 +67,32 @@ module _ (P : Outcome → Type 0) (unreachable : P told.Unreachable) (timeout : 
       by true = better-told noted told.Unreachable h unreachable
       by false = h
 
+  pub tells-oldest : (s : TransactionState) → Tells s → Tells (without_oldest s)
+  tells-oldest s h =
+      told-noted s.ended s.noted (noted_of_closed s.late s.noted) (λ old. closed-told s.late s.noted old) h
+
+  tells-answered : (s : TransactionState) → Tells s → (outcome : ReplyOutcome) (channel id : ℕ)
+      → Tells (without_answered outcome channel id s)
+  tells-answered s h outcome channel id = by (stays_believed outcome)
+    where
+      by : (stays : Bool)
+          → Tells (cond stays s (record s { late = filter (λ l. not (is_try channel id l.tried)) s.late }))
+      by true = h
+      by false = h
+
+  tells-gone : (s : TransactionState) → Tells s → (c : Candidate) → Tells (gone_unless_waiting c s)
+  tells-gone s h c = by (is_waiting c.progress)
+    where
+      by : (waits : Bool) → Tells (cond waits s (putting progress.Gone c s))
+      by true = h
+      by false = h
+
   tells-late : (s : TransactionState) → Tells s → (l : LateTry) → Tells (with_late l s)
   tells-late s h l = by (ltb (length s.late) 2)
     where
-      by : (few : Bool) → Tells (cond few (record s { late = s.late ++ l ∷ [] })
-          (record s { late = drop 1 s.late ++ l ∷ []; noted = noted_of_closed s.late s.noted }))
+      by : (few : Bool) → Tells (cond few (late_too l s) (late_too l (without_oldest s)))
       by true = h
-      by false = told-noted s.ended s.noted (noted_of_closed s.late s.noted) (λ old. closed-told s.late s.noted old) h
+      by false = tells-oldest s h
 
   tells-kept : (s : TransactionState) → Tells s → (p : Progress) (place : ℕ) → Tells (kept_in p place s)
   tells-kept s h progress.Queued place = h
@@ -108,7 +127,7 @@ module _ (P : Outcome → Type 0) (unreachable : P told.Unreachable) (timeout : 
   tells-acted_late : (s : TransactionState) → Tells s → (t : Then) → MayTell t → (c : Candidate)
       → Tells (acted_late t c s)
   tells-acted_late s h (Ends reply) k c = k
-  tells-acted_late s h (Leaves o) k c = tells-noting (putting progress.Gone c s) h o k
+  tells-acted_late s h (Leaves o) k c = tells-noting (gone_unless_waiting c s) (tells-gone s h c) o k
   tells-acted_late s h (Rests o) k c = h
   tells-acted_late s h (Again way) k c = by (is_tried c.progress)
     where
@@ -152,18 +171,22 @@ module _ (P : Outcome → Type 0) (unreachable : P told.Unreachable) (timeout : 
         → Tells (transaction.came channel id outcome reply s)
     tells-came channel id outcome reply k = by (picked (waits_as channel id) s)
       where
-        at : (l : LateTry) (found : Option Candidate)
-            → Tells (option_map_or (λ c. late_came_to c l.tried outcome reply s) found s)
-        at l None = h
-        at l (Some c) =
-            tells-acted_late s h (after_reply c l.tried outcome reply) (may-reply c l.tried outcome reply k) c
+        after : TransactionState
+        after = without_answered outcome channel id s
 
-        late : (found : Option LateTry) → Tells (option_map_or (λ l. late_replied outcome reply l s) found s)
+        at : (l : LateTry) (found : Option Candidate)
+            → Tells (option_map_or (λ c. late_came_to c l.tried outcome reply after) found after)
+        at l None = tells-answered s h outcome channel id
+        at l (Some c) =
+            tells-acted_late after (tells-answered s h outcome channel id) (after_reply c l.tried outcome reply)
+            (may-reply c l.tried outcome reply k) c
+
+        late : (found : Option LateTry) → Tells (option_map_or (λ l. late_replied outcome reply l after) found s)
         late None = h
-        late (Some l) = at l (candidate_at l.place s)
+        late (Some l) = at l (candidate_at l.place after)
 
         by : (found : Option Candidate) → Tells (option_map_or (λ c. came_to c outcome reply s) found
-            (option_map_or (λ l. late_replied outcome reply l s) (late_at channel id s) s))
+            (option_map_or (λ l. late_replied outcome reply l after) (late_at channel id s) s))
         by None = late (late_at channel id s)
         by (Some c) =
             tells-acted s h (then_of_reply c outcome reply)

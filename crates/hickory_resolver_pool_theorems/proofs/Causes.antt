@@ -6,7 +6,7 @@ use Rattle.std.proofs.lemmas.List.Sums.{fold-append}
 use Rattle.hickory_resolver_servers.specs.Server.{ServerState}
 use Rattle.hickory_resolver_tries.specs.declared.outcome.ReplyOutcome.{ReplyOutcome}
 use Rattle.hickory_resolver_tries.specs.declared.outcome.ReplyOutcome.TheVariants as reply
-use Rattle.hickory_resolver_transactions.specs.Laws.{TransactionEvent, round_begins, is_sent, has_no_room, reply_came, opt_refused, letters_differ, channel_failed, no_channel, channel_free, time_passed, after_event, after_events}
+use Rattle.hickory_resolver_transactions.specs.Laws.{TransactionEvent, round_begins, is_sent, has_no_room, reply_came, opt_refused, letters_differ, channel_failed, no_channel, channel_free, oldest_given_up, time_passed, after_event, after_events}
 use Rattle.hickory_resolver_transactions.specs.Transaction.{TransactionState, begun_with}
 use Rattle.hickory_resolver_transactions.specs.declared.candidate.LateTry.{LateTry}
 use Rattle.hickory_resolver_transactions.specs.declared.outcome.Outcome.{Outcome}
@@ -14,7 +14,7 @@ use Rattle.hickory_resolver_transactions.specs.declared.outcome.Outcome.TheVaria
 use Rattle.hickory_resolver_transactions.specs.declared.settings.Settings.{Settings}
 use Rattle.hickory_resolver_pool_theorems.specs.Causes.{IsMade, HasRunOut, HasFailed}
 use Rattle.hickory_resolver_pool_theorems.proofs.Best.{best, told_by}
-use Rattle.hickory_resolver_pool_theorems.proofs.Reasons.{Well, FailedLate, well-came, well-opt, well-letters, well-failed, well-blocked, well-freed, well-unsent, well-sent, well-round, well-expired}
+use Rattle.hickory_resolver_pool_theorems.proofs.Reasons.{Well, FailedLate, well-came, well-opt, well-letters, well-failed, well-blocked, well-freed, well-oldest, well-unsent, well-sent, well-round, well-expired}
 
 -- ---- a transaction, one event later
 
@@ -123,6 +123,9 @@ module _ (start : TransactionState) where
   well-event done channel_free h =
       well-freed (Cause start (done ++ channel_free ∷ [])) (after_events start done)
       (well-more done (channel_free ∷ []) (after_events start done) h)
+  well-event done oldest_given_up h =
+      well-oldest (Cause start (done ++ oldest_given_up ∷ [])) (after_events start done)
+      (well-more done (oldest_given_up ∷ []) (after_events start done) h)
   well-event done (time_passed now) h =
       well-expired (Cause start (done ++ time_passed now ∷ [])) (after_events start done)
       (well-more done (time_passed now ∷ []) (after_events start done) h) now

@@ -10,7 +10,7 @@ use Rattle.hickory_resolver_traffic.specs.Doing.{doing, closed_by, id_of}
 use Rattle.hickory_resolver_traffic.specs.Table.{CurrentState, has_entry, first_due, first_blocked}
 use Rattle.hickory_resolver_traffic.specs.Inbox.{MessageValue, first_message, first_failure, first_unread}
 use Rattle.hickory_resolver_traffic.specs.declared.inbox.ChannelFailure.{ChannelFailure}
-use Rattle.hickory_resolver_traffic.specs.Tasks.{task_of, after_task, did, outgoing_task, took_up, did_open, did_write, taken_up, opening_of, if_by, if_kept_enough, came_in, ran_out, due_in, late_in, free_in, idle_in, free_one, message_in, failure_in, message_task, failure_task, failed_task, hears_or_doubts, passes_or_doubts, is_response, fails_or_drops, without_taken, expires_or_undates, refuses_or_strays, frees_or_unblocks, earlier, next_deadline}
+use Rattle.hickory_resolver_traffic.specs.Tasks.{task_of, after_task, did, outgoing_task, took_up, did_open, did_write, taken_up, opening_of, if_by, if_kept_enough, came_in, ran_out, due_in, refused_one, late_in, free_in, idle_in, free_one, message_in, failure_in, message_task, failure_task, failed_task, hears_or_doubts, passes_or_doubts, is_response, fails_or_drops, without_taken, expires_or_undates, refuses_or_strays, frees_or_unblocks, earlier, next_deadline}
 use Rattle.hickory_resolver_traffic.specs.Openings.{OpeningValue}
 use Rattle.hickory_resolver_traffic.specs.Traffic.{TrafficState, OutgoingValue}
 use Rattle.hickory_resolver_traffic.specs.declared.entry.ToDo.TheVariants.{GoOn, Hear, Fail, Expire, Free, Refuse}
@@ -146,7 +146,7 @@ module _ (t : TrafficState) where
       (map-other (expires_or_undates t.table) (option_and_then (if_by t.clock) (first_due t.table))
       (λ due. if-other (has_entry due.1 t.table) (task.TakesUp due.1 Expire) (task.Undates due.0 due.1) refl refl))
       (or-other (late_in t) (option_or (free_in t) (idle_in t))
-      (map-other (refuses_or_strays t.table) (late_one t.clock t.askers)
+      (map-other (refuses_or_strays t.table) (refused_one t)
       (λ n. if-other (has_entry n t.table) (task.TakesUp n Refuse) (task.Strays n) refl refl))
       (or-other (free_in t) (idle_in t)
       (map-other (frees_or_unblocks t.table) (free_one t)
@@ -157,7 +157,7 @@ module _ (t : TrafficState) where
   record IsNothing : Type 0 where
     out : t.outgoing ≡ None
     due : option_and_then (if_by t.clock) (first_due t.table) ≡ None
-    late : late_one t.clock t.askers ≡ None
+    refused : refused_one t ≡ None
     idle : option_and_then (if_kept_enough t) (first_idle t.shared.channels) ≡ None
 
   is-nothing : task_of t ≡ task.Admits → IsNothing
@@ -175,7 +175,7 @@ module _ (t : TrafficState) where
       record {
         out = map-none outgoing_task t.outgoing one.0;
         due = map-none (expires_or_undates t.table) (option_and_then (if_by t.clock) (first_due t.table)) three.0;
-        late = map-none (refuses_or_strays t.table) (late_one t.clock t.askers) four.0;
+        refused = map-none (refuses_or_strays t.table) (refused_one t) four.0;
         idle = map-none (λ (p : ℕ × ℕ). task.ClosesIdle p.1) (option_and_then (if_kept_enough t) (first_idle t.shared.channels)) five.1;
       }
 
@@ -222,13 +222,22 @@ module _ (t : TrafficState) where
       by true is h = absurd cc
       by false is h = leb-false f.1.until t.clock is
 
-  deadline-ahead : IsNothing → IsAhead (next_deadline t)
-  deadline-ahead nothing =
+  -- where there is a place none waits for it, and where there is none the first is not late
+  waiting-ahead : refused_one t ≡ None → to_admit t.askers ≡ None → IsAhead (ask.next_deadline t.askers)
+  waiting-ahead refused admits = by (ask.has_place t.askers) refused admits
+    where
+      by : (place : Bool) → cond place None (late_one t.clock t.askers) ≡ None
+          → cond place (first_waiting t.askers) None ≡ None → IsAhead (ask.next_deadline t.askers)
+      by true h none = subst (λ (f : Option (ℕ × WaitingValue)). IsAhead (option_map (λ first. first.1.until) f)) (sym none) tt
+      by false h none = late-ahead (first_waiting t.askers) h
+
+  deadline-ahead : IsNothing → to_admit t.askers ≡ None → IsAhead (next_deadline t)
+  deadline-ahead nothing admits =
       earlier-ahead (option_map (λ p. p.0) (first_due t.table))
       (earlier (ask.next_deadline t.askers) (option_map (λ p. p.0) (first_idle t.shared.channels)))
       (by-ahead (first_due t.table) nothing.due)
       (earlier-ahead (ask.next_deadline t.askers) (option_map (λ p. p.0) (first_idle t.shared.channels))
-      (late-ahead (first_waiting t.askers) nothing.late) (idle-ahead (first_idle t.shared.channels) nothing.idle))
+      (waiting-ahead nothing.refused admits) (idle-ahead (first_idle t.shared.channels) nothing.idle))
 
 -- ---- a step that finds nothing
 
@@ -239,7 +248,7 @@ module _ (s after : PoolState) where
     unchanged = is.1 ∙ same;
     works_on_none = none;
     sends_none = nothing.out;
-    ahead = λ due e. subst (λ (o : Option ℕ). IfSome o (λ d. s.traffic.clock < d)) e (deadline-ahead s.traffic nothing);
+    ahead = λ due e. subst (λ (o : Option ℕ). IfSome o (λ d. s.traffic.clock < d)) e (deadline-ahead s.traffic nothing admits.1);
   }
     where
       idle : did (task_of s.traffic) s.traffic ≡ done.Idle

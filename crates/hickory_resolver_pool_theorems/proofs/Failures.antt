@@ -5,7 +5,7 @@ use Rattle.std.specs.Option.{is_some, is_none, option_map_or}
 use Rattle.hickory_resolver_askers.specs.Askers.{askers_of}
 use Rattle.hickory_resolver_channels.specs.Channels.{has_place}
 use Rattle.hickory_resolver_steps.specs.Ending.{first_done}
-use Rattle.hickory_resolver_transactions.specs.Transaction.{told, outcome_of, is_idle, may_go_on, wants_round, wanted, next_deadline}
+use Rattle.hickory_resolver_transactions.specs.Transaction.{told, outcome_of, is_idle, may_go_on, wants_round, wanted, has_late, next_deadline}
 use Rattle.hickory_resolver_transactions.specs.declared.outcome.Outcome.{Outcome}
 use Rattle.hickory_resolver_transactions.specs.declared.outcome.Outcome.TheVariants as kind
 use Rattle.hickory_resolver_traffic.specs.Doing.{fails, is_ending, is_due, is_empty, going_on, forward, round_or_place, sends_or_blocks, at_rest, same_moment, by_failure, doing, doing_for}
@@ -13,7 +13,7 @@ use Rattle.hickory_resolver_traffic.specs.Inbox.{first_failure}
 use Rattle.hickory_resolver_traffic.specs.Table.{EntryState, is_blocked}
 use Rattle.hickory_resolver_traffic.specs.Traffic.{TrafficState}
 use Rattle.hickory_resolver_traffic.specs.declared.doing.Doing.{Doing}
-use Rattle.hickory_resolver_traffic.specs.declared.doing.Doing.TheVariants.{PutsBack, Expires, Refused, Leaves, Ends, Draws, BeginsRound, Blocks, Sends, Dates, Rests}
+use Rattle.hickory_resolver_traffic.specs.declared.doing.Doing.TheVariants.{PutsBack, Expires, Refused, Leaves, Ends, Draws, BeginsRound, GivesUp, Blocks, Sends, Dates, Rests}
 use Rattle.hickory_resolver_traffic.specs.declared.entry.ToDo.{ToDo}
 use Rattle.hickory_resolver_traffic.specs.declared.entry.ToDo.TheVariants as todo
 use Rattle.hickory_resolver_traffic.specs.declared.inbox.ChannelFailure.{ChannelFailure}
@@ -50,17 +50,19 @@ forward-on n e t = by (wants_round e.flying.flight.transaction) (is_some (wanted
     place None = refl
     place (Some p) = refl
 
-    send : (may : Bool) → is_end (cond may Sends Blocks) ≡ false
-    send true = refl
-    send false = refl
+    send : (place late noted : Bool) → is_end (cond place Sends (cond late GivesUp (cond noted Sends Blocks))) ≡ false
+    send true late noted = refl
+    send false true noted = refl
+    send false false true = refl
+    send false false false = refl
 
     rest : (same : Bool) → is_end (cond same Rests (Dates (next_deadline e.flying.flight.transaction))) ≡ false
     rest true = refl
     rest false = refl
 
-    by : (round wants : Bool) → is_end (cond round (round_or_place e) (cond wants (sends_or_blocks n t) (at_rest e))) ≡ false
+    by : (round wants : Bool) → is_end (cond round (round_or_place e) (cond wants (sends_or_blocks n e.flying.flight.transaction t) (at_rest e))) ≡ false
     by true wants = place e.place
-    by false true = send (has_place t.shared.channels || is_blocked n t.table)
+    by false true = send (has_place t.shared.channels) (has_late e.flying.flight.transaction) (is_blocked n t.table)
     by false false = rest (same_moment (next_deadline e.flying.flight.transaction) e.due)
 
 -- what is not ending is not at its end

@@ -9,7 +9,7 @@ use Rattle.hickory_resolver_tries.specs.declared.pool_question.PoolQuestion.{Poo
 use Rattle.hickory_resolver_traffic.specs.Doing.{doing}
 use Rattle.hickory_resolver_traffic.specs.Table.{CurrentState, EntryState}
 use Rattle.hickory_resolver_traffic.specs.declared.doing.Doing.{Doing}
-use Rattle.hickory_resolver_traffic.specs.declared.doing.Doing.TheVariants.{Hears, Doubts, Stalls, Fails, Quits, PutsBack, Expires, Frees, Refused, Leaves, Ends, Draws, BeginsRound, Blocks, Sends, Dates, Rests}
+use Rattle.hickory_resolver_traffic.specs.declared.doing.Doing.TheVariants.{Hears, Doubts, Stalls, Fails, Quits, PutsBack, Expires, Frees, Refused, Leaves, Ends, Draws, BeginsRound, GivesUp, Blocks, Sends, Dates, Rests}
 use Rattle.hickory_resolver_pool.specs.Over.{OverValue, told_as, is_of_reply}
 use Rattle.hickory_resolver_pool.specs.declared.over.PoolOutcome.{PoolOutcome}
 use Rattle.hickory_resolver_pool.specs.Pool.{no_servers, told_outcome, outcome_in, over_of, is_end}
@@ -37,6 +37,7 @@ ends-in Frees e is reply = absurd (true≢false (sym is))
 ends-in (Leaves place) e is reply = absurd (true≢false (sym is))
 ends-in Draws e is reply = absurd (true≢false (sym is))
 ends-in (BeginsRound place) e is reply = absurd (true≢false (sym is))
+ends-in GivesUp e is reply = absurd (true≢false (sym is))
 ends-in Blocks e is reply = absurd (true≢false (sym is))
 ends-in Sends e is reply = absurd (true≢false (sym is))
 ends-in (Dates due) e is reply = absurd (true≢false (sym is))

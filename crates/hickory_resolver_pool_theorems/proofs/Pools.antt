@@ -17,14 +17,14 @@ use Rattle.hickory_resolver_flights.specs.declared.heard.Heard.TheVariants.{Noth
 use Rattle.hickory_resolver_steps.specs.Ending.{try_at_place}
 use Rattle.hickory_resolver_steps.specs.Steps.{Parts, FlyingState, sent, out}
 use Rattle.hickory_resolver_steps.specs.declared.flying.SentTry.{SentTry}
-use Rattle.hickory_resolver_transactions.specs.Transaction.{TransactionState, wanted, with_round, failed, expired, blocked, freed, try_at}
+use Rattle.hickory_resolver_transactions.specs.Transaction.{TransactionState, wanted, with_round, failed, expired, blocked, freed, without_oldest, try_at}
 use Rattle.hickory_resolver_transactions.specs.declared.candidate.Try.{Try}
 use Rattle.hickory_resolver_tries.specs.Belief.{belief_of}
 use Rattle.hickory_resolver_tries.specs.declared.belief.Belief.{Belief}
 use Rattle.hickory_resolver_tries.specs.declared.belief.Belief.TheVariants as belief
 use Rattle.hickory_resolver_tries.specs.declared.pool_question.PoolQuestion.{PoolQuestion}
 use Rattle.hickory_resolver_traffic.specs.Acting.{Acted, acted, acted_with, acted_on, value_with, nothing_acted, parts_of, step_of, with_flight}
-use Rattle.hickory_resolver_traffic.specs.Doing.{Scene, IsDone, act_on, before_act, with_acted, moment_of, hears_octets, id_of, after_first, heard_of_first, hears_first, hears, doubts_message, doubts_first, doubts, after_failed, fails_on, fails, stalls_on, stalls, leave_at, leaving_at, closed_at, freed_if, one_freed, leaves, is_empty, quits_at, quits, place_on, after_quit, with_to_do, then_do, with_inbox, changing, expires, frees, draws, with_round_parts, blocks, sends, outgoing_of, with_outgoing, dates, is_stream, BeginsWith, round_of}
+use Rattle.hickory_resolver_traffic.specs.Doing.{Scene, IsDone, act_on, before_act, with_acted, moment_of, hears_octets, id_of, after_first, heard_of_first, hears_first, hears, doubts_message, doubts_first, doubts, after_failed, fails_on, fails, stalls_on, stalls, leave_at, leaving_at, closed_at, freed_if, one_freed, leaves, is_empty, quits_at, quits, place_on, after_quit, with_to_do, then_do, with_inbox, changing, expires, frees, draws, with_round_parts, gives_up, blocks, sends, outgoing_of, with_outgoing, dates, is_stream, BeginsWith, round_of}
 use Rattle.hickory_resolver_traffic.specs.Groups.{GroupListState, list_in, list_at}
 use Rattle.hickory_resolver_traffic.specs.Inbox.{InboxState, MessageValue, first_message, first_failure, without_message, without_failure, with_failure}
 use Rattle.hickory_resolver_traffic.specs.Table.{CurrentState, EntryState, entry_at, without_blocked}
@@ -36,7 +36,7 @@ use Rattle.hickory_resolver_traffic.specs.declared.acting.ServerAct.{ServerAct}
 use Rattle.hickory_resolver_traffic.specs.declared.acting.ServerAct.TheVariants.{Hear, Fail, Expire, Send}
 use Rattle.hickory_resolver_traffic.specs.declared.acting.Moment.{Moment}
 use Rattle.hickory_resolver_traffic.specs.declared.doing.Doing.{Doing}
-use Rattle.hickory_resolver_traffic.specs.declared.doing.Doing.TheVariants.{Hears, Doubts, Stalls, Fails, Quits, PutsBack, Expires, Frees, Refused, Leaves, Ends, Draws, BeginsRound, Blocks, Sends, Dates, Rests}
+use Rattle.hickory_resolver_traffic.specs.declared.doing.Doing.TheVariants.{Hears, Doubts, Stalls, Fails, Quits, PutsBack, Expires, Frees, Refused, Leaves, Ends, Draws, BeginsRound, GivesUp, Blocks, Sends, Dates, Rests}
 use Rattle.hickory_resolver_traffic.specs.declared.entry.ToDo.{ToDo}
 use Rattle.hickory_resolver_traffic.specs.declared.entry.ToDo.TheVariants.{GoOn, PutBack}
 use Rattle.hickory_resolver_traffic.specs.declared.inbox.ChannelFailure.{ChannelFailure}
@@ -48,9 +48,9 @@ use Rattle.hickory_resolver_traffic.specs.declared.tasks.Task.TheVariants as tas
 use Rattle.hickory_resolver_pool.specs.Pool.{current_after}
 use Rattle.hickory_resolver_pool_theorems.specs.Runs.{Happening}
 use Rattle.hickory_resolver_pool_theorems.specs.Wire.{CameOn}
-use Rattle.hickory_resolver_pool_theorems.proofs.Tries.{sent-failed, sent-blocked, sent-freed, sent-round, sent-expired}
-use Rattle.hickory_resolver_pool_theorems.proofs.Best.{tells-failed, tells-blocked, tells-freed, tells-round, tells-expired}
-use Rattle.hickory_resolver_transactions.specs.Laws.{round_begins, channel_failed, no_channel, channel_free, time_passed}
+use Rattle.hickory_resolver_pool_theorems.proofs.Tries.{sent-failed, sent-blocked, sent-freed, sent-oldest, sent-round, sent-expired}
+use Rattle.hickory_resolver_pool_theorems.proofs.Best.{tells-failed, tells-blocked, tells-freed, tells-oldest, tells-round, tells-expired}
+use Rattle.hickory_resolver_transactions.specs.Laws.{round_begins, channel_failed, no_channel, channel_free, oldest_given_up, time_passed}
 use Rattle.hickory_resolver_pool_theorems.proofs.Causes.{made-next}
 use Rattle.hickory_resolver_pool_theorems.proofs.Boxes.{IsBox, box-message, box-without_message, box-failures, box-without_stream, box-cut}
 use Rattle.hickory_resolver_pool_theorems.proofs.Flights.{IsHeld, KeepsBest, Was, held-as, held-changed, held-heard}
@@ -172,6 +172,15 @@ module _ (past : List Happening) where
           (λ a. sent-freed (W n p) tr a)
           (λ k. tells-freed (KeepsBest past n p f.flight.kept) tt tt tr k)
           (λ m. made-next tr channel_free m);
+      question = w.question;
+    }
+
+    flying-oldest : IsAfter without_oldest
+    flying-oldest = record {
+      flight = held-changed (W n p) past n f.flight without_oldest w.flight
+          (λ a. sent-oldest (W n p) tr a)
+          (λ k. tells-oldest (KeepsBest past n p f.flight.kept) tt tt tr k)
+          (λ m. made-next tr oldest_given_up m);
       question = w.question;
     }
 
@@ -298,6 +307,12 @@ module _ (past : List Happening) where
             }))
         by true = record { traffic = record { box = w.traffic.box; table = w.traffic.table }; current = own }
         by false = record { traffic = record { box = w.traffic.box; table = w.traffic.table }; current = own }
+
+    scene-gives_up : IsOver (gives_up x)
+    scene-gives_up = record {
+      traffic = record { box = w.traffic.box; table = w.traffic.table };
+      current = flying-oldest c.number c.entry.asked.1 c.entry.flying w.current;
+    }
 
     scene-stalls : IsOver (stalls x)
     scene-stalls = by (first_failure x.traffic.inbox)
@@ -495,6 +510,7 @@ module _ (past : List Happening) where
   scene-other (BeginsRound place) x y is other w =
       scene-by (with_round_parts place x y.current.entry.flying) y is.after
       (scene-round x w place y.current.entry.flying is.begins)
+  scene-other GivesUp x y is other w = scene-by (gives_up x) y is (scene-gives_up x w)
   scene-other Blocks x y is other w =
       scene-by (blocks x) y is
       (record { traffic = record { box = w.traffic.box; table = w.traffic.table }; current = w.current })
@@ -519,6 +535,7 @@ module _ (past : List Happening) where
   scene-done (Leaves place) x y is w = scene-sent y (scene-other (Leaves place) x y is (λ e. absurd cc) w)
   scene-done Draws x y is w = scene-sent y (scene-other Draws x y is (λ e. absurd cc) w)
   scene-done (BeginsRound place) x y is w = scene-sent y (scene-other (BeginsRound place) x y is (λ e. absurd cc) w)
+  scene-done GivesUp x y is w = scene-sent y (scene-other GivesUp x y is (λ e. absurd cc) w)
   scene-done Blocks x y is w = scene-sent y (scene-other Blocks x y is (λ e. absurd cc) w)
   scene-done (Dates due) x y is w = scene-sent y (scene-other (Dates due) x y is (λ e. absurd cc) w)
   scene-done PutsBack x y is w = scene-sent y (scene-other PutsBack x y is (λ e. absurd cc) w)

@@ -6,10 +6,10 @@ use Rattle.std.specs.List.{AllByRecursion, list_any}
 use Rattle.std.specs.Option.{option_map_or}
 use Rattle.hickory_resolver_tries.specs.declared.outcome.ReplyOutcome.{ReplyOutcome}
 use Rattle.hickory_resolver_tries.specs.declared.outcome.ReplyOutcome.TheVariants as came
-use Rattle.hickory_resolver_transactions.specs.Candidates.{is_tried, is_blocked, waits_as, waits_on, is_due, sent_with, without_channel, blocked_as, requeued, freed_one, has_failed_by}
+use Rattle.hickory_resolver_transactions.specs.Candidates.{is_tried, is_waiting, is_blocked, is_try, waits_as, waits_on, is_due, sent_with, without_channel, blocked_as, requeued, freed_one, has_failed_by}
 use Rattle.hickory_resolver_transactions.specs.Outcomes.{better, rank_of}
 use Rattle.hickory_resolver_transactions.specs.Table.{has_room, may_change_to_tcp, may_begin_tcp, after_reply, after_refused_opt, after_other_letters, after_deadline, after_closed_stream, again_if, then_in, then_of_reply, then_of_refused_opt, then_of_other_letters, stays_believed}
-use Rattle.hickory_resolver_transactions.specs.Transaction.{TransactionState, replacing, putting, noting, with_late, noted_of_closed, kept_in, keeping, acted, acted_late, picked, candidate_at, late_at, late_came_to, late_replied, came_to, opt_was_refused, other_letters_came, failed_at, failed_in, failed, blocked_in, blocked, freed, expired_in, late_expired, expired, wants_round, with_round, chosen, sent, unsent}
+use Rattle.hickory_resolver_transactions.specs.Transaction.{TransactionState, replacing, putting, noting, without_oldest, late_too, with_late, noted_of_closed, kept_in, keeping, acted, gone_unless_waiting, acted_late, picked, candidate_at, late_at, late_came_to, late_replied, came_to, without_answered, opt_was_refused, other_letters_came, failed_at, failed_in, failed, blocked_in, blocked, freed, expired_in, late_expired, expired, wants_round, with_round, chosen, sent, unsent}
 use Rattle.hickory_resolver_transactions.specs.Transaction as transaction
 use Rattle.hickory_resolver_transactions.specs.declared.candidate.Candidate.{Candidate}
 use Rattle.hickory_resolver_transactions.specs.declared.candidate.LateTry.{LateTry}
@@ -92,17 +92,19 @@ module _ (P : Outcome → Type 0) where
       by true is = better-told noted told.Unreachable h (all.0 is)
       by false is = h
 
+  pub well-oldest : (s : TransactionState) → Well s → Well (without_oldest s)
+  well-oldest s h = record {
+    told = told-noted s.ended s.noted (noted_of_closed s.late s.noted)
+        (λ old. closed-told s.late s.noted h.late old) h.told;
+    late = dropped s.late h.late;
+  }
+
   well-late : (s : TransactionState) → Well s → (l : LateTry) → FailedLate l → Well (with_late l s)
   well-late s h l k = by (ltb (length s.late) 2)
     where
-      by : (few : Bool) → Well (cond few (record s { late = s.late ++ l ∷ [] })
-          (record s { late = drop 1 s.late ++ l ∷ []; noted = noted_of_closed s.late s.noted }))
+      by : (few : Bool) → Well (cond few (late_too l s) (late_too l (without_oldest s)))
       by true = record { told = h.told; late = pushed l s.late k h.late }
-      by false = record {
-        told = told-noted s.ended s.noted (noted_of_closed s.late s.noted)
-            (λ old. closed-told s.late s.noted h.late old) h.told;
-        late = pushed l (drop 1 s.late) k (dropped s.late h.late);
-      }
+      by false = record { told = (well-oldest s h).told; late = pushed l (drop 1 s.late) k (dropped s.late h.late) }
 
   well-replacing : (s : TransactionState) → Well s → (c : Candidate) → Well (replacing c s)
   well-replacing s h c = record { told = h.told; late = h.late }
@@ -146,10 +148,25 @@ module _ (P : Outcome → Type 0) where
       well-replacing (keeping keeps c s) (well-keeping s h keeps c) (record c { progress = progress.Again way None })
   well-acted s h Nothing k keeps c = h
 
+  well-answered : (s : TransactionState) → Well s → (outcome : ReplyOutcome) (channel id : ℕ)
+      → Well (without_answered outcome channel id s)
+  well-answered s h outcome channel id = by (stays_believed outcome)
+    where
+      by : (stays : Bool)
+          → Well (cond stays s (record s { late = filter (λ l. not (is_try channel id l.tried)) s.late }))
+      by true = h
+      by false = record { told = h.told; late = filtered (λ l. not (is_try channel id l.tried)) s.late h.late }
+
+  well-gone : (s : TransactionState) → Well s → (c : Candidate) → Well (gone_unless_waiting c s)
+  well-gone s h c = by (is_waiting c.progress)
+    where
+      by : (waits : Bool) → Well (cond waits s (putting progress.Gone c s))
+      by true = h
+      by false = well-replacing s h (record c { progress = progress.Gone })
+
   well-acted_late : (s : TransactionState) → Well s → (t : Then) → MayTell t → (c : Candidate) → Well (acted_late t c s)
   well-acted_late s h (Ends reply) k c = well-ending s h reply k
-  well-acted_late s h (Leaves o) k c =
-      well-noting (putting progress.Gone c s) (well-replacing s h (record c { progress = progress.Gone })) o k
+  well-acted_late s h (Leaves o) k c = well-noting (gone_unless_waiting c s) (well-gone s h c) o k
   well-acted_late s h (Rests o) k c = h
   well-acted_late s h (Again way) k c = by (is_tried c.progress)
     where
@@ -193,18 +210,22 @@ module _ (P : Outcome → Type 0) where
         → Well (transaction.came channel id outcome reply s)
     well-came channel id outcome reply k = by (picked (waits_as channel id) s)
       where
-        at : (l : LateTry) (found : Option Candidate)
-            → Well (option_map_or (λ c. late_came_to c l.tried outcome reply s) found s)
-        at l None = h
-        at l (Some c) =
-            well-acted_late s h (after_reply c l.tried outcome reply) (may-reply c l.tried outcome reply k) c
+        after : TransactionState
+        after = without_answered outcome channel id s
 
-        late : (found : Option LateTry) → Well (option_map_or (λ l. late_replied outcome reply l s) found s)
+        at : (l : LateTry) (found : Option Candidate)
+            → Well (option_map_or (λ c. late_came_to c l.tried outcome reply after) found after)
+        at l None = well-answered s h outcome channel id
+        at l (Some c) =
+            well-acted_late after (well-answered s h outcome channel id) (after_reply c l.tried outcome reply)
+            (may-reply c l.tried outcome reply k) c
+
+        late : (found : Option LateTry) → Well (option_map_or (λ l. late_replied outcome reply l after) found s)
         late None = h
-        late (Some l) = at l (candidate_at l.place s)
+        late (Some l) = at l (candidate_at l.place after)
 
         by : (found : Option Candidate) → Well (option_map_or (λ c. came_to c outcome reply s) found
-            (option_map_or (λ l. late_replied outcome reply l s) (late_at channel id s) s))
+            (option_map_or (λ l. late_replied outcome reply l after) (late_at channel id s) s))
         by None = late (late_at channel id s)
         by (Some c) =
             well-acted s h (then_of_reply c outcome reply)

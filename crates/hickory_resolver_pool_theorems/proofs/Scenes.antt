@@ -8,12 +8,12 @@ use Rattle.hickory_resolver_flights.specs.declared.heard.Heard.TheVariants.{Noth
 use Rattle.hickory_resolver_steps.specs.Ending.{try_at_place}
 use Rattle.hickory_resolver_steps.specs.declared.flying.SentTry.{SentTry}
 use Rattle.hickory_resolver_transactions.specs.Transaction.{wanted, freed}
-use Rattle.hickory_resolver_traffic.specs.Doing.{Scene, IsDone, hears_octets, after_first, heard_of_first, hears_first, hears, doubts_message, doubts, is_empty, fails_on, after_failed, fails, act_on, stalls_on, stalls, leaving_at, leave_at, closed_at, freed_if, leaves, quits_at, after_quit, quits, place_on, with_to_do, expires, frees, then_do, changing, draws, blocks, sends, dates, with_round_parts, is_stream}
+use Rattle.hickory_resolver_traffic.specs.Doing.{Scene, IsDone, hears_octets, after_first, heard_of_first, hears_first, hears, doubts_message, doubts, is_empty, fails_on, after_failed, fails, act_on, stalls_on, stalls, leaving_at, leave_at, closed_at, freed_if, leaves, quits_at, after_quit, quits, place_on, with_to_do, expires, frees, then_do, changing, draws, gives_up, blocks, sends, dates, with_round_parts, is_stream}
 use Rattle.hickory_resolver_traffic.specs.Inbox.{MessageValue, first_message, first_failure}
 use Rattle.hickory_resolver_traffic.specs.Table.{without_blocked}
 use Rattle.hickory_resolver_traffic.specs.declared.acting.ServerAct.TheVariants.{Fail}
 use Rattle.hickory_resolver_traffic.specs.declared.doing.Doing.{Doing}
-use Rattle.hickory_resolver_traffic.specs.declared.doing.Doing.TheVariants.{Hears, Doubts, Stalls, Fails, Quits, PutsBack, Expires, Frees, Refused, Leaves, Ends, Draws, BeginsRound, Blocks, Sends, Dates, Rests}
+use Rattle.hickory_resolver_traffic.specs.declared.doing.Doing.TheVariants.{Hears, Doubts, Stalls, Fails, Quits, PutsBack, Expires, Frees, Refused, Leaves, Ends, Draws, BeginsRound, GivesUp, Blocks, Sends, Dates, Rests}
 use Rattle.hickory_resolver_traffic.specs.declared.entry.ToDo.TheVariants as todo
 use Rattle.hickory_resolver_traffic.specs.declared.inbox.ChannelFailure.{ChannelFailure}
 
@@ -157,6 +157,7 @@ same-done (Leaves place) x y is =
 same-done Draws x y is = same-by x y (draws x) is (record { number = refl; asked = refl; to_do = λ h. h; entries = refl; askers = refl })
 same-done (BeginsRound place) x y is =
     same-by x y (with_round_parts place x y.current.entry.flying) is.after (record { number = refl; asked = refl; to_do = λ h. h; entries = refl; askers = refl })
+same-done GivesUp x y is = same-by x y (gives_up x) is (record { number = refl; asked = refl; to_do = λ h. h; entries = refl; askers = refl })
 same-done Blocks x y is = same-by x y (blocks x) is (record { number = refl; asked = refl; to_do = λ h. h; entries = refl; askers = refl })
 same-done Sends x y is = same-by x y (sends x) is (record { number = refl; asked = refl; to_do = λ h. h; entries = refl; askers = refl })
 same-done (Dates due) x y is = same-by x y (dates due x) is (record { number = refl; asked = refl; to_do = λ h. h; entries = refl; askers = refl })

@@ -5,7 +5,7 @@ use Rattle.std.specs.List.{fold, filter_map, cons_option, list_any}
 use Rattle.std.specs.Option.{option_map_or}
 use Rattle.hickory_resolver_transactions.specs.Candidates.{is_waiting, is_blocked, due_of, is_due, is_past, late_due, has_failed_by}
 use Rattle.hickory_resolver_transactions.specs.Table.{after_deadline, may_begin_tcp}
-use Rattle.hickory_resolver_transactions.specs.Transaction.{TransactionState, replaced, noting, with_late, noted_of_closed, kept_in, acted, picked, earlier, next_deadline, expired_in, late_expired, expired}
+use Rattle.hickory_resolver_transactions.specs.Transaction.{TransactionState, replaced, noting, without_oldest, late_too, with_late, kept_in, acted, picked, earlier, next_deadline, expired_in, late_expired, expired}
 use Rattle.hickory_resolver_transactions.specs.declared.candidate.Candidate.{Candidate}
 use Rattle.hickory_resolver_transactions.specs.declared.candidate.LateTry.{LateTry}
 use Rattle.hickory_resolver_transactions.specs.declared.candidate.Progress.{Progress}
@@ -187,10 +187,9 @@ module _ (t : TransactionState) (now : ℕ) (places : HasPlaces 0 t.candidates) 
       → (failed_in (with_late l s).late ≤ failed_in s.late) × ((with_late l s).candidates ≡ s.candidates)
   kept-late s l e = by (ltb (length s.late) 2)
     where
-      by : (few : Bool) → (failed_in (cond few (record s { late = s.late ++ l ∷ [] })
-          (record s { late = drop 1 s.late ++ l ∷ []; noted = noted_of_closed s.late s.noted })).late ≤ failed_in s.late)
-          × ((cond few (record s { late = s.late ++ l ∷ [] })
-          (record s { late = drop 1 s.late ++ l ∷ []; noted = noted_of_closed s.late s.noted })).candidates ≡ s.candidates)
+      by : (few : Bool)
+          → (failed_in (cond few (late_too l s) (late_too l (without_oldest s))).late ≤ failed_in s.late)
+          × ((cond few (late_too l s) (late_too l (without_oldest s))).candidates ≡ s.candidates)
       by true = (omega (arith, failed-pushed s.late l e), refl)
       by false = (omega (arith, failed-pushed (drop 1 s.late) l e, failed-dropped s.late), refl)
 

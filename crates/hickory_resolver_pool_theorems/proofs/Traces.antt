@@ -26,7 +26,7 @@ use Rattle.hickory_resolver_traffic.specs.Tasks.{task_of, after_task, outgoing_t
 use Rattle.hickory_resolver_traffic.specs.Tasks as tasks
 use Rattle.hickory_resolver_traffic.specs.Traffic.{TrafficState, OutgoingValue, ticked, begun_as, begun_with, entry_of, came_on, came, failed_on, failed, joined, begun}
 use Rattle.hickory_resolver_traffic.specs.declared.doing.Doing.{Doing}
-use Rattle.hickory_resolver_traffic.specs.declared.doing.Doing.TheVariants.{Hears, Doubts, Stalls, Fails, Quits, PutsBack, Expires, Frees, Refused, Leaves, Ends, Draws, BeginsRound, Blocks, Sends, Dates, Rests}
+use Rattle.hickory_resolver_traffic.specs.declared.doing.Doing.TheVariants.{Hears, Doubts, Stalls, Fails, Quits, PutsBack, Expires, Frees, Refused, Leaves, Ends, Draws, BeginsRound, GivesUp, Blocks, Sends, Dates, Rests}
 use Rattle.hickory_resolver_traffic.specs.declared.inbox.ChannelFailure.{ChannelFailure}
 use Rattle.hickory_resolver_traffic.specs.declared.tasks.Task.{Task}
 use Rattle.hickory_resolver_traffic.specs.declared.tasks.Task.TheVariants as task
@@ -485,6 +485,7 @@ module _ (past : List Happening) (s t : PoolState) (r : Option Action) where
       away (Leaves place) = record { traffic = put; current = tt }
       away Draws = record { traffic = put; current = tt }
       away (BeginsRound place) = record { traffic = put; current = tt }
+      away GivesUp = record { traffic = put; current = tt }
       away Blocks = record { traffic = put; current = tt }
       away Sends = record { traffic = put; current = tt }
       away (Dates due) = record { traffic = put; current = tt }

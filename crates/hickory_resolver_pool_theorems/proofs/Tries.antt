@@ -10,9 +10,9 @@ use Rattle.hickory_resolver_tries.specs.Outcome as reply
 use Rattle.hickory_resolver_tries.specs.declared.belief.Belief.{Belief}
 use Rattle.hickory_resolver_tries.specs.declared.belief.Belief.TheVariants as belief
 use Rattle.hickory_resolver_tries.specs.declared.outcome.ReplyOutcome.{ReplyOutcome}
-use Rattle.hickory_resolver_transactions.specs.Candidates.{candidate_of, is_tried, is_blocked, is_try, waits_as, waits_on, is_due, way_of, way_of_try, try_made, uncounted, counted, sent_with, without_channel, blocked_as, requeued, freed_one, freed_progress, has_failed_by}
+use Rattle.hickory_resolver_transactions.specs.Candidates.{candidate_of, is_tried, is_waiting, is_blocked, is_try, waits_as, waits_on, is_due, way_of, way_of_try, try_made, uncounted, counted, sent_with, without_channel, blocked_as, requeued, freed_one, freed_progress, has_failed_by}
 use Rattle.hickory_resolver_transactions.specs.Table.{after_reply, after_deadline, after_closed_stream, then_of_reply, then_of_refused_opt, then_of_other_letters, stays_believed}
-use Rattle.hickory_resolver_transactions.specs.Transaction.{TransactionState, begun_with, replaced, replacing, putting, noting, with_late, noted_of_closed, kept_in, keeping, acted, acted_late, picked, candidate_at, late_at, late_came_to, late_replied, came_to, came, opt_was_refused, other_letters_came, failed_at, failed_in, failed, blocked_in, blocked, freed, expired_in, late_expired, expired, wants_round, with_round, chosen, sent, unsent, try_in, try_at}
+use Rattle.hickory_resolver_transactions.specs.Transaction.{TransactionState, begun_with, replaced, replacing, putting, noting, without_oldest, late_too, with_late, kept_in, keeping, acted, gone_unless_waiting, acted_late, picked, candidate_at, late_at, late_came_to, late_replied, came_to, without_answered, came, opt_was_refused, other_letters_came, failed_at, failed_in, failed, blocked_in, blocked, freed, expired_in, late_expired, expired, wants_round, with_round, chosen, sent, unsent, try_in, try_at}
 use Rattle.hickory_resolver_transactions.specs.declared.candidate.Candidate.{Candidate}
 use Rattle.hickory_resolver_transactions.specs.declared.candidate.LateTry.{LateTry}
 use Rattle.hickory_resolver_transactions.specs.declared.candidate.Made.{Made}
@@ -102,11 +102,28 @@ module _ (P : Try → Type 0) where
     sent-ending : (reply : ℕ) → AreSent (record s { ended = Some reply })
     sent-ending reply = record { waiting = h.waiting; late = h.late }
 
+    pub sent-oldest : AreSent (without_oldest s)
+    sent-oldest = record { waiting = h.waiting; late = late-dropped s.late h.late }
+
+    sent-answered : (outcome : ReplyOutcome) (channel id : ℕ) → AreSent (without_answered outcome channel id s)
+    sent-answered outcome channel id = by (stays_believed outcome)
+      where
+        by : (stays : Bool)
+            → AreSent (cond stays s (record s { late = filter (λ l. not (is_try channel id l.tried)) s.late }))
+        by true = h
+        by false = record { waiting = h.waiting; late = late-filtered (λ l. not (is_try channel id l.tried)) s.late h.late }
+
+    sent-gone : (c : Candidate) → AreSent (gone_unless_waiting c s)
+    sent-gone c = by (is_waiting c.progress)
+      where
+        by : (waits : Bool) → AreSent (cond waits s (putting progress.Gone c s))
+        by true = h
+        by false = sent-replacing (record c { progress = progress.Gone }) tt
+
     sent-late : (l : LateTry) → LateBy l → AreSent (with_late l s)
     sent-late l k = by (ltb (length s.late) 2)
       where
-        by : (few : Bool) → AreSent (cond few (record s { late = s.late ++ l ∷ [] })
-            (record s { late = drop 1 s.late ++ l ∷ []; noted = noted_of_closed s.late s.noted }))
+        by : (few : Bool) → AreSent (cond few (late_too l s) (late_too l (without_oldest s)))
         by true = record { waiting = h.waiting; late = late-pushed l s.late k h.late }
         by false = record { waiting = h.waiting; late = late-pushed l (drop 1 s.late) k (late-dropped s.late h.late) }
 
@@ -139,9 +156,7 @@ module _ (P : Try → Type 0) where
 
   sent-acted_late : (s : TransactionState) → AreSent s → (t : Then) (c : Candidate) → AreSent (acted_late t c s)
   sent-acted_late s h (Ends reply) c = sent-ending s h reply
-  sent-acted_late s h (Leaves o) c =
-      let put = sent-replacing s h (record c { progress = progress.Gone }) tt in
-      sent-noting (putting progress.Gone c s) put o
+  sent-acted_late s h (Leaves o) c = sent-noting (gone_unless_waiting c s) (sent-gone s h c) o
   sent-acted_late s h (Rests o) c = h
   sent-acted_late s h (Again way) c = by (is_tried c.progress)
     where
@@ -156,18 +171,22 @@ module _ (P : Try → Type 0) where
     sent-came : (channel id : ℕ) (outcome : ReplyOutcome) (reply : ℕ) → AreSent (came channel id outcome reply s)
     sent-came channel id outcome reply = by (picked (waits_as channel id) s) refl
       where
-        at : (l : LateTry) (found : Option Candidate)
-            → AreSent (option_map_or (λ c. late_came_to c l.tried outcome reply s) found s)
-        at l None = h
-        at l (Some c) = sent-acted_late s h (after_reply c l.tried outcome reply) c
+        after : TransactionState
+        after = without_answered outcome channel id s
 
-        late : (found : Option LateTry) → AreSent (option_map_or (λ l. late_replied outcome reply l s) found s)
+        at : (l : LateTry) (found : Option Candidate)
+            → AreSent (option_map_or (λ c. late_came_to c l.tried outcome reply after) found after)
+        at l None = sent-answered s h outcome channel id
+        at l (Some c) =
+            sent-acted_late after (sent-answered s h outcome channel id) (after_reply c l.tried outcome reply) c
+
+        late : (found : Option LateTry) → AreSent (option_map_or (λ l. late_replied outcome reply l after) found s)
         late None = h
-        late (Some l) = at l (candidate_at l.place s)
+        late (Some l) = at l (candidate_at l.place after)
 
         by : (found : Option Candidate) → picked (waits_as channel id) s ≡ found
             → AreSent (option_map_or (λ c. came_to c outcome reply s) found
-            (option_map_or (λ l. late_replied outcome reply l s) (late_at channel id s) s))
+            (option_map_or (λ l. late_replied outcome reply l after) (late_at channel id s) s))
         by None e = late (late_at channel id s)
         by (Some c) e =
             sent-acted s h (then_of_reply c outcome reply) (stays_believed outcome) c

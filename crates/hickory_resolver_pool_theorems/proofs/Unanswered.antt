@@ -140,7 +140,7 @@ module _ (past : List Happening) (s : PoolState) (o : OverValue) (end : IsEnd s 
         made = made;
         failed =
             let last = is-out tr.ended (is_idle tr) (may_go_on tr) tr.noted (sym ended.outcome ∙ is) ended.over in
-            inr (none-asked made.settings made.servers made.events made.rounds tr made.made none last.ended_is last.idle_is last.more_is);
+            none-asked made.settings made.servers made.events made.rounds tr made.made none last.ended_is last.idle_is last.more_is;
       }
 
 pub timeouts_ran_out : TimeoutsRanOut

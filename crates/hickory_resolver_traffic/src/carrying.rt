@@ -6,7 +6,7 @@ ghost use Rattle.hickory_resolver_steps.specs.Ending.{ended_of, try_at_place, ch
 ghost use Rattle.hickory_resolver_transactions.specs.Transaction.{places_left};
 ghost use Rattle.hickory_resolver_traffic.specs.Groups.{list_at, list_in};
 ghost use Rattle.hickory_resolver_traffic.specs.Inbox.{first_message, first_failure};
-ghost use Rattle.hickory_resolver_traffic.specs.Doing.{Scene, id_of, act_on, value_of_act, with_to_do, after_heard, hear_of, heard_of_first, hears_first, hears, is_stream_kind, is_stream, broken, doubted, doubts_first, doubts, after_failed, fails_on, fails, stalls_on, stalls, idle_until, leaving_at, leave_at, closed_if, closed_at, one_freed, freed_if, leaves, is_on, place_on, after_quit, quits_at, quits, closed_by_quitting, expires, after_free, frees, draws, blocks, outgoing_of, with_outgoing, sends, dates, round_of, with_probe, with_round_parts, in_order_of, probed_lists, IsRound, BeginsWith, BeginsRoundIn, IsDone, closed_by};
+ghost use Rattle.hickory_resolver_traffic.specs.Doing.{Scene, id_of, act_on, value_of_act, with_to_do, after_heard, hear_of, heard_of_first, hears_first, hears, is_stream_kind, is_stream, broken, doubted, doubts_first, doubts, after_failed, fails_on, fails, stalls_on, stalls, idle_until, leaving_at, leave_at, closed_if, closed_at, one_freed, freed_if, leaves, is_on, place_on, after_quit, quits_at, quits, closed_by_quitting, expires, after_free, frees, draws, gives_up, blocks, outgoing_of, with_outgoing, sends, dates, round_of, with_probe, with_round_parts, in_order_of, probed_lists, IsRound, BeginsWith, BeginsRoundIn, IsDone, closed_by};
 
 use crate::acting::{ActedParts, ServerAct, act, later};
 use crate::choices::IDLE_FOR;
@@ -436,6 +436,7 @@ impl Traffic {
             Doing::Frees => self.free(current),
             Doing::Draws => self.draw(current),
             Doing::BeginsRound(place) => self.begin_round(current, place)?,
+            Doing::GivesUp => current.entry.flying.flight.give_up_oldest(),
             Doing::Blocks => self.table.block(current.number)?,
             Doing::Sends => self.send(current)?,
             Doing::Dates(due) => self.date(current, due)?,

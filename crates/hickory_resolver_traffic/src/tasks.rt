@@ -4,7 +4,7 @@ ghost use Rattle.std.specs.Option.{option_map, option_or, option_and_then};
 ghost use Rattle.hickory_resolver_channels.specs.Channels.{first_idle};
 ghost use Rattle.hickory_resolver_traffic.specs.Inbox.{first_unread};
 ghost use Rattle.hickory_resolver_traffic.specs.Table.{first_due};
-ghost use Rattle.hickory_resolver_traffic.specs.Tasks.{outgoing_task, hears_or_doubts, is_response, passes_or_doubts, message_task, fails_or_drops, failed_task, failure_task, if_by, kept_until, if_kept_enough, expires_or_undates, refuses_or_strays, frees_or_unblocks, free_one, message_in, failure_in, due_in, late_in, free_in, idle_in, came_in, ran_out, task_of, earlier, next_deadline};
+ghost use Rattle.hickory_resolver_traffic.specs.Tasks.{outgoing_task, hears_or_doubts, is_response, passes_or_doubts, message_task, fails_or_drops, failed_task, failure_task, if_by, kept_until, if_kept_enough, expires_or_undates, refused_one, refuses_or_strays, frees_or_unblocks, free_one, message_in, failure_in, due_in, late_in, free_in, idle_in, came_in, ran_out, task_of, earlier, next_deadline};
 
 use crate::carrying::id_of;
 use crate::entry::ToDo;
@@ -213,10 +213,21 @@ impl Traffic {
         }
     }
 
+    // One that waits for a place for too long, where there is none.
+    fn refused_one(&self) -> Option<u64>
+        ensures { result ≡ refused_one self.now }
+    {
+        if self.askers.has_place() {
+            None
+        } else {
+            self.askers.late_one(self.clock)
+        }
+    }
+
     fn late_in(&self) -> Option<Task>
         ensures { result ≡ late_in self.now }
     {
-        match self.askers.late_one(self.clock) {
+        match self.refused_one() {
             Some(number) => Some(refuses_or_strays(&self.table, number)),
             None => None,
         }

@@ -66,6 +66,10 @@ impl Case {
             self.transaction.freed();
             return Ok(true);
         }
+        if line == "given up" {
+            self.transaction.give_up_oldest();
+            return Ok(true);
+        }
         if line.starts_with("round") {
             self.begin_round(alloc, &numbers)?;
             return Ok(true);
