@@ -18,6 +18,7 @@ use Rattle.hickory_resolver_channels.specs.declared.channel.Channel.{Channel}
 use Rattle.hickory_resolver_channels.specs.declared.channel.ChannelKind.{ChannelKind}
 use Rattle.hickory_resolver_channels.specs.declared.channel.ChannelLimits.{ChannelLimits}
 use Rattle.hickory_resolver_channels.proofs.Limits as channel_limits
+use Rattle.hickory_resolver_config.specs.ResolverConfig.{OptionsValue}
 use Rattle.hickory_resolver_flights.specs.Flights.{changed}
 use Rattle.hickory_resolver_flights.specs.declared.heard.Heard.{Heard}
 use Rattle.hickory_resolver_flights.specs.declared.heard.Heard.TheVariants.{Nothing, OtherLetters, OptRefused, Reply}
@@ -53,6 +54,7 @@ use Rattle.hickory_resolver_traffic.specs.declared.traffic.TrafficLimits.{Traffi
 use Rattle.hickory_resolver_pool.specs.Laws.{PoolEvent, time_passes, group_has, is_asked, octets_come, channel_fails, is_forgotten, after_event, Reached, at_first, by_event, by_step, StaysBounded}
 use Rattle.hickory_resolver_pool.specs.Pool.{PoolState, AskedOf, no_servers, limits_of, settings_for, list_of, joiner_of, join_in, join_or_begin, ask_of, after_asking, started, Starts, Carries, IsDoneTo, scene_of, is_end, is_put, StepsBy, StepsWith, StepsIn, StepsAs, let_go, put_by}
 use Rattle.hickory_resolver_pool.specs.Pool as pool
+use Rattle.hickory_resolver_pool.specs.declared.limits.PoolLimits.{PoolLimits}
 use Rattle.hickory_resolver_pool.specs.declared.pool.Action.{Action}
 use Rattle.hickory_resolver_traffic.specs.Doing.{doing}
 
