@@ -1,5 +1,5 @@
 -- A transaction is refused only where it waited in vain for a place.
-use Rattle.std.proofs.Common.{◌≡◌, ℕ, Bool, true, false, cond, List, [], ◌∷◌, refl, ap, sym, subst, ◌∙◌, inl, inr, ◌⊎◌, leb, leb-true, length, arith}
+use Rattle.std.proofs.Common.{◌≡◌, ◌≤◌, ℕ, Bool, true, false, cond, List, [], ◌∷◌, refl, ap, sym, subst, ◌∙◌, inl, inr, ◌⊎◌, leb, leb-true, length, arith}
 use Rattle.std.specs.Prelude.{Option, None, Some, IfSome, unwrap_or, slice_get}
 use Rattle.std.specs.Option.{is_some, option_map, option_map_or, option_or, option_and_then}
 use Rattle.std.proofs.lemmas.Bool.{ltb-false}
@@ -11,7 +11,7 @@ use Rattle.hickory_resolver_askers.specs.declared.asker.AskerLimits.{AskerLimits
 use Rattle.hickory_resolver_askers.specs.declared.asker.Forgotten.{Forgotten}
 use Rattle.hickory_resolver_askers.specs.declared.asker.Forgotten.TheVariants.{Nobody, OthersAsk, Last}
 use Rattle.hickory_resolver_askers.specs.declared.asker.Place.{Place}
-use Rattle.hickory_resolver_askers.specs.declared.asker.Place.TheVariants as place
+use Rattle.hickory_resolver_askers.specs.declared.asker.Place.TheVariants as gets
 use Rattle.hickory_resolver_config.specs.ResolverConfig.{OptionsValue}
 use Rattle.hickory_resolver_channels.specs.Channels.{channel_at, transaction_at, first_try, first_idle}
 use Rattle.hickory_resolver_tries.specs.Heads.{head_of}
@@ -85,9 +85,9 @@ limits-joined n a = by (ask.is_flying n a) (ask.is_waiting n a)
     by false false = refl
 
 limits-begun : (p : Place) (until : ℕ) (a : AskersState) → (ask.begun_in p until a).limits ≡ a.limits
-limits-begun place.InFlight until a = refl
-limits-begun place.Waits until a = refl
-limits-begun place.Overloaded until a = refl
+limits-begun gets.InFlight until a = refl
+limits-begun gets.Waits until a = refl
+limits-begun gets.Overloaded until a = refl
 
 limits-forgot : (f : Forgotten) (asker : Asker) (a : AskersState) → (ask.forgot_as f asker a).limits ≡ a.limits
 limits-forgot Nobody asker a = refl
@@ -124,7 +124,8 @@ is-full options limits seed past s runs none =
     ap (λ (a : AskersState). a.limits) made.made ∙ limits-events (nobody (limits_of limits options).askers) made.events in
     let most : s.traffic.askers.limits.transactions ≡ limits.transactions =
     ap (λ (l : AskerLimits). l.transactions) same in
-    omega (arith, most, bounded.in_flight, ltb-false (length s.traffic.askers.in_flight) s.traffic.askers.limits.transactions none)
+    let within : length s.traffic.askers.in_flight ≤ limits.transactions = bounded.in_flight in
+    omega (arith, most, within, ltb-false (length s.traffic.askers.in_flight) s.traffic.askers.limits.transactions none)
 
 -- ---- what is done first where none is worked on
 
