@@ -65,7 +65,7 @@ asked-turned a b ab = asked_equiv.symm b a ∙ ab
 
 -- ---- the number of the next transaction
 
-next-one_freed : (t : TrafficState) → (one_freed t).askers ≡ t.askers
+pub next-one_freed : (t : TrafficState) → (one_freed t).askers ≡ t.askers
 next-one_freed t = by (is_empty t.table.blocked)
   where
     by : (empty : Bool)
@@ -73,7 +73,7 @@ next-one_freed t = by (is_empty t.table.blocked)
     by true = refl
     by false = refl
 
-next-freed_first : (t : TrafficState) → (freed_by_first t).askers ≡ t.askers
+pub next-freed_first : (t : TrafficState) → (freed_by_first t).askers ≡ t.askers
 next-freed_first t = by (first_failure t.inbox)
   where
     why : (f : Failure) → (freed_by f t).askers ≡ t.askers
@@ -244,7 +244,7 @@ pub record IsOwn (key : AskedOf) (n : ℕ) (s : PoolState) : Type 0 where
   pub old : n < next_of s
   pub each : OfEach (Asks key n) s
 
-own-event : (key : AskedOf) (n : ℕ) (s : PoolState) (e : PoolEvent) → IsOwn key n s → IsOwn key n (after_event s e)
+pub own-event : (key : AskedOf) (n : ℕ) (s : PoolState) (e : PoolEvent) → IsOwn key n s → IsOwn key n (after_event s e)
 own-event key n s e own = record {
   old = omega (arith, own.old, grows-event s e);
   each = each-event (Asks key n) s e own.each (λ k is less same. absurd (apart same));
@@ -253,7 +253,7 @@ own-event key n s e own = record {
     apart : next_of s ≡ n → ⊥
     apart same = omega (arith, own.old, same)
 
-own-step : (key : AskedOf) (n : ℕ) (s t : PoolState) (r : Option Action) → Steps s r t → IsOwn key n s → IsOwn key n t
+pub own-step : (key : AskedOf) (n : ℕ) (s t : PoolState) (r : Option Action) → Steps s r t → IsOwn key n s → IsOwn key n t
 own-step key n s t r is own = record {
   old = subst (λ (m : ℕ). n < m) (sym (next-step s t r is)) own.old;
   each = each-step (Asks key n) s t r own.each is;
@@ -444,6 +444,7 @@ module _ (s : PoolState) (group : ℕ) (query : Query) (options : DnsRequestOpti
   -- who is told its number asks the question of its transaction
   pub record AsksIt (a : Asker) : Type 0 where
     pub list : ℕ
+    pub of_group : list_of group s.traffic ≡ Some list
     pub own : IsOwn (list, question) a.transaction t
 
   own-joined : (list : ℕ) → (a : Asker) → joiner_of (list, question) s ≡ Some a → IsOwn (list, question) a.transaction t
@@ -474,6 +475,7 @@ module _ (s : PoolState) (group : ℕ) (query : Query) (options : DnsRequestOpti
           let same : b ≡ a = cc in
           record {
             list = list;
+            of_group = is;
             own = subst (λ (x : Asker). IsOwn (list, question) x.transaction t) same (own-begun list is b none gives);
           }
 
@@ -484,6 +486,7 @@ module _ (s : PoolState) (group : ℕ) (query : Query) (options : DnsRequestOpti
           let same : b ≡ a = cc in
           record {
             list = list;
+            of_group = is;
             own = subst (λ (x : Asker). IsOwn (list, question) x.transaction t) same (own-joined list b at_j);
           }
 
@@ -568,7 +571,7 @@ known-runs options limits seed past s runs = by past s runs
 
 -- ---- at its end
 
-and-right : (a b : Bool) → (a && b) ≡ true → b ≡ true
+pub and-right : (a b : Bool) → (a && b) ≡ true → b ≡ true
 and-right true b h = h
 and-right false b h = absurd (true≢false (sym h))
 

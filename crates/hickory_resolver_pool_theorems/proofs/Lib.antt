@@ -2,13 +2,16 @@ pub mod Asked
 pub mod Askings
 pub mod Best
 pub mod Boxes
+pub mod ByNumber
 pub mod Causes
 pub mod Ends
 pub mod Failures
 pub mod Flights
 pub mod Handles
+pub mod Hearing
 pub mod Keys
 pub mod MadeUp
+pub mod OverOnce
 pub mod Overs
 pub mod Pools
 pub mod Reaching
@@ -17,6 +20,7 @@ pub mod Refusals
 pub mod Scenes
 pub mod Sendings
 pub mod Servers
+pub mod Tellings
 pub mod Ticks
 pub mod Told
 pub mod Traces

@@ -4,5 +4,6 @@ pub mod Failures
 pub mod Handles
 pub mod MadeUp
 pub mod Runs
+pub mod Tellings
 pub mod Ticks
 pub mod Wire

@@ -6,6 +6,7 @@ ghost use Rattle.hickory_resolver_pool_theorems.specs.Causes.{TimeoutsRanOut, Un
 ghost use Rattle.hickory_resolver_pool_theorems.specs.Ends.{RestsUntilDue};
 ghost use Rattle.hickory_resolver_pool_theorems.specs.Ticks.{EachTickLowers};
 ghost use Rattle.hickory_resolver_pool_theorems.specs.Failures.{OverloadedOnlyWithoutPlace, FailuresAreToldLast};
+ghost use Rattle.hickory_resolver_pool_theorems.specs.Tellings.{WhoAsksIsTold, OverOnce};
 
 /// What is reached from a pool by events and steps is what happens to it, and the other way round.
 pub fn reached_is_what_happens()
@@ -68,4 +69,16 @@ pub fn transactions_stay_bounded()
 /// for a channel is left, or of fewer tries a channel that failed is still to be noted.
 pub fn each_tick_lowers()
     ensures { EachTickLowers }
+{}
+
+/// Those are told that a transaction is over who were given an asker of it and did not forget it, all of them and no
+/// others, each once; and each of them asked what is told, of the same servers.
+pub fn who_asks_is_told()
+    ensures { WhoAsksIsTold }
+{}
+
+/// A transaction that was told to be over is never told so again, no asker of it is told anything again, and nobody is
+/// given an asker of it any more.
+pub fn over_once()
+    ensures { OverOnce }
 {}
