@@ -1,3 +1,4 @@
+pub mod Answers
 pub mod Asked
 pub mod Askings
 pub mod Best
@@ -7,9 +8,12 @@ pub mod Causes
 pub mod Ends
 pub mod Failures
 pub mod Flights
+pub mod Groups
 pub mod Handles
 pub mod Hearing
 pub mod Keys
+pub mod Lists
+pub mod ListsKept
 pub mod MadeUp
 pub mod OverOnce
 pub mod Overs

@@ -1,3 +1,4 @@
+pub mod Answers
 pub mod Causes
 pub mod Ends
 pub mod Failures

@@ -7,6 +7,7 @@ ghost use Rattle.hickory_resolver_pool_theorems.specs.Ends.{RestsUntilDue};
 ghost use Rattle.hickory_resolver_pool_theorems.specs.Ticks.{EachTickLowers};
 ghost use Rattle.hickory_resolver_pool_theorems.specs.Failures.{OverloadedOnlyWithoutPlace, FailuresAreToldLast};
 ghost use Rattle.hickory_resolver_pool_theorems.specs.Tellings.{WhoAsksIsTold, OverOnce};
+ghost use Rattle.hickory_resolver_pool_theorems.specs.Answers.{AskedIsAnswered};
 
 /// What is reached from a pool by events and steps is what happens to it, and the other way round.
 pub fn reached_is_what_happens()
@@ -81,4 +82,10 @@ pub fn who_asks_is_told()
 /// given an asker of it any more.
 pub fn over_once()
     ensures { OverOnce }
+{}
+
+/// Who asks is told that there is no server where the group was given none, and that there is no place where there is
+/// none; else an asker is given.
+pub fn asked_is_answered()
+    ensures { AskedIsAnswered }
 {}
