@@ -1,10 +1,12 @@
 pub mod Answers
 pub mod Asked
 pub mod Askings
+pub mod Begun
 pub mod Best
 pub mod Boxes
 pub mod ByNumber
 pub mod Causes
+pub mod EachEntry
 pub mod Ends
 pub mod Failures
 pub mod Flights
@@ -24,6 +26,7 @@ pub mod Refusals
 pub mod Scenes
 pub mod Sendings
 pub mod Servers
+pub mod SettingsKept
 pub mod Tellings
 pub mod Ticks
 pub mod Told

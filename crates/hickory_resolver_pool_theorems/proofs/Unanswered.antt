@@ -1,12 +1,16 @@
 -- Why a transaction came to nothing, and that each is bounded.
-use Rattle.std.proofs.Common.{◌≡◌, ℕ, Bool, true, false, ◌&&◌, not, List, [], ◌∷◌, refl, ap, sym, subst, ◌∙◌, inl, inr, ◌⊎◌}
-use Rattle.std.specs.Prelude.{Option, None, Some, IfSome}
+use Rattle.std.proofs.Common.{◌≡◌, ◌≤◌, ℕ, max, Bool, true, false, ◌&&◌, not, List, [], ◌∷◌, refl, ap, sym, subst, ◌∙◌, inl, inr, ◌⊎◌, arith}
+use Rattle.std.specs.Prelude.{Option, None, Some, IfSome, count_by}
 use Rattle.std.specs.List.{AllByRecursion}
 use Rattle.hickory_resolver_askers.specs.Askers.{askers_of}
+use Rattle.hickory_resolver_config.specs.ResolverConfig.{OptionsValue}
+use Rattle.hickory_resolver_transactions.specs.Candidates.{is_waiting}
 use Rattle.hickory_resolver_transactions.specs.Laws.{IsBounded}
 use Rattle.hickory_resolver_transactions.specs.Transaction.{TransactionState, begun_with, told, outcome_of, is_idle, may_go_on}
+use Rattle.hickory_resolver_transactions.specs.declared.candidate.Candidate.{Candidate}
 use Rattle.hickory_resolver_transactions.specs.declared.outcome.Outcome.{Outcome}
 use Rattle.hickory_resolver_transactions.specs.declared.outcome.Outcome.TheVariants as kind
+use Rattle.hickory_resolver_transactions.specs.declared.settings.Settings.{Settings}
 use Rattle.hickory_resolver_transactions.proofs.Bounded.{stays_bounded}
 use Rattle.hickory_resolver_traffic.specs.Doing.{doing, doing_for}
 use Rattle.hickory_resolver_traffic.specs.Table.{CurrentState, EntryState}
@@ -15,17 +19,20 @@ use Rattle.hickory_resolver_traffic.specs.declared.doing.Doing.TheVariants.{Refu
 use Rattle.hickory_resolver_traffic.specs.declared.entry.ToDo.{ToDo}
 use Rattle.hickory_resolver_traffic.specs.declared.entry.ToDo.TheVariants as todo
 use Rattle.hickory_resolver_pool.specs.Over.{OverValue, told_as}
-use Rattle.hickory_resolver_pool.specs.Pool.{PoolState, no_servers, told_outcome, outcome_in}
+use Rattle.hickory_resolver_pool.specs.Pool.{PoolState, no_servers, settings_for, told_outcome, outcome_in}
 use Rattle.hickory_resolver_pool.specs.declared.over.PoolOutcome.{PoolOutcome}
 use Rattle.hickory_resolver_pool.specs.declared.over.PoolOutcome.TheVariants.{Unreachable, Timeout, Overloaded}
-use Rattle.hickory_resolver_pool_theorems.specs.Causes.{IsMade, IsTimeout, IsUnreachable, TimeoutsRanOut, UnreachableOnesFailed, TransactionsStayBounded}
+use Rattle.hickory_resolver_pool_theorems.specs.Causes.{IsMade, HasBegun, IsTimeout, IsUnreachable, TimeoutsRanOut, UnreachableOnesFailed, IsBoundedBy, TransactionsStayBounded}
 use Rattle.hickory_resolver_pool_theorems.specs.Runs.{Happening}
+use Rattle.hickory_resolver_pool_theorems.proofs.Begun.{BegunIn, begun-runs, worked-begun}
 use Rattle.hickory_resolver_pool_theorems.proofs.Best.{best_of}
 use Rattle.hickory_resolver_pool_theorems.proofs.Causes.{Cause, has-cause}
+use Rattle.hickory_resolver_pool_theorems.proofs.EachEntry.{AllEntries, AtCurrent}
 use Rattle.hickory_resolver_pool_theorems.proofs.Failures.{end-for, IsEnding, not-over}
 use Rattle.hickory_resolver_pool_theorems.proofs.Overs.{IsEnd, told-at_end}
 use Rattle.hickory_resolver_pool_theorems.proofs.Pools.{IsEntryAt, IsCurrent}
 use Rattle.hickory_resolver_pool_theorems.proofs.Servers.{none-asked}
+use Rattle.hickory_resolver_pool_theorems.proofs.SettingsKept.{settings-events}
 use Rattle.hickory_resolver_pool_theorems.proofs.Traces.{SentIn, holds-first, holds-runs}
 
 is-timeout : (o : Outcome) → told_as o ≡ Timeout → o ≡ kind.Timeout
@@ -100,15 +107,24 @@ not-timeout o one other = let no_such : Timeout ≡ Overloaded = sym one ∙ oth
 not-unreachable : (o : PoolOutcome) → o ≡ Unreachable → o ≡ Overloaded → ⊥
 not-unreachable o one other = let no_such : Unreachable ≡ Overloaded = sym one ∙ other in cc
 
-module _ (past : List Happening) (s : PoolState) (o : OverValue) (end : IsEnd s o)
-    (own : IsCurrent (SentIn past s) past end.current) where
+module _ (options : OptionsValue) (past : List Happening) (s : PoolState) (o : OverValue) (end : IsEnd s o)
+    (own : IsCurrent (SentIn past s) past end.current)
+    (begins : HasBegun options past end.current.number end.current.entry.flying.flight.transaction.settings) where
   abbrev tr : TransactionState
   tr = end.current.entry.flying.flight.transaction
 
   abbrev made : IsMade tr
   made = own.flight.made
 
-  timeout-by : IsEnded s o end → o.outcome ≡ Timeout → IsTimeout s o
+  -- its settings are those with which it was made
+  begun : HasBegun options past o.transaction made.settings
+  begun =
+      subst (λ (n : ℕ). HasBegun options past n made.settings) (sym (ap (λ (x : OverValue). x.transaction) end.told))
+      (subst (λ (x : Settings). HasBegun options past end.current.number x)
+      (ap (λ (t : TransactionState). t.settings) made.made ∙ settings-events made.events (begun_with made.settings made.servers))
+      begins)
+
+  timeout-by : IsEnded s o end → o.outcome ≡ Timeout → IsTimeout options past s o
   timeout-by ended is =
       let best_is = best-timeout tr.ended (is_idle tr && not (may_go_on tr)) tr.noted (sym ended.outcome ∙ is) in
       record {
@@ -116,20 +132,22 @@ module _ (past : List Happening) (s : PoolState) (o : OverValue) (end : IsEnd s 
         works = end.works;
         number = sym (ap (λ (x : OverValue). x.transaction) end.told);
         made = made;
+        begun = begun;
         ran_out = subst (λ (b : Option Outcome). IfSome b (Cause (begun_with made.settings made.servers) made.events))
             best_is (has-cause tr made);
       }
 
-  unreachable-by : IsEnded s o end → o.outcome ≡ Unreachable → IsUnreachable s o
+  unreachable-by : IsEnded s o end → o.outcome ≡ Unreachable → IsUnreachable options past s o
   unreachable-by ended is =
       by (best-unreachable tr.ended (is_idle tr && not (may_go_on tr)) tr.noted (sym ended.outcome ∙ is) ended.over)
     where
-      by : (best_of tr.ended tr.noted ≡ Some kind.Unreachable) ⊎ (tr.noted ≡ None) → IsUnreachable s o
+      by : (best_of tr.ended tr.noted ≡ Some kind.Unreachable) ⊎ (tr.noted ≡ None) → IsUnreachable options past s o
       by (inl best_is) = record {
         current = end.current;
         works = end.works;
         number = sym (ap (λ (x : OverValue). x.transaction) end.told);
         made = made;
+        begun = begun;
         failed = inl (subst (λ (b : Option Outcome). IfSome b (Cause (begun_with made.settings made.servers) made.events))
             best_is (has-cause tr made));
       }
@@ -138,6 +156,7 @@ module _ (past : List Happening) (s : PoolState) (o : OverValue) (end : IsEnd s 
         works = end.works;
         number = sym (ap (λ (x : OverValue). x.transaction) end.told);
         made = made;
+        begun = begun;
         failed =
             let last = is-out tr.ended (is_idle tr) (may_go_on tr) tr.noted (sym ended.outcome ∙ is) ended.over in
             none-asked made.settings made.servers made.events made.rounds tr made.made none last.ended_is last.idle_is last.more_is;
@@ -148,36 +167,52 @@ timeouts_ran_out options limits seed past s after o runs steps is =
     let end = told-at_end o s after steps in
     let held = holds-runs (no_servers options limits seed) past s (holds-first options limits seed) runs in
     let own = subst (λ (x : Option CurrentState). IfSome x (IsCurrent (SentIn past s) past)) end.works held.current in
-    timeout-by past s o end own (is-ended s o end (not-timeout o.outcome is)) is
+    timeout-by options past s o end own (worked-begun options limits seed past s end.current runs end.works) (is-ended s o end (not-timeout o.outcome is)) is
 
 pub unreachable_ones_failed : UnreachableOnesFailed
 unreachable_ones_failed options limits seed past s after o runs steps is =
     let end = told-at_end o s after steps in
     let held = holds-runs (no_servers options limits seed) past s (holds-first options limits seed) runs in
     let own = subst (λ (x : Option CurrentState). IfSome x (IsCurrent (SentIn past s) past)) end.works held.current in
-    unreachable-by past s o end own (is-ended s o end (not-unreachable o.outcome is)) is
+    unreachable-by options past s o end own (worked-begun options limits seed past s end.current runs end.works)
+    (is-ended s o end (not-unreachable o.outcome is)) is
 
 -- ---- each is bounded
 
 bounded-made : (t : TransactionState) → IsMade t → IsBounded t
 bounded-made t m = subst IsBounded (sym m.made) (stays_bounded m.settings m.servers m.events)
 
-bounded-all : (past : List Happening) (s : PoolState) (es : List (ℕ × EntryState))
-    → AllByRecursion (IsEntryAt (SentIn past s) past) es
-    → AllByRecursion (λ p. IsBounded p.1.flying.flight.transaction) es
-bounded-all past s [] all = tt
-bounded-all past s (e ∷ es) all =
-    (bounded-made e.1.flying.flight.transaction all.0.flight.made, bounded-all past s es all.1)
+module _ (options : OptionsValue) (past : List Happening) (s : PoolState) where
+  bounded-by : (n : ℕ) (t : TransactionState) → IsMade t → HasBegun options past n t.settings → IsBoundedBy options t
+  bounded-by n t is_made so =
+      let bounded = bounded-made t is_made in
+      let rounds : t.settings.rounds ≡ (settings_for options so.request).rounds =
+      ap (λ (x : Settings). x.rounds) so.settings_are in
+      let concurrent : t.settings.concurrent ≡ max options.num_concurrent_reqs 1 =
+      ap (λ (x : Settings). x.concurrent) so.settings_are in
+      record {
+        bounded = bounded;
+        attempts = omega (arith, bounded.rounds, rounds);
+        rounds = omega (arith, bounded.rounds, rounds);
+        waiting = subst (λ (k : ℕ). count_by (λ (c : Candidate). is_waiting c.progress) t.candidates ≤ k) concurrent bounded.waiting;
+      }
 
-bounded-one : (past : List Happening) (s : PoolState) (c : Option CurrentState) → IfSome c (IsCurrent (SentIn past s) past)
-    → IfSome c (λ x. IsBounded x.entry.flying.flight.transaction)
-bounded-one past s None k = tt
-bounded-one past s (Some c) k = bounded-made c.entry.flying.flight.transaction k.flight.made
+  bounded-all : (es : List (ℕ × EntryState)) → AllByRecursion (IsEntryAt (SentIn past s) past) es
+      → AllEntries (BegunIn options past) es → AllByRecursion (λ p. IsBoundedBy options p.1.flying.flight.transaction) es
+  bounded-all [] all so = tt
+  bounded-all (e ∷ es) all so =
+      (bounded-by e.0 e.1.flying.flight.transaction all.0.flight.made so.0, bounded-all es all.1 so.1)
+
+  bounded-one : (c : Option CurrentState) → IfSome c (IsCurrent (SentIn past s) past)
+      → IfSome c (AtCurrent (BegunIn options past)) → IfSome c (λ x. IsBoundedBy options x.entry.flying.flight.transaction)
+  bounded-one None k so = tt
+  bounded-one (Some c) k so = bounded-by c.number c.entry.flying.flight.transaction k.flight.made so
 
 pub transactions_stay_bounded : TransactionsStayBounded
 transactions_stay_bounded options limits seed past s runs =
     let held = holds-runs (no_servers options limits seed) past s (holds-first options limits seed) runs in
+    let begun = begun-runs options limits seed past s runs in
     record {
-      table = bounded-all past s s.traffic.table.entries held.traffic.table;
-      worked = bounded-one past s s.current held.current;
+      table = bounded-all options past s s.traffic.table.entries held.traffic.table begun.table;
+      worked = bounded-one options past s s.current held.current begun.worked;
     }
