@@ -10,7 +10,7 @@ use Rattle.hickory_resolver_transactions.specs.declared.settings.Settings.{Setti
 use Rattle.hickory_resolver_traffic.specs.Doing.{Scene, IsDone, doing}
 use Rattle.hickory_resolver_traffic.specs.Table.{CurrentState, EntryState}
 use Rattle.hickory_resolver_traffic.specs.declared.doing.Doing.{Doing}
-use Rattle.hickory_resolver_traffic.specs.declared.doing.Doing.TheVariants.{Hears, Doubts, Stalls, Fails, Quits, PutsBack, Expires, Frees, Refused, Leaves, Ends, Draws, BeginsRound, Blocks, Sends, Dates, Rests}
+use Rattle.hickory_resolver_traffic.specs.declared.doing.Doing.TheVariants.{Hears, Doubts, Stalls, Fails, Quits, PutsBack, Expires, Frees, Refused, Leaves, Ends, Draws, BeginsRound, GivesUp, Blocks, Sends, Dates, Rests}
 use Rattle.hickory_resolver_pool.specs.Laws.{PoolEvent, time_passes, group_has, is_asked, octets_come, channel_fails, is_forgotten, after_event}
 use Rattle.hickory_resolver_pool.specs.Pool.{PoolState, no_servers, settings_for, list_of, joiner_of, join_in, join_or_begin, after_asking, Starts, StepsBy, StepsIn, StepsAs, Steps, is_end, is_put, put_by}
 use Rattle.hickory_resolver_pool.specs.Pool as pool
@@ -38,6 +38,7 @@ options-put Frees c s = refl
 options-put (Leaves place) c s = refl
 options-put Draws c s = refl
 options-put (BeginsRound place) c s = refl
+options-put GivesUp c s = refl
 options-put Blocks c s = refl
 options-put Sends c s = refl
 options-put (Dates due) c s = refl

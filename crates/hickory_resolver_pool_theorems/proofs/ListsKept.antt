@@ -28,7 +28,7 @@ use Rattle.hickory_resolver_transactions.specs.Transaction.{wanted, try_at, fail
 use Rattle.hickory_resolver_transactions.specs.declared.candidate.Try.{Try}
 use Rattle.hickory_resolver_transactions.specs.declared.transaction.Wanted.{Wanted}
 use Rattle.hickory_resolver_traffic.specs.Acting.{Acted, acted, acted_on, acted_with, parts_of, step_of, telling_of, with_list_servers}
-use Rattle.hickory_resolver_traffic.specs.Doing.{Scene, IsDone, hears_octets, after_first, heard_of_first, hears_first, hears, doubts_message, doubts, doing, is_empty, one_freed, fails_on, after_failed, fails, act_on, before_act, moment_of, stalls_on, stalls, leaving_at, leave_at, closed_at, freed_if, leaves, quits_at, after_quit, quits, place_on as place_of_failure, with_to_do, expires, frees, then_do, changing, draws, blocks, sends, dates, with_probe, with_round_parts, round_of, is_stream}
+use Rattle.hickory_resolver_traffic.specs.Doing.{Scene, IsDone, hears_octets, after_first, heard_of_first, hears_first, hears, doubts_message, doubts, doing, is_empty, one_freed, fails_on, after_failed, fails, act_on, before_act, moment_of, stalls_on, stalls, leaving_at, leave_at, closed_at, freed_if, leaves, quits_at, after_quit, quits, place_on as place_of_failure, with_to_do, expires, frees, then_do, changing, draws, gives_up, blocks, sends, dates, with_probe, with_round_parts, round_of, is_stream}
 use Rattle.hickory_resolver_traffic.specs.Groups.{GroupListState, GroupsState, list_in, ended}
 use Rattle.hickory_resolver_traffic.specs.Inbox.{MessageValue, first_message, first_failure}
 use Rattle.hickory_resolver_traffic.specs.Table.{CurrentState, without_blocked}
@@ -38,7 +38,7 @@ use Rattle.hickory_resolver_traffic.specs.declared.acting.Moment.{Moment}
 use Rattle.hickory_resolver_traffic.specs.declared.acting.ServerAct.{ServerAct}
 use Rattle.hickory_resolver_traffic.specs.declared.acting.ServerAct.TheVariants as act
 use Rattle.hickory_resolver_traffic.specs.declared.doing.Doing.{Doing}
-use Rattle.hickory_resolver_traffic.specs.declared.doing.Doing.TheVariants.{Hears, Doubts, Stalls, Fails, Quits, PutsBack, Expires, Frees, Refused, Leaves, Ends, Draws, BeginsRound, Blocks, Sends, Dates, Rests}
+use Rattle.hickory_resolver_traffic.specs.declared.doing.Doing.TheVariants.{Hears, Doubts, Stalls, Fails, Quits, PutsBack, Expires, Frees, Refused, Leaves, Ends, Draws, BeginsRound, GivesUp, Blocks, Sends, Dates, Rests}
 use Rattle.hickory_resolver_traffic.specs.declared.entry.ToDo.TheVariants as todo
 use Rattle.hickory_resolver_traffic.specs.declared.inbox.ChannelFailure.{ChannelFailure}
 use Rattle.hickory_resolver_traffic.specs.declared.inbox.Failure.{Failure}
@@ -294,6 +294,7 @@ keeps-done (Leaves place) x y is = keeps-groups x y (leaves place x) is (groups-
 keeps-done Draws x y is = keeps-groups x y (draws x) is refl
 keeps-done (BeginsRound place) x y is =
     keeps-by x y (with_round_parts place x y.current.entry.flying) is.after (keeps-round place x y)
+keeps-done GivesUp x y is = keeps-groups x y (gives_up x) is refl
 keeps-done Blocks x y is = keeps-groups x y (blocks x) is refl
 keeps-done Sends x y is = keeps-by x y (sends x) is (keeps-act act.Send [] x)
 keeps-done (Dates due) x y is = keeps-groups x y (dates due x) is refl
@@ -351,6 +352,7 @@ groups-put Frees c s = refl
 groups-put (Leaves place) c s = refl
 groups-put Draws c s = refl
 groups-put (BeginsRound place) c s = refl
+groups-put GivesUp c s = refl
 groups-put Blocks c s = refl
 groups-put Sends c s = refl
 groups-put (Dates due) c s = refl

@@ -18,10 +18,10 @@ use Rattle.hickory_resolver_tries.specs.declared.belief.Belief.{Belief}
 use Rattle.hickory_resolver_tries.specs.declared.belief.Belief.TheVariants as belief
 use Rattle.hickory_resolver_tries.specs.declared.outcome.ReplyOutcome.{ReplyOutcome}
 use Rattle.hickory_resolver_tries.specs.Outcome.{outcome_of}
-use Rattle.hickory_resolver_transactions.specs.Candidates.{is_tried, is_blocked, waits_as, waits_on, is_due, sent_with, without_channel, freed_one, has_failed_by}
-use Rattle.hickory_resolver_transactions.specs.Laws.{TransactionEvent, round_begins, is_sent, has_no_room, reply_came, opt_refused, letters_differ, channel_failed, no_channel, channel_free, time_passed, after_event, after_events}
+use Rattle.hickory_resolver_transactions.specs.Candidates.{is_tried, is_waiting, is_blocked, waits_as, waits_on, is_due, sent_with, without_channel, freed_one, has_failed_by}
+use Rattle.hickory_resolver_transactions.specs.Laws.{TransactionEvent, round_begins, is_sent, has_no_room, reply_came, opt_refused, letters_differ, channel_failed, no_channel, channel_free, oldest_given_up, time_passed, after_event, after_events}
 use Rattle.hickory_resolver_transactions.specs.Table.{after_reply, after_deadline, after_closed_stream, then_of_reply, then_of_refused_opt, then_of_other_letters, stays_believed}
-use Rattle.hickory_resolver_transactions.specs.Transaction.{TransactionState, replacing, with_late, kept_in, keeping, acted, acted_late, picked, candidate_at, late_at, late_came_to, late_replied, came_to, came, opt_was_refused, other_letters_came, failed_at, failed_in, failed, blocked_in, blocked, freed, expired_in, late_expired, expired, wants_round, with_round, chosen, sent, unsent, wanted, try_at}
+use Rattle.hickory_resolver_transactions.specs.Transaction.{TransactionState, replacing, with_late, kept_in, keeping, acted, acted_late, picked, candidate_at, late_at, late_came_to, late_replied, without_answered, came_to, came, opt_was_refused, other_letters_came, failed_at, failed_in, failed, blocked_in, blocked, freed, expired_in, late_expired, expired, wants_round, with_round, chosen, sent, unsent, wanted, try_at}
 use Rattle.hickory_resolver_transactions.specs.declared.candidate.Candidate.{Candidate}
 use Rattle.hickory_resolver_transactions.specs.declared.candidate.LateTry.{LateTry}
 use Rattle.hickory_resolver_transactions.specs.declared.candidate.Made.{Made}
@@ -36,7 +36,7 @@ use Rattle.hickory_resolver_transactions.specs.declared.table.Then.TheVariants.{
 use Rattle.hickory_resolver_transactions.specs.declared.transaction.Wanted.{Wanted}
 use Rattle.hickory_resolver_traffic.specs.Acting.{Acted, acted_on, acted_with, parts_of, step_of}
 use Rattle.hickory_resolver_traffic.specs.Acting as acting
-use Rattle.hickory_resolver_traffic.specs.Doing.{Scene, IsDone, hears_octets, after_first, heard_of_first, hears_first, hears, doubts, fails_on, after_failed, fails, act_on, before_act, moment_of, stalls_on, stalls, leaving_at, leave_at, closed_at, freed_if, leaves, quits_at, after_quit, quits, place_on, with_to_do, expires, frees, then_do, changing, draws, blocks, sends, dates, with_round_parts, BeginsWith, round_of, is_stream}
+use Rattle.hickory_resolver_traffic.specs.Doing.{Scene, IsDone, hears_octets, after_first, heard_of_first, hears_first, hears, doubts, fails_on, after_failed, fails, act_on, before_act, moment_of, stalls_on, stalls, leaving_at, leave_at, closed_at, freed_if, leaves, quits_at, after_quit, quits, place_on, with_to_do, expires, frees, then_do, changing, draws, gives_up, blocks, sends, dates, with_round_parts, BeginsWith, round_of, is_stream}
 use Rattle.hickory_resolver_traffic.specs.Groups.{GroupListState, list_in, list_at}
 use Rattle.hickory_resolver_traffic.specs.Inbox.{MessageValue, first_message, first_failure}
 use Rattle.hickory_resolver_traffic.specs.Table.{without_blocked}
@@ -44,7 +44,7 @@ use Rattle.hickory_resolver_traffic.specs.declared.acting.Moment.{Moment}
 use Rattle.hickory_resolver_traffic.specs.declared.acting.ServerAct.{ServerAct}
 use Rattle.hickory_resolver_traffic.specs.declared.acting.ServerAct.TheVariants as act
 use Rattle.hickory_resolver_traffic.specs.declared.doing.Doing.{Doing}
-use Rattle.hickory_resolver_traffic.specs.declared.doing.Doing.TheVariants.{Hears, Doubts, Stalls, Fails, Quits, PutsBack, Expires, Frees, Refused, Leaves as Left, Ends as Ended, Draws, BeginsRound, Blocks, Sends, Dates, Rests as Waits}
+use Rattle.hickory_resolver_traffic.specs.declared.doing.Doing.TheVariants.{Hears, Doubts, Stalls, Fails, Quits, PutsBack, Expires, Frees, Refused, Leaves as Left, Ends as Ended, Draws, BeginsRound, GivesUp, Blocks, Sends, Dates, Rests as Waits}
 use Rattle.hickory_resolver_traffic.specs.declared.entry.ToDo.TheVariants as todo
 use Rattle.hickory_resolver_traffic.specs.declared.inbox.ChannelFailure.{ChannelFailure}
 
@@ -85,7 +85,7 @@ stays-acted s Nothing keeps c = refl
 
 stays-acted_late : (s : TransactionState) (t : Then) (c : Candidate) → Stays s (acted_late t c s)
 stays-acted_late s (Ends reply) c = refl
-stays-acted_late s (Leaves outcome) c = refl
+stays-acted_late s (Leaves outcome) c = stays-if s s _ (is_waiting c.progress) refl refl
 stays-acted_late s (Again way) c = stays-if s _ s (is_tried c.progress) refl refl
 stays-acted_late s (Rests outcome) c = refl
 stays-acted_late s Nothing c = refl
@@ -101,8 +101,8 @@ stays-came : (s : TransactionState) (channel id : ℕ) (outcome : ReplyOutcome) 
 stays-came s channel id outcome reply =
     stays-map (λ c. came_to c outcome reply s) s _ (picked (waits_as channel id) s)
     (λ c. stays-acted s (then_of_reply c outcome reply) (stays_believed outcome) c)
-    (stays-map (λ l. late_replied outcome reply l s) s s (late_at channel id s)
-    (λ l. stays-late_replied s outcome reply l) refl)
+    (stays-map (λ l. late_replied outcome reply l (without_answered outcome channel id s)) s s (late_at channel id s)
+    (λ l. stays-late_replied (without_answered outcome channel id s) outcome reply l ∙ stays-if s s _ (stays_believed outcome) refl refl) refl)
 
 stays-opt : (s : TransactionState) (channel id : ℕ) → Stays s (opt_was_refused channel id s)
 stays-opt s channel id =
@@ -177,6 +177,7 @@ settings-event s (letters_differ channel id) = stays-letters s channel id
 settings-event s (channel_failed channel) = stays-failed s channel
 settings-event s (no_channel channel) = stays-blocked s channel
 settings-event s channel_free = stays-freed s
+settings-event s oldest_given_up = refl
 settings-event s (time_passed now) = stays-expired s now
 
 pub settings-events : (events : List TransactionEvent) (s : TransactionState) → Stays s (after_events s events)
@@ -336,6 +337,7 @@ settings-done (Left place) x y is = at-by x y (leaves place x) is (stays-leaves 
 settings-done Draws x y is = at-by x y (draws x) is refl
 settings-done (BeginsRound place) x y is =
     stays-begins place x y.current.entry.flying (list_at x.current.entry.asked.0 x.traffic.groups) is.begins
+settings-done GivesUp x y is = at-by x y (gives_up x) is refl
 settings-done Blocks x y is = at-by x y (blocks x) is refl
 settings-done Sends x y is = at-by x y (sends x) is (stays-act act.Send [] x)
 settings-done (Dates due) x y is = at-by x y (dates due x) is refl
