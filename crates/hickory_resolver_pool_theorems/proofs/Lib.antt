@@ -17,6 +17,8 @@ pub mod Keys
 pub mod Lists
 pub mod ListsKept
 pub mod MadeUp
+pub mod Opens
+pub mod OutKept
 pub mod OverOnce
 pub mod Overs
 pub mod Pools

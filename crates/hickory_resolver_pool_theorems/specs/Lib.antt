@@ -4,6 +4,7 @@ pub mod Ends
 pub mod Failures
 pub mod Handles
 pub mod MadeUp
+pub mod Opens
 pub mod Runs
 pub mod Tellings
 pub mod Ticks

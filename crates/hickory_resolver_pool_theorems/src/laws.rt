@@ -8,6 +8,7 @@ ghost use Rattle.hickory_resolver_pool_theorems.specs.Ticks.{EachTickLowers};
 ghost use Rattle.hickory_resolver_pool_theorems.specs.Failures.{OverloadedOnlyWithoutPlace, FailuresAreToldLast};
 ghost use Rattle.hickory_resolver_pool_theorems.specs.Tellings.{WhoAsksIsTold, OverOnce};
 ghost use Rattle.hickory_resolver_pool_theorems.specs.Answers.{AskedIsAnswered};
+ghost use Rattle.hickory_resolver_pool_theorems.specs.Opens.{OpensToOwnServers};
 
 /// What is reached from a pool by events and steps is what happens to it, and the other way round.
 pub fn reached_is_what_happens()
@@ -48,8 +49,9 @@ pub fn failures_are_told_last()
     ensures { FailuresAreToldLast }
 {}
 
-/// A timeout is told only of a transaction for which time passed up to a moment at which a try of it was to have been
-/// answered, or a channel to have come free for it, whatever comes.
+/// A timeout is told only of a transaction that began with the settings of the options, for which time passed up to a
+/// moment at which a try of it was to have been answered, or a channel to have come free for it, and of which nothing
+/// else was ever noted, whatever comes.
 pub fn timeouts_ran_out()
     ensures { TimeoutsRanOut }
 {}
@@ -88,4 +90,10 @@ pub fn over_once()
 /// none; else an asker is given.
 pub fn asked_is_answered()
     ensures { AskedIsAnswered }
+{}
+
+/// Each channel is opened to a server that the group of its transaction had when it was asked, by the address, the port
+/// and the local address that it was given with, and under a number under which none was opened before.
+pub fn opens_to_own_servers()
+    ensures { OpensToOwnServers }
 {}
