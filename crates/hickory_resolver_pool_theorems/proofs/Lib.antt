@@ -31,6 +31,7 @@ pub mod Servers
 pub mod SettingsKept
 pub mod Tellings
 pub mod Ticks
+pub mod Timeouts
 pub mod Told
 pub mod Traces
 pub mod Tries

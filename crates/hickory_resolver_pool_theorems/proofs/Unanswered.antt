@@ -24,6 +24,7 @@ use Rattle.hickory_resolver_pool.specs.declared.over.PoolOutcome.{PoolOutcome}
 use Rattle.hickory_resolver_pool.specs.declared.over.PoolOutcome.TheVariants.{Unreachable, Timeout, Overloaded}
 use Rattle.hickory_resolver_pool_theorems.specs.Causes.{IsMade, HasBegun, IsTimeout, IsUnreachable, TimeoutsRanOut, UnreachableOnesFailed, IsBoundedBy, TransactionsStayBounded}
 use Rattle.hickory_resolver_pool_theorems.specs.Runs.{Happening}
+use Rattle.hickory_resolver_pool_theorems.specs.Timeouts.{IsTimeoutAtMost, HasTimedOutAtMost}
 use Rattle.hickory_resolver_pool_theorems.proofs.Begun.{BegunIn, begun-runs, worked-begun}
 use Rattle.hickory_resolver_pool_theorems.proofs.Best.{best_of}
 use Rattle.hickory_resolver_pool_theorems.proofs.Causes.{Cause, has-cause}
@@ -33,6 +34,7 @@ use Rattle.hickory_resolver_pool_theorems.proofs.Overs.{IsEnd, told-at_end}
 use Rattle.hickory_resolver_pool_theorems.proofs.Pools.{IsEntryAt, IsCurrent}
 use Rattle.hickory_resolver_pool_theorems.proofs.Servers.{none-asked}
 use Rattle.hickory_resolver_pool_theorems.proofs.SettingsKept.{settings-events}
+use Rattle.hickory_resolver_pool_theorems.proofs.Timeouts.{timeouts_are_alone}
 use Rattle.hickory_resolver_pool_theorems.proofs.Traces.{SentIn, holds-first, holds-runs}
 
 is-timeout : (o : Outcome) → told_as o ≡ Timeout → o ≡ kind.Timeout
@@ -55,6 +57,10 @@ best-timeout (Some number) over noted e = absurd cc
 best-timeout None true None e = absurd cc
 best-timeout None true (Some o) e = ap (λ (x : Outcome). Some x) (is-timeout o e)
 best-timeout None false noted e = absurd cc
+
+-- more than a timeout was not noted
+at-most-noted : (noted : Option Outcome) → noted ≡ Some kind.Timeout → IsTimeoutAtMost noted
+at-most-noted noted is = subst IsTimeoutAtMost (sym is) tt
 
 best-unreachable : (ended : Option ℕ) (over : Bool) (noted : Option Outcome)
     → told_outcome (told ended over noted) ≡ Unreachable → (told ended over noted ≡ None → ⊥)
@@ -124,6 +130,11 @@ module _ (options : OptionsValue) (past : List Happening) (s : PoolState) (o : O
       (ap (λ (t : TransactionState). t.settings) made.made ∙ settings-events made.events (begun_with made.settings made.servers))
       begins)
 
+  at-most : (ended : Option ℕ) (noted : Option Outcome) → tr.ended ≡ ended → tr.noted ≡ noted
+      → best_of ended noted ≡ Some kind.Timeout → HasTimedOutAtMost tr
+  at-most (Some number) noted one two is = absurd cc
+  at-most None noted one two is = record { ended = one; noted = at-most-noted tr.noted (two ∙ is) }
+
   timeout-by : IsEnded s o end → o.outcome ≡ Timeout → IsTimeout options past s o
   timeout-by ended is =
       let best_is = best-timeout tr.ended (is_idle tr && not (may_go_on tr)) tr.noted (sym ended.outcome ∙ is) in
@@ -135,6 +146,8 @@ module _ (options : OptionsValue) (past : List Happening) (s : PoolState) (o : O
         begun = begun;
         ran_out = subst (λ (b : Option Outcome). IfSome b (Cause (begun_with made.settings made.servers) made.events))
             best_is (has-cause tr made);
+        alone = timeouts_are_alone made.settings made.servers made.events
+            (subst HasTimedOutAtMost made.made (at-most tr.ended tr.noted refl refl best_is));
       }
 
   unreachable-by : IsEnded s o end → o.outcome ≡ Unreachable → IsUnreachable options past s o

@@ -23,6 +23,7 @@ use Rattle.hickory_resolver_pool.specs.declared.over.PoolOutcome.TheVariants.{Un
 use Rattle.hickory_resolver_pool.specs.declared.pool.Action.TheVariants.{Over}
 use Rattle.hickory_resolver_pool.specs.declared.pool.Asked.TheVariants as asked
 use Rattle.hickory_resolver_pool_theorems.specs.Runs.{Happening, came, Runs}
+use Rattle.hickory_resolver_pool_theorems.specs.Timeouts.{OnlyTimePassed}
 
 -- from its servers on, with a round at least, these events made the transaction what it is
 pub record IsMade (t : TransactionState) : Type 0 where
@@ -77,6 +78,7 @@ pub record IsTimeout (options : OptionsValue) (past : List Happening) (s : PoolS
   pub made : IsMade current.entry.flying.flight.transaction
   pub begun : HasBegun options past o.transaction made.settings
   pub ran_out : HasRunOut (begun_with made.settings made.servers) made.events
+  pub alone : OnlyTimePassed (begun_with made.settings made.servers) made.events
 
 -- a server without a port, which cannot be asked
 abbrev pub HasNoPort : Candidate → Type 0

@@ -8,4 +8,5 @@ pub mod Opens
 pub mod Runs
 pub mod Tellings
 pub mod Ticks
+pub mod Timeouts
 pub mod Wire

@@ -9,6 +9,7 @@ ghost use Rattle.hickory_resolver_pool_theorems.specs.Failures.{OverloadedOnlyWi
 ghost use Rattle.hickory_resolver_pool_theorems.specs.Tellings.{WhoAsksIsTold, OverOnce};
 ghost use Rattle.hickory_resolver_pool_theorems.specs.Answers.{AskedIsAnswered};
 ghost use Rattle.hickory_resolver_pool_theorems.specs.Opens.{OpensToOwnServers};
+ghost use Rattle.hickory_resolver_pool_theorems.specs.Timeouts.{TimeoutsAreAlone};
 
 /// What is reached from a pool by events and steps is what happens to it, and the other way round.
 pub fn reached_is_what_happens()
@@ -96,4 +97,10 @@ pub fn asked_is_answered()
 /// and the local address that it was given with, and under a number under which none was opened before.
 pub fn opens_to_own_servers()
     ensures { OpensToOwnServers }
+{}
+
+/// Where no more than a timeout was noted of a transaction, at no moment was more noted; and where nothing was to come
+/// of a server any more in a round, its time had passed, or its channel had failed.
+pub fn timeouts_are_alone()
+    ensures { TimeoutsAreAlone }
 {}
