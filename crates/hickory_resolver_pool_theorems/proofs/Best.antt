@@ -23,53 +23,26 @@ use Rattle.hickory_resolver_transactions.specs.declared.outcome.Outcome.{Outcome
 use Rattle.hickory_resolver_transactions.specs.declared.outcome.Outcome.TheVariants as told
 use Rattle.hickory_resolver_transactions.specs.declared.table.Then.{Then}
 use Rattle.hickory_resolver_transactions.specs.declared.table.Then.TheVariants.{Ends, Leaves, Rests, Again, Nothing}
-
--- the reply that ended it, or the best that was noted
-abbrev pub best_of : Option ℕ → Option Outcome → Option Outcome
-best_of (Some reply) noted = Some (told.Reply reply)
-best_of None noted = noted
-
-abbrev pub best : TransactionState → Option Outcome
-best s = best_of s.ended s.noted
-
--- what a reply of this number is noted as
-abbrev pub told_by : ReplyOutcome → ℕ → Outcome
-told_by came.Answer reply = told.Reply reply
-told_by came.Negative reply = told.Reply reply
-told_by came.Truncated reply = told.Cut reply
-told_by other reply = told.Code reply
+use Rattle.hickory_resolver_pool_theorems.proofs.MayTell.{best_of, best, told_by, better-told, told-noted, MayTell, may-again, may-reply, may-then}
 
 module _ (P : Outcome → Type 0) (unreachable : P told.Unreachable) (timeout : P told.Timeout) where
   abbrev pub Tells : TransactionState → Type 0
   Tells s = IfSome (best s) P
 
-  better-told : (old : Option Outcome) (new : Outcome) → IfSome old P → P new → IfSome (better old new) P
-  better-told None new h k = k
-  better-told (Some o) new h k = by (ltb (rank_of new) (rank_of o))
-    where
-      by : (is_better : Bool) → IfSome (cond is_better (Some new) (Some o)) P
-      by true = k
-      by false = h
-
-  told-noted : (ended : Option ℕ) (noted after : Option Outcome) → (IfSome noted P → IfSome after P)
-      → IfSome (best_of ended noted) P → IfSome (best_of ended after) P
-  told-noted None noted after f h = f h
-  told-noted (Some reply) noted after f h = h
-
   tells-noting : (s : TransactionState) → Tells s → (o : Outcome) → P o → Tells (noting o s)
-  tells-noting s h o k = told-noted s.ended s.noted (better s.noted o) (λ old. better-told s.noted o old k) h
+  tells-noting s h o k = told-noted P s.ended s.noted (better s.noted o) (λ old. better-told P s.noted o old k) h
 
   closed-told : (ls : List LateTry) (noted : Option Outcome) → IfSome noted P → IfSome (noted_of_closed ls noted) P
   closed-told [] noted h = h
   closed-told (l ∷ ls) noted h = by l.has_failed
     where
       by : (failed : Bool) → IfSome (cond failed (better noted told.Unreachable) noted) P
-      by true = better-told noted told.Unreachable h unreachable
+      by true = better-told P noted told.Unreachable h unreachable
       by false = h
 
   pub tells-oldest : (s : TransactionState) → Tells s → Tells (without_oldest s)
   tells-oldest s h =
-      told-noted s.ended s.noted (noted_of_closed s.late s.noted) (λ old. closed-told s.late s.noted old) h
+      told-noted P s.ended s.noted (noted_of_closed s.late s.noted) (λ old. closed-told s.late s.noted old) h
 
   tells-answered : (s : TransactionState) → Tells s → (outcome : ReplyOutcome) (channel id : ℕ)
       → Tells (without_answered outcome channel id s)
@@ -106,15 +79,7 @@ module _ (P : Outcome → Type 0) (unreachable : P told.Unreachable) (timeout : 
   tells-keeping s h true c = tells-kept s h c.progress c.place
   tells-keeping s h false c = h
 
-  -- what is done tells what may be told
-  abbrev MayTell : Then → Type 0
-  MayTell (Ends reply) = P (told.Reply reply)
-  MayTell (Leaves o) = P o
-  MayTell (Rests o) = P o
-  MayTell (Again way) = Unit {0}
-  MayTell Nothing = Unit {0}
-
-  tells-acted : (s : TransactionState) → Tells s → (t : Then) → MayTell t → (keeps : Bool) (c : Candidate)
+  tells-acted : (s : TransactionState) → Tells s → (t : Then) → MayTell P t → (keeps : Bool) (c : Candidate)
       → Tells (acted t keeps c s)
   tells-acted s h (Ends reply) k keeps c = k
   tells-acted s h (Leaves o) k keeps c =
@@ -124,7 +89,7 @@ module _ (P : Outcome → Type 0) (unreachable : P told.Unreachable) (timeout : 
   tells-acted s h (Again way) k keeps c = tells-keeping s h keeps c
   tells-acted s h Nothing k keeps c = h
 
-  tells-acted_late : (s : TransactionState) → Tells s → (t : Then) → MayTell t → (c : Candidate)
+  tells-acted_late : (s : TransactionState) → Tells s → (t : Then) → MayTell P t → (c : Candidate)
       → Tells (acted_late t c s)
   tells-acted_late s h (Ends reply) k c = k
   tells-acted_late s h (Leaves o) k c = tells-noting (gone_unless_waiting c s) (tells-gone s h c) o k
@@ -135,34 +100,6 @@ module _ (P : Outcome → Type 0) (unreachable : P told.Unreachable) (timeout : 
       by true = h
       by false = h
   tells-acted_late s h Nothing k c = h
-
-  may-again : (may : Bool) (how : Transport) (opt : Bool) (t : Then) → MayTell t → MayTell (again_if may how opt t)
-  may-again true how opt t k = tt
-  may-again false how opt t k = k
-
-  may-reply : (c : Candidate) (t : Try) (outcome : ReplyOutcome) (reply : ℕ) → P (told_by outcome reply)
-      → MayTell (after_reply c t outcome reply)
-  may-reply c t came.Answer reply k = k
-  may-reply c t came.Negative reply k = by c.is_trusted
-    where
-      by : (trusted : Bool) → MayTell (cond trusted (Ends reply) (Leaves (told.Reply reply)))
-      by true = k
-      by false = k
-  may-reply c t came.Truncated reply k =
-      may-again (may_change_to_tcp c t) Tcp t.form.with_opt (Leaves (told.Cut reply)) k
-  may-reply c t came.WithoutOpt reply k =
-      may-again (has_room t.transport c) t.transport false (Leaves (told.Code reply)) k
-  may-reply c t came.BadRest reply k = k
-  may-reply c t (came.Code code) reply k = k
-  may-reply c t came.Lame reply k = k
-
-  may-then : (after : Try → Then) (p : Progress) → ((t : Try) → MayTell (after t)) → MayTell (then_in after p)
-  may-then after progress.Queued f = tt
-  may-then after (progress.Again way due) f = tt
-  may-then after (progress.Blocked way due) f = tt
-  may-then after (progress.Waiting t) f = f t
-  may-then after progress.Tried f = tt
-  may-then after progress.Gone f = tt
 
   -- ---- events
 
@@ -179,7 +116,7 @@ module _ (P : Outcome → Type 0) (unreachable : P told.Unreachable) (timeout : 
         at l None = tells-answered s h outcome channel id
         at l (Some c) =
             tells-acted_late after (tells-answered s h outcome channel id) (after_reply c l.tried outcome reply)
-            (may-reply c l.tried outcome reply k) c
+            (may-reply P c l.tried outcome reply k) c
 
         late : (found : Option LateTry) → Tells (option_map_or (λ l. late_replied outcome reply l after) found s)
         late None = h
@@ -190,7 +127,7 @@ module _ (P : Outcome → Type 0) (unreachable : P told.Unreachable) (timeout : 
         by None = late (late_at channel id s)
         by (Some c) =
             tells-acted s h (then_of_reply c outcome reply)
-            (may-then (λ t. after_reply c t outcome reply) c.progress (λ t. may-reply c t outcome reply k))
+            (may-then P (λ t. after_reply c t outcome reply) c.progress (λ t. may-reply P c t outcome reply k))
             (stays_believed outcome) c
 
     pub tells-opt : (channel id : ℕ) → Tells (opt_was_refused channel id s)
@@ -200,8 +137,8 @@ module _ (P : Outcome → Type 0) (unreachable : P told.Unreachable) (timeout : 
         by None = h
         by (Some c) =
             tells-acted s h (then_of_refused_opt c)
-            (may-then (after_refused_opt c) c.progress
-            (λ t. may-again (has_room t.transport c) t.transport false Nothing tt)) false c
+            (may-then P (after_refused_opt c) c.progress
+            (λ t. may-again P (has_room t.transport c) t.transport false Nothing tt)) false c
 
     pub tells-letters : (channel id : ℕ) → Tells (other_letters_came channel id s)
     tells-letters channel id = by (picked (waits_as channel id) s)
@@ -210,14 +147,14 @@ module _ (P : Outcome → Type 0) (unreachable : P told.Unreachable) (timeout : 
         by None = h
         by (Some c) =
             tells-acted s h (then_of_other_letters c)
-            (may-then (after_other_letters c) c.progress
-            (λ t. may-again (may_begin_tcp c t) Tcp t.form.with_opt Nothing tt)) true c
+            (may-then P (after_other_letters c) c.progress
+            (λ t. may-again P (may_begin_tcp c t) Tcp t.form.with_opt Nothing tt)) true c
 
     tells-failed_at : (c : Candidate) (how : Transport) (t : Try) → Tells (failed_at c c.progress how t s)
     tells-failed_at c Udp t = tells-late s h (record { place = c.place; tried = t; has_failed = true })
     tells-failed_at c Tcp t =
         tells-acted s h (after_closed_stream c t)
-        (may-again (has_room Tcp c) Tcp t.form.with_opt (Rests told.Unreachable) unreachable) false c
+        (may-again P (has_room Tcp c) Tcp t.form.with_opt (Rests told.Unreachable) unreachable) false c
 
     tells-failed_in : (c : Candidate) (p : Progress) → Tells (failed_in c p s)
     tells-failed_in c progress.Queued = h
@@ -290,8 +227,8 @@ module _ (P : Outcome → Type 0) (unreachable : P told.Unreachable) (timeout : 
     tells-expired_in c (progress.Waiting t) =
         tells-acted s h (after_deadline s.settings.tcp_on_error c t) (by s.settings.tcp_on_error) true c
       where
-        by : (tcp : Bool) → MayTell (after_deadline tcp c t)
-        by true = may-again (may_begin_tcp c t) Tcp t.form.with_opt (Rests told.Timeout) timeout
+        by : (tcp : Bool) → MayTell P (after_deadline tcp c t)
+        by true = may-again P (may_begin_tcp c t) Tcp t.form.with_opt (Rests told.Timeout) timeout
         by false = timeout
     tells-expired_in c progress.Tried = h
     tells-expired_in c progress.Gone = h

@@ -13,7 +13,7 @@ use Rattle.hickory_resolver_transactions.specs.declared.outcome.Outcome.{Outcome
 use Rattle.hickory_resolver_transactions.specs.declared.outcome.Outcome.TheVariants as told
 use Rattle.hickory_resolver_transactions.specs.declared.settings.Settings.{Settings}
 use Rattle.hickory_resolver_pool_theorems.specs.Causes.{IsMade, HasRunOut, HasFailed}
-use Rattle.hickory_resolver_pool_theorems.proofs.Best.{best, told_by}
+use Rattle.hickory_resolver_pool_theorems.proofs.MayTell.{best, told_by}
 use Rattle.hickory_resolver_pool_theorems.proofs.Reasons.{Well, FailedLate, well-came, well-opt, well-letters, well-failed, well-blocked, well-freed, well-oldest, well-unsent, well-sent, well-round, well-expired}
 
 -- ---- a transaction, one event later

@@ -22,7 +22,8 @@ use Rattle.hickory_resolver_pool_theorems.specs.Runs.{Happening}
 use Rattle.hickory_resolver_pool_theorems.specs.Wire.{WasSent, CameOn}
 use Rattle.hickory_resolver_pool_theorems.specs.MadeUp.{IsBelievedReply, told_of_reply}
 use Rattle.hickory_resolver_pool_theorems.proofs.Tries.{AreSent, sent-try, sent-heard, sent-as, none-sent, try-is}
-use Rattle.hickory_resolver_pool_theorems.proofs.Best.{best_of, best, told_by, Tells, tells-came, tells-opt, tells-letters}
+use Rattle.hickory_resolver_pool_theorems.proofs.Best.{Tells, tells-came, tells-opt, tells-letters}
+use Rattle.hickory_resolver_pool_theorems.proofs.MayTell.{best_of, best, told_by}
 use Rattle.hickory_resolver_transactions.specs.Laws.{reply_came, opt_refused, letters_differ}
 use Rattle.hickory_resolver_pool_theorems.specs.Causes.{IsMade}
 use Rattle.hickory_resolver_pool_theorems.proofs.Causes.{made-first, made-next}

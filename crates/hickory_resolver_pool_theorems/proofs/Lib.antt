@@ -17,6 +17,7 @@ pub mod Keys
 pub mod Lists
 pub mod ListsKept
 pub mod MadeUp
+pub mod MayTell
 pub mod Opens
 pub mod OutKept
 pub mod OverOnce

@@ -15,7 +15,7 @@ use Rattle.hickory_resolver_pool.specs.declared.over.PoolOutcome.{PoolOutcome}
 use Rattle.hickory_resolver_pool.specs.Pool.{no_servers, told_outcome, outcome_in, over_of, is_end}
 use Rattle.hickory_resolver_pool_theorems.specs.Runs.{Happening}
 use Rattle.hickory_resolver_pool_theorems.specs.MadeUp.{IsBelievedReply, HasBelievedReply, NothingIsMadeUp}
-use Rattle.hickory_resolver_pool_theorems.proofs.Best.{best_of}
+use Rattle.hickory_resolver_pool_theorems.proofs.MayTell.{best_of}
 use Rattle.hickory_resolver_pool_theorems.proofs.Flights.{KeepsBest, IsKept}
 use Rattle.hickory_resolver_pool_theorems.proofs.Overs.{IsEnd, told-at_end}
 use Rattle.hickory_resolver_pool_theorems.proofs.Pools.{IsCurrent}

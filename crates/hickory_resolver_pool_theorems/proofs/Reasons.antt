@@ -23,7 +23,7 @@ use Rattle.hickory_resolver_transactions.specs.declared.outcome.Outcome.{Outcome
 use Rattle.hickory_resolver_transactions.specs.declared.outcome.Outcome.TheVariants as told
 use Rattle.hickory_resolver_transactions.specs.declared.table.Then.{Then}
 use Rattle.hickory_resolver_transactions.specs.declared.table.Then.TheVariants.{Ends, Leaves, Rests, Again, Nothing}
-use Rattle.hickory_resolver_pool_theorems.proofs.Best.{best_of, best, told_by}
+use Rattle.hickory_resolver_pool_theorems.proofs.MayTell.{best_of, best, told_by, better-told, told-noted, MayTell, may-again, may-reply, may-then}
 
 module _ (P : Outcome → Type 0) where
   -- a channel of it failed
@@ -64,22 +64,9 @@ module _ (P : Outcome → Type 0) where
       by true is more h = all.0 is
       by false is more h = more h
 
-  better-told : (old : Option Outcome) (new : Outcome) → IfSome old P → P new → IfSome (better old new) P
-  better-told None new h k = k
-  better-told (Some o) new h k = by (ltb (rank_of new) (rank_of o))
-    where
-      by : (is_better : Bool) → IfSome (cond is_better (Some new) (Some o)) P
-      by true = k
-      by false = h
-
-  told-noted : (ended : Option ℕ) (noted after : Option Outcome) → (IfSome noted P → IfSome after P)
-      → IfSome (best_of ended noted) P → IfSome (best_of ended after) P
-  told-noted None noted after f h = f h
-  told-noted (Some reply) noted after f h = h
-
   well-noting : (s : TransactionState) → Well s → (o : Outcome) → P o → Well (noting o s)
   well-noting s h o k = record {
-    told = told-noted s.ended s.noted (better s.noted o) (λ old. better-told s.noted o old k) h.told;
+    told = told-noted P s.ended s.noted (better s.noted o) (λ old. better-told P s.noted o old k) h.told;
     late = h.late;
   }
 
@@ -89,12 +76,12 @@ module _ (P : Outcome → Type 0) where
   closed-told (l ∷ ls) noted all h = by l.has_failed refl
     where
       by : (failed : Bool) → l.has_failed ≡ failed → IfSome (cond failed (better noted told.Unreachable) noted) P
-      by true is = better-told noted told.Unreachable h (all.0 is)
+      by true is = better-told P noted told.Unreachable h (all.0 is)
       by false is = h
 
   pub well-oldest : (s : TransactionState) → Well s → Well (without_oldest s)
   well-oldest s h = record {
-    told = told-noted s.ended s.noted (noted_of_closed s.late s.noted)
+    told = told-noted P s.ended s.noted (noted_of_closed s.late s.noted)
         (λ old. closed-told s.late s.noted h.late old) h.told;
     late = dropped s.late h.late;
   }
@@ -122,18 +109,10 @@ module _ (P : Outcome → Type 0) where
   well-keeping s h true c = well-kept s h c.progress c.place
   well-keeping s h false c = h
 
-  -- what is done tells what may be told
-  abbrev MayTell : Then → Type 0
-  MayTell (Ends reply) = P (told.Reply reply)
-  MayTell (Leaves o) = P o
-  MayTell (Rests o) = P o
-  MayTell (Again way) = Unit {0}
-  MayTell Nothing = Unit {0}
-
   well-ending : (s : TransactionState) → Well s → (reply : ℕ) → P (told.Reply reply) → Well (record s { ended = Some reply })
   well-ending s h reply k = record { told = k; late = h.late }
 
-  well-acted : (s : TransactionState) → Well s → (t : Then) → MayTell t → (keeps : Bool) (c : Candidate)
+  well-acted : (s : TransactionState) → Well s → (t : Then) → MayTell P t → (keeps : Bool) (c : Candidate)
       → Well (acted t keeps c s)
   well-acted s h (Ends reply) k keeps c = well-ending s h reply k
   well-acted s h (Leaves o) k keeps c =
@@ -164,7 +143,7 @@ module _ (P : Outcome → Type 0) where
       by true = h
       by false = well-replacing s h (record c { progress = progress.Gone })
 
-  well-acted_late : (s : TransactionState) → Well s → (t : Then) → MayTell t → (c : Candidate) → Well (acted_late t c s)
+  well-acted_late : (s : TransactionState) → Well s → (t : Then) → MayTell P t → (c : Candidate) → Well (acted_late t c s)
   well-acted_late s h (Ends reply) k c = well-ending s h reply k
   well-acted_late s h (Leaves o) k c = well-noting (gone_unless_waiting c s) (well-gone s h c) o k
   well-acted_late s h (Rests o) k c = h
@@ -174,34 +153,6 @@ module _ (P : Outcome → Type 0) where
       by true = well-replacing s h (record c { progress = progress.Again way None })
       by false = h
   well-acted_late s h Nothing k c = h
-
-  may-again : (may : Bool) (how : Transport) (opt : Bool) (t : Then) → MayTell t → MayTell (again_if may how opt t)
-  may-again true how opt t k = tt
-  may-again false how opt t k = k
-
-  may-reply : (c : Candidate) (t : Try) (outcome : ReplyOutcome) (reply : ℕ) → P (told_by outcome reply)
-      → MayTell (after_reply c t outcome reply)
-  may-reply c t came.Answer reply k = k
-  may-reply c t came.Negative reply k = by c.is_trusted
-    where
-      by : (trusted : Bool) → MayTell (cond trusted (Ends reply) (Leaves (told.Reply reply)))
-      by true = k
-      by false = k
-  may-reply c t came.Truncated reply k =
-      may-again (may_change_to_tcp c t) Tcp t.form.with_opt (Leaves (told.Cut reply)) k
-  may-reply c t came.WithoutOpt reply k =
-      may-again (has_room t.transport c) t.transport false (Leaves (told.Code reply)) k
-  may-reply c t came.BadRest reply k = k
-  may-reply c t (came.Code code) reply k = k
-  may-reply c t came.Lame reply k = k
-
-  may-then : (after : Try → Then) (p : Progress) → ((t : Try) → MayTell (after t)) → MayTell (then_in after p)
-  may-then after progress.Queued f = tt
-  may-then after (progress.Again way due) f = tt
-  may-then after (progress.Blocked way due) f = tt
-  may-then after (progress.Waiting t) f = f t
-  may-then after progress.Tried f = tt
-  may-then after progress.Gone f = tt
 
   -- ---- events
 
@@ -218,7 +169,7 @@ module _ (P : Outcome → Type 0) where
         at l None = well-answered s h outcome channel id
         at l (Some c) =
             well-acted_late after (well-answered s h outcome channel id) (after_reply c l.tried outcome reply)
-            (may-reply c l.tried outcome reply k) c
+            (may-reply P c l.tried outcome reply k) c
 
         late : (found : Option LateTry) → Well (option_map_or (λ l. late_replied outcome reply l after) found s)
         late None = h
@@ -229,7 +180,7 @@ module _ (P : Outcome → Type 0) where
         by None = late (late_at channel id s)
         by (Some c) =
             well-acted s h (then_of_reply c outcome reply)
-            (may-then (λ t. after_reply c t outcome reply) c.progress (λ t. may-reply c t outcome reply k))
+            (may-then P (λ t. after_reply c t outcome reply) c.progress (λ t. may-reply P c t outcome reply k))
             (stays_believed outcome) c
 
     pub well-opt : (channel id : ℕ) → Well (opt_was_refused channel id s)
@@ -239,8 +190,8 @@ module _ (P : Outcome → Type 0) where
         by None = h
         by (Some c) =
             well-acted s h (then_of_refused_opt c)
-            (may-then (after_refused_opt c) c.progress
-            (λ t. may-again (has_room t.transport c) t.transport false Nothing tt)) false c
+            (may-then P (after_refused_opt c) c.progress
+            (λ t. may-again P (has_room t.transport c) t.transport false Nothing tt)) false c
 
     pub well-letters : (channel id : ℕ) → Well (other_letters_came channel id s)
     well-letters channel id = by (picked (waits_as channel id) s)
@@ -249,8 +200,8 @@ module _ (P : Outcome → Type 0) where
         by None = h
         by (Some c) =
             well-acted s h (then_of_other_letters c)
-            (may-then (after_other_letters c) c.progress
-            (λ t. may-again (may_begin_tcp c t) Tcp t.form.with_opt Nothing tt)) true c
+            (may-then P (after_other_letters c) c.progress
+            (λ t. may-again P (may_begin_tcp c t) Tcp t.form.with_opt Nothing tt)) true c
 
     well-failed_at : P told.Unreachable → (c : Candidate) (how : Transport) (t : Try) → Well (failed_at c c.progress how t s)
     well-failed_at k c Udp t =
@@ -258,7 +209,7 @@ module _ (P : Outcome → Type 0) where
         well-replacing (with_late l s) (well-late s h l (λ e. k)) (record c { progress = progress.Tried })
     well-failed_at k c Tcp t =
         well-acted s h (after_closed_stream c t)
-        (may-again (has_room Tcp c) Tcp t.form.with_opt (Rests told.Unreachable) k) false c
+        (may-again P (has_room Tcp c) Tcp t.form.with_opt (Rests told.Unreachable) k) false c
 
     well-failed_in : P told.Unreachable → (c : Candidate) (p : Progress) → Well (failed_in c p s)
     well-failed_in k c progress.Queued = h
@@ -332,8 +283,8 @@ module _ (P : Outcome → Type 0) where
     well-expired_in k c (progress.Waiting t) =
         well-acted s h (after_deadline s.settings.tcp_on_error c t) (by s.settings.tcp_on_error) true c
       where
-        by : (tcp : Bool) → MayTell (after_deadline tcp c t)
-        by true = may-again (may_begin_tcp c t) Tcp t.form.with_opt (Rests told.Timeout) k
+        by : (tcp : Bool) → MayTell P (after_deadline tcp c t)
+        by true = may-again P (may_begin_tcp c t) Tcp t.form.with_opt (Rests told.Timeout) k
         by false = k
     well-expired_in k c progress.Tried = h
     well-expired_in k c progress.Gone = h

@@ -25,6 +25,7 @@ use Rattle.hickory_resolver_transactions.specs.declared.outcome.Outcome.TheVaria
 use Rattle.hickory_resolver_transactions.specs.declared.settings.Settings.{Settings}
 use Rattle.hickory_resolver_transactions.specs.declared.table.Then.{Then}
 use Rattle.hickory_resolver_transactions.specs.declared.table.Then.TheVariants.{Ends, Leaves, Rests, Again, Nothing}
+use Rattle.hickory_resolver_pool_theorems.proofs.MayTell.{told_by, MayTell, may-again, may-reply, may-then}
 use Rattle.hickory_resolver_pool_theorems.proofs.Tries.{found-passes}
 use Rattle.hickory_resolver_pool_theorems.specs.Timeouts.{IsTimeoutAtMost, HasTimedOutAtMost, is_awaited, HasPassed, HasFailedThere, OnlyTimePassed, TimeoutsAreAlone}
 
@@ -346,15 +347,7 @@ same-keeping : (s : TransactionState) (keeps : Bool) (c : Candidate) → (keepin
 same-keeping s true c = same-kept s c.progress c.place
 same-keeping s false c = refl
 
--- what it would note shows
-abbrev MayShow : Then → Type 0
-MayShow (Ends reply) = Unit {0}
-MayShow (Leaves o) = Shows o
-MayShow (Rests o) = Shows o
-MayShow (Again way) = Unit {0}
-MayShow Nothing = Unit {0}
-
-goes-acted : (place : ℕ) (s : TransactionState) → Busy place s.candidates ≡ true → (t : Then) → MayShow t → (keeps : Bool)
+goes-acted : (place : ℕ) (s : TransactionState) → Busy place s.candidates ≡ true → (t : Then) → MayTell Shows t → (keeps : Bool)
     → (c : Candidate) → Goes place (acted t keeps c s)
 goes-acted place s h (Ends reply) k keeps c = inr (λ clean. let no_such : Some reply ≡ None = clean.ended in absurd cc)
 goes-acted place s h (Leaves o) k keeps c =
@@ -365,7 +358,7 @@ goes-acted place s h (Again way) k keeps c =
     goes-put place s (keeping keeps c s) (record c { progress = progress.Again way None }) (same-keeping s keeps c) refl h
 goes-acted place s h Nothing k keeps c = inl h
 
-goes-acted_late : (place : ℕ) (s : TransactionState) → Busy place s.candidates ≡ true → (t : Then) → MayShow t
+goes-acted_late : (place : ℕ) (s : TransactionState) → Busy place s.candidates ≡ true → (t : Then) → MayTell Shows t
     → (c : Candidate) → Goes place (acted_late t c s)
 goes-acted_late place s h (Ends reply) k c = inr (λ clean. let no_such : Some reply ≡ None = clean.ended in absurd cc)
 goes-acted_late place s h (Leaves o) k c = inr (λ clean. shown (gone_unless_waiting c s).noted o k clean.noted)
@@ -377,32 +370,14 @@ goes-acted_late place s h (Again way) k c = by (is_tried c.progress)
     by false = inl h
 goes-acted_late place s h Nothing k c = inl h
 
-may-again : (may : Bool) (how : Transport) (opt : Bool) (t : Then) → MayShow t → MayShow (again_if may how opt t)
-may-again true how opt t k = tt
-may-again false how opt t k = k
-
-may-reply : (c : Candidate) (t : Try) (outcome : ReplyOutcome) (reply : ℕ) → MayShow (after_reply c t outcome reply)
-may-reply c t came.Answer reply = tt
-may-reply c t came.Negative reply = by c.is_trusted
-  where
-    by : (trusted : Bool) → MayShow (cond trusted (Ends reply) (Leaves (told.Reply reply)))
-    by true = tt
-    by false = λ h. h
-may-reply c t came.Truncated reply =
-    may-again (may_change_to_tcp c t) Tcp t.form.with_opt (Leaves (told.Cut reply)) (λ h. h)
-may-reply c t came.WithoutOpt reply =
-    may-again (has_room t.transport c) t.transport false (Leaves (told.Code reply)) (λ h. h)
-may-reply c t came.BadRest reply = λ h. h
-may-reply c t (came.Code code) reply = λ h. h
-may-reply c t came.Lame reply = λ h. h
-
-may-then : (after : Try → Then) (p : Progress) → ((t : Try) → MayShow (after t)) → MayShow (then_in after p)
-may-then after progress.Queued f = tt
-may-then after (progress.Again way due) f = tt
-may-then after (progress.Blocked way due) f = tt
-may-then after (progress.Waiting t) f = f t
-may-then after progress.Tried f = tt
-may-then after progress.Gone f = tt
+shows-told : (outcome : ReplyOutcome) (reply : ℕ) → Shows (told_by outcome reply)
+shows-told came.Answer reply = λ h. h
+shows-told came.Negative reply = λ h. h
+shows-told came.Truncated reply = λ h. h
+shows-told came.WithoutOpt reply = λ h. h
+shows-told came.BadRest reply = λ h. h
+shows-told (came.Code code) reply = λ h. h
+shows-told came.Lame reply = λ h. h
 
 goes-map : {A : Type 0} (place : ℕ) (f : A → TransactionState) (d : TransactionState) (o : Option A)
     → ((a : A) → o ≡ Some a → Goes place (f a)) → Goes place d → Goes place (option_map_or f o d)
@@ -418,7 +393,7 @@ module _ (place : ℕ) (s : TransactionState) (h : Busy place s.candidates ≡ t
   goes-came channel id outcome reply =
       goes-map place (λ c. came_to c outcome reply s) _ (picked (waits_as channel id) s)
       (λ c is. goes-acted place s h (then_of_reply c outcome reply)
-      (may-then (λ t. after_reply c t outcome reply) c.progress (λ t. may-reply c t outcome reply)) (stays_believed outcome) c)
+      (may-then Shows (λ t. after_reply c t outcome reply) c.progress (λ t. may-reply Shows c t outcome reply (shows-told outcome reply))) (stays_believed outcome) c)
       (goes-map place (λ l. late_replied outcome reply l rest) s (late_at channel id s) (λ l is. one l) (inl h))
     where
       rest : TransactionState
@@ -440,21 +415,21 @@ module _ (place : ℕ) (s : TransactionState) (h : Busy place s.candidates ≡ t
       one : (l : LateTry) → Goes place (late_replied outcome reply l rest)
       one l =
           goes-map place (λ c. late_came_to c l.tried outcome reply rest) rest (candidate_at l.place rest)
-          (λ c is. goes-acted_late place rest awaited (after_reply c l.tried outcome reply) (may-reply c l.tried outcome reply) c)
+          (λ c is. goes-acted_late place rest awaited (after_reply c l.tried outcome reply) (may-reply Shows c l.tried outcome reply (shows-told outcome reply)) c)
           (inl awaited)
 
   goes-opt : (channel id : ℕ) → Goes place (opt_was_refused channel id s)
   goes-opt channel id =
       goes-map place (λ c. acted (then_of_refused_opt c) false c s) s (picked (waits_as channel id) s)
       (λ c is. goes-acted place s h (then_of_refused_opt c)
-      (may-then (after_refused_opt c) c.progress (λ t. may-again (has_room t.transport c) t.transport false Nothing tt)) false c)
+      (may-then Shows (after_refused_opt c) c.progress (λ t. may-again Shows (has_room t.transport c) t.transport false Nothing tt)) false c)
       (inl h)
 
   goes-letters : (channel id : ℕ) → Goes place (other_letters_came channel id s)
   goes-letters channel id =
       goes-map place (λ c. acted (then_of_other_letters c) true c s) s (picked (waits_as channel id) s)
       (λ c is. goes-acted place s h (then_of_other_letters c)
-      (may-then (after_other_letters c) c.progress (λ t. may-again (may_begin_tcp c t) Tcp t.form.with_opt Nothing tt)) true c)
+      (may-then Shows (after_other_letters c) c.progress (λ t. may-again Shows (may_begin_tcp c t) Tcp t.form.with_opt Nothing tt)) true c)
       (inl h)
 
   goes-blocked : (channel : ℕ) → Goes place (blocked channel s)
@@ -483,7 +458,7 @@ module _ (place : ℕ) (s : TransactionState) (h : Busy place s.candidates ≡ t
           → Comes (channel_failed channel) (failed_at c c.progress transport t s)
       at c is Tcp t =
           inl (goes-acted place s h (after_closed_stream c t)
-          (may-again (has_room Tcp c) Tcp t.form.with_opt (Rests told.Unreachable) (λ k. k)) false c)
+          (may-again Shows (has_room Tcp c) Tcp t.form.with_opt (Rests told.Unreachable) (λ k. k)) false c)
       at c is Udp t = where_at (eqb c.place place) refl
         where
           l : LateTry

@@ -26,7 +26,7 @@ use Rattle.hickory_resolver_pool_theorems.specs.Causes.{IsMade, HasBegun, IsTime
 use Rattle.hickory_resolver_pool_theorems.specs.Runs.{Happening}
 use Rattle.hickory_resolver_pool_theorems.specs.Timeouts.{IsTimeoutAtMost, HasTimedOutAtMost}
 use Rattle.hickory_resolver_pool_theorems.proofs.Begun.{BegunIn, begun-runs, worked-begun}
-use Rattle.hickory_resolver_pool_theorems.proofs.Best.{best_of}
+use Rattle.hickory_resolver_pool_theorems.proofs.MayTell.{best_of}
 use Rattle.hickory_resolver_pool_theorems.proofs.Causes.{Cause, has-cause}
 use Rattle.hickory_resolver_pool_theorems.proofs.EachEntry.{AllEntries, AtCurrent}
 use Rattle.hickory_resolver_pool_theorems.proofs.Failures.{end-for, IsEnding, not-over}
