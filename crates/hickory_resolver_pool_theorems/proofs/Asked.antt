@@ -142,7 +142,7 @@ module _ (s t : PoolState) (r : Option Action) where
   next-in None is = next-starts is
   next-in (Some c) is = next-by c (is_end (doing c s.traffic)) (is_put (doing c s.traffic)) (doing c s.traffic) is
 
-  next-step : Steps s r t → next_of t ≡ next_of s
+  pub next-step : Steps s r t → next_of t ≡ next_of s
   next-step is = by (is_some s.traffic.outgoing) is
     where
       by : (writes : Bool) → StepsAs writes s r t → next_of t ≡ next_of s
@@ -218,7 +218,7 @@ grows-forgot a s = by (left_of a s)
     by left.OthersAsk = grows-self s.next_transaction
     by left.Last = grows-self s.next_transaction
 
-grows-event : (s : PoolState) (e : PoolEvent) → next_of s ≤ next_of (after_event s e)
+pub grows-event : (s : PoolState) (e : PoolEvent) → next_of s ≤ next_of (after_event s e)
 grows-event s (time_passes at) = grows-self (next_of s)
 grows-event s (group_has group servers) = grows-self (next_of s)
 grows-event s (is_asked group query options dnssec at) =

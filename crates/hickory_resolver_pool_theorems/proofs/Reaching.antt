@@ -12,7 +12,7 @@ happens start _ (reach.by_event s e more) =
 happens start _ (reach.by_step s after r is more) =
     let past = happens start s more in (did s r ∷ past.0, by_step past.0 s after r is past.1)
 
-reached : (start : PoolState) (past : List Happening) (s : PoolState) → Runs start past s → Reached start s
+pub reached : (start : PoolState) (past : List Happening) (s : PoolState) → Runs start past s → Reached start s
 reached start _ _ at_first = reach.at_first
 reached start _ _ (by_event past s e more) = reach.by_event s e (reached start past s more)
 reached start _ _ (by_step past s after r is more) = reach.by_step s after r is (reached start past s more)

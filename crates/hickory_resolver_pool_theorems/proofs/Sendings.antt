@@ -61,7 +61,7 @@ joined-has channel id n s can = by (joinable channel id s) can
     by None h = absurd (true≢false (sym h))
     by (Some c) h = found-inserted pair_cmp pair-self (channel, id) n s.tries
 
-open-is : (kind : ChannelKind) (place id : ℕ) (servers : ListState) (channels : ChannelsState) (channel : ℕ)
+pub open-is : (kind : ChannelKind) (place id : ℕ) (servers : ListState) (channels : ChannelsState) (channel : ℕ)
     → stream_for kind place id servers channels ≡ Some channel → is_some (joinable channel id channels) ≡ true
 open-is Datagram place id servers channels channel e = absurd cc
 open-is Stream place id servers channels channel e = by (stream_of place servers) e

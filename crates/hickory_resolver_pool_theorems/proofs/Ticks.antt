@@ -20,7 +20,7 @@ use Rattle.hickory_resolver_pool_theorems.proofs.Tries.{found-passes}
 
 -- ---- the earliest is one of them
 
-abbrev Has : ℕ → List ℕ → Type 0
+abbrev pub Has : ℕ → List ℕ → Type 0
 Has due [] = ⊥
 Has due (x ∷ xs) = (x ≡ due) ⊎ Has due xs
 
@@ -32,7 +32,7 @@ earlier-is (Some other) x due e = by (ltb x other) e
     by true h = inr cc
     by false h = inl h
 
-fold-is : (first : Option ℕ) (xs : List ℕ) (due : ℕ) → fold earlier first xs ≡ Some due → (first ≡ Some due) ⊎ Has due xs
+pub fold-is : (first : Option ℕ) (xs : List ℕ) (due : ℕ) → fold earlier first xs ≡ Some due → (first ≡ Some due) ⊎ Has due xs
 fold-is first [] due e = inl e
 fold-is first (x ∷ xs) due e = by (fold-is (earlier first x) xs due e)
   where
@@ -46,7 +46,7 @@ fold-is first (x ∷ xs) due e = by (fold-is (earlier first x) xs due e)
 
 module _ (due now : ℕ) (come : due ≤ now) where
   -- a server that waits up to then is found
-  server-found : (cs : List Candidate) → Has due (filter_map (λ c. due_of c.progress) cs)
+  pub server-found : (cs : List Candidate) → Has due (filter_map (λ c. due_of c.progress) cs)
       → find (λ c. is_due now c.progress) cs ≡ None → ⊥
   server-found [] h none = h
   server-found (c ∷ cs) h none = by (due_of c.progress) refl (server-found cs) h none
@@ -74,7 +74,7 @@ module _ (due now : ℕ) (come : due ≤ now) where
       by (Some at) is more (inr h) none = more h (rest (is_past now (due_of c.progress)) none)
 
   -- a try that failed and is due by then is there
-  failed-found : (ls : List LateTry) → Has due (filter_map late_due ls) → list_any (has_failed_by now) ls ≡ true
+  pub failed-found : (ls : List LateTry) → Has due (filter_map late_due ls) → list_any (has_failed_by now) ls ≡ true
   failed-found [] h = absurd h
   failed-found (l ∷ ls) h = by l.has_failed (failed-found ls) h
     where

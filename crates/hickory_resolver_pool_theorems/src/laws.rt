@@ -1,4 +1,5 @@
 //! What holds of a pool after every list of events and steps.
+ghost use Rattle.hickory_resolver_pool_theorems.specs.Agreement.{EachTransactionStandsOnce, DeadlinesAgree, TriesAgree, ServersAreKept};
 ghost use Rattle.hickory_resolver_pool_theorems.specs.Runs.{ReachedIsWhatHappens};
 ghost use Rattle.hickory_resolver_pool_theorems.specs.MadeUp.{NothingIsMadeUp};
 ghost use Rattle.hickory_resolver_pool_theorems.specs.Handles.{CoreIsToldWhatCame, FromOctetsToOctets};
@@ -103,4 +104,25 @@ pub fn opens_to_own_servers()
 /// of a server any more in a round, its time had passed, or its channel had failed.
 pub fn timeouts_are_alone()
     ensures { TimeoutsAreAlone }
+{}
+
+/// Each transaction stands in the table, or is worked on: no number stands twice.
+pub fn each_transaction_stands_once()
+    ensures { EachTransactionStandsOnce }
+{}
+
+/// Each transaction, in the table or in hand, stands among the deadlines under its own moment, and under no other.
+pub fn deadlines_agree()
+    ensures { DeadlinesAgree }
+{}
+
+/// What a transaction keeps in mind of its tries are tries of it on channels; and of each channel that is open it keeps
+/// all of its tries there in mind.
+pub fn tries_agree()
+    ensures { TriesAgree }
+{}
+
+/// The servers that a transaction asks are kept as long as it asks them, also where its group has others since.
+pub fn servers_are_kept()
+    ensures { ServersAreKept }
 {}
