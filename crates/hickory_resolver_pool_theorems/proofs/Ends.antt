@@ -154,11 +154,14 @@ module _ (t : TrafficState) where
       (map-other (λ p. task.ClosesIdle p.1) (option_and_then (if_kept_enough t) (first_idle t.shared.channels)) (λ p. refl))))
 
   -- nothing goes out, nothing came, and nothing ran out
-  record IsNothing : Type 0 where
-    out : t.outgoing ≡ None
-    due : option_and_then (if_by t.clock) (first_due t.table) ≡ None
-    refused : refused_one t ≡ None
-    idle : option_and_then (if_kept_enough t) (first_idle t.shared.channels) ≡ None
+  pub record IsNothing : Type 0 where
+    pub out : t.outgoing ≡ None
+    pub failure : first_failure t.inbox ≡ None
+    pub message : first_message t.inbox ≡ None
+    pub unread : first_unread t.inbox ≡ None
+    pub due : option_and_then (if_by t.clock) (first_due t.table) ≡ None
+    pub refused : refused_one t ≡ None
+    pub idle : option_and_then (if_kept_enough t) (first_idle t.shared.channels) ≡ None
 
   is-nothing : task_of t ≡ task.Admits → IsNothing
   is-nothing e =
@@ -172,8 +175,16 @@ module _ (t : TrafficState) where
       let three = or-none (due_in t) (option_or (late_in t) (option_or (free_in t) (idle_in t))) two.1 in
       let four = or-none (late_in t) (option_or (free_in t) (idle_in t)) three.1 in
       let five = or-none (free_in t) (idle_in t) four.1 in
+      let ready = option_map task.TakesReady (slice_get t.ready 0) in
+      let cuts = option_map task.Cuts (first_unread t.inbox) in
+      let six = or-none (failure_in t) (option_or (message_in t) (option_or cuts ready)) two.0 in
+      let seven = or-none (message_in t) (option_or cuts ready) six.1 in
+      let eight = or-none cuts ready seven.1 in
       record {
         out = map-none outgoing_task t.outgoing one.0;
+        failure = map-none (failure_task t) (first_failure t.inbox) six.0;
+        message = map-none (λ (m : MessageValue). message_task t m.channel m.octets) (first_message t.inbox) seven.0;
+        unread = map-none (λ (channel : ℕ). task.Cuts channel) (first_unread t.inbox) eight.0;
         due = map-none (expires_or_undates t.table) (option_and_then (if_by t.clock) (first_due t.table)) three.0;
         refused = map-none (refuses_or_strays t.table) (refused_one t) four.0;
         idle = map-none (λ (p : ℕ × ℕ). task.ClosesIdle p.1) (option_and_then (if_kept_enough t) (first_idle t.shared.channels)) five.1;
@@ -296,6 +307,22 @@ module _ (s after : PoolState) where
       by : (o : Option OutgoingValue) → s.traffic.outgoing ≡ o → StepsAs (is_some o) s None after → IsAtRest s after
       by None e steps = at-rest_in s.current refl steps
       by (Some o) e steps = absurd (not-started o e steps)
+
+-- of all that may be to be done there is nothing
+pub nothing-left : (s after : PoolState) → Steps s None after → IsNothing s.traffic
+nothing-left s after is =
+    let rest = at-rest s after is in
+    by (ap (λ (o : Option OutgoingValue). is_some o) rest.sends_none) rest.works_on_none
+  where
+    starts : Starts s None after → IsNothing s.traffic
+    starts begun =
+        is-nothing s.traffic (none-done s.traffic (task_of s.traffic)
+        (idle-of (did (task_of s.traffic) s.traffic) begun.0)).0
+
+    by : is_some s.traffic.outgoing ≡ false → s.current ≡ None → IsNothing s.traffic
+    by out none =
+        starts (subst (λ (c : Option CurrentState). StepsIn c s None after) none
+        (subst (λ (b : Bool). StepsAs b s None after) out is))
 
 pub rests_until_due : RestsUntilDue
 rests_until_due s after is = at-rest s after is

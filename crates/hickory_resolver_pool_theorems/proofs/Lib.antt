@@ -48,4 +48,5 @@ pub mod Told
 pub mod Traces
 pub mod Tries
 pub mod Unanswered
+pub mod Whole
 pub mod Wires

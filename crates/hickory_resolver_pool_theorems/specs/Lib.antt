@@ -6,6 +6,7 @@ pub mod Failures
 pub mod Handles
 pub mod MadeUp
 pub mod Opens
+pub mod Rest
 pub mod Runs
 pub mod Tellings
 pub mod Ticks

@@ -5,6 +5,7 @@ ghost use Rattle.hickory_resolver_pool_theorems.specs.MadeUp.{NothingIsMadeUp};
 ghost use Rattle.hickory_resolver_pool_theorems.specs.Handles.{CoreIsToldWhatCame, FromOctetsToOctets};
 ghost use Rattle.hickory_resolver_pool_theorems.specs.Causes.{TimeoutsRanOut, UnreachableOnesFailed, TransactionsStayBounded};
 ghost use Rattle.hickory_resolver_pool_theorems.specs.Ends.{RestsUntilDue};
+ghost use Rattle.hickory_resolver_pool_theorems.specs.Rest.{AllIsReadAtRest};
 ghost use Rattle.hickory_resolver_pool_theorems.specs.Ticks.{EachTickLowers};
 ghost use Rattle.hickory_resolver_pool_theorems.specs.Failures.{OverloadedOnlyWithoutPlace, FailuresAreToldLast};
 ghost use Rattle.hickory_resolver_pool_theorems.specs.Tellings.{WhoAsksIsTold, OverOnce};
@@ -120,6 +121,12 @@ pub fn deadlines_agree()
 /// all of its tries there in mind.
 pub fn tries_agree()
     ensures { TriesAgree }
+{}
+
+/// Where nothing is left to be done all that came was read, but for less than a message of each stream: no message, no
+/// failure and no whole message of a stream is held.
+pub fn all_is_read_at_rest()
+    ensures { AllIsReadAtRest }
 {}
 
 /// The servers that a transaction asks are kept as long as it asks them, also where its group has others since.
