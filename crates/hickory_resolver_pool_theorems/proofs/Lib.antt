@@ -4,6 +4,7 @@ pub mod Askings
 pub mod Begun
 pub mod Best
 pub mod Boxes
+pub mod Budgets
 pub mod ByNumber
 pub mod Causes
 pub mod Dates
@@ -33,6 +34,7 @@ pub mod OutKept
 pub mod OverOnce
 pub mod Overs
 pub mod Pools
+pub mod PutAway
 pub mod Reaching
 pub mod Reasons
 pub mod Refusals

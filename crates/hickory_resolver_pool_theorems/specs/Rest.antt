@@ -1,11 +1,12 @@
 -- What is held where nothing is left to be done.
-use Rattle.std.specs.Prelude.{◌≡◌, ◌<◌, ◌+◌, ◌^◌, ℕ, List, [], length, None, Some}
+use Rattle.std.specs.Prelude.{◌≡◌, ◌<◌, ◌+◌, ◌^◌, ℕ, List, [], length, Option, None, Some}
 use Rattle.std.specs.List.{AllByRecursion}
 use Rattle.hickory_resolver_config.specs.ResolverConfig.{OptionsValue}
 use Rattle.hickory_resolver_tries.specs.Stream.{first_of}
 use Rattle.hickory_resolver_traffic.specs.Inbox.{octets_in}
 use Rattle.hickory_resolver_pool.specs.Pool.{PoolState, no_servers, Steps}
 use Rattle.hickory_resolver_pool.specs.declared.limits.PoolLimits.{PoolLimits}
+use Rattle.hickory_resolver_pool.specs.declared.pool.Action.{Action}
 use Rattle.hickory_resolver_pool_theorems.specs.Runs.{Happening, Runs}
 
 -- of what is held of a stream no message is whole: it is less than the longest message and its length
@@ -26,3 +27,16 @@ abbrev pub AllIsReadAtRest : Type 0
 AllIsReadAtRest =
     (options : OptionsValue) (limits : PoolLimits) (seed : List ℕ) (past : List Happening) (s after : PoolState)
     → Runs (no_servers options limits seed) past s → Steps s None after → IsReadThrough s
+
+-- ---- what is worked on is put away
+
+-- No transaction is worked on; or, whatever the next step does, that comes to be so.
+pub data IsPutAway : PoolState → Type 0 where
+  none_in_hand : (s : PoolState) → s.current ≡ None → IsPutAway s
+  goes_on : (s : PoolState) → ((r : Option Action) (after : PoolState) → Steps s r after → IsPutAway after) → IsPutAway s
+
+-- Where steps are all that happens, the transaction that is worked on is put away, or over, after finitely many of them.
+abbrev pub EachIsPutAway : Type 0
+EachIsPutAway =
+    (options : OptionsValue) (limits : PoolLimits) (seed : List ℕ) (past : List Happening) (s : PoolState)
+    → Runs (no_servers options limits seed) past s → length past < 2 ^ 64 → IsPutAway s
