@@ -18,7 +18,7 @@ use Rattle.hickory_resolver_steps.specs.Steps.{Parts, FlyingState, SendingValue,
 use Rattle.hickory_resolver_steps.specs.declared.flying.SentTry.{SentTry}
 use Rattle.hickory_resolver_steps.specs.declared.flying.Step.{Step}
 use Rattle.hickory_resolver_transactions.specs.Candidates.{is_tried}
-use Rattle.hickory_resolver_transactions.specs.Laws.{IsWithinSends, IsBounded}
+use Rattle.hickory_resolver_transactions.specs.Laws.{IsWithinSends}
 use Rattle.hickory_resolver_transactions.specs.Transaction.{TransactionState, wanted, wants_round, may_go_on, is_idle, has_late, next_deadline, expired}
 use Rattle.hickory_resolver_transactions.specs.Transaction as transaction
 use Rattle.hickory_resolver_transactions.specs.declared.transaction.Wanted.{Wanted}
@@ -41,6 +41,7 @@ use Rattle.hickory_resolver_traffic.specs.declared.tasks.Task.TheVariants as tas
 use Rattle.hickory_resolver_pool.specs.Pool.{PoolState, no_servers, IsDoneTo, scene_of, is_end, is_put, StepsBy, StepsIn, StepsAs, Steps}
 use Rattle.hickory_resolver_pool.specs.declared.limits.PoolLimits.{PoolLimits}
 use Rattle.hickory_resolver_pool.specs.declared.pool.Action.{Action}
+use Rattle.hickory_resolver_pool_theorems.specs.Causes.{IsBoundedBy}
 use Rattle.hickory_resolver_pool_theorems.specs.Agreement.{in_hand}
 use Rattle.hickory_resolver_pool_theorems.specs.Rest.{IsPutAway, none_in_hand, goes_on, EachIsPutAway}
 use Rattle.hickory_resolver_pool_theorems.specs.Runs.{Happening, did, Runs, by_step}
@@ -580,11 +581,12 @@ module _ (options : OptionsValue) (limits : PoolLimits) (seed : List ℕ) (most 
       let held = holds-runs (no_servers options limits seed) past s (holds-first options limits seed) runs in
       let flying = subst (λ (x : Option CurrentState). IfSome x (IsCurrent (SentIn past s) past)) works held.current in
       let made = flying.flight.made in
-      let bounded = subst (λ (x : Option CurrentState). IfSome x (λ y. IsBounded y.entry.flying.flight.transaction)) works
+      let bounded = subst (λ (x : Option CurrentState). IfSome x
+      (λ y. IsBoundedBy options y.entry.flying.flight.transaction)) works
       (transactions_stay_bounded options limits seed past s runs).worked in
       record {
         places = has-places made.settings made.servers made.events made.rounds c.entry.flying.flight.transaction made.made;
-        bounded = bounded.sends;
+        bounded = bounded.bounded.sends;
         there = listed-there most s kept c.number c.entry (in_hand c.to_do works);
       }
 

@@ -75,8 +75,8 @@ TriesAgree =
 
 -- ---- lists of servers
 
--- The servers that a transaction asks are kept as long as it asks them, also where its group has others since. (How many
--- ask the servers of a list is counted up to the greatest number of 64 bits.)
+-- The servers that a transaction asks are kept as long as it asks them, also where its group has others since. (How
+-- many ask the servers of a list is counted up to the greatest number of 64 bits.)
 abbrev pub ServersAreKept : Type 0
 ServersAreKept =
     (options : OptionsValue) (limits : PoolLimits) (seed : List ℕ) (past : List Happening) (s : PoolState)

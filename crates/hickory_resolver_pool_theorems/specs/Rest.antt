@@ -33,9 +33,10 @@ AllIsReadAtRest =
 -- No transaction is worked on; or, whatever the next step does, that comes to be so.
 pub data IsPutAway : PoolState → Type 0 where
   none_in_hand : (s : PoolState) → s.current ≡ None → IsPutAway s
-  goes_on : (s : PoolState) → ((r : Option Action) (after : PoolState) → Steps s r after → IsPutAway after) → IsPutAway s
+  goes_on : (s : PoolState) → ((r : Option Action) (after : PoolState) → Steps s r after → IsPutAway after)
+      → IsPutAway s
 
--- Where steps are all that happens, the transaction that is worked on is put away, or over, after finitely many of them.
+-- Where steps are all that happens, the transaction that is worked on is put away, or over, after finitely many.
 abbrev pub EachIsPutAway : Type 0
 EachIsPutAway =
     (options : OptionsValue) (limits : PoolLimits) (seed : List ℕ) (past : List Happening) (s : PoolState)
