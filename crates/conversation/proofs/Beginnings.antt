@@ -16,8 +16,8 @@ use Rattle.hickory_resolver_model.specs.Run.{RequestValue, Settings, moment_of}
 use Rattle.replay_script.specs.Configuration.{ConfigurationValue}
 use Rattle.replay_script.specs.declared.fault.ScriptFault.{ScriptFault}
 use Rattle.replay_script.specs.declared.fault.ScriptFault.TheVariants as script
-use Rattle.conversation.specs.Answers.{Answer, AnswersRequest, Begins, IsMade, IsMadeWith, IsOpened, Serves, just_begun, lines_told, refused, telling}
-use Rattle.conversation.specs.FileSettings.{FileSettingsValue, IsWhole, file_settings, lines_text}
+use Rattle.conversation.specs.Answers.{Answer, AnswersRequest, BeginsRequest, IsMade, IsMadeWith, IsOpened, Serves, just_begun, lines_told, refused, telling}
+use Rattle.conversation.specs.FileSettings.{FileSettingsValue, IsConfigured, file_settings, lines_text}
 use Rattle.conversation.specs.Files.{FilesValue}
 use Rattle.conversation.specs.Faults.{RefusalValue, hosts_fault, is_memory, of_line, out_of_memory}
 use Rattle.conversation.specs.Hearing.{IsBegunOut, IsBegunOver, IsServedOut, Says, Stands}
@@ -46,16 +46,16 @@ none_case (Some r) P Q e p = absurd (let h = e in cc)
 pub mark_used : (c : ConversationValue) (mark : List ℕ) (explains : Bool) (given : List (List ℕ)) → is_some (request_at mark c.requests) ≡ true → AnswersRequest c mark explains given (refused c mark (of_line fault.MarkInUse))
 mark_used c mark explains given used =
     some_case (request_at mark c.requests)
-    ((asked : Result RequestValue RefusalValue) × IsAsked given asked × MatchResult asked (λ request. Begins c mark explains request (refused c mark (of_line fault.MarkInUse))) (λ refusal. refused c mark (of_line fault.MarkInUse) ≡ refused c mark refusal))
+    ((asked : Result RequestValue RefusalValue) × IsAsked given asked × MatchResult asked (λ request. BeginsRequest c mark explains request (refused c mark (of_line fault.MarkInUse))) (λ refusal. refused c mark (of_line fault.MarkInUse) ≡ refused c mark refusal))
     (refused c mark (of_line fault.MarkInUse) ≡ refused c mark (of_line fault.MarkInUse))
     used refl
 
 -- what is asked
 pub asks : (c : ConversationValue) (mark : List ℕ) (explains : Bool) (given : List (List ℕ)) (answer : Answer) (asked : Result RequestValue RefusalValue) → is_some (request_at mark c.requests) ≡ false → IsAsked given asked
-    → MatchResult asked (λ request. Begins c mark explains request answer) (λ refusal. answer ≡ refused c mark refusal) → AnswersRequest c mark explains given answer
+    → MatchResult asked (λ request. BeginsRequest c mark explains request answer) (λ refusal. answer ≡ refused c mark refusal) → AnswersRequest c mark explains given answer
 asks c mark explains given answer asked free is kind =
     none_case (request_at mark c.requests)
-    ((asked : Result RequestValue RefusalValue) × IsAsked given asked × MatchResult asked (λ request. Begins c mark explains request answer) (λ refusal. answer ≡ refused c mark refusal))
+    ((asked : Result RequestValue RefusalValue) × IsAsked given asked × MatchResult asked (λ request. BeginsRequest c mark explains request answer) (λ refusal. answer ≡ refused c mark refusal))
     (answer ≡ refused c mark (of_line fault.MarkInUse))
     free (asked, is, kind)
 
@@ -116,7 +116,7 @@ made configuration hosts now table result ordered read is =
 
 -- of what was set, and behind it of the file
 pub made_with : (said : FileSettingsValue) (configuration whole : ConfigurationValue) (hosts : List ℕ) (now : ℕ) (result : Result (ResolverValue (List OutcomeValue)) ConversationFault)
-    → IsWhole said configuration (Ok whole) ⊎ (Ok whole ≡ Err out_of_memory) → IsMadeSo (IsMade whole hosts now) result → IsMadeSo (IsMadeWith said configuration hosts now) result
+    → IsConfigured said configuration (Ok whole) ⊎ (Ok whole ≡ Err out_of_memory) → IsMadeSo (IsMade whole hosts now) result → IsMadeSo (IsMadeWith said configuration hosts now) result
 made_with said configuration whole hosts now (Ok r) (inl is) made = (Ok whole, is, made)
 made_with said configuration whole hosts now (Err f) (inl is) (inl told) = inl (Ok whole, is, told)
 made_with said configuration whole hosts now (Err f) (inl is) (inr out) = inr out
@@ -126,7 +126,7 @@ abbrev no_whole : ConversationFault → Result ConfigurationValue ConversationFa
 no_whole f = Err f
 
 pub not_made : (said : FileSettingsValue) (configuration : ConfigurationValue) (hosts : List ℕ) (now : ℕ) (f : ConversationFault)
-    → IsWhole said configuration (Err f) ⊎ (no_whole f ≡ no_whole out_of_memory) → IsMadeWith said configuration hosts now (Err f) ⊎ (f ≡ out_of_memory)
+    → IsConfigured said configuration (Err f) ⊎ (no_whole f ≡ no_whole out_of_memory) → IsMadeWith said configuration hosts now (Err f) ⊎ (f ≡ out_of_memory)
 not_made said configuration hosts now f (inl is) = inl (Err f, is, refl)
 not_made said configuration hosts now f (inr out) = inr (let h = out in cc)
 
@@ -153,7 +153,7 @@ same_opened phase now moment s t cache kept at same opened =
     (subst (λ x. IsOpened phase now (Ok (t, x))) two (subst (λ x. IsOpened phase now (Ok (x, cache))) one opened))
 
 pub began : (before mid after : ConversationValue) (mark : List ℕ) (explains : Bool) (request : RequestValue) (now : ℕ) (told : String Global) (result : Result Heard AllocError) → now ≡ moment_of request → IsOpening before now (Ok told) mid
-    → IsServing mid mark explains request (string_bytes told) result after → IsAnswered before mark (Begins before mark explains request) (IsBegunOut before.phase request) result after
+    → IsServing mid mark explains request (string_bytes told) result after → IsAnswered before mark (BeginsRequest before mark explains request) (IsBegunOut before.phase request) result after
 began before mid after mark explains request now told (Ok heard) at (s, cache, opened, lines, is) (t, kept, serving, served, serves, says, stands) =
     let P : List ℕ → Type 0 = λ x. Says (telling x served) heard in (
       telling (lines_told before.phase) served,
@@ -177,7 +177,7 @@ began before mid after mark explains request now told (Err e) at (s, cache, open
 
 -- there is no resolver
 pub not_begun : (before mid : ConversationValue) (mark : List ℕ) (explains : Bool) (request : RequestValue) (now : ℕ) (f : ConversationFault) (result : Result Heard AllocError) → now ≡ moment_of request
-    → IsOpening before now (Err f) mid → IsRefused mid mark (of_line f) result → IsAnswered before mark (Begins before mark explains request) (IsBegunOut before.phase request) result mid
+    → IsOpening before now (Err f) mid → IsRefused mid mark (of_line f) result → IsAnswered before mark (BeginsRequest before mark explains request) (IsBegunOut before.phase request) result mid
 not_begun before mid mark explains request now f (Err e) at (why, same) is = subst (λ x. RanOut mark (IsBegunOut before.phase request) before x) (sym same) (ran_out_here before mark (IsBegunOut before.phase request))
 not_begun before mid mark explains request now f (Ok heard) at (inl opened, same) is = (
   refused before mark (of_line f),

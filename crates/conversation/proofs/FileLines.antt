@@ -3,7 +3,7 @@ use Rattle.std.proofs.Common.{◌≡◌, ◌⊎◌, ◌+◌, ◌<◌, ℕ, suc, 
 use Rattle.std.specs.Global.{Global}
 use Rattle.replay_script.specs.Configuration.{ConfigurationValue}
 use Rattle.conversation.specs.Faults.{out_of_memory}
-use Rattle.conversation.specs.FileSettings.{AreSet, FileSettingsValue, IsWhole}
+use Rattle.conversation.specs.FileSettings.{AreSet, FileSettingsValue, IsConfigured}
 use Rattle.conversation.specs.Telling.{AreSetOr, IsLineSet}
 use Rattle.conversation.specs.declared.fault.ConversationFault.{ConversationFault}
 
@@ -38,6 +38,6 @@ no_whole f = Err f
 
 -- where a line sets nothing, there is no whole
 pub whole_fault : (said : FileSettingsValue) (before : ConfigurationValue) (f : ConversationFault) → AreSet said.lines before (Err f) ⊎ (f ≡ out_of_memory)
-    → IsWhole said before (Err f) ⊎ (no_whole f ≡ no_whole out_of_memory)
+    → IsConfigured said before (Err f) ⊎ (no_whole f ≡ no_whole out_of_memory)
 whole_fault said before f (inl are) = inl (Err f, are, refl)
 whole_fault said before f (inr out) = inr (ap no_whole out)

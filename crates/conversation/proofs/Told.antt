@@ -19,7 +19,7 @@ use Rattle.conversation.specs.Answers.{Answer, Came, Clears, ComesTo, Feeds, Loo
 use Rattle.conversation.specs.Explaining.{IsStartExplained, alias_text}
 use Rattle.conversation.specs.Hearing.{IsBegunOver, IsFedOut}
 use Rattle.conversation.specs.State.{BegunValue, Puts, Requests, Serving, requests_of}
-use Rattle.conversation.specs.Telling.{IsBlock, IsClearBlock, IsGiven, IsQuestion, IsTold, PutsSome, phase_by}
+use Rattle.conversation.specs.Telling.{IsBlock, IsClearBlock, IsGiven, IsQuestion, IsAnswerTold, PutsSome, phase_by}
 use Rattle.replay_script.specs.Output.{request_text}
 use Rattle.conversation.specs.Texts.{clear_text, send_text}
 use Rattle.conversation.specs.declared.heard.Heard.{Heard}
@@ -30,7 +30,7 @@ use Rattle.conversation.proofs.Held.{some_stays}
 
 pub told_waits : (mark : List ℕ) (s : Settings) (begun : BegunValue) (w : WaitingCallValue) (cache : CacheValue) (result : Result Heard AllocError) (es fs : List (String Global × InFlight)) (options : DnsRequestOptions)
     → options ≡ s.request_options → IfOk result (IsQuestion mark begun w options) → OnOk result (Puts mark (Some (asking begun w)) (requests_of es) (requests_of fs)) → OnErr result (fs ≡ es)
-    → IsTold mark (Tells mark [] s begun (Looks (Waits w)) cache) result (requests_of es) (requests_of fs)
+    → IsAnswerTold mark (Tells mark [] s begun (Looks (Waits w)) cache) result (requests_of es) (requests_of fs)
 told_waits mark s begun w cache (Ok heard) es fs options by told puts same = (
   record {
     explained = alias_text mark begun.explains w;
@@ -55,13 +55,13 @@ kept_asking mark key begun now w before after key_is now_is puts =
     (subst (λ b. Puts key (Some (record { begun = b; waiting = w; reply = None })) before after) now_is puts)
 
 pub told_done : (mark : List ℕ) (s : Settings) (begun : BegunValue) (found : LookupResult) (cache : CacheValue) (result : Result Heard AllocError) (before after : Requests)
-    → IfOk result (IsBlock mark begun cache found) → Puts mark None before after → IsTold mark (Tells mark [] s begun (Looks (IsDone found)) cache) result before after
+    → IfOk result (IsBlock mark begun cache found) → Puts mark None before after → IsAnswerTold mark (Tells mark [] s begun (Looks (IsDone found)) cache) result before after
 told_done mark s begun found cache (Ok heard) before after block puts =
     (record { explained = _; text = _; journal = _; is_last = false; phase = Serving s cache; held = None }, (block.remembered, refl), record { explained_is = block.explained_is; text_is = block.text_is; journal_is = block.journal_is; last_is = block.last_is }, puts)
 told_done mark s begun found cache (Err e) before after block puts = (None, puts)
 
 pub told_cleared : (mark : List ℕ) (s : Settings) (begun : BegunValue) (cache : CacheValue) (result : Result Heard AllocError) (before after : Requests)
-    → IfOk result (IsClearBlock mark begun) → Puts mark None before after → IsTold mark (Tells mark [] s begun Clears cache) result before after
+    → IfOk result (IsClearBlock mark begun) → Puts mark None before after → IsAnswerTold mark (Tells mark [] s begun Clears cache) result before after
 told_cleared mark s begun cache (Ok heard) before after block puts =
     (record { explained = _; text = _; journal = _; is_last = false; phase = Serving s cache; held = None }, refl, record { explained_is = block.explained_is; text_is = block.text_is; journal_is = block.journal_is; last_is = block.last_is }, puts)
 told_cleared mark s begun cache (Err e) before after block puts = (None, puts)
@@ -97,7 +97,7 @@ pub begun_told : {H : Type 0} (mark start : List ℕ) (explains : Bool) (request
     → ComesTo (settings r) request r.client.cache came left.client.cache → KeepsAllButCache r left
     → IsStartExplained mark explains (settings r) r.client.cache request start
     → heard ≡ record told { explained = heard.explained } → string_bytes heard.explained ≡ start ++ string_bytes told.explained
-    → IsTold mark (Tells mark [] (settings left) (just_begun request explains) came left.client.cache) (Ok told) before after
+    → IsAnswerTold mark (Tells mark [] (settings left) (just_begun request explains) came left.client.cache) (Ok told) before after
     → IsGiven mark (Serves mark explains request (settings r) r.client.cache) (IsBegunOver (settings r) r.client.cache request) (Ok heard) (phase_by left) before after
 begun_told mark start explains request came r left told heard before after comes same starts others explained_is (answer, tells, says, puts) =
     let kept = same_settings r left same in
@@ -126,7 +126,7 @@ begun_out mark explains request came r left (Err e) before after comes same out 
     (inr (came, left.client.cache, comes, ap (λ s. Serving s left.client.cache) (same_settings r left same)), some)
 
 -- of what is told, the requests are left so
-pub some_told : (mark : List ℕ) (Kind : Answer → Type 0) (result : Result Heard AllocError) (before after : Requests) → IsTold mark Kind result before after → PutsSome mark before after
+pub some_told : (mark : List ℕ) (Kind : Answer → Type 0) (result : Result Heard AllocError) (before after : Requests) → IsAnswerTold mark Kind result before after → PutsSome mark before after
 some_told mark Kind (Ok heard) before after (answer, kind, says, puts) = (answer.held, puts)
 some_told mark Kind (Err e) before after some = some
 
@@ -136,7 +136,7 @@ begun_none mark explains request r left (Ok heard) requests out same = absurd (l
 begun_none mark explains request r left (Err e) requests out same = (inl (ap phase_by same), some_stays mark requests)
 
 pub fed_told : {H : Type 0} (mark : List ℕ) (begun : BegunValue) (w : WaitingCallValue) (outcome : OutcomeValue) (progress : CallProgressValue) (r left : ResolverValue H) (result : Result Heard AllocError) (before after : Requests)
-    → ResumesAt w outcome r progress left → IsTold mark (Tells mark [] (settings left) begun (Looks progress) left.client.cache) result before after
+    → ResumesAt w outcome r progress left → IsAnswerTold mark (Tells mark [] (settings left) begun (Looks progress) left.client.cache) result before after
     → IsGiven mark (Feeds mark (phase_by r) begun w outcome) (IsFedOut (phase_by r) w outcome) result (phase_by left) before after
 fed_told mark begun w outcome progress r left (Ok heard) before after resumed (answer, tells, says, puts) =
     let kept = same_settings r left resumed.others_stay in
@@ -165,5 +165,5 @@ looks_up_host text now progress r left (address, spells, name, read, inr (memory
 
 -- how far the code's call came
 pub told_as : (mark : List ℕ) (s : Settings) (begun : BegunValue) (progress now : CallProgress) (cache : CacheValue) (result : Result Heard AllocError) (before after : Requests) → progress ≡ now
-    → IsTold mark (Tells mark [] s begun (Looks (progress_of now)) cache) result before after → IsTold mark (Tells mark [] s begun (Looks (progress_of progress)) cache) result before after
-told_as mark s begun progress now cache result before after same told = subst (λ p. IsTold mark (Tells mark [] s begun (Looks (progress_of p)) cache) result before after) (sym same) told
+    → IsAnswerTold mark (Tells mark [] s begun (Looks (progress_of now)) cache) result before after → IsAnswerTold mark (Tells mark [] s begun (Looks (progress_of progress)) cache) result before after
+told_as mark s begun progress now cache result before after same told = subst (λ p. IsAnswerTold mark (Tells mark [] s begun (Looks (progress_of p)) cache) result before after) (sym same) told

@@ -34,7 +34,7 @@ use Rattle.replay_script.specs.declared.reply_line.ReplyHead.{ReplyHead}
 use Rattle.replay_script.specs.declared.script.OpenReply.{OpenReply}
 use Rattle.conversation.specs.Explaining.{IsStartExplained, alias_text, stored_text}
 use Rattle.conversation.specs.Faults.{RefusalValue, hosts_fault, of_line, unknown}
-use Rattle.conversation.specs.FileSettings.{FileSettingsValue, IsWhole, file_settings, lines_text}
+use Rattle.conversation.specs.FileSettings.{FileSettingsValue, IsConfigured, file_settings, lines_text}
 use Rattle.conversation.specs.Files.{FilesValue, with_text}
 use Rattle.conversation.specs.Lines.{IsAsked, IsScriptLine}
 use Rattle.conversation.specs.Said as said
@@ -124,7 +124,7 @@ IsMade configuration hosts now result =
 abbrev pub IsMadeWith : FileSettingsValue → ConfigurationValue → List ℕ → ℕ
     → Result (Settings × CacheValue) ConversationFault → Type 0
 IsMadeWith said configuration hosts now result =
-    (whole : Result ConfigurationValue ConversationFault) × IsWhole said configuration whole
+    (whole : Result ConfigurationValue ConversationFault) × IsConfigured said configuration whole
     × MatchResult whole (λ c. IsMade c hosts now result) (λ f. result ≡ Err f)
 
 abbrev pub IsOpened : Phase → ℕ → Result (Settings × CacheValue) ConversationFault → Type 0
@@ -217,8 +217,8 @@ abbrev pub BeginsOver : List ℕ → Bool → RequestValue → List ℕ → Sett
 BeginsOver mark explains request told s cache answer =
     (served : Answer) × Serves mark explains request s cache served × (answer ≡ telling told served)
 
-abbrev pub Begins : ConversationValue → List ℕ → Bool → RequestValue → Answer → Type 0
-Begins c mark explains request answer =
+abbrev pub BeginsRequest : ConversationValue → List ℕ → Bool → RequestValue → Answer → Type 0
+BeginsRequest c mark explains request answer =
     (opened : Result (Settings × CacheValue) ConversationFault) × IsOpened c.phase (moment_of request) opened
     × MatchResult opened (λ over. BeginsOver mark explains request (lines_told c.phase) over.0 over.1 answer)
     (λ f. answer ≡ refused c mark (of_line f))
@@ -228,7 +228,7 @@ abbrev pub AnswersRequest : ConversationValue → List ℕ → Bool → List (Li
 AnswersRequest c mark explains given answer =
     MatchOption (request_at mark c.requests)
     ((asked : Result RequestValue RefusalValue) × IsAsked given asked
-    × MatchResult asked (λ request. Begins c mark explains request answer)
+    × MatchResult asked (λ request. BeginsRequest c mark explains request answer)
     (λ refusal. answer ≡ refused c mark refusal))
     (λ r. answer ≡ refused c mark (of_line fault.MarkInUse))
 

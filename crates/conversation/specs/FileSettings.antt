@@ -60,8 +60,8 @@ with_edns None c = c
 with_edns (Some edns) c = record c { options = record c.options { edns0 = edns } }
 
 -- what was set before, and behind it what the file sets
-abbrev pub IsWhole : FileSettingsValue → ConfigurationValue → Result ConfigurationValue ConversationFault → Type 0
-IsWhole said before result =
+abbrev pub IsConfigured : FileSettingsValue → ConfigurationValue → Result ConfigurationValue ConversationFault → Type 0
+IsConfigured said before result =
     (set : Result ConfigurationValue ConversationFault) × AreSet said.lines before set
     × MatchResult set (λ c. result ≡ Ok (with_edns said.edns c)) (λ f. result ≡ Err f)
 

@@ -73,10 +73,10 @@ pub record IsQuestion
   pub last_is : heard.is_last ≡ false
 
 -- an answer of this kind is told of the request of a mark; or memory ran out
-abbrev pub IsTold : List ℕ → (Answer → Type 0) → Result Heard AllocError → Requests → Requests → Type 0
-IsTold mark Kind (Ok heard) before after =
+abbrev pub IsAnswerTold : List ℕ → (Answer → Type 0) → Result Heard AllocError → Requests → Requests → Type 0
+IsAnswerTold mark Kind (Ok heard) before after =
     (answer : Answer) × Kind answer × Says answer heard × Puts mark answer.held before after
-IsTold mark Kind (Err error) before after = PutsSome mark before after
+IsAnswerTold mark Kind (Err error) before after = PutsSome mark before after
 
 -- memory ran out under way: the resolver is as it was, or this is left of it
 pub record RanOut (mark : List ℕ) (Left : Phase → Type 0) (before after : ConversationValue) : Type 0 where

@@ -3,7 +3,7 @@ ghost use Rattle.std.specs.Prelude.{◌≡◌, ◌⊎◌, ◌++◌, codes, Err, 
 ghost use Rattle.replay_script.specs.Configuration.{with_setting};
 ghost use Rattle.resolv_conf.specs.ResolvConf.{resolv_conf};
 ghost use Rattle.conversation.specs.Faults.{out_of_memory};
-ghost use Rattle.conversation.specs.FileSettings.{AreSet, IsSettingRead, IsWhole, file_settings, kept_setting, lines_text, setting_in, settings_of_conf, with_edns};
+ghost use Rattle.conversation.specs.FileSettings.{AreSet, IsSettingRead, IsConfigured, file_settings, kept_setting, lines_text, setting_in, settings_of_conf, with_edns};
 ghost use Rattle.conversation.specs.Telling.{AreSetOr, IsLineSet};
 
 use crate::fault::ConversationFault;
@@ -72,7 +72,7 @@ impl FileSettings {
         alloc: Global,
         before: &Configuration,
     ) -> Result<Configuration, ConversationFault>
-        ensures { IsWhole self.now before.now result ⊎ (result ≡ Err out_of_memory) }
+        ensures { IsConfigured self.now before.now result ⊎ (result ≡ Err out_of_memory) }
     {
         match copied(before) {
             Ok(whole) => set_file(alloc, whole, &self.lines, self.edns),
@@ -88,7 +88,7 @@ fn set_file(
     lines: &[String],
     edns: Option<bool>,
 ) -> Result<Configuration, ConversationFault>
-    ensures { IsWhole (record { lines = map string_bytes lines.now; edns = edns }) before result
+    ensures { IsConfigured (record { lines = map string_bytes lines.now; edns = edns }) before result
         ⊎ (result ≡ Err out_of_memory) }
 {
     let mut whole = before;

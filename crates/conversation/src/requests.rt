@@ -10,7 +10,7 @@ ghost use Rattle.replay_script.specs.Words.{texts};
 ghost use Rattle.conversation.specs.Answers.{ComesTo, Feeds, Looks, Serves, Tells, asking};
 ghost use Rattle.conversation.specs.Hearing.{IsBegunOver, IsFedOut};
 ghost use Rattle.conversation.specs.State.{Puts, begun_of, in_flight_of, request_at, requests_of};
-ghost use Rattle.conversation.specs.Telling.{IsBlock, IsChanged, IsClearBlock, IsGiven, IsQuestion, IsTold, came_of, phase_by, with_reply};
+ghost use Rattle.conversation.specs.Telling.{IsBlock, IsChanged, IsClearBlock, IsGiven, IsQuestion, IsAnswerTold, came_of, phase_by, with_reply};
 
 use crate::explaining::{explained_start, push_alias, push_stored};
 use crate::heard::Heard;
@@ -63,7 +63,7 @@ fn tell(
     begun: Begun,
     came: Came,
 ) -> Result<Heard, AllocError>
-    ensures { IsTold mark.now
+    ensures { IsAnswerTold mark.now
         (Tells mark.now [] (settings resolver.now) (begun_of begun) (came_of came) resolver.now.client.cache)
         result (requests_of requests.old.entries) (requests_of requests.new.entries) }
 {
@@ -132,7 +132,7 @@ fn settle(
     begun: Begun,
     progress: CallProgress,
 ) -> Result<Heard, AllocError>
-    ensures { IsTold mark.now
+    ensures { IsAnswerTold mark.now
         (Tells mark.now [] (settings resolver.now) (begun_of begun) (Looks (progress_of progress))
         resolver.now.client.cache)
         result (requests_of requests.old.entries) (requests_of requests.new.entries) }

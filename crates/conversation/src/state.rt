@@ -5,7 +5,7 @@ ghost use Rattle.hickory_resolver.specs.Requests.{request_of};
 ghost use Rattle.replay_script.specs.Configuration.{with_setting};
 ghost use Rattle.replay_script.specs.FailLine.{error_of};
 ghost use Rattle.replay_script.specs.Words.{texts};
-ghost use Rattle.conversation.specs.Answers.{Begins, Fails, FeedsReply, Takes, AnswersLine, adds, cancelled, opens, sets};
+ghost use Rattle.conversation.specs.Answers.{BeginsRequest, Fails, FeedsReply, Takes, AnswersLine, adds, cancelled, opens, sets};
 ghost use Rattle.conversation.specs.Hearing.{IsBegunOut, IsHeard, IsOutcomeOf, silent};
 ghost use Rattle.conversation.specs.Lines.{mark_of};
 ghost use Rattle.conversation.specs.Faults.{of_line};
@@ -209,7 +209,7 @@ impl State {
         request: Request,
     ) -> Result<Heard, AllocError>
         ensures { let before = conversation_of self.old in IsAnswered before mark.now
-            (Begins before mark.now explains (request_of request))
+            (BeginsRequest before mark.now explains (request_of request))
             (IsBegunOut before.phase (request_of request))
             result (conversation_of self.new) }
     {

@@ -15,7 +15,7 @@ use Rattle.hickory_resolver_model.specs.Options.{bounds_of}
 use Rattle.hickory_resolver_model.specs.Run.{RequestValue, Settings, first_cache, moment_of, settings_of}
 use Rattle.hickory_proto_core.specs.Handles.{ScriptStep}
 use Rattle.hickory_proto_core.specs.declared.recorded.Exchange.{Exchange}
-use Rattle.replay.specs.ScriptRun.{IsReplayed, IsTable, IsTableTold, IsTold, first_moment}
+use Rattle.replay.specs.ScriptRun.{IsReplayed, IsTable, IsTableTold, IsTextOfRun, first_moment}
 use Rattle.replay_script.specs.Configuration.{ConfigurationValue, configured}
 use Rattle.replay_script.specs.FailLine.{error_of}
 use Rattle.replay_script.specs.Fields.{fields}
@@ -289,11 +289,11 @@ module _ (hosts J B : List ℕ) (ls : List (List ℕ)) (said : List Line) (reade
       let s_is : s ≡ sent_so S s.request_options = up.settings_are ∙ ap (λ c. sent_so (settings_of (config_of c) c.options up.table) s.request_options) conf in
       let run : HasRun S reader.requests exchanges cache B = run-as S s.request_options reader.requests exchanges cache B (subst (λ x. HasRun x reader.requests exchanges cache B) s_is run) in
       let outcomes : map (λ o. o.1) (outcomes_said said) ≡ outcomes_of exchanges = ap (map (λ o. o.1)) (sym script.keeps.outcomes_are) ∙ got in
-      let told : IsTold ScriptStep S (map (λ o. o.1) (outcomes_said said)) reader.requests B = run-told S reader.requests exchanges cache B (map (λ o. o.1) (outcomes_said said)) run outcomes in
-      let told : IsTold ScriptStep (settings_of (config_of configured_by) configured_by.options up.table) (map (λ o. o.1) (outcomes_said said)) (requests_of said) B =
-      subst (λ rs. IsTold ScriptStep (settings_of (config_of configured_by) configured_by.options up.table) (map (λ o. o.1) (outcomes_said said)) rs B) requests told in
+      let told : IsTextOfRun ScriptStep S (map (λ o. o.1) (outcomes_said said)) reader.requests B = run-told S reader.requests exchanges cache B (map (λ o. o.1) (outcomes_said said)) run outcomes in
+      let told : IsTextOfRun ScriptStep (settings_of (config_of configured_by) configured_by.options up.table) (map (λ o. o.1) (outcomes_said said)) (requests_of said) B =
+      subst (λ rs. IsTextOfRun ScriptStep (settings_of (config_of configured_by) configured_by.options up.table) (map (λ o. o.1) (outcomes_said said)) rs B) requests told in
       let straight : configured_by.table ≡ false = sym (ap (λ c. c.table) conf) ∙ script.in_order in
-      let T : Bool → Type 0 = λ b. MatchBool b (IsTableTold (settings_of (config_of configured_by) configured_by.options up.table) (outcomes_said said) (requests_of said) B) (IsTold ScriptStep (settings_of (config_of configured_by) configured_by.options up.table) (map (λ o. o.1) (outcomes_said said)) (requests_of said) B) in
+      let T : Bool → Type 0 = λ b. MatchBool b (IsTableTold (settings_of (config_of configured_by) configured_by.options up.table) (outcomes_said said) (requests_of said) B) (IsTextOfRun ScriptStep (settings_of (config_of configured_by) configured_by.options up.table) (map (λ o. o.1) (outcomes_said said)) (requests_of said) B) in
       record {
         said = said;
         read = (subst (λ xs. AreRead [] xs (Ok said)) (sym (lines-whole ls script.allowed) ∙ ap lines (sym journal_is)) script.read, ap (λ c. bounds_fault (bounds_of c.options)) (sym conf) ∙ up.bounds);

@@ -24,7 +24,7 @@ use Rattle.replay_script.specs.declared.reply_line.ReplyHead.{ReplyHead}
 use Rattle.replay_script.specs.declared.script.OpenReply.{OpenReply}
 use Rattle.replay_script.specs.declared.setting.Setting.{Setting as OneSetting}
 use Rattle.replay_script.specs.declared.setting.Setting.TheVariants as setting
-use Rattle.conversation.specs.Answers.{Answer, AnswersDone, AnswersInFlight, AnswersLine, AnswersOutcome, AnswersSaid, AnswersSetting, Begins, BeginsOver, Feeds, FeedsReply, IsOpened, Takes, adds_line, cancels, file_line, keeps, lines_told, nothing, refused, sets, with_line}
+use Rattle.conversation.specs.Answers.{Answer, AnswersDone, AnswersInFlight, AnswersLine, AnswersOutcome, AnswersSaid, AnswersSetting, BeginsRequest, BeginsOver, Feeds, FeedsReply, IsOpened, Takes, adds_line, cancels, file_line, keeps, lines_told, nothing, refused, sets, with_line}
 use Rattle.conversation.specs.Files.{FilesValue, with_text}
 use Rattle.conversation.specs.declared.files.FileKind.{FileKind}
 use Rattle.conversation.specs.declared.files.FileKind.TheVariants.{Hosts, ResolvConf}
@@ -138,12 +138,12 @@ module _ (c : ConversationValue) (mark : List ℕ) (moment : Option ℕ) (answer
   begins_by given explains q none own asked at (Ok o) is serves = begun given explains q o.0 o.1 none own asked at is serves
   begins_by given explains q none own asked at (Err f) is e = refuses (of_line f) e
 
-  asked_by : (given : List (List ℕ)) (explains : Bool) → request_at mark c.requests ≡ None → AreFields given → moment ≡ moment_at given → (asked : Result RequestValue RefusalValue) → IsAsked given asked → MatchResult asked (λ q. Begins c mark explains q answer) (λ f. answer ≡ refused c mark f) → Happens c mark moment answer
+  asked_by : (given : List (List ℕ)) (explains : Bool) → request_at mark c.requests ≡ None → AreFields given → moment ≡ moment_at given → (asked : Result RequestValue RefusalValue) → IsAsked given asked → MatchResult asked (λ q. BeginsRequest c mark explains q answer) (λ f. answer ≡ refused c mark f) → Happens c mark moment answer
   asked_by given explains none own at (Ok q) is (over, opens, serves) = begins_by given explains q none own is at over opens serves
   asked_by given explains none own at (Err f) is e = refuses f e
 
   request_by : (given : List (List ℕ)) (explains : Bool) → AreFields given → moment ≡ moment_at given → (o : Option InFlightValue) → request_at mark c.requests ≡ o
-      → MatchOption o ((asked : Result RequestValue RefusalValue) × IsAsked given asked × MatchResult asked (λ q. Begins c mark explains q answer) (λ f. answer ≡ refused c mark f)) (λ r. answer ≡ refused c mark (of_line fault.MarkInUse))
+      → MatchOption o ((asked : Result RequestValue RefusalValue) × IsAsked given asked × MatchResult asked (λ q. BeginsRequest c mark explains q answer) (λ f. answer ≡ refused c mark f)) (λ r. answer ≡ refused c mark (of_line fault.MarkInUse))
       → Happens c mark moment answer
   request_by given explains own at None none (asked, is, rest) = asked_by given explains none own at asked is rest
   request_by given explains own at (Some r) some e = refuses (of_line fault.MarkInUse) e

@@ -17,7 +17,7 @@ use Rattle.hickory_resolver_model.specs.Lookup.{LookupResult}
 use Rattle.hickory_resolver_model.specs.Run.{RequestValue, Lookup, LookupIp, ClearLookup, Clear, Settings, Call, AtOnce, Attempt, IsCall, IsServed, Stage, StepReply, LookedUp, LookedUpIp, Cleared, StepValue, IsStage, AreStages, address_call, after_clear, answers_at, exchanges_of, ends_run, first_cache, name_call}
 use Rattle.hickory_resolver_theorems.proofs.PromisesHold.{promised_run}
 use Rattle.replay_script.specs.Output.{run_text, step_text}
-use Rattle.replay.specs.ScriptRun.{IsTold, is_remembered}
+use Rattle.replay.specs.ScriptRun.{IsTextOfRun, is_remembered}
 
 -- the block of a stage
 abbrev pub stage_text : Stage → List ℕ
@@ -95,9 +95,9 @@ leads options [] = refl
 leads options (x ∷ xs) = (map (λ y. y.outcome) xs, (refl, refl), leads options xs)
 
 pub run-told : (s : Settings) (requests : List RequestValue) (exchanges : List Exchange) (cache : CacheValue) (text : List ℕ) (outcomes : List OutcomeValue) → HasRun s requests exchanges cache text → outcomes ≡ map (λ x. x.outcome) exchanges
-    → IsTold ScriptStep s outcomes requests text
+    → IsTextOfRun ScriptStep s outcomes requests text
 run-told s requests exchanges cache text outcomes run are =
-    let P : List OutcomeValue → Type 0 = λ os. IsTold ScriptStep s os requests text in
+    let P : List OutcomeValue → Type 0 = λ os. IsTextOfRun ScriptStep s os requests text in
     subst P (sym are) (record {
       steps = map (λ stage. stage.step) run.stages;
       exchanges = exchanges;

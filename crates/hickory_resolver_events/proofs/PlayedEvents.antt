@@ -13,7 +13,7 @@ use Rattle.hickory_resolver_model.specs.Run.{Settings, Call, call_context_at, na
 use Rattle.hickory_resolver_theorems.specs.ResumingCalls.{WaitingCallValue, CallProgressValue, StartsCall, RunsOutAtStart}
 use Rattle.hickory_resolver_theorems.specs.InterleavedCalls.{PendingCallValue, CallWorldValue, call_world_of, CallEventValue, CallStarted, CallFed, CallDropped, AllCleared, NameCleared, exchange_with, call_pending, placed, CallHappens, CallsHappen}
 use Rattle.hickory_resolver_theorems.proofs.CallReplies.{replies_promised}
-use Rattle.hickory_resolver_events.specs.Events.{TellsProgress, pending_after, IsStarted, IsFed, IsDropped, IsTold, AreTold, HappenAsPromised, IsPlayed}
+use Rattle.hickory_resolver_events.specs.Events.{TellsProgress, pending_after, IsStarted, IsFed, IsDropped, EventTells, AreTold, HappenAsPromised, IsPlayed}
 use Rattle.hickory_resolver_events.specs.Playing.{waiting_in, TakesOutcome, TakesDrop, Takes, Plays}
 use Rattle.hickory_resolver_events.specs.declared.events.Event.{Event}
 use Rattle.hickory_resolver_events.specs.declared.events.Event.TheVariants.{Start, StartIp, Resume, Abandon, ClearLookup, Clear}
@@ -175,14 +175,14 @@ module _ {H : Type 0} (first : ResolverValue H) where
     next : List (Option PendingCallValue)
     cache_after : CacheValue
     calls_after : List PendingCallValue
-    is : IsTold s table event reply told next
+    is : EventTells s table event reply told next
     happen : CallsHappen s (world cache calls) told (world cache_after calls_after)
     after_is : after ≡ over cache_after
     in_flight : AreInFlight next calls_after
     waiting_is : still ≡ map waiting_of next
 
   module _ (cache : CacheValue) (calls : List PendingCallValue) (table : List (Option PendingCallValue)) (flying : AreInFlight table calls) (after : ResolverValue H) (still : List (Option WaitingCallValue)) where
-    goes_started : (event : Event) (reply : EventReply) (call : Call) (now : ℕ) → ((told : List CallEventValue) (next : List (Option PendingCallValue)) → IsStarted call now table reply told next → IsTold s table event reply told next)
+    goes_started : (event : Event) (reply : EventReply) (call : Call) (now : ℕ) → ((told : List CallEventValue) (next : List (Option PendingCallValue)) → IsStarted call now table reply told next → EventTells s table event reply told next)
         → (progress : CallProgressValue) → TellsProgress progress reply → StartsCall (call_context_at s now) s call cache progress after.client.cache ⊎ RunsOutAtStart cache progress after.client.cache → after ≡ over after.client.cache
         → still ≡ map waiting_of table ++ waiting_in progress ∷ [] → Goes event reply cache calls table after still
     goes_started event reply call now is_told progress tells starts after_is still_is = record {
@@ -198,11 +198,11 @@ module _ {H : Type 0} (first : ResolverValue H) where
     }
 
     -- nothing is told, and nothing has changed
-    goes_nowhere : (event : Event) (reply : EventReply) → IsTold s table event reply [] table → after ≡ over cache → still ≡ map waiting_of table → Goes event reply cache calls table after still
+    goes_nowhere : (event : Event) (reply : EventReply) → EventTells s table event reply [] table → after ≡ over cache → still ≡ map waiting_of table → Goes event reply cache calls table after still
     goes_nowhere event reply is after_is still_is = record { told = []; next = table; cache_after = cache; calls_after = calls; is = is; happen = refl; after_is = after_is; in_flight = flying; waiting_is = still_is }
 
     -- one event of the cache alone
-    goes_cleared : (event : Event) (reply : EventReply) (told : CallEventValue) (left : CacheValue) → IsTold s table event reply (told ∷ []) table → CallHappens s (world cache calls) told (world left calls) → after ≡ over left → still ≡ map waiting_of table → Goes event reply cache calls table after still
+    goes_cleared : (event : Event) (reply : EventReply) (told : CallEventValue) (left : CacheValue) → EventTells s table event reply (told ∷ []) table → CallHappens s (world cache calls) told (world left calls) → after ≡ over left → still ≡ map waiting_of table → Goes event reply cache calls table after still
     goes_cleared event reply told left is happens after_is still_is = record { told = told ∷ []; next = table; cache_after = left; calls_after = calls; is = is; happen = (world left calls, happens, refl); after_is = after_is; in_flight = flying; waiting_is = still_is }
 
     empty_stays : (n : ℕ) → get_or table n None ≡ None → set table n None ≡ table

@@ -64,29 +64,29 @@ IsDropped (Some c) reply told = (reply ≡ Dropped) × (told ≡ CallDropped c �
 -- What is told of an event, by what it came to, and the calls before and after it: those that were started, in order,
 -- each that waits, and none where one is over. Nothing is told where no call of the number waits, and of a clear that
 -- found no memory. A name that found no memory to be read ends its call so.
-abbrev pub IsTold : Settings → List (Option PendingCallValue) → Event → EventReply → List CallEventValue
+abbrev pub EventTells : Settings → List (Option PendingCallValue) → Event → EventReply → List CallEventValue
     → List (Option PendingCallValue) → Type 0
-IsTold s calls (Start name t now) reply told after =
+EventTells s calls (Start name t now) reply told after =
     (given : Result NameValue NameError) × IsReadName (string_bytes name) given
     × IsStarted (name_call t given) now calls reply told after
-IsTold s calls (StartIp host now) reply told after =
+EventTells s calls (StartIp host now) reply told after =
     (address : Option IpAddr) × IsReadAddress (string_bytes host) address
     × (given : Result NameValue NameError) × IsReadName (string_bytes host) given
     × (given ≡ Err name_fault.OutOfMemory → reply ≡ Done (Err OutOfMemory))
     × IsStarted (address_call s address given now) now calls reply told after
-IsTold s calls (Resume number outcome) reply told after =
+EventTells s calls (Resume number outcome) reply told after =
     (still : Option PendingCallValue) × IsFed (get_or calls number None) outcome reply told still
     × (after ≡ set calls number still)
-IsTold s calls (Abandon number) reply told after =
+EventTells s calls (Abandon number) reply told after =
     IsDropped (get_or calls number None) reply told × (after ≡ set calls number None)
-IsTold s calls (ClearLookup name t) (Cleared (Ok u)) told after =
+EventTells s calls (ClearLookup name t) (Cleared (Ok u)) told after =
     (given : Result NameValue NameError) × IsReadName (string_bytes name) given
     × (given ≢ Err name_fault.OutOfMemory) × (told ≡ NameCleared t given ∷ []) × (after ≡ calls)
-IsTold s calls (ClearLookup name t) (Cleared (Err e)) told after =
+EventTells s calls (ClearLookup name t) (Cleared (Err e)) told after =
     (e ≡ OutOfMemory) × (told ≡ []) × (after ≡ calls)
-IsTold s calls Clear reply told after =
+EventTells s calls Clear reply told after =
     (reply ≡ Cleared (Ok tt)) × (told ≡ AllCleared ∷ []) × (after ≡ calls)
-IsTold s calls event reply told after = ⊥
+EventTells s calls event reply told after = ⊥
 
 -- of one event after another
 abbrev pub AreTold : Settings → List (Option PendingCallValue) → List Event → List EventReply → List CallEventValue
@@ -94,7 +94,7 @@ abbrev pub AreTold : Settings → List (Option PendingCallValue) → List Event 
 AreTold s calls [] [] told = told ≡ []
 AreTold s calls (event ∷ events) (reply ∷ replies) told =
     (first : List CallEventValue) × (later : List CallEventValue) × (told ≡ first ++ later)
-    × (after : List (Option PendingCallValue)) × IsTold s calls event reply first after
+    × (after : List (Option PendingCallValue)) × EventTells s calls event reply first after
     × AreTold s after events replies later
 AreTold s calls events replies told = ⊥
 

@@ -19,9 +19,9 @@ use Rattle.hickory_resolver.specs.Listening.{Hears, HearsAll}
 use Rattle.hickory_resolver.specs.Transcripts.{NewRun}
 use Rattle.replay.specs.Hearing.{AddsBlock}
 use Rattle.replay_script.specs.Output.{run_text, step_text}
-use Rattle.replay.specs.ScriptRun.{IsNoTable, IsRefused, IsReplayed, IsScriptTold, IsTable, IsTableTold, IsTold}
+use Rattle.replay.specs.ScriptRun.{IsNoTable, IsRefused, IsReplayed, IsScriptTold, IsTable, IsTableTold, IsTextOfRun}
 use Rattle.replay.specs.ScriptRun.{first_moment, hosts_fault, is_remembered}
-use Rattle.replay_script.specs.Script.{IsWhole, ScriptValue, config_of, script_of}
+use Rattle.replay_script.specs.Script.{IsWholeScript, ScriptValue, config_of, script_of}
 use Rattle.replay_script.specs.declared.line.Line.{Line}
 use Rattle.replay.specs.declared.error.ReplayError.{ReplayError}
 use Rattle.replay.specs.declared.error.ReplayError.TheVariants.{Memory}
@@ -75,7 +75,7 @@ pub told_run : {H L : Type 0} (step : HandleStep H) (config : ResolverConfigValu
     → (before : L) (steps : List StepValue) (resolver : ResolverValue (RecordedValue H)) (after : L) → text before
     ≡ [] → NewRun step config options hosts upstream requests steps resolver
     → HearsAll hears before requests steps resolver.client.handle.exchanges after
-    → IsTold step (settings_of config options hosts) upstream requests (text after)
+    → IsTextOfRun step (settings_of config options hosts) upstream requests (text after)
 told_run step config options hosts upstream requests text hears adds before steps resolver after none run heard =
     let exchanges = resolver.client.handle.exchanges in
     record {
@@ -102,7 +102,7 @@ module _ (script : ScriptValue) (hosts : List Host) (config : ResolverConfigValu
   -- over a table
   pub told_by_table : {Z E : Type 0} (result : Result (String Z) E) (table : TableValue) → script.table ≡ true
       → ((q : Query) → outcome_in q table ≡ last_given q outcomes)
-      → IfOk result (λ text. IsTold TableStep (settings_of config options hosts) table requests (string_bytes text))
+      → IfOk result (λ text. IsTextOfRun TableStep (settings_of config options hosts) table requests (string_bytes text))
       → IfOk result (λ text. IsScriptTold script hosts (string_bytes text))
   told_by_table (Ok text) table in_table given told =
       let s = settings_of (config_of script) script.options hosts in
@@ -110,31 +110,31 @@ module _ (script : ScriptValue) (hosts : List Host) (config : ResolverConfigValu
       let A : List (Query × OutcomeValue) → Type 0 = λ os. IsTableTold s os requests (string_bytes text) in
       let R : List RequestValue → Type 0 = λ rs. IsTableTold s script.outcomes rs (string_bytes text) in
       let T : Bool → Type 0 = λ b. MatchBool b (IsTableTold s script.outcomes script.requests (string_bytes text))
-      (IsTold ScriptStep s (map (λ o. o.1) script.outcomes) script.requests (string_bytes text)) in
+      (IsTextOfRun ScriptStep s (map (λ o. o.1) script.outcomes) script.requests (string_bytes text)) in
       subst T (sym in_table) (subst R requests_are (subst A outcomes_are (subst S settings_are (table, given, told))))
   told_by_table (Err error) table in_table given told = tt
 
   -- over outcomes that are answered in order
   pub told_in_order : {Z E : Type 0} (result : Result (String Z) E) (answered : List OutcomeValue) → script.table
       ≡ false → answered ≡ map (λ o. o.1) outcomes
-      → IfOk result (λ text. IsTold ScriptStep (settings_of config options hosts) answered requests
+      → IfOk result (λ text. IsTextOfRun ScriptStep (settings_of config options hosts) answered requests
       (string_bytes text)) → IfOk result (λ text. IsScriptTold script hosts (string_bytes text))
   told_in_order (Ok text) answered in_order answered_are told =
       let s = settings_of (config_of script) script.options hosts in
-      let U : List OutcomeValue → Type 0 = λ os. IsTold ScriptStep (settings_of config options hosts) os requests
+      let U : List OutcomeValue → Type 0 = λ os. IsTextOfRun ScriptStep (settings_of config options hosts) os requests
       (string_bytes text) in
-      let S : Settings → Type 0 = λ x. IsTold ScriptStep x (map (λ o. o.1) outcomes) requests (string_bytes text) in
-      let A : List (Query × OutcomeValue) → Type 0 = λ os. IsTold ScriptStep s (map (λ o. o.1) os) requests (string_bytes text) in
-      let R : List RequestValue → Type 0 = λ rs. IsTold ScriptStep s (map (λ o. o.1) script.outcomes) rs (string_bytes text) in
+      let S : Settings → Type 0 = λ x. IsTextOfRun ScriptStep x (map (λ o. o.1) outcomes) requests (string_bytes text) in
+      let A : List (Query × OutcomeValue) → Type 0 = λ os. IsTextOfRun ScriptStep s (map (λ o. o.1) os) requests (string_bytes text) in
+      let R : List RequestValue → Type 0 = λ rs. IsTextOfRun ScriptStep s (map (λ o. o.1) script.outcomes) rs (string_bytes text) in
       let T : Bool → Type 0 = λ b. MatchBool b (IsTableTold s script.outcomes script.requests (string_bytes text))
-      (IsTold ScriptStep s (map (λ o. o.1) script.outcomes) script.requests (string_bytes text)) in
+      (IsTextOfRun ScriptStep s (map (λ o. o.1) script.outcomes) script.requests (string_bytes text)) in
       subst T (sym in_order) (subst R requests_are (subst A outcomes_are (subst S settings_are (subst U answered_are told))))
   told_in_order (Err error) answered in_order answered_are told = tt
 
 -- the text of a script that was read whole
 pub replayed : {Z E : Type 0} (script hosts : List ℕ) (said : List Line) (read : ScriptValue) (now : ℕ)
     (table : List Host) (result : Result (String Z) E)
-    → IsWhole script said → read ≡ script_of said → now ≡ first_moment read.requests → IsTable now hosts table
+    → IsWholeScript script said → read ≡ script_of said → now ≡ first_moment read.requests → IsTable now hosts table
     → IfOk result (λ text. IsScriptTold read table (string_bytes text))
     → IfOk result (λ text. IsReplayed script hosts (string_bytes text))
 replayed script hosts said read now table (Ok text) whole read_is now_is hosts_are told =

@@ -12,7 +12,7 @@ use Rattle.hickory_resolver_model.specs.Cache.{CacheValue}
 use Rattle.hickory_resolver_model.specs.Hosts.{Host}
 use Rattle.hickory_resolver_theorems.specs.Promises.{PromisedRun}
 use Rattle.hickory_resolver_model.specs.Run.{RequestValue, Settings, StepValue, ends_run, moment_of, settings_of}
-use Rattle.replay_script.specs.Script.{IsFault, IsWhole, ScriptValue, config_of, script_of}
+use Rattle.replay_script.specs.Script.{IsFault, IsWholeScript, ScriptValue, config_of, script_of}
 use Rattle.replay_script.specs.declared.fault.ScriptFault.TheVariants as fault
 use Rattle.replay_script.specs.declared.fault.ScriptFault.{ScriptFault}
 use Rattle.replay_script.specs.declared.fault.ScriptError.{ScriptError}
@@ -32,7 +32,7 @@ IsToldBy requests steps exchanges text =
 
 -- The requests are run over this upstream, and memory does not run out: the text of that run, of which all is promised
 -- that is promised of one.
-pub record IsTold
+pub record IsTextOfRun
     {H : Type 0} (step : HandleStep H) (s : Settings) (upstream : H) (requests : List RequestValue) (text : List ℕ)
     : Type 0 where
   pub steps : List StepValue
@@ -46,14 +46,14 @@ pub record IsTold
 abbrev pub IsTableTold : Settings → List (Query × OutcomeValue) → List RequestValue → List ℕ → Type 0
 IsTableTold s outcomes requests text =
     (table : TableValue) × ((q : Query) → outcome_in q table ≡ last_given q outcomes)
-    × IsTold TableStep s table requests text
+    × IsTextOfRun TableStep s table requests text
 
 -- over the upstream of a script: a table, or one that answers the outcomes in order, whatever is asked
 abbrev pub IsScriptTold : ScriptValue → List Host → List ℕ → Type 0
 IsScriptTold script hosts text =
     let s = settings_of (config_of script) script.options hosts in
     MatchBool script.table (IsTableTold s script.outcomes script.requests text)
-    (IsTold ScriptStep s (map (λ o. o.1) script.outcomes) script.requests text)
+    (IsTextOfRun ScriptStep s (map (λ o. o.1) script.outcomes) script.requests text)
 
 -- the moment of the first request, or 0
 abbrev pub first_moment : List RequestValue → ℕ
@@ -76,7 +76,7 @@ IsNoTable now hosts error = (error ≡ Memory) ⊎ IsBroken now hosts error
 -- the text of a run of what the lines of the script say, over what a file of hosts says
 pub record IsReplayed (script hosts text : List ℕ) : Type 0 where
   pub said : List Line
-  pub read : IsWhole script said
+  pub read : IsWholeScript script said
   pub table : List Host
   pub hosts_are : IsTable (first_moment (script_of said).requests) hosts table
   pub told : IsScriptTold (script_of said) table text
@@ -96,7 +96,7 @@ IsScriptFault script error =
 -- hosts that cannot be read, over a script without a fault
 abbrev pub IsHostsFault : List ℕ → List ℕ → ReplayError → Type 0
 IsHostsFault script hosts error =
-    (said : List Line) × IsWhole script said × IsBroken (first_moment (script_of said).requests) hosts error
+    (said : List Line) × IsWholeScript script said × IsBroken (first_moment (script_of said).requests) hosts error
 
 -- why there is no text: the script's first fault, else that of the hosts; or no memory is left
 abbrev pub IsRefused : List ℕ → List ℕ → ReplayError → Type 0

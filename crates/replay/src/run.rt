@@ -6,7 +6,7 @@ ghost use Rattle.hickory_resolver.specs.Requests.{request_of};
 ghost use Rattle.hickory_resolver_model.specs.Bounds.{bounds_fault};
 ghost use Rattle.hickory_resolver_model.specs.Options.{bounds_of};
 ghost use Rattle.hickory_resolver_model.specs.Run.{settings_of};
-ghost use Rattle.replay.specs.ScriptRun.{IsNoTable, IsRefused, IsReplayed, IsTable, IsTold, first_moment};
+ghost use Rattle.replay.specs.ScriptRun.{IsNoTable, IsRefused, IsReplayed, IsTable, IsTextOfRun, first_moment};
 
 use crate::error::ReplayError;
 use crate::text_listener::TextListener;
@@ -153,7 +153,7 @@ fn text_of_run<H: DnsHandle + Drop, S: BuildHasher + Drop>(
     hasher: S,
 ) -> Result<String, ReplayError>
     requires { bounds_fault (bounds_of options) ≡ None }
-    ensures ok { IfOk result (λ text. IsTold H.step (settings_of config options hosts) upstream
+    ensures ok { IfOk result (λ text. IsTextOfRun H.step (settings_of config options hosts) upstream
         (map request_of requests.now) (string_bytes text)) }
     ensures err { IsOkUnless result ReplayError.Memory }
 {

@@ -145,8 +145,8 @@ AreRead said (line ∷ others) result =
     (λ fault. result ≡ Err (record { line = length said + 1; fault = fault }))
 
 -- each line is read, and no bounds on times to live are reversed
-abbrev pub IsWhole : List ℕ → List Line → Type 0
-IsWhole script said =
+abbrev pub IsWholeScript : List ℕ → List Line → Type 0
+IsWholeScript script said =
     AreRead [] (lines script) (Ok said) × (bounds_fault (bounds_of (options_of said)) ≡ None)
 
 -- each line is read, and bounds on times to live are reversed
@@ -164,5 +164,5 @@ IsFault script error =
 abbrev pub IsScript : List ℕ → Result ScriptValue ScriptError → Type 0
 IsScript script result =
     MatchResult result
-    (λ read. (said : List Line) × IsWhole script said × (read ≡ script_of said))
+    (λ read. (said : List Line) × IsWholeScript script said × (read ≡ script_of said))
     (λ error. IsFault script error ⊎ (error ≡ record { line = 0; fault = OutOfMemory }))

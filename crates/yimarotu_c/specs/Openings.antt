@@ -19,19 +19,19 @@ open_error (Hosts error) = open_end status.Hosts 0
 open_error OutOfMemory = open_end status.NoMemory 0
 
 -- a session is kept, unless no memory is left for it
-abbrev pub IsKept : SessionValue → YimarotuOpened → Option SessionValue → Type 0
-IsKept session ended after =
+abbrev pub IsSessionKept : SessionValue → YimarotuOpened → Option SessionValue → Type 0
+IsSessionKept session ended after =
     ((ended ≡ open_end status.Ok 0) × (after ≡ Some session))
     ⊎ ((ended ≡ open_end status.NoMemory 0) × (after ≡ None))
 
-abbrev pub IsTold : Result SessionValue OpenError → YimarotuOpened → Option SessionValue → Type 0
-IsTold (Ok session) ended after = IsKept session ended after
-IsTold (Err error) ended after = (ended ≡ open_error error) × (after ≡ None)
+abbrev pub IsOpeningTold : Result SessionValue OpenError → YimarotuOpened → Option SessionValue → Type 0
+IsOpeningTold (Ok session) ended after = IsSessionKept session ended after
+IsOpeningTold (Err error) ended after = (ended ≡ open_error error) × (after ≡ None)
 
 -- a session is opened so where there is none
 abbrev pub OpensClosed : (Result SessionValue OpenError → Type 0) → YimarotuOpened → Option SessionValue → Type 0
 OpensClosed IsOpened ended after =
-    (opened : Result SessionValue OpenError) × IsOpened opened × IsTold opened ended after
+    (opened : Result SessionValue OpenError) × IsOpened opened × IsOpeningTold opened ended after
 
 abbrev pub Opens : (Result SessionValue OpenError → Type 0) → Option SessionValue → YimarotuOpened
     → Option SessionValue → Type 0

@@ -2,7 +2,7 @@
 ghost use Rattle.std.specs.Prelude.{◌≡◌, None, Option, Some};
 ghost use Rattle.std.specs.Option.{is_some, option_map};
 ghost use Rattle.resolv_conf.specs.ResolvConf.{resolv_conf};
-ghost use Rattle.yimarotu_c.specs.Openings.{IsKept, Opens, open_end, open_error};
+ghost use Rattle.yimarotu_c.specs.Openings.{IsSessionKept, Opens, open_end, open_error};
 ghost use Rattle.yimarotu_session.specs.FileSettings.{IsOpenedWith};
 ghost use Rattle.yimarotu_session.specs.Opening.{IsOpened};
 
@@ -87,7 +87,7 @@ pub extern "C" fn yimarotu_close(alloc: Global, session: &mut YimarotuSession)
 // Keeps a session in the place of none.
 fn keep(alloc: Global, session: &mut YimarotuSession, inside: Session) -> YimarotuOpened
     requires { session.old.inside.value ≡ None }
-    ensures { IsKept inside result session.new.inside.value }
+    ensures { IsSessionKept inside result session.new.inside.value }
 {
     match Box::new(alloc, inside) {
         Ok(inside) => {

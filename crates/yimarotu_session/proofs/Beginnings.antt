@@ -4,7 +4,7 @@ use Rattle.std.specs.Option.{is_some}
 use mathlib.Core.Bool.{true≢false}
 use Rattle.hickory_resolver.specs.Contexts.{progress_of}
 use Rattle.hickory_resolver.specs.Driving.{CallProgress}
-use Rattle.yimarotu_session.specs.Calls.{Begins, Does, IsLost, Stands, waits_of}
+use Rattle.yimarotu_session.specs.Calls.{BeginsLookup, Does, IsLost, Stands, waits_of}
 use Rattle.yimarotu_session.specs.Sessions.{Puts, SessionValue, lookup_at}
 use Rattle.yimarotu_session.specs.declared.session_error.SessionError.{SessionError}
 use Rattle.yimarotu_session.specs.declared.session_error.SessionError.TheVariants.{OutOfMemory, InUse}
@@ -28,7 +28,7 @@ module _ (Comes : Does) (number : ℕ) (before : SessionValue) (progress : CallP
 
   pub begins : (result : Result Bool SessionError) → is_some (lookup_at number before.lookups) ≡ false
       → Comes before.resolver (progress_of progress) after.resolver → IfOk result WhereKept → IfErr result WhereLost
-      → Begins Comes number before result after
+      → BeginsLookup Comes number before result after
   begins result free comes ok err =
       where_none (MatchResult result (λ waits. Stands Comes number before waits after) (λ error. IsLost Comes before error after))
       (λ held. (result ≡ Err InUse) × (after ≡ before)) (lookup_at number before.lookups) free (kept result comes ok err)

@@ -46,18 +46,18 @@ pub record IsLost (Comes : Does) (before : SessionValue) (error : SessionError) 
   pub lookups_stay : after.lookups ≡ before.lookups
 
 -- a look-up begins under a number that no other has
-abbrev pub Begins : Does → ℕ → SessionValue → Result Bool SessionError → SessionValue → Type 0
-Begins Comes number before result after =
+abbrev pub BeginsLookup : Does → ℕ → SessionValue → Result Bool SessionError → SessionValue → Type 0
+BeginsLookup Comes number before result after =
     MatchOption (lookup_at number before.lookups)
     (MatchResult result (λ waits. Stands Comes number before waits after) (λ error. IsLost Comes before error after))
     (λ held. (result ≡ Err InUse) × (after ≡ before))
 
 -- a look-up of records of a type for a name, and of the addresses of a host
 abbrev pub BeginsName : ℕ → List ℕ → RecordType → ℕ → SessionValue → Result Bool SessionError → SessionValue → Type 0
-BeginsName number name t now = Begins (StartsName (IsReadName name) t now) number
+BeginsName number name t now = BeginsLookup (StartsName (IsReadName name) t now) number
 
 abbrev pub BeginsHost : ℕ → List ℕ → ℕ → SessionValue → Result Bool SessionError → SessionValue → Type 0
-BeginsHost number host now = Begins (StartsHost (IsReadAddress host) (IsReadName host) now) number
+BeginsHost number host now = BeginsLookup (StartsHost (IsReadAddress host) (IsReadName host) now) number
 
 -- a look-up that waits goes on with what came back to its question; one that is done stays
 abbrev pub Resumed : OutcomeValue → ResolverValue (List OutcomeValue) → CallProgress → ResolverValue (List OutcomeValue)

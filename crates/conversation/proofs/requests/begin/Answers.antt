@@ -3,7 +3,7 @@ use Rattle.hickory_resolver.specs.Requests.{request_of}
 use Rattle.hickory_resolver_model.specs.Resolver.{settings}
 use Rattle.conversation.specs.Answers.{Tells}
 use Rattle.conversation.specs.State.{BegunValue, begun_of, requests_of}
-use Rattle.conversation.specs.Telling.{IsTold, came_of}
+use Rattle.conversation.specs.Telling.{IsAnswerTold, came_of}
 use Rattle.conversation.specs.declared.heard.Heard.{Heard}
 use Rattle.conversation.proofs.Told.{begun_none, begun_out, begun_told, some_told}
 use Rattle.conversation.proofs.requests.begin.Goals as goal
@@ -29,6 +29,6 @@ returns c =
     let before = requests_of c.args.requests.now.entries in
     let after = requests_of c.tell.new.requests.entries in
     let heard : Heard = record c.in_ok-heard.heard { explained = c.push_str.new.self } in
-    let told = subst (λ (b : BegunValue). IsTold c.args.mark.now (Tells c.args.mark.now [] (settings left) b came left.client.cache) (Ok c.in_ok-heard.heard) before after) c.new-begun.ensures c.in_ok-heard.ensures in
+    let told = subst (λ (b : BegunValue). IsAnswerTold c.args.mark.now (Tells c.args.mark.now [] (settings left) b came left.client.cache) (Ok c.in_ok-heard.heard) before after) c.new-begun.ensures c.in_ok-heard.ensures in
     begun_told c.args.mark.now (string_bytes c.in_ok-start.start) c.args.explains (request_of c.args.request) came c.args.resolver.now left c.in_ok-heard.heard heard before after c.in_ok-came.ensures.comes c.in_ok-came.ensures.others_stay c.in_ok-start.ensures refl
     (c.in_ok-push_str.ensures.bytes ∙ ap (λ x. string_bytes c.in_ok-start.start ++ x) c.as_str.ensures.value) told

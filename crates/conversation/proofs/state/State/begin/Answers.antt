@@ -1,7 +1,7 @@
 use Rattle.std.proofs.Common.{◌∙◌, Ok}
 use Rattle.hickory_resolver.specs.Requests.{request_of}
 use Rattle.replay_script.specs.Words.{texts}
-use Rattle.conversation.specs.Answers.{AnswersSaid, Begins}
+use Rattle.conversation.specs.Answers.{AnswersSaid, BeginsRequest}
 use Rattle.conversation.specs.Faults.{of_line}
 use Rattle.conversation.specs.Hearing.{IsBegunOut, IsServedOut}
 use Rattle.conversation.specs.Said as said
@@ -23,7 +23,7 @@ returns-in-Ok c =
     let s = c.args.self.now in
     let given = texts c.args.fields.now in
     let request = request_of c.in-Ok.request in
-    answered_as (conversation_of s) (conversation_of c.begin_request.new.self) c.args.mark.now (Begins (conversation_of s) c.args.mark.now c.args.explains request) (AnswersSaid (conversation_of s) c.args.mark.now (said.Request c.args.explains given)) (IsBegunOut (conversation_of s).phase request) (IsServedOut (conversation_of s) c.args.mark.now (said.Request c.args.explains given)) c.begin_request.result
+    answered_as (conversation_of s) (conversation_of c.begin_request.new.self) c.args.mark.now (BeginsRequest (conversation_of s) c.args.mark.now c.args.explains request) (AnswersSaid (conversation_of s) c.args.mark.now (said.Request c.args.explains given)) (IsBegunOut (conversation_of s).phase request) (IsServedOut (conversation_of s) c.args.mark.now (said.Request c.args.explains given)) c.begin_request.result
     (λ answer kind. asks (conversation_of s) c.args.mark.now c.args.explains given answer (Ok request) (is_held c.args.mark.now s.requests.entries c.contains_key.result c.contains_key.ensures ∙ c.if-contains_key.false) c.in-Ok.ensures kind)
     (λ phase left. request_left (conversation_of s) c.args.mark.now c.args.explains given request phase (is_held c.args.mark.now s.requests.entries c.contains_key.result c.contains_key.ensures ∙ c.if-contains_key.false) c.in-Ok.ensures left)
     c.begin_request.ensures
