@@ -20,14 +20,14 @@ use Rattle.hickory_resolver_model.specs.SpecialUse.{special_use_result}
 use Rattle.hickory_resolver_model.specs.AliasWalk.{walk_of}
 use Rattle.hickory_resolver_model.specs.Verdict.{Hop, first_hop, Verdict, Accepted, LeadsTo, NoMatch, verdict}
 
--- where a look-up starts: the cache before it, the moment, and whether intermediate records are preserved
+-- where a look-up stands: the cache that it reads, the moment of its start, and whether intermediate records are
+-- preserved
 pub record LookupContext : Type 0 where
   pub cache : CacheValue
   pub now : ℕ
   pub preserve_intermediates : Bool
 
--- a question is asked upstream where it is not special and has no current entry. All hits are read from the
--- cache as it was before the look-up
+-- a question is asked upstream where it is not special and has no current entry in the cache that is read
 abbrev pub GoesUpstream : LookupContext → Query → Type 0
 GoesUpstream s q = (special_use_result q s.now ≡ None) × (current q s.now s.cache.entries ≡ None)
 

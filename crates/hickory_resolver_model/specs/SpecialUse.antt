@@ -20,7 +20,7 @@ use Rattle.hickory_resolver_model.specs.Lookup.{LookupValue, LookupResult, answe
 abbrev pub full_name : List (List ℕ) → NameValue
 full_name labels = record { labels = labels; fqdn = true }
 
--- `localhost.` and the names of the loopback addresses 127.0.0.0/8 and ::1
+-- `localhost.` and the names of the loopback addresses 127.0.0.0/8 and ::1 (RFC 6303, sections 4.2 and 4.3)
 abbrev pub loopback_zones : List NameValue
 loopback_zones =
     localhost ∷ full_name (codes "127" ∷ codes "in-addr" ∷ codes "arpa" ∷ [])
