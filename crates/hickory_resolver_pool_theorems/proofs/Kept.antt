@@ -515,7 +515,7 @@ closing-self s = record { tries = refl; next = refl; still = λ k h. h }
 closing-by : (s t u : ChannelsState) → t ≡ u → Closing s u → Closing s t
 closing-by s t u same k = subst (λ (x : ChannelsState). Closing s x) (sym same) k
 
-channels-one_freed : (u : TrafficState) → (one_freed u).shared.channels ≡ u.shared.channels
+pub channels-one_freed : (u : TrafficState) → (one_freed u).shared.channels ≡ u.shared.channels
 channels-one_freed u = by (is_empty u.table.blocked)
   where
     by : (empty : Bool)
@@ -524,7 +524,7 @@ channels-one_freed u = by (is_empty u.table.blocked)
     by true = refl
     by false = refl
 
-channels-freed_first : (u : TrafficState) → (freed_by_first u).shared.channels ≡ u.shared.channels
+pub channels-freed_first : (u : TrafficState) → (freed_by_first u).shared.channels ≡ u.shared.channels
 channels-freed_first u = by (first_failure u.inbox)
   where
     why : (f : Failure) → (freed_by f u).shared.channels ≡ u.shared.channels

@@ -1,5 +1,5 @@
 -- Each channel is opened to a server of its transaction's group, under a number that none had before.
-use Rattle.std.proofs.Common.{◌≡◌, ◌≤◌, ◌<◌, ◌+◌, max, ℕ, Bool, true, false, cond, eqb, eqb-true, List, [], ◌∷◌, ◌++◌, length, map, refl, ap, sym, subst, ◌∙◌, arith, zero, suc}
+use Rattle.std.proofs.Common.{◌≡◌, ◌≤◌, ◌<◌, ◌+◌, max, ℕ, Bool, true, false, cond, eqb, eqb-true, List, [], ◌∷◌, ◌++◌, length, map, refl, ap, sym, subst, ◌∙◌, true≢false, arith, zero, suc}
 use Rattle.std.specs.Prelude.{Contains, Option, None, Some, IfSome, slice_get, slice_index_or, unwrap_or}
 use Rattle.std.specs.List.{AllByRecursion}
 use Rattle.std.specs.Option.{is_some, option_map, option_map_or, option_or, option_and_then}
@@ -38,13 +38,15 @@ use Rattle.hickory_resolver_pool.specs.declared.pool.Action.{Action}
 use Rattle.hickory_resolver_pool.specs.declared.pool.Action.TheVariants as action
 use Rattle.hickory_resolver_pool.specs.declared.pool.Asked.TheVariants as asked
 use Rattle.hickory_resolver_pool_theorems.specs.Answers.{servers_in}
-use Rattle.hickory_resolver_pool_theorems.specs.Opens.{IsToServer, OpensOther, OpenedOther, IsOpening, OpensToOwnServers}
+use Rattle.hickory_resolver_pool_theorems.specs.Opens.{port_given, IsToServer, OpensOther, OpenedOther, IsOpening, OpensToOwnServers}
 use Rattle.hickory_resolver_pool_theorems.specs.Runs.{Happening, came, did, Runs, at_first, by_event, by_step}
 use Rattle.hickory_resolver_pool_theorems.proofs.EachEntry.{HoldOfEach, AtCurrent, Begins, each-step, each-event, each-as}
+use Rattle.hickory_resolver_pool_theorems.proofs.Fits.{by_kind, port_by, has_port}
 use Rattle.hickory_resolver_pool_theorems.proofs.Groups.{given_in, IsGivenAs, CurrentIs, IsCurrentList, GroupsAre, groups-runs, kept-asked, kept-came, kept-failed}
 use Rattle.hickory_resolver_pool_theorems.proofs.Lists.{bare, bare_all}
 use Rattle.hickory_resolver_pool_theorems.proofs.ListsKept.{kept-step}
 use Rattle.hickory_resolver_pool_theorems.proofs.OutKept.{GoesTo, IsSent, sends_none, sends_one, IsOut, is_calm, is_sent, out-done, IsBegun, opens, writes, keeps, begun-task}
+use Rattle.hickory_resolver_pool_theorems.proofs.Ports.{next_of, next-event, given-event, current-is, given_port, IsPorted, ported-runs, has-bare}
 use Rattle.hickory_resolver_pool_theorems.proofs.Scenes.{same-done}
 use Rattle.hickory_resolver_pool_theorems.proofs.Traces.{shared-event, current-event}
 
@@ -87,49 +89,6 @@ served-more a past next after n list more same w = record {
   servers = w.servers ∙ sym (same w.old);
   old = omega (arith, w.old, more);
 }
-
-abbrev next_of : PoolState → ℕ
-next_of s = s.traffic.groups.next
-
-next-event : (s : PoolState) (e : PoolEvent) → next_of s ≤ next_of (after_event s e)
-next-event s (time_passes at) = omega arith
-next-event s (group_has group servers) = omega arith
-next-event s (is_asked group query options dnssec at) =
-    let same = (kept-asked (list_of group s.traffic) (question_of query options dnssec) (settings_for s.options options) at s).next in
-    omega (arith, same)
-next-event s (octets_come channel octets at) = let same = (kept-came s channel octets at).next in omega (arith, same)
-next-event s (channel_fails f at) = let same = (kept-failed s f at).next in omega (arith, same)
-next-event s (is_forgotten a) = omega arith
-
-given-event : (past : List Happening) (s : PoolState) (e : PoolEvent) (n : ℕ) → n < next_of s
-    → given_in n (came s e ∷ past) ≡ given_in n past
-given-event past s (time_passes at) n less = refl
-given-event past s (group_has group servers) n less = by (eqb (next_of s) n) refl
-  where
-    by : (b : Bool) → eqb (next_of s) n ≡ b → cond b servers (given_in n past) ≡ given_in n past
-    by false is = refl
-    by true is = let same : next_of s ≡ n = eqb-true (next_of s) n is in absurd (omega (arith, less, same))
-given-event past s (is_asked group query options dnssec at) n less = refl
-given-event past s (octets_come channel octets at) n less = refl
-given-event past s (channel_fails f at) n less = refl
-given-event past s (is_forgotten a) n less = refl
-
--- the list of a group that has servers is its current one
-current-is : (group list : ℕ) (t : TrafficState) → list_of group t ≡ Some list → current_of group t.groups ≡ Some list
-current-is group list t is = by (current_of group t.groups) is
-  where
-    one : (n : ℕ) (l : Option GroupListState)
-        → option_and_then (λ (x : GroupListState). cond (is_empty x.servers.servers) None (Some n)) l ≡ Some list → n ≡ list
-    one n None h = absurd cc
-    one n (Some l) h = empty (is_empty l.servers.servers) h
-      where
-        empty : (b : Bool) → cond b None (Some n) ≡ Some list → n ≡ list
-        empty true g = absurd cc
-        empty false g = cc
-
-    by : (n : Option ℕ) → option_and_then (if_servers t) n ≡ Some list → n ≡ Some list
-    by None h = absurd cc
-    by (Some n) h = ap (λ (m : ℕ). Some m) (one n (list_at n t.groups) h)
 
 served-new : (past : List Happening) (s : PoolState) (e : PoolEvent) → GroupsAre past s.traffic.groups
     → Begins (ServedIn (came s e ∷ past) (next_of (after_event s e))) s e
@@ -258,10 +217,15 @@ module _ (c : CurrentState) (s : PoolState) where
   flat-put Sends = (refl, refl)
   flat-put (Dates due) = (refl, refl)
 
--- the port of a server as it was given
-port-bare : (kind : ChannelKind) (server : ServerState) → port_for kind server ≡ port_for kind (bare server)
-port-bare Datagram server = refl
-port-bare Stream server = refl
+-- the port of a server as it was given, where it was given one
+port-some : (o : Option ℕ) → is_some o ≡ true → o ≡ Some (unwrap_or o 0)
+port-some None h = absurd (true≢false (sym h))
+port-some (Some port) h = refl
+
+port-is : (kind : ChannelKind) (server : ServerState) → is_some (port_by (by_kind kind) server) ≡ true
+    → port_given kind (bare server) ≡ Some (port_for kind server)
+port-is Datagram server h = port-some server.udp_port h
+port-is Stream server h = port-some server.tcp_port h
 
 -- ---- channels that were opened
 
@@ -324,6 +288,7 @@ pub record IsGoing (past : List Happening) (s : PoolState) (o : OutgoingValue) :
   pub current : CurrentState
   pub works : s.current ≡ Some current
   pub list : o.list ≡ current.entry.asked.0
+  pub port : given_port past o.list o.sending.place (by_kind o.sending.kind) ≡ true
   pub below : o.sending.is_new ≡ true → o.sending.channel < channels_next s
   pub is_new : o.sending.is_new ≡ true → AllByRecursion (OpenedOther o.sending.channel) past
 
@@ -331,8 +296,15 @@ pub record AreOut (past : List Happening) (s : PoolState) : Type 0 where
   pub goes : (o : OutgoingValue) → s.traffic.outgoing ≡ Some o → IsGoing past s o
   pub opened : AllByRecursion (OpenedBelow (channels_next s)) past
 
-out-event : (past : List Happening) (s : PoolState) (e : PoolEvent) → AreOut past s → AreOut (came s e ∷ past) (after_event s e)
-out-event past s e w =
+-- the transaction that is worked on asks servers of a list that there was
+ported-own : (past : List Happening) (s : PoolState) → HoldOfEach (λ n f. IsPorted past (next_of s) f) s → (c : CurrentState)
+    → s.current ≡ Some c → IsPorted past (next_of s) c.entry
+ported-own past s w c works =
+    subst (λ (x : Option CurrentState). IfSome x (AtCurrent (λ n f. IsPorted past (next_of s) f))) works w.worked
+
+out-event : (past : List Happening) (s : PoolState) (e : PoolEvent) → HoldOfEach (λ n f. IsPorted past (next_of s) f) s
+    → AreOut past s → AreOut (came s e ∷ past) (after_event s e)
+out-event past s e ported w =
     let shared = shared-event s e in
     let next : channels_next (after_event s e) ≡ channels_next s = ap (λ (c : ChannelsState). c.next) shared.channels in
     record {
@@ -342,18 +314,24 @@ out-event past s e w =
             current = g.current;
             works = current-event s e ∙ g.works;
             list = g.list;
+            port =
+                let old = (ported-own past s ported g.current g.works).old in
+                let same = given-event past s e o.list (let list = g.list in omega (arith, old, list)) in
+                ap (λ (given : List PoolServerValue). has_port (states_of given) o.sending.place (by_kind o.sending.kind)) same
+                ∙ g.port;
             below = λ new. let less = g.below new in omega (arith, less, next);
             is_new = λ new. (tt, g.is_new new);
           };
       opened = (tt, below-later (channels_next s) (channels_next (after_event s e)) (omega (arith, next)) past w.opened);
     }
 
-writing : (s : PoolState) (o : OutgoingValue) → s.traffic.outgoing ≡ Some o → task_of s.traffic ≡ outgoing_task o
+pub writing : (s : PoolState) (o : OutgoingValue) → s.traffic.outgoing ≡ Some o → task_of s.traffic ≡ outgoing_task o
 writing s o e =
     ap (λ (next : Option OutgoingValue). unwrap_or
     (option_or (option_map outgoing_task next) (option_or (came_in s.traffic) (ran_out s.traffic))) task.Admits) e
 
-module _ (past : List Happening) (s t : PoolState) (r : Option Action) (w : AreOut past s) where
+module _ (past : List Happening) (s t : PoolState) (r : Option Action) (ported : HoldOfEach (λ n f. IsPorted past (next_of s) f) s)
+    (w : AreOut past s) where
   abbrev Q : Type 0
   Q = AreOut (did s r ∷ past) t
 
@@ -401,6 +379,7 @@ module _ (past : List Happening) (s t : PoolState) (r : Option Action) (w : AreO
               current = g.current;
               works = works;
               list = g.list;
+              port = g.port;
               below = λ quiet. absurd cc;
               is_new = λ quiet. absurd cc;
             })
@@ -489,10 +468,10 @@ module _ (past : List Happening) (s t : PoolState) (r : Option Action) (w : AreO
         let next : channels_next t ≡ channels_next s = ap channels_next is in
         none-out (ap (λ (u : PoolState). u.traffic.outgoing) is ∙ e) (omega (arith, next)) (below-none (channels_next t) r quiet)
 
-    done-with : (c : CurrentState) (what : Doing) (after : Option CurrentState) → t.current ≡ after
+    done-with : (c : CurrentState) → s.current ≡ Some c → (what : Doing) (after : Option CurrentState) → t.current ≡ after
         → IsDoneTo what (scene_of s c) t.traffic after → NoOpen r → Q
-    done-with c what None at is quiet = absurd is
-    done-with c what (Some after) at is quiet = by (out-done what (scene_of s c) y is)
+    done-with c works what None at is quiet = absurd is
+    done-with c works what (Some after) at is quiet = by (out-done what (scene_of s c) y is)
       where
         y : Scene
         y = record { traffic = t.traffic; current = after }
@@ -510,6 +489,8 @@ module _ (past : List Happening) (s t : PoolState) (r : Option Action) (w : AreO
                 current = after;
                 works = at;
                 list = to.list ∙ sym (ap (λ (a : AskedOf). a.0) (same-done what (scene_of s c) y is).asked);
+                port = ap (λ (n : ℕ). given_port past n o.sending.place (by_kind o.sending.kind)) to.list
+                    ∙ to.port (given_port past c.entry.asked.0) (ported-own past s ported c works).fits;
                 below = λ new. (to.is_new new).1;
                 is_new = λ new. (none-of o.sending.channel r quiet, below-other (channels_next s) o.sending.channel (to.is_new new).0 past w.opened);
               });
@@ -528,33 +509,34 @@ module _ (past : List Happening) (s t : PoolState) (r : Option Action) (w : AreO
         by (is_calm calm) = none-out (calm.outgoing ∙ e) calm.next head
         by (is_sent one more) = sent one more
 
-    done-by : (c : CurrentState) → (ends puts : Bool) (what : Doing) → StepsBy ends puts what c s r t → Q
-    done-by c true puts what is = done-let_go c is.pool (subst NoOpen (sym is.action) (no-open_over what c _))
-    done-by c false true what is =
+    done-by : (c : CurrentState) → s.current ≡ Some c → (ends puts : Bool) (what : Doing) → StepsBy ends puts what c s r t → Q
+    done-by c works true puts what is = done-let_go c is.pool (subst NoOpen (sym is.action) (no-open_over what c _))
+    done-by c works false true what is =
         let next : channels_next t ≡ channels_next s = ap channels_next is.pool ∙ (flat-put c s what).1 in
         none-out (ap (λ (u : PoolState). u.traffic.outgoing) is.pool ∙ (flat-put c s what).0 ∙ e) (omega (arith, next))
         (below-none (channels_next t) r (subst NoOpen (sym is.action) tt))
-    done-by c false false what is =
-        done-with c what t.current refl is.done
+    done-by c works false false what is =
+        done-with c works what t.current refl is.done
         (subst NoOpen (sym is.action) (no-open_close (closed_by what (scene_of s c))))
 
-    done-in : (c : Option CurrentState) → StepsIn c s r t → Q
-    done-in None is = done-starts is
-    done-in (Some c) is = done-by c (is_end (doing c s.traffic)) (is_put (doing c s.traffic)) (doing c s.traffic) is
+    done-in : (c : Option CurrentState) → s.current ≡ c → StepsIn c s r t → Q
+    done-in None works is = done-starts is
+    done-in (Some c) works is = done-by c works (is_end (doing c s.traffic)) (is_put (doing c s.traffic)) (doing c s.traffic) is
 
   out-step : Steps s r t → Q
   out-step is = by s.traffic.outgoing refl is
     where
       by : (o : Option OutgoingValue) → s.traffic.outgoing ≡ o → StepsAs (is_some o) s r t → Q
-      by None e steps = done-in e s.current steps
+      by None e steps = done-in e s.current refl steps
       by (Some o) e steps = done-out o e steps
 
-out-runs : (options : OptionsValue) (limits : PoolLimits) (seed : List ℕ) (past : List Happening) (s : PoolState)
+pub out-runs : (options : OptionsValue) (limits : PoolLimits) (seed : List ℕ) (past : List Happening) (s : PoolState)
     → Runs (no_servers options limits seed) past s → AreOut past s
 out-runs options limits seed _ _ at_first = record { goes = λ o is. absurd cc; opened = tt }
-out-runs options limits seed _ _ (by_event past s e more) = out-event past s e (out-runs options limits seed past s more)
+out-runs options limits seed _ _ (by_event past s e more) =
+    out-event past s e (ported-runs options limits seed past s more) (out-runs options limits seed past s more)
 out-runs options limits seed _ _ (by_step past s after r is more) =
-    out-step past s after r (out-runs options limits seed past s more) is
+    out-step past s after r (ported-runs options limits seed past s more) (out-runs options limits seed past s more) is
 
 -- ---- the server that it is opened to
 
@@ -671,6 +653,13 @@ opens_to_own_servers options limits seed past s after o runs steps =
     ap (λ (n : ℕ). given_in n past) going.list ∙ sym served.servers in
     let at = found-at (given_in opened.out.list past) opened.out.sending.place l.servers.servers l.sources server
     given.states given.sources of.at_place in
+    let kind : ChannelKind = opened.out.sending.kind in
+    let place : ℕ = opened.out.sending.place in
+    let has : has_port l.servers.servers place (by_kind kind) ≡ true =
+    has-bare l.servers.servers place (by_kind kind)
+    ∙ ap (λ (xs : List ServerState). has_port xs place (by_kind kind)) given.states ∙ going.port in
+    let own : is_some (port_by (by_kind kind) server) ≡ true =
+    sym (ap (λ (x : Option ServerState). option_map_or (λ v. is_some (port_by (by_kind kind) v)) x false) of.at_place) ∙ has in
     record {
       current = going.current;
       works = going.works;
@@ -691,10 +680,10 @@ opens_to_own_servers options limits seed past s after o runs steps =
       to = record {
         address = ap (λ (x : OpeningValue). x.address) of.is ∙ ap (λ (x : ServerState). x.address) at.3;
         scope = ap (λ (x : OpeningValue). x.scope) of.is ∙ ap (λ (x : ServerState). x.scope) at.3;
-        port = ap (λ (x : OpeningValue). x.port) of.is
-            ∙ port-bare opened.out.sending.kind server
-            ∙ ap (λ (x : ServerState). port_for opened.out.sending.kind x) at.3
-            ∙ ap (λ (x : OpeningValue). port_for x.kind (server_of at.0.config at.0.scope)) (sym of.is);
+        port = ap (λ (x : OpeningValue). port_given x.kind (server_of at.0.config at.0.scope)) of.is
+            ∙ ap (λ (x : ServerState). port_given kind x) (sym at.3)
+            ∙ port-is kind server own
+            ∙ ap (λ (x : OpeningValue). Some x.port) (sym of.is);
         bind_addr = ap (λ (x : OpeningValue). x.bind_addr) of.is
             ∙ ap (λ (x : Option Sources). option_and_then (source_for opened.out.sending.kind) x) at.4
             ∙ ap (λ (x : OpeningValue). source_for x.kind (sources_of at.0)) (sym of.is);

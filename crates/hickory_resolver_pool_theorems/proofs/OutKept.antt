@@ -21,6 +21,7 @@ use Rattle.hickory_resolver_steps.specs.Steps.{Parts, SendingValue, sent_on, sen
 use Rattle.hickory_resolver_steps.specs.declared.flying.SentTry.{SentTry}
 use Rattle.hickory_resolver_steps.specs.declared.flying.Step.{Step}
 use Rattle.hickory_resolver_transactions.specs.Transaction.{wanted, freed}
+use Rattle.hickory_resolver_transactions.specs.declared.candidate.Transport.{Transport}
 use Rattle.hickory_resolver_transactions.specs.declared.transaction.Wanted.{Wanted}
 use Rattle.hickory_resolver_traffic.specs.Acting.{Acted, acted, acted_on, acted_with, value_with, value_on, nothing_acted, parts_of, step_of}
 use Rattle.hickory_resolver_traffic.specs.Acting as acting
@@ -41,6 +42,7 @@ use Rattle.hickory_resolver_traffic.specs.declared.inbox.Failure.{Failure}
 use Rattle.hickory_resolver_traffic.specs.declared.inbox.Failure.TheVariants as failure
 use Rattle.hickory_resolver_traffic.specs.declared.tasks.Task.{Task}
 use Rattle.hickory_resolver_traffic.specs.declared.tasks.Task.TheVariants as task
+use Rattle.hickory_resolver_pool_theorems.proofs.Fits.{AreFor, by_kind, wanted-fits}
 
 -- ---- numbers of channels
 
@@ -254,6 +256,8 @@ pub record GoesTo (x y : Scene) (o : OutgoingValue) : Type 0 where
   pub list : o.list ≡ x.current.entry.asked.0
   pub is_new : o.sending.is_new ≡ true → (x.traffic.shared.channels.next ≤ o.sending.channel)
       × (o.sending.channel < y.traffic.shared.channels.next)
+  pub port : (has : ℕ → Transport → Bool) → AreFor has x.current.entry.flying.flight.transaction
+      → has o.sending.place (by_kind o.sending.kind) ≡ true
 
 -- what goes out is what was sent, if anything is
 pub data IsSent (x y : Scene) : Type 0 where
@@ -291,6 +295,27 @@ new-sent step kind place p None sending is new = by (has_place p.shared.channels
           ∙ next-opened_is (number_of place p.servers) kind (try_drawn p.shared.draws).id step.transaction p.shared.channels room,
     )
 
+-- what goes out goes to the server that is wanted
+sending-is : (step : Step) (kind : ChannelKind) (place : ℕ) (p : Parts) (stream : Option ℕ) (sending : SendingValue)
+    → out_to step kind place p stream ≡ Some sending → (sending.place ≡ place) × (sending.kind ≡ kind)
+sending-is step kind place p stream sending is = by stream is
+  where
+    on : (is_new : Bool) (channel : ℕ) (octets : Option (List ℕ))
+        → option_map (sending_of kind place is_new channel) octets ≡ Some sending → (sending.place ≡ place) × (sending.kind ≡ kind)
+    on is_new channel None h = absurd cc
+    on is_new channel (Some octets) h =
+        let same : sending_of kind place is_new channel octets ≡ sending = cc in
+        (sym (ap (λ (v : SendingValue). v.place) same), sym (ap (λ (v : SendingValue). v.kind) same))
+
+    number : (channel : Option ℕ) → option_and_then (out_on step kind place p true) channel ≡ Some sending
+        → (sending.place ≡ place) × (sending.kind ≡ kind)
+    number None h = absurd cc
+    number (Some channel) h = on true channel (octets_on channel step p) h
+
+    by : (o : Option ℕ) → out_to step kind place p o ≡ Some sending → (sending.place ≡ place) × (sending.kind ≡ kind)
+    by None h = number (number_given p.shared.channels) h
+    by (Some channel) h = on false channel (octets_on channel step p) h
+
 sent-one : (x : Scene) → IsSent x (sends x)
 sent-one x = by (list_in list x.traffic.groups.lists)
   where
@@ -304,13 +329,14 @@ sent-one x = by (list_in list x.traffic.groups.lists)
     list = x.current.entry.asked.0
 
     -- by what is wanted, and what goes out for it
-    wants : (l : GroupListState) (w : Option Wanted) → IsSent x (with_outgoing
+    wants : (l : GroupListState) (w : Option Wanted) → wanted x.current.entry.flying.flight.transaction ≡ w
+        → IsSent x (with_outgoing
         (option_and_then (out_as (step_of own at) (parts_of x.traffic.shared x.current.entry.flying l)) w)
         (with_acted x (acting.acted_to list x.traffic.groups.lists l
         (option_map_or (sent_as (step_of own at) (parts_of x.traffic.shared x.current.entry.flying l))
         w (parts_of x.traffic.shared x.current.entry.flying l)))))
-    wants l None = sends_none refl
-    wants l (Some w) = goes (out_to step kind w.place p stream) refl
+    wants l None at_w = sends_none refl
+    wants l (Some w) at_w = goes (out_to step kind w.place p stream) refl
       where
         p : Parts
         p = parts_of x.traffic.shared x.current.entry.flying l
@@ -332,13 +358,18 @@ sent-one x = by (list_in list x.traffic.groups.lists)
           is_new = λ new.
               let number = new-sent step kind w.place p stream sending is new in
               (omega (arith, number.0), omega (arith, number.0, number.1));
+          port = λ has fits.
+              let to = sending-is step kind w.place p stream sending is in
+              ap (λ (place : ℕ). has place (by_kind sending.kind)) to.0
+              ∙ ap (λ (k : ChannelKind). has w.place (by_kind k)) to.1
+              ∙ wanted-fits has x.current.entry.flying.flight.transaction fits w at_w;
         })
 
     by : (l : Option GroupListState) → IsSent x (with_outgoing
         (option_map_or (value_with act.Send own at [] (before_act x)) l nothing_acted).sending
         (with_acted x (option_map_or (acted_with act.Send own at [] list (before_act x)) l (before_act x))))
     by None = sends_none refl
-    by (Some l) = wants l (wanted x.current.entry.flying.flight.transaction)
+    by (Some l) = wants l (wanted x.current.entry.flying.flight.transaction) refl
 
 -- ---- all that is done
 
@@ -361,29 +392,51 @@ pub data IsOut (x y : Scene) : Type 0 where
 later-sends : (x : Scene) → x.traffic.shared.channels.next ≤ (sends x).traffic.shared.channels.next
 later-sends x = (calm-act act.Send [] x).next
 
+abbrev pub IsNoSend : Doing → Type 0
+IsNoSend Sends = ⊥
+IsNoSend other = Unit {0}
+
+pub calm-done : (what : Doing) (x y : Scene) → IsDone what x y → IsNoSend what → Calm x y
+calm-done Hears x y is o = calm-by x y (hears x) is (calm-hears x)
+calm-done Doubts x y is o =
+    let w = calm-doubts x.traffic in calm-by x y (doubts x) is (record { outgoing = w.outgoing; next = w.next })
+calm-done Stalls x y is o = calm-by x y (stalls x) is (calm-stalls x)
+calm-done Fails x y is o = calm-by x y (fails x) is (calm-fails x)
+calm-done Quits x y is o = calm-by x y (quits x) is (calm-quits x)
+calm-done Expires x y is o = calm-by x y (expires x) is (calm-act act.Expire [] x)
+calm-done Frees x y is o = calm-by x y (frees x) is (calm-frees x)
+calm-done (Leaves place) x y is o = calm-by x y (leaves place x) is (calm-leaves place x)
+calm-done Draws x y is o = calm-flat x y (draws x) is refl refl
+calm-done (BeginsRound place) x y is o = calm-flat x y (with_round_parts place x y.current.entry.flying) is.after refl refl
+calm-done GivesUp x y is o = calm-flat x y (gives_up x) is refl refl
+calm-done Blocks x y is o = calm-flat x y (blocks x) is refl refl
+calm-done Sends x y is o = absurd o
+calm-done (Dates due) x y is o = calm-flat x y (dates due x) is refl refl
+calm-done PutsBack x y is o = calm-flat x y x is refl refl
+calm-done Refused x y is o = calm-flat x y x is refl refl
+calm-done Ends x y is o = calm-flat x y x is refl refl
+calm-done Rests x y is o = calm-flat x y x is refl refl
+
 pub out-done : (what : Doing) (x y : Scene) → IsDone what x y → IsOut x y
-out-done Hears x y is = is_calm (calm-by x y (hears x) is (calm-hears x))
-out-done Doubts x y is =
-    let w = calm-doubts x.traffic in
-    is_calm (calm-by x y (doubts x) is (record { outgoing = w.outgoing; next = w.next }))
-out-done Stalls x y is = is_calm (calm-by x y (stalls x) is (calm-stalls x))
-out-done Fails x y is = is_calm (calm-by x y (fails x) is (calm-fails x))
-out-done Quits x y is = is_calm (calm-by x y (quits x) is (calm-quits x))
-out-done Expires x y is = is_calm (calm-by x y (expires x) is (calm-act act.Expire [] x))
-out-done Frees x y is = is_calm (calm-by x y (frees x) is (calm-frees x))
-out-done (Leaves place) x y is = is_calm (calm-by x y (leaves place x) is (calm-leaves place x))
-out-done Draws x y is = is_calm (calm-flat x y (draws x) is refl refl)
-out-done (BeginsRound place) x y is =
-    is_calm (calm-flat x y (with_round_parts place x y.current.entry.flying) is.after refl refl)
-out-done GivesUp x y is = is_calm (calm-flat x y (gives_up x) is refl refl)
-out-done Blocks x y is = is_calm (calm-flat x y (blocks x) is refl refl)
 out-done Sends x y is =
     subst (λ (v : Scene). IsOut x v) (sym is) (is_sent (sent-one x) (later-sends x))
-out-done (Dates due) x y is = is_calm (calm-flat x y (dates due x) is refl refl)
-out-done PutsBack x y is = is_calm (calm-flat x y x is refl refl)
-out-done Refused x y is = is_calm (calm-flat x y x is refl refl)
-out-done Ends x y is = is_calm (calm-flat x y x is refl refl)
-out-done Rests x y is = is_calm (calm-flat x y x is refl refl)
+out-done Hears x y is = is_calm (calm-done Hears x y is tt)
+out-done Doubts x y is = is_calm (calm-done Doubts x y is tt)
+out-done Stalls x y is = is_calm (calm-done Stalls x y is tt)
+out-done Fails x y is = is_calm (calm-done Fails x y is tt)
+out-done Quits x y is = is_calm (calm-done Quits x y is tt)
+out-done Expires x y is = is_calm (calm-done Expires x y is tt)
+out-done Frees x y is = is_calm (calm-done Frees x y is tt)
+out-done (Leaves place) x y is = is_calm (calm-done (Leaves place) x y is tt)
+out-done Draws x y is = is_calm (calm-done Draws x y is tt)
+out-done (BeginsRound place) x y is = is_calm (calm-done (BeginsRound place) x y is tt)
+out-done GivesUp x y is = is_calm (calm-done GivesUp x y is tt)
+out-done Blocks x y is = is_calm (calm-done Blocks x y is tt)
+out-done (Dates due) x y is = is_calm (calm-done (Dates due) x y is tt)
+out-done PutsBack x y is = is_calm (calm-done PutsBack x y is tt)
+out-done Refused x y is = is_calm (calm-done Refused x y is tt)
+out-done Ends x y is = is_calm (calm-done Ends x y is tt)
+out-done Rests x y is = is_calm (calm-done Rests x y is tt)
 
 -- ---- where no transaction is worked on
 

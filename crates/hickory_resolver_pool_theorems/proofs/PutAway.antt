@@ -59,30 +59,30 @@ use Rattle.hickory_resolver_pool_theorems.proofs.Unanswered.{transactions_stay_b
 
 -- ---- why it goes on so
 
-abbrev WhyGo : EntryState → ℕ → TrafficState → Doing → Type 0
+abbrev pub WhyGo : EntryState → ℕ → TrafficState → Doing → Type 0
 WhyGo e n t (Leaves place) = is_some (try_at_place e.flying place) ≡ true
 WhyGo e n t Expires = is_due e t ≡ true
 WhyGo e n t Draws = e.place ≡ None
 WhyGo e n t (BeginsRound place) = wants_round e.flying.flight.transaction ≡ true
 WhyGo e n t GivesUp = has_late e.flying.flight.transaction ≡ true
-WhyGo e n t Blocks = is_blocked n t.table ≡ false
+WhyGo e n t Blocks = (is_blocked n t.table ≡ false) × (is_some (wanted e.flying.flight.transaction) ≡ true)
 WhyGo e n t Sends = is_some (wanted e.flying.flight.transaction) ≡ true
 WhyGo e n t (Dates due) =
     (same_moment due e.due ≡ false) × (due ≡ next_deadline e.flying.flight.transaction)
 WhyGo e n t Ends = Unit {0}
-WhyGo e n t Rests = Unit {0}
+WhyGo e n t Rests = (same_moment (next_deadline e.flying.flight.transaction) e.due ≡ true) × (is_due e t ≡ false)
 WhyGo e n t other = ⊥
 
 module _ (e : EntryState) (n : ℕ) (t : TrafficState) where
   abbrev tr : TransactionState
   tr = e.flying.flight.transaction
 
-  why-rest : WhyGo e n t (at_rest e)
-  why-rest = by (same_moment (next_deadline tr) e.due) refl
+  why-rest : is_due e t ≡ false → WhyGo e n t (at_rest e)
+  why-rest early = by (same_moment (next_deadline tr) e.due) refl
     where
       by : (b : Bool) → same_moment (next_deadline tr) e.due ≡ b
           → WhyGo e n t (cond b Rests (Dates (next_deadline tr)))
-      by true is = tt
+      by true is = (is, early)
       by false is = (is, refl)
 
   why-sends : is_some (wanted tr) ≡ true → WhyGo e n t (sends_or_blocks n tr t)
@@ -90,7 +90,7 @@ module _ (e : EntryState) (n : ℕ) (t : TrafficState) where
     where
       noted : (b : Bool) → is_blocked n t.table ≡ b → WhyGo e n t (cond b Sends Blocks)
       noted true is = wants
-      noted false is = is
+      noted false is = (is, wants)
 
       late : (b : Bool) → has_late tr ≡ b → WhyGo e n t (cond b GivesUp (cond (is_blocked n t.table) Sends Blocks))
       late true is = is
@@ -101,8 +101,8 @@ module _ (e : EntryState) (n : ℕ) (t : TrafficState) where
       place true = wants
       place false = late (has_late tr) refl
 
-  why-forward : WhyGo e n t (forward n e t)
-  why-forward = by (wants_round tr) refl
+  why-forward : is_due e t ≡ false → WhyGo e n t (forward n e t)
+  why-forward early = by (wants_round tr) refl
     where
       place : wants_round tr ≡ true → (o : Option ℕ) → e.place ≡ o → WhyGo e n t (option_map_or BeginsRound o Draws)
       place wants None is = is
@@ -110,7 +110,7 @@ module _ (e : EntryState) (n : ℕ) (t : TrafficState) where
 
       send : (b : Bool) → is_some (wanted tr) ≡ b → WhyGo e n t (cond b (sends_or_blocks n tr t) (at_rest e))
       send true is = why-sends is
-      send false is = why-rest
+      send false is = why-rest early
 
       by : (b : Bool) → wants_round tr ≡ b
           → WhyGo e n t (cond b (round_or_place e) (cond (is_some (wanted tr)) (sends_or_blocks n tr t) (at_rest e)))
@@ -129,22 +129,23 @@ module _ (e : EntryState) (n : ℕ) (t : TrafficState) where
       let less = ltb-true n (length xs) is in some-within xs i (omega (arith, less, same))
   found-there xs i n false is h = absurd cc
 
-  why-going : WhyGo e n t (going_on n e t)
+  pub why-going : WhyGo e n t (going_on n e t)
   why-going = by (is_ending n e.flying t)
     where
       all_left : (ts : List SentTry) → e.flying.tries ≡ ts → WhyGo e n t (cond (is_empty ts) Ends (Leaves 0))
       all_left [] is = tt
       all_left (x ∷ xs) is = ap (λ (ts : List SentTry). is_some (slice_get ts 0)) is
 
-      done : (o : Option ℕ) → first_done e.flying ≡ o → WhyGo e n t (option_map_or Leaves o (forward n e t))
-      done None is = why-forward
-      done (Some place) is =
+      done : is_due e t ≡ false → (o : Option ℕ) → first_done e.flying ≡ o
+          → WhyGo e n t (option_map_or Leaves o (forward n e t))
+      done early None is = why-forward early
+      done early (Some place) is =
           found-there e.flying.tries place (position_or_len (is_done tr) e.flying.tries)
           (ltb (position_or_len (is_done tr) e.flying.tries) (length e.flying.tries)) refl is
 
       due : (b : Bool) → is_due e t ≡ b → WhyGo e n t (cond b Expires (option_map_or Leaves (first_done e.flying) (forward n e t)))
       due true is = is
-      due false is = done (first_done e.flying) refl
+      due false is = done is (first_done e.flying) refl
 
       by : (b : Bool) → WhyGo e n t (cond b (cond (is_empty e.flying.tries) Ends (Leaves 0))
           (cond (is_due e t) Expires (option_map_or Leaves (first_done e.flying) (forward n e t))))
@@ -161,13 +162,13 @@ abbrev one_not : Bool → ℕ
 one_not true = 0
 one_not false = 1
 
-abbrev going_out : Option OutgoingValue → ℕ
+abbrev pub going_out : Option OutgoingValue → ℕ
 going_out None = 0
 going_out (Some o) = one_if o.sending.is_new + 1
 
 abbrev owed : TrafficState → CurrentState → ℕ
 owed t c =
-    budget c.entry.flying.flight.transaction + 4 * length c.entry.flying.tries + 4 * undrawn c.entry.place
+    budget false c.entry.flying.flight.transaction + 4 * length c.entry.flying.tries + 4 * undrawn c.entry.place
     + 2 * one_not (is_blocked c.number t.table) + going_out t.outgoing
 
 abbrev undated_in : CurrentState → ℕ
@@ -250,9 +251,9 @@ module _ (x : Scene) (fit : IsFit x) (going : x.current.to_do ≡ todo.GoOn) whe
   falls-expires due = by (list_in x.current.entry.asked.0 x.traffic.groups.lists) fit.there
     where
       when : (o : Option ℕ) → next_deadline own ≡ o → option_map_or (λ d. leb d x.traffic.clock) o false ≡ true
-          → budget (expired x.traffic.clock own) + 4 ≤ budget own
+          → budget false (expired x.traffic.clock own) + 4 ≤ budget false own
       when None at h = absurd (true≢false (sym h))
-      when (Some d) at h = budget-expired own x.traffic.clock fit.places d at (leb-true d x.traffic.clock h)
+      when (Some d) at h = budget-expired false own x.traffic.clock fit.places d at (leb-true d x.traffic.clock h)
 
       by : (l : Option GroupListState) → is_some l ≡ true → Falls x (with_to_do todo.GoOn (with_acted x (option_map_or
           (acted_with Expire x.current.number (moment_of x.traffic) [] x.current.entry.asked.0 (before_act x)) l
@@ -286,12 +287,12 @@ module _ (x : Scene) (fit : IsFit x) (going : x.current.to_do ≡ todo.GoOn) whe
       by None h begun = absurd (true≢false (sym h))
       by (Some l) h begun =
           subst (λ (f : FlyingState). Falls x (with_round_parts place x f)) (sym begun.begun)
-          (let less = budget-round own begun.order wants more in
+          (let less = budget-round false own begun.order wants more in
           falls-owed (with_round_parts place x (in_order_of begun.order x.current.entry.flying)) going (omega (arith, less)))
 
   falls-gives_up : has_late own ≡ true → Falls x (gives_up x)
   falls-gives_up late =
-      let less = budget-given_up own late in falls-owed (gives_up x) going (omega (arith, less))
+      let less = budget-given_up false own late in falls-owed (gives_up x) going (omega (arith, less))
 
   falls-blocks : is_blocked x.current.number x.traffic.table ≡ false → Falls x (blocks x)
   falls-blocks none =
@@ -330,20 +331,20 @@ module _ (x : Scene) (fit : IsFit x) (going : x.current.to_do ≡ todo.GoOn) whe
           → q.flying ≡ with_sent channel (try_drawn x.traffic.shared.draws) step.moment x.current.entry.flying
           → Falls x (sent_scene q o)
       falls-made channel q o flown =
-          let less = budget-sent own fit.places fit.bounded (made_on channel (try_drawn x.traffic.shared.draws) step.moment) wants in
+          let less = budget-sent false own fit.places fit.bounded (made_on channel (try_drawn x.traffic.shared.draws) step.moment) wants in
           let tries : length q.flying.tries ≡ length x.current.entry.flying.tries + 1 =
           ap (λ (f : FlyingState). length f.tries) flown
-          ∙ length-pushed x.current.entry.flying.tries (record { channel = channel; id = (try_drawn x.traffic.shared.draws).id }) in
-          let budgets : budget q.flying.flight.transaction
-          ≡ budget (transaction.sent (made_on channel (try_drawn x.traffic.shared.draws) step.moment) own) =
-          ap (λ (f : FlyingState). budget f.flight.transaction) flown in
+          ∙ length-pushed false x.current.entry.flying.tries (record { channel = channel; id = (try_drawn x.traffic.shared.draws).id }) in
+          let budgets : budget false q.flying.flight.transaction
+          ≡ budget false (transaction.sent (made_on channel (try_drawn x.traffic.shared.draws) step.moment) own) =
+          ap (λ (f : FlyingState). budget false f.flight.transaction) flown in
           let most = out-le (option_map (outgoing_of x.current.entry.asked.0) o) in
           falls-owed (sent_scene q o) going (omega (arith, less, tries, budgets, most))
 
       falls-number : (kind : ChannelKind) (place : ℕ) (found : Option ℕ)
           → Falls x (sent_scene (sent_on step kind place p found) (option_and_then (out_on step kind place p true) found))
       falls-number kind place None =
-          let less = budget-unsent own fit.places fit.bounded step.until wants in
+          let less = budget-unsent false own fit.places fit.bounded step.until wants in
           falls-owed (sent_scene (without_channel step p) None) going (omega (arith, less))
       falls-number kind place (Some channel) =
           falls-made channel (sent_on_new step kind place channel p) (out_on step kind place p true channel) refl
@@ -386,14 +387,14 @@ module _ (x : Scene) (fit : IsFit x) (going : x.current.to_do ≡ todo.GoOn) whe
   falls-done Draws y why e p is = falls-by y (draws x) is (falls-draws why)
   falls-done (BeginsRound place) y why e p is = falls-begins place y is why
   falls-done GivesUp y why e p is = falls-by y (gives_up x) is (falls-gives_up why)
-  falls-done Blocks y why e p is = falls-by y (blocks x) is (falls-blocks why)
+  falls-done Blocks y why e p is = falls-by y (blocks x) is (falls-blocks why.0)
   falls-done Sends y why e p is = falls-by y (sends x) is (falls-sends why)
   falls-done (Dates due) y why e p is = falls-by y (dates due x) is (falls-dates due why.0 why.1)
   falls-done Rests y why e p is = absurd (true≢false p)
 
 -- ---- what goes before it goes on
 
-abbrev rank : ToDo → ℕ
+abbrev pub rank : ToDo → ℕ
 rank todo.GoOn = 0
 rank todo.Hear = 3
 rank todo.Doubt = 2
@@ -560,7 +561,7 @@ module _ (s t : PoolState) (r : Option Action) (is : Steps s r t) (c : CurrentSt
 
 -- ---- all steps
 
-choose : (d : ToDo) (P : Type 0) → (d ≡ todo.GoOn → P) → ((d ≡ todo.GoOn → ⊥) → P) → P
+pub choose : (d : ToDo) (P : Type 0) → (d ≡ todo.GoOn → P) → ((d ≡ todo.GoOn → ⊥) → P) → P
 choose todo.GoOn P one two = one refl
 choose todo.Hear P one two = two (λ e. absurd cc)
 choose todo.Doubt P one two = two (λ e. absurd cc)
@@ -575,7 +576,7 @@ module _ (options : OptionsValue) (limits : PoolLimits) (seed : List ℕ) (most 
   abbrev Past : List Happening → PoolState → Type 0
   Past past s = Runs (no_servers options limits seed) past s
 
-  fit-of : (past : List Happening) (s : PoolState) → Past past s → Kept most s → (c : CurrentState) → s.current ≡ Some c
+  pub fit-of : (past : List Happening) (s : PoolState) → Past past s → Kept most s → (c : CurrentState) → s.current ≡ Some c
       → IsFit (scene_of s c)
   fit-of past s runs kept c works =
       let held = holds-runs (no_servers options limits seed) past s (holds-first options limits seed) runs in
@@ -617,7 +618,7 @@ module _ (options : OptionsValue) (limits : PoolLimits) (seed : List ℕ) (most 
           ap one_not blocked in
           omega (arith, same, out, less)
 
-  rank-away : (k : ℕ) (past : List Happening) (s : PoolState) → Past past s → Kept most s → (c : CurrentState)
+  pub rank-away : (k : ℕ) (past : List Happening) (s : PoolState) → Past past s → Kept most s → (c : CurrentState)
       → s.current ≡ Some c → 3 * rank c.to_do + going_out s.traffic.outgoing < k → IsPutAway s
   rank-away zero past s runs kept c works less = absurd (omega (arith, less))
   rank-away (suc k) past s runs kept c works less =

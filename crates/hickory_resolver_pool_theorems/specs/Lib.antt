@@ -5,6 +5,7 @@ pub mod Ends
 pub mod Failures
 pub mod Handles
 pub mod MadeUp
+pub mod Open
 pub mod Opens
 pub mod Rest
 pub mod Runs

@@ -4,13 +4,15 @@ use Rattle.std.specs.List.{AllByRecursion}
 use Rattle.hickory_proto_core.specs.declared.dns_request.DnsRequestOptions.{DnsRequestOptions}
 use Rattle.hickory_proto_core.specs.declared.query.Query.{Query}
 use Rattle.hickory_resolver_askers.specs.Askers.{next_one}
+use Rattle.hickory_resolver_channels.specs.declared.channel.ChannelKind.{ChannelKind}
+use Rattle.hickory_resolver_channels.specs.declared.channel.ChannelKind.TheVariants.{Datagram, Stream}
 use Rattle.hickory_resolver_config.specs.ResolverConfig.{OptionsValue}
-use Rattle.hickory_resolver_servers.specs.Server.{server_of}
+use Rattle.hickory_resolver_servers.specs.Server.{ServerState, server_of}
 use Rattle.hickory_resolver_tries.specs.Question.{question_of}
 use Rattle.hickory_resolver_tries.specs.declared.pool_question.DnssecOptions.{DnssecOptions}
 use Rattle.hickory_resolver_traffic.specs.Openings.{OpeningValue}
 use Rattle.hickory_resolver_traffic.specs.Table.{CurrentState}
-use Rattle.hickory_resolver_traffic.specs.Tasks.{port_for, source_for}
+use Rattle.hickory_resolver_traffic.specs.Tasks.{source_for}
 use Rattle.hickory_resolver_pool.specs.Laws.{is_asked}
 use Rattle.hickory_resolver_pool.specs.Pool.{PoolState, no_servers, list_of, asking_told, Steps}
 use Rattle.hickory_resolver_pool.specs.Servers.{PoolServerValue, sources_of}
@@ -21,11 +23,16 @@ use Rattle.hickory_resolver_pool.specs.declared.pool.Asked.TheVariants as asked
 use Rattle.hickory_resolver_pool_theorems.specs.Answers.{servers_in}
 use Rattle.hickory_resolver_pool_theorems.specs.Runs.{Happening, came, did, Runs}
 
+-- the port of a server for what goes over a channel, where it was given one
+abbrev pub port_given : ChannelKind → ServerState → Option ℕ
+port_given Datagram server = server.udp_port
+port_given Stream server = server.tcp_port
+
 -- to the address of a server as it was given, and to the port that it was given for what goes over the channel
 pub record IsToServer (server : PoolServerValue) (o : OpeningValue) : Type 0 where
   pub address : o.address ≡ server.config.ip
   pub scope : o.scope ≡ server.scope
-  pub port : o.port ≡ port_for o.kind (server_of server.config server.scope)
+  pub port : port_given o.kind (server_of server.config server.scope) ≡ Some o.port
   pub bind_addr : o.bind_addr ≡ source_for o.kind (sources_of server)
 
 -- no channel was opened before under this number

@@ -1,4 +1,4 @@
--- What is held where nothing is left to be done.
+-- What is held where nothing is left to be done; and that it comes to that.
 use Rattle.std.specs.Prelude.{◌≡◌, ◌<◌, ◌+◌, ◌^◌, ℕ, List, [], length, Option, None, Some}
 use Rattle.std.specs.List.{AllByRecursion}
 use Rattle.hickory_resolver_config.specs.ResolverConfig.{OptionsValue}
@@ -41,3 +41,17 @@ abbrev pub EachIsPutAway : Type 0
 EachIsPutAway =
     (options : OptionsValue) (limits : PoolLimits) (seed : List ℕ) (past : List Happening) (s : PoolState)
     → Runs (no_servers options limits seed) past s → length past < 2 ^ 64 → IsPutAway s
+
+-- ---- a pool comes to rest
+
+-- Nothing is left to be done; or, whatever the next step does, that comes to be so.
+pub data ComesToRest : PoolState → Type 0 where
+  nothing_left : (s : PoolState) → Steps s None s → ComesToRest s
+  goes_on : (s : PoolState) → ((r : Option Action) (after : PoolState) → Steps s r after → ComesToRest after)
+      → ComesToRest s
+
+-- Where steps are all that happens, nothing is left to be done after finitely many.
+abbrev pub EachComesToRest : Type 0
+EachComesToRest =
+    (options : OptionsValue) (limits : PoolLimits) (seed : List ℕ) (past : List Happening) (s : PoolState)
+    → Runs (no_servers options limits seed) past s → length past < 2 ^ 64 → ComesToRest s

@@ -5,11 +5,12 @@ ghost use Rattle.hickory_resolver_pool_theorems.specs.MadeUp.{NothingIsMadeUp};
 ghost use Rattle.hickory_resolver_pool_theorems.specs.Handles.{CoreIsToldWhatCame, FromOctetsToOctets};
 ghost use Rattle.hickory_resolver_pool_theorems.specs.Causes.{TimeoutsRanOut, UnreachableOnesFailed, TransactionsStayBounded};
 ghost use Rattle.hickory_resolver_pool_theorems.specs.Ends.{RestsUntilDue};
-ghost use Rattle.hickory_resolver_pool_theorems.specs.Rest.{AllIsReadAtRest, EachIsPutAway};
+ghost use Rattle.hickory_resolver_pool_theorems.specs.Rest.{AllIsReadAtRest, EachIsPutAway, EachComesToRest};
 ghost use Rattle.hickory_resolver_pool_theorems.specs.Ticks.{EachTickLowers};
 ghost use Rattle.hickory_resolver_pool_theorems.specs.Failures.{OverloadedOnlyWithoutPlace, FailuresAreToldLast};
 ghost use Rattle.hickory_resolver_pool_theorems.specs.Tellings.{WhoAsksIsTold, OverOnce};
 ghost use Rattle.hickory_resolver_pool_theorems.specs.Answers.{AskedIsAnswered};
+ghost use Rattle.hickory_resolver_pool_theorems.specs.Open.{ChannelsAreUsedOpen};
 ghost use Rattle.hickory_resolver_pool_theorems.specs.Opens.{OpensToOwnServers};
 ghost use Rattle.hickory_resolver_pool_theorems.specs.Timeouts.{TimeoutsAreAlone};
 
@@ -95,10 +96,17 @@ pub fn asked_is_answered()
     ensures { AskedIsAnswered }
 {}
 
-/// Each channel is opened to a server that the group of its transaction had when it was asked, by the address, the port
-/// and the local address that it was given with, and under a number under which none was opened before.
+/// Each channel is opened to a server that the group of its transaction had when it was asked, by the address and the
+/// local address that it was given with, to the port that it was given for what goes over the channel, and under a number
+/// under which none was opened before.
 pub fn opens_to_own_servers()
     ensures { OpensToOwnServers }
+{}
+
+/// Each message is sent on a channel that was opened and was not closed since, and each channel that is closed is such a
+/// one.
+pub fn channels_are_used_open()
+    ensures { ChannelsAreUsedOpen }
 {}
 
 /// Where no more than a timeout was noted of a transaction, at no moment was more noted; and where nothing was to come
@@ -137,4 +145,10 @@ pub fn servers_are_kept()
 /// Where steps are all that happens, the transaction that is worked on is put away, or over, after finitely many of them.
 pub fn each_is_put_away()
     ensures { EachIsPutAway }
+{}
+
+/// Where steps are all that happens, nothing is left to be done after finitely many of them: a pool comes to rest, whatever
+/// came before.
+pub fn each_comes_to_rest()
+    ensures { EachComesToRest }
 {}

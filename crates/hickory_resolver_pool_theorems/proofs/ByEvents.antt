@@ -1,0 +1,219 @@
+-- What each event of a transaction keeps, all that is done with it keeps.
+use Rattle.std.proofs.Common.{◌≡◌, ◌-◌, ℕ, Bool, true, false, cond, ltb, List, [], ◌∷◌, length, refl, ap, sym, subst, ◌∙◌}
+use Rattle.std.specs.Prelude.{Option, None, Some}
+use Rattle.std.specs.List.{list_any}
+use Rattle.std.specs.Option.{is_some, option_map, option_map_or}
+use Rattle.hickory_resolver_channels.specs.Channels.{number_given}
+use Rattle.hickory_resolver_channels.specs.Draws.{try_drawn}
+use Rattle.hickory_resolver_channels.specs.declared.channel.ChannelKind.{ChannelKind}
+use Rattle.hickory_resolver_flights.specs.Flights.{FlightState, heard, heard_as, heard_by, changed}
+use Rattle.hickory_resolver_flights.specs.declared.heard.Heard.{Heard}
+use Rattle.hickory_resolver_flights.specs.declared.heard.Heard.TheVariants as what_is
+use Rattle.hickory_resolver_steps.specs.Ending.{try_at_place}
+use Rattle.hickory_resolver_steps.specs.Steps.{Parts, FlyingState, made_on, sent_on, sent_to, sent_as, stream_in, kind_of}
+use Rattle.hickory_resolver_steps.specs.Steps as steps
+use Rattle.hickory_resolver_steps.specs.declared.flying.SentTry.{SentTry}
+use Rattle.hickory_resolver_steps.specs.declared.flying.Step.{Step}
+use Rattle.hickory_resolver_tries.specs.Belief.{belief_of}
+use Rattle.hickory_resolver_tries.specs.declared.belief.Belief.{Belief}
+use Rattle.hickory_resolver_tries.specs.declared.belief.Belief.TheVariants as belief
+use Rattle.hickory_resolver_tries.specs.declared.outcome.ReplyOutcome.{ReplyOutcome}
+use Rattle.hickory_resolver_tries.specs.Outcome.{outcome_of}
+use Rattle.hickory_resolver_transactions.specs.Candidates.{is_tried, is_waiting, is_blocked, waits_as, waits_on, is_due, sent_with, without_channel, freed_one, has_failed_by}
+use Rattle.hickory_resolver_transactions.specs.Laws.{TransactionEvent, round_begins, is_sent, has_no_room, reply_came, opt_refused, letters_differ, channel_failed, no_channel, channel_free, oldest_given_up, time_passed, after_event, after_events}
+use Rattle.hickory_resolver_transactions.specs.Table.{after_reply, after_deadline, after_closed_stream, then_of_reply, then_of_refused_opt, then_of_other_letters, stays_believed}
+use Rattle.hickory_resolver_transactions.specs.Transaction.{TransactionState, replacing, with_late, kept_in, keeping, acted, acted_late, picked, candidate_at, late_at, late_came_to, late_replied, without_answered, came_to, came, opt_was_refused, other_letters_came, failed_at, failed_in, failed, blocked_in, blocked, freed, expired_in, late_expired, expired, wants_round, with_round, chosen, sent, unsent, wanted, try_at}
+use Rattle.hickory_resolver_transactions.specs.declared.candidate.Candidate.{Candidate}
+use Rattle.hickory_resolver_transactions.specs.declared.candidate.LateTry.{LateTry}
+use Rattle.hickory_resolver_transactions.specs.declared.candidate.Made.{Made}
+use Rattle.hickory_resolver_transactions.specs.declared.candidate.Progress.{Progress}
+use Rattle.hickory_resolver_transactions.specs.declared.candidate.Progress.TheVariants as progress
+use Rattle.hickory_resolver_transactions.specs.declared.candidate.Transport.{Transport}
+use Rattle.hickory_resolver_transactions.specs.declared.candidate.Transport.TheVariants.{Udp, Tcp}
+use Rattle.hickory_resolver_transactions.specs.declared.candidate.Try.{Try}
+use Rattle.hickory_resolver_transactions.specs.declared.settings.Settings.{Settings}
+use Rattle.hickory_resolver_transactions.specs.declared.table.Then.{Then}
+use Rattle.hickory_resolver_transactions.specs.declared.table.Then.TheVariants.{Ends, Leaves, Rests, Again, Nothing}
+use Rattle.hickory_resolver_transactions.specs.declared.transaction.Wanted.{Wanted}
+use Rattle.hickory_resolver_traffic.specs.Acting.{Acted, acted_on, acted_with, parts_of, step_of}
+use Rattle.hickory_resolver_traffic.specs.Acting as acting
+use Rattle.hickory_resolver_traffic.specs.Doing.{Scene, IsDone, hear_of, hears_octets, after_first, heard_of_first, hears_first, hears, doubts, fails_on, after_failed, fails, act_on, before_act, moment_of, stalls_on, stalls, leaving_at, leave_at, closed_at, freed_if, leaves, quits_at, after_quit, quits, place_on, with_to_do, expires, frees, then_do, changing, draws, gives_up, blocks, sends, dates, with_round_parts, BeginsWith, round_of, is_stream}
+use Rattle.hickory_resolver_traffic.specs.Groups.{GroupListState, list_in, list_at}
+use Rattle.hickory_resolver_traffic.specs.Inbox.{MessageValue, first_message, first_failure}
+use Rattle.hickory_resolver_traffic.specs.Table.{without_blocked}
+use Rattle.hickory_resolver_traffic.specs.declared.acting.Moment.{Moment}
+use Rattle.hickory_resolver_traffic.specs.declared.acting.ServerAct.{ServerAct}
+use Rattle.hickory_resolver_traffic.specs.declared.acting.ServerAct.TheVariants as act
+use Rattle.hickory_resolver_traffic.specs.declared.doing.Doing.{Doing}
+use Rattle.hickory_resolver_traffic.specs.declared.doing.Doing.TheVariants.{Hears, Doubts, Stalls, Fails, Quits, PutsBack, Expires, Frees, Refused, Leaves as Left, Ends as Ended, Draws, BeginsRound, GivesUp, Blocks, Sends, Dates, Rests as Waits}
+use Rattle.hickory_resolver_traffic.specs.declared.entry.ToDo.TheVariants as todo
+use Rattle.hickory_resolver_traffic.specs.declared.inbox.ChannelFailure.{ChannelFailure}
+
+module _ (P : TransactionState → Type 0) (keeps : (t : TransactionState) (e : TransactionEvent) → P t → P (after_event t e)) where
+  -- ---- of a question in flight
+
+  abbrev In : FlightState → FlightState → Type 0
+  In f g = P f.transaction → P g.transaction
+
+  keeps-heard : (f : FlightState) (channel id : ℕ) (octets : List ℕ) → In f (heard channel id octets f)
+  keeps-heard f channel id octets p = by (try_at channel id f.transaction)
+    where
+      one : (b : Belief) (t : Try) → P (heard_as b channel id t octets f).transaction
+      one belief.Believed t = keeps f.transaction (reply_came channel id (outcome_of f.question t.form octets) f.replies) p
+      one belief.OtherLetters t = keeps f.transaction (letters_differ channel id) p
+      one belief.OptRefused t = keeps f.transaction (opt_refused channel id) p
+      one belief.NotBelieved t = p
+
+      by : (t : Option Try) → P (option_map_or (heard_by channel id octets f) t f).transaction
+      by None = p
+      by (Some t) = one (belief_of f.question t.form octets) t
+
+  abbrev Of : FlyingState → FlyingState → Type 0
+  Of f g = In f.flight g.flight
+
+  keeps-out : (step : Step) (p : Parts) → Of p.flying (steps.sent step p).flying
+  keeps-out step p h = by (wanted p.flying.flight.transaction)
+    where
+      on : (kind : ChannelKind) (place : ℕ) (channel : Option ℕ) → P (sent_on step kind place p channel).flying.flight.transaction
+      on kind place None = keeps p.flying.flight.transaction (has_no_room step.until) h
+      on kind place (Some channel) = keeps p.flying.flight.transaction (is_sent (made_on channel (try_drawn p.shared.draws) step.moment)) h
+
+      to : (kind : ChannelKind) (place : ℕ) (stream : Option ℕ) → P (sent_to step kind place p stream).flying.flight.transaction
+      to kind place (Some channel) = keeps p.flying.flight.transaction (is_sent (made_on channel (try_drawn p.shared.draws) step.moment)) h
+      to kind place None = on kind place (number_given p.shared.channels)
+
+      by : (w : Option Wanted) → P (option_map_or (sent_as step p) w p).flying.flight.transaction
+      by None = h
+      by (Some w) = to (kind_of w.way.transport) w.place (stream_in (kind_of w.way.transport) w.place p)
+
+  keeps-parts : (what : ServerAct) (n : ℕ) (m : Moment) (octets : List ℕ) (p : Parts)
+      → Of p.flying (acting.acted what n m octets p).flying
+  keeps-parts (act.Hear channel id) n m octets p = keeps-heard p.flying.flight channel id octets
+  keeps-parts (act.Fail channel) n m octets p = keeps p.flying.flight.transaction (channel_failed channel)
+  keeps-parts act.Expire n m octets p = keeps p.flying.flight.transaction (time_passed m.clock)
+  keeps-parts act.Send n m octets p = keeps-out (step_of n m) p
+
+  -- ---- whatever is done
+
+  abbrev At : Scene → Scene → Type 0
+  At x y = Of x.current.entry.flying y.current.entry.flying
+
+  keeps-act : (what : ServerAct) (octets : List ℕ) (x : Scene) → At x (act_on what octets x)
+  keeps-act what octets x h = by (list_in x.current.entry.asked.0 x.traffic.groups.lists)
+    where
+      by : (l : Option GroupListState) → P
+          (option_map_or (acted_with what x.current.number (moment_of x.traffic) octets x.current.entry.asked.0 (before_act x)) l
+          (before_act x)).flying.flight.transaction
+      by None = h
+      by (Some l) =
+          keeps-parts what x.current.number (moment_of x.traffic) octets (parts_of x.traffic.shared x.current.entry.flying l) h
+
+  keeps-hears : (x : Scene) → At x (hears x)
+  keeps-hears x h = after (heard_of_first x) (by (first_message x.traffic.inbox))
+    where
+      after : (heard : Option Heard) → P (hears_first x).current.entry.flying.flight.transaction
+          → P (after_first heard (hears_first x)).current.entry.flying.flight.transaction
+      after None k = k
+      after (Some what_is.Nothing) k = k
+      after (Some what_is.OtherLetters) k = k
+      after (Some what_is.OptRefused) k = k
+      after (Some (what_is.Reply outcome)) k = k
+
+      by : (m : Option MessageValue) → P (option_map_or (hears_octets x) m x).current.entry.flying.flight.transaction
+      by None = h
+      by (Some m) = keeps-act (hear_of m) m.octets x h
+
+  keeps-fails : (x : Scene) → At x (fails x)
+  keeps-fails x h = by (first_failure x.traffic.inbox)
+    where
+      after : (f : ChannelFailure) (stream : Bool)
+          → P (after_failed stream (act_on (act.Fail f.channel) [] x)).current.entry.flying.flight.transaction
+      after f true = keeps-act (act.Fail f.channel) [] x h
+      after f false = keeps-act (act.Fail f.channel) [] x h
+
+      by : (f : Option ChannelFailure)
+          → P (option_map_or (fails_on x) f (with_to_do todo.GoOn x)).current.entry.flying.flight.transaction
+      by None = h
+      by (Some f) = after f (is_stream f.channel x.traffic.shared.channels)
+
+  keeps-stalls : (x : Scene) → At x (stalls x)
+  keeps-stalls x h = by (first_failure x.traffic.inbox)
+    where
+      by : (f : Option ChannelFailure)
+          → P (option_map_or (stalls_on x) f (with_to_do todo.GoOn x)).current.entry.flying.flight.transaction
+      by None = h
+      by (Some f) = keeps x.current.entry.flying.flight.transaction (no_channel f.channel) h
+
+  keeps-leave_at : (place : ℕ) (x : Scene) → At x (leave_at place x)
+  keeps-leave_at place x h = by (try_at_place x.current.entry.flying place)
+    where
+      by : (one : Option SentTry) → P (option_map_or (leaving_at place x) one x).current.entry.flying.flight.transaction
+      by None = h
+      by (Some one) = h
+
+  keeps-leaves : (place : ℕ) (x : Scene) → At x (leaves place x)
+  keeps-leaves place x h = by (closed_at place x)
+    where
+      by : (closed : Option ℕ) → P (freed_if closed (leave_at place x)).current.entry.flying.flight.transaction
+      by None = keeps-leave_at place x h
+      by (Some channel) = keeps-leave_at place x h
+
+  keeps-quits : (x : Scene) → At x (quits x)
+  keeps-quits x h = by (place_on x)
+    where
+      after : (place : ℕ) (closed : Option ℕ) → P (after_quit closed (leave_at place x)).current.entry.flying.flight.transaction
+      after place None = keeps-leave_at place x h
+      after place (Some channel) = keeps-leave_at place x h
+
+      by : (place : Option ℕ)
+          → P (option_map_or (quits_at x) place (with_to_do todo.PutBack x)).current.entry.flying.flight.transaction
+      by None = h
+      by (Some place) = after place (closed_at place x)
+
+  keeps-frees : (x : Scene) → At x (frees x)
+  keeps-frees x h = by (is_some (wanted (changed freed x.current.entry.flying.flight).transaction))
+    where
+      by : (wants : Bool) → P (cond {A = Scene} wants
+          (record {
+            traffic = record x.traffic { freed = x.traffic.freed - 1 };
+            current = then_do todo.GoOn (changing (changed freed) x.current);
+          })
+          (record {
+            traffic = record x.traffic { table = without_blocked x.current.number x.traffic.table };
+            current = then_do todo.GoOn (changing (changed freed) x.current);
+          })).current.entry.flying.flight.transaction
+      by true = keeps x.current.entry.flying.flight.transaction channel_free h
+      by false = keeps x.current.entry.flying.flight.transaction channel_free h
+
+  keeps-begins : (place : ℕ) (x : Scene) (f : FlyingState) (l : Option GroupListState)
+      → BeginsWith x.traffic.rules.strategy (round_of place x) l x.current.entry.flying f → Of x.current.entry.flying f
+  keeps-begins place x f None is h = subst (λ (g : FlyingState). P g.flight.transaction) (sym is) h
+  keeps-begins place x f (Some l) is h =
+      subst (λ (g : FlyingState). P g.flight.transaction) (sym is.begun)
+      (keeps x.current.entry.flying.flight.transaction (round_begins is.order) h)
+
+  at-by : (x y z : Scene) → y ≡ z → At x z → At x y
+  at-by x y z is same h = subst (λ (v : Scene). P v.current.entry.flying.flight.transaction) (sym is) (same h)
+
+  pub keeps-done : (what : Doing) (x y : Scene) → IsDone what x y → P x.current.entry.flying.flight.transaction
+      → P y.current.entry.flying.flight.transaction
+  keeps-done Hears x y is = at-by x y (hears x) is (keeps-hears x)
+  keeps-done Doubts x y is = at-by x y (doubts x) is (λ h. h)
+  keeps-done Stalls x y is = at-by x y (stalls x) is (keeps-stalls x)
+  keeps-done Fails x y is = at-by x y (fails x) is (keeps-fails x)
+  keeps-done Quits x y is = at-by x y (quits x) is (keeps-quits x)
+  keeps-done Expires x y is = at-by x y (expires x) is (keeps-act act.Expire [] x)
+  keeps-done Frees x y is = at-by x y (frees x) is (keeps-frees x)
+  keeps-done (Left place) x y is = at-by x y (leaves place x) is (keeps-leaves place x)
+  keeps-done Draws x y is = at-by x y (draws x) is (λ h. h)
+  keeps-done (BeginsRound place) x y is =
+      keeps-begins place x y.current.entry.flying (list_at x.current.entry.asked.0 x.traffic.groups) is.begins
+  keeps-done GivesUp x y is =
+      at-by x y (gives_up x) is (λ h. keeps x.current.entry.flying.flight.transaction oldest_given_up h)
+  keeps-done Blocks x y is = at-by x y (blocks x) is (λ h. h)
+  keeps-done Sends x y is = at-by x y (sends x) is (keeps-act act.Send [] x)
+  keeps-done (Dates due) x y is = at-by x y (dates due x) is (λ h. h)
+  keeps-done PutsBack x y is = at-by x y x is (λ h. h)
+  keeps-done Refused x y is = at-by x y x is (λ h. h)
+  keeps-done Ended x y is = at-by x y x is (λ h. h)
+  keeps-done Waits x y is = at-by x y x is (λ h. h)
