@@ -1,9 +1,9 @@
 -- One who asks is answered as it is said.
-use Rattle.std.proofs.Common.{◌≡◌, ◌≤◌, ℕ, Bool, true, false, cond, ◌&&◌, ltb, List, [], ◌∷◌, length, map, refl, ap, sym, subst, ◌∙◌, inl, inr, ◌⊎◌, true≢false}
+use Rattle.std.proofs.Common.{◌≡◌, ◌≤◌, ℕ, Bool, true, false, cond, ◌&&◌, ltb, List, [], ◌∷◌, length, refl, ap, sym, subst, ◌∙◌, inl, inr, true≢false}
 use Rattle.std.specs.Prelude.{Option, None, Some, IfSome}
 use Rattle.std.specs.Option.{is_some, is_none, option_map_or, option_and_then}
 use Rattle.std.proofs.lemmas.Bool.{ltb-false}
-use Rattle.hickory_resolver_askers.specs.Askers.{AskersState, WaitingValue, has_place, first_waiting, place_for, to_admit, given_in, admitted_one, admitted, is_flying, is_waiting, joined_flying, joined_waiting, joined, left_of, forgot_as, forgot, asker_given}
+use Rattle.hickory_resolver_askers.specs.Askers.{AskersState, WaitingValue, has_place, first_waiting, place_for, to_admit, given_in, admitted_one, is_flying, is_waiting, joined_flying, joined_waiting, joined, left_of, forgot_as, forgot, asker_given}
 use Rattle.hickory_resolver_askers.specs.declared.asker.Asker.{Asker}
 use Rattle.hickory_resolver_askers.specs.declared.asker.AskerLimits.{AskerLimits}
 use Rattle.hickory_resolver_askers.specs.declared.asker.Forgotten.{Forgotten}
@@ -25,7 +25,6 @@ use Rattle.hickory_resolver_pool_theorems.specs.Answers.{servers_in, IsFull, IsA
 use Rattle.hickory_resolver_pool_theorems.specs.Runs.{Happening, Runs, at_first, by_event, by_step}
 use Rattle.hickory_resolver_pool_theorems.proofs.Groups.{IsGivenAs, CurrentIs, IsCurrentList, GroupsAre, given_in as servers_given, groups-runs}
 use Rattle.hickory_resolver_pool_theorems.proofs.Lists.{bare_all}
-use Rattle.hickory_resolver_pool_theorems.proofs.ByNumber.{At}
 use Rattle.hickory_resolver_pool_theorems.proofs.Tellings.{IsChanged, stays, is_over, is_admitted, changed-step, IsAsked, joins, begins, waits, none_served, none_placed, asked-asking, came-askers, failed-askers}
 
 -- ---- the limits stay

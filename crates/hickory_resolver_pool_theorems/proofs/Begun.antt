@@ -1,5 +1,5 @@
 -- Each transaction began when a question was asked, with the settings that the options say.
-use Rattle.std.proofs.Common.{◌≡◌, ℕ, Bool, true, false, List, [], ◌∷◌, ◌++◌, refl, ap, sym, subst, ◌∙◌}
+use Rattle.std.proofs.Common.{◌≡◌, ℕ, Bool, true, false, List, [], ◌∷◌, refl, ap, sym, subst, ◌∙◌}
 use Rattle.std.specs.Prelude.{Option, None, Some, IfSome}
 use Rattle.std.specs.Option.{is_some, option_map_or}
 use Rattle.hickory_resolver_askers.specs.declared.asker.Asker.{Asker}
@@ -7,7 +7,7 @@ use Rattle.hickory_resolver_config.specs.ResolverConfig.{OptionsValue}
 use Rattle.hickory_resolver_tries.specs.Question.{question_of}
 use Rattle.hickory_resolver_tries.specs.declared.pool_question.PoolQuestion.{PoolQuestion}
 use Rattle.hickory_resolver_transactions.specs.declared.settings.Settings.{Settings}
-use Rattle.hickory_resolver_traffic.specs.Doing.{Scene, IsDone, doing}
+use Rattle.hickory_resolver_traffic.specs.Doing.{doing}
 use Rattle.hickory_resolver_traffic.specs.Table.{CurrentState, EntryState}
 use Rattle.hickory_resolver_traffic.specs.declared.doing.Doing.{Doing}
 use Rattle.hickory_resolver_traffic.specs.declared.doing.Doing.TheVariants.{Hears, Doubts, Stalls, Fails, Quits, PutsBack, Expires, Frees, Refused, Leaves, Ends, Draws, BeginsRound, GivesUp, Blocks, Sends, Dates, Rests}

@@ -1,14 +1,13 @@
 -- What a transaction would tell, were it over now, and what each event does to it: it stays, or is what the event
 -- tells.
-use Rattle.std.proofs.Common.{ℕ, Bool, true, false, cond, ltb, List, [], ◌∷◌, ◌++◌, length, map, drop}
+use Rattle.std.proofs.Common.{ℕ, Bool, true, false, cond, ltb, List, [], ◌∷◌, length, map}
 use Rattle.std.specs.Prelude.{Option, None, Some, IfSome, filter, not, ◌+◌}
 use Rattle.std.specs.List.{list_any}
 use Rattle.std.specs.Option.{option_map_or}
 use Rattle.hickory_resolver_tries.specs.declared.outcome.ReplyOutcome.{ReplyOutcome}
-use Rattle.hickory_resolver_tries.specs.declared.outcome.ReplyOutcome.TheVariants as came
 use Rattle.hickory_resolver_transactions.specs.Candidates.{is_tried, is_waiting, is_blocked, is_try, waits_as, waits_on, is_due, sent_with, without_channel, requeued, freed_one, has_failed_by}
-use Rattle.hickory_resolver_transactions.specs.Outcomes.{better, rank_of}
-use Rattle.hickory_resolver_transactions.specs.Table.{has_room, may_change_to_tcp, may_begin_tcp, after_reply, after_refused_opt, after_other_letters, after_deadline, after_closed_stream, again_if, then_in, then_of_reply, then_of_refused_opt, then_of_other_letters, stays_believed}
+use Rattle.hickory_resolver_transactions.specs.Outcomes.{better}
+use Rattle.hickory_resolver_transactions.specs.Table.{has_room, may_begin_tcp, after_reply, after_refused_opt, after_other_letters, after_deadline, after_closed_stream, then_of_reply, then_of_refused_opt, then_of_other_letters, stays_believed}
 use Rattle.hickory_resolver_transactions.specs.Transaction.{TransactionState, replacing, putting, noting, without_oldest, late_too, with_late, noted_of_closed, kept_in, keeping, acted, gone_unless_waiting, acted_late, picked, candidate_at, late_at, late_came_to, late_replied, came_to, without_answered, opt_was_refused, other_letters_came, failed_at, failed_in, failed, blocked_in, blocked, freed, expired_in, late_expired, expired, wants_round, with_round, chosen, sent, unsent}
 use Rattle.hickory_resolver_transactions.specs.Transaction as transaction
 use Rattle.hickory_resolver_transactions.specs.declared.candidate.Candidate.{Candidate}
@@ -23,7 +22,7 @@ use Rattle.hickory_resolver_transactions.specs.declared.outcome.Outcome.{Outcome
 use Rattle.hickory_resolver_transactions.specs.declared.outcome.Outcome.TheVariants as told
 use Rattle.hickory_resolver_transactions.specs.declared.table.Then.{Then}
 use Rattle.hickory_resolver_transactions.specs.declared.table.Then.TheVariants.{Ends, Leaves, Rests, Again, Nothing}
-use Rattle.hickory_resolver_pool_theorems.proofs.MayTell.{best_of, best, told_by, better-told, told-noted, MayTell, may-again, may-reply, may-then}
+use Rattle.hickory_resolver_pool_theorems.proofs.MayTell.{best, told_by, better-told, told-noted, MayTell, may-again, may-reply, may-then}
 
 module _ (P : Outcome → Type 0) (unreachable : P told.Unreachable) (timeout : P told.Timeout) where
   abbrev pub Tells : TransactionState → Type 0

@@ -1,8 +1,7 @@
 -- What each event of a transaction keeps, all that is done with it keeps.
-use Rattle.std.proofs.Common.{◌≡◌, ◌-◌, ℕ, Bool, true, false, cond, ltb, List, [], ◌∷◌, length, refl, ap, sym, subst, ◌∙◌}
+use Rattle.std.proofs.Common.{◌≡◌, ◌-◌, ℕ, Bool, true, false, cond, List, [], sym, subst}
 use Rattle.std.specs.Prelude.{Option, None, Some}
-use Rattle.std.specs.List.{list_any}
-use Rattle.std.specs.Option.{is_some, option_map, option_map_or}
+use Rattle.std.specs.Option.{is_some, option_map_or}
 use Rattle.hickory_resolver_channels.specs.Channels.{number_given}
 use Rattle.hickory_resolver_channels.specs.Draws.{try_drawn}
 use Rattle.hickory_resolver_channels.specs.declared.channel.ChannelKind.{ChannelKind}
@@ -17,27 +16,14 @@ use Rattle.hickory_resolver_steps.specs.declared.flying.Step.{Step}
 use Rattle.hickory_resolver_tries.specs.Belief.{belief_of}
 use Rattle.hickory_resolver_tries.specs.declared.belief.Belief.{Belief}
 use Rattle.hickory_resolver_tries.specs.declared.belief.Belief.TheVariants as belief
-use Rattle.hickory_resolver_tries.specs.declared.outcome.ReplyOutcome.{ReplyOutcome}
 use Rattle.hickory_resolver_tries.specs.Outcome.{outcome_of}
-use Rattle.hickory_resolver_transactions.specs.Candidates.{is_tried, is_waiting, is_blocked, waits_as, waits_on, is_due, sent_with, without_channel, freed_one, has_failed_by}
-use Rattle.hickory_resolver_transactions.specs.Laws.{TransactionEvent, round_begins, is_sent, has_no_room, reply_came, opt_refused, letters_differ, channel_failed, no_channel, channel_free, oldest_given_up, time_passed, after_event, after_events}
-use Rattle.hickory_resolver_transactions.specs.Table.{after_reply, after_deadline, after_closed_stream, then_of_reply, then_of_refused_opt, then_of_other_letters, stays_believed}
-use Rattle.hickory_resolver_transactions.specs.Transaction.{TransactionState, replacing, with_late, kept_in, keeping, acted, acted_late, picked, candidate_at, late_at, late_came_to, late_replied, without_answered, came_to, came, opt_was_refused, other_letters_came, failed_at, failed_in, failed, blocked_in, blocked, freed, expired_in, late_expired, expired, wants_round, with_round, chosen, sent, unsent, wanted, try_at}
-use Rattle.hickory_resolver_transactions.specs.declared.candidate.Candidate.{Candidate}
-use Rattle.hickory_resolver_transactions.specs.declared.candidate.LateTry.{LateTry}
-use Rattle.hickory_resolver_transactions.specs.declared.candidate.Made.{Made}
-use Rattle.hickory_resolver_transactions.specs.declared.candidate.Progress.{Progress}
-use Rattle.hickory_resolver_transactions.specs.declared.candidate.Progress.TheVariants as progress
-use Rattle.hickory_resolver_transactions.specs.declared.candidate.Transport.{Transport}
-use Rattle.hickory_resolver_transactions.specs.declared.candidate.Transport.TheVariants.{Udp, Tcp}
+use Rattle.hickory_resolver_transactions.specs.Laws.{TransactionEvent, round_begins, is_sent, has_no_room, reply_came, opt_refused, letters_differ, channel_failed, no_channel, channel_free, oldest_given_up, time_passed, after_event}
+use Rattle.hickory_resolver_transactions.specs.Transaction.{TransactionState, freed, wanted, try_at}
 use Rattle.hickory_resolver_transactions.specs.declared.candidate.Try.{Try}
-use Rattle.hickory_resolver_transactions.specs.declared.settings.Settings.{Settings}
-use Rattle.hickory_resolver_transactions.specs.declared.table.Then.{Then}
-use Rattle.hickory_resolver_transactions.specs.declared.table.Then.TheVariants.{Ends, Leaves, Rests, Again, Nothing}
 use Rattle.hickory_resolver_transactions.specs.declared.transaction.Wanted.{Wanted}
 use Rattle.hickory_resolver_traffic.specs.Acting.{Acted, acted_on, acted_with, parts_of, step_of}
 use Rattle.hickory_resolver_traffic.specs.Acting as acting
-use Rattle.hickory_resolver_traffic.specs.Doing.{Scene, IsDone, hear_of, hears_octets, after_first, heard_of_first, hears_first, hears, doubts, fails_on, after_failed, fails, act_on, before_act, moment_of, stalls_on, stalls, leaving_at, leave_at, closed_at, freed_if, leaves, quits_at, after_quit, quits, place_on, with_to_do, expires, frees, then_do, changing, draws, gives_up, blocks, sends, dates, with_round_parts, BeginsWith, round_of, is_stream}
+use Rattle.hickory_resolver_traffic.specs.Doing.{Scene, IsDone, hear_of, hears_octets, after_first, heard_of_first, hears_first, hears, doubts, fails_on, after_failed, fails, act_on, before_act, moment_of, stalls_on, stalls, leaving_at, leave_at, closed_at, freed_if, leaves, quits_at, after_quit, quits, place_on, with_to_do, expires, frees, then_do, changing, draws, gives_up, blocks, sends, dates, BeginsWith, round_of, is_stream}
 use Rattle.hickory_resolver_traffic.specs.Groups.{GroupListState, list_in, list_at}
 use Rattle.hickory_resolver_traffic.specs.Inbox.{MessageValue, first_message, first_failure}
 use Rattle.hickory_resolver_traffic.specs.Table.{without_blocked}

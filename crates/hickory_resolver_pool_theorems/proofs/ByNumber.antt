@@ -1,5 +1,5 @@
 -- Numbers of askers, and values under numbers.
-use Rattle.std.proofs.Common.{◌≡◌, ◌≤◌, ◌<◌, ◌+◌, suc, ℕ, Bool, true, false, cond, not, ◌||◌, ltb, eqb, eqb-true, eq-eqb, List, [], ◌∷◌, ◌++◌, length, drop, refl, ap, sym, subst, ◌∙◌, true≢false, one-add, arith}
+use Rattle.std.proofs.Common.{◌≡◌, ◌<◌, ◌+◌, suc, ℕ, Bool, true, false, cond, not, ◌||◌, ltb, eqb, eqb-true, List, [], ◌∷◌, ◌++◌, length, drop, refl, ap, sym, subst, ◌∙◌, true≢false, one-add, arith}
 use Rattle.std.proofs.lemmas.Bool.{ltb-true, ltb-false, lt-ltb}
 use Rattle.std.specs.Prelude.{Option, None, Some, IfSome, slice_get, remove}
 use Rattle.std.specs.Ordering.{nat_cmp, is_eq}
@@ -8,7 +8,7 @@ use Rattle.std.specs.Map.{lookup, remove_entry, set_value}
 use Rattle.std.specs.BTreeMap.{insert_entry, is_at}
 use Rattle.std.specs.Option.{option_map_or}
 use Rattle.hickory_resolver_askers.specs.Askers.{without}
-use Rattle.hickory_resolver_pool_theorems.specs.Tellings.{IsNoneOf, EachOnce}
+use Rattle.hickory_resolver_pool_theorems.specs.Tellings.{EachOnce}
 use Rattle.hickory_resolver_pool_theorems.proofs.Keys.{nat-self, at-is, apart-is, found-inserted, others-inserted, others-set, found-set, others-removed, Apart, apart-set, apart-inserted, apart-removed, gone-removed}
 
 -- ---- one is left out

@@ -1,10 +1,7 @@
 -- What each step does with the channels; and of the channels of a pool the tries are counted, whatever comes.
-use Rattle.std.proofs.Common.{◌≡◌, ◌≤◌, ◌<◌, ◌-◌, ◌+◌, ◌^◌, min, ℕ, Bool, true, false, cond, List, [], ◌∷◌, refl, ap, sym, subst, ◌∙◌, arith, ne_eqb}
+use Rattle.std.proofs.Common.{◌≡◌, ◌<◌, ◌-◌, ◌+◌, ◌^◌, min, ℕ, Bool, true, false, cond, List, [], ◌∷◌, refl, ap, sym, subst, ◌∙◌, arith, ne_eqb}
 use Rattle.std.specs.Prelude.{Option, None, Some}
-use Rattle.std.specs.Ordering.{nat_cmp}
 use Rattle.std.specs.List.{AllByRecursion}
-use Rattle.std.specs.Map.{lookup}
-use Rattle.std.specs.BTreeMap.{is_at}
 use Rattle.std.specs.Option.{option_map_or}
 use Rattle.hickory_resolver_askers.specs.Askers.{WaitingValue, to_admit}
 use Rattle.hickory_resolver_askers.specs.Askers as ask
@@ -16,7 +13,7 @@ use Rattle.hickory_resolver_channels.specs.declared.channel.ChannelKind.{Channel
 use Rattle.hickory_resolver_config.specs.ResolverConfig.{OptionsValue}
 use Rattle.hickory_resolver_steps.specs.Ending.{try_at_place}
 use Rattle.hickory_resolver_steps.specs.Lists.{number_of}
-use Rattle.hickory_resolver_steps.specs.Steps.{Parts, kind_of, stream_in, sent_on_open, sent_on_new, sent_on, sent_to, sent_as, sent}
+use Rattle.hickory_resolver_steps.specs.Steps.{Parts, kind_of, stream_in, sent_on, sent_to, sent_as, sent}
 use Rattle.hickory_resolver_steps.specs.declared.flying.SentTry.{SentTry}
 use Rattle.hickory_resolver_steps.specs.declared.flying.Step.{Step}
 use Rattle.hickory_resolver_transactions.specs.Transaction.{wanted}

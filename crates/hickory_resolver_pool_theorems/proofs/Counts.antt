@@ -1,22 +1,21 @@
 -- Of each channel the tries on it are counted, and a stream that is idle is open, without a try, under its own moment.
 use Rattle.std.proofs.Common.{◌≡◌, ◌≤◌, ◌<◌, ◌+◌, ◌-◌, ◌^◌, min, suc, zero, ℕ, Bool, true, false, cond, not, ◌&&◌, eqb, eqb-true, eq-eqb, ne_eqb, ltb, ltb-true, ltb-false, lt-ltb, le-ltb, List, [], ◌∷◌, refl, ap, sym, subst, ◌∙◌, true≢false, inl, inr, ◌⊎◌, arith}
-use Rattle.std.specs.Prelude.{Option, None, Some, slice_get, filter}
+use Rattle.std.specs.Prelude.{Option, None, Some, slice_get}
 use Rattle.std.specs.declared.cmp.Ordering.{Ordering}
 use Rattle.std.specs.declared.cmp.Ordering.TheVariants.{Less, Equal, Greater}
 use Rattle.std.specs.Ordering.{nat_cmp, is_eq, is_le, is_lt, match_ordering, ordering_then}
-use Rattle.std.specs.List.{AllByRecursion, list_any}
+use Rattle.std.specs.List.{AllByRecursion}
 use Rattle.std.specs.Map.{lookup, remove_entry, set_value}
 use Rattle.std.specs.BTreeMap.{insert_entry, is_at}
 use Rattle.std.specs.BTreeMap.Range.{range_contains}
 use Rattle.std.specs.declared.ops.Bound.TheVariants.{Included}
-use Rattle.std.specs.BTreeSet.{insert_key}
 use Rattle.std.specs.Option.{is_some, option_map, option_map_or, option_and_then}
-use Rattle.hickory_resolver_channels.specs.Channels.{ChannelsState, channel_at, channel_in, transaction_at, has_try, pair_cmp, replaced, left, left_in, left_last, left_to_others, tries_without, has_others, closed, closed_one, closable, if_empty, joined, joined_to, joinable, opened_for, number_given, has_place, new_channel, with_one_more, with_one_less, if_it_takes_try, takes_try, not_idle, tries_on, first_on, first_try}
+use Rattle.hickory_resolver_channels.specs.Channels.{ChannelsState, channel_at, channel_in, transaction_at, has_try, pair_cmp, replaced, left, left_in, left_last, left_to_others, tries_without, has_others, closed, closed_one, if_empty, joined, joined_to, opened_for, has_place, new_channel, with_one_more, with_one_less, if_it_takes_try, takes_try, not_idle, tries_on, first_on, first_try}
 use Rattle.hickory_resolver_channels.specs.declared.channel.Channel.{Channel}
 use Rattle.hickory_resolver_channels.specs.declared.channel.ChannelKind.{ChannelKind}
 use Rattle.hickory_resolver_channels.specs.declared.channel.ChannelKind.TheVariants.{Datagram, Stream}
 use Rattle.hickory_resolver_pool_theorems.specs.Ticks.{one_if}
-use Rattle.hickory_resolver_pool_theorems.proofs.Keys.{nat-self, pair-self, at-is, apart-is, found-inserted, found-set, others-inserted, others-set, others-removed, gone-removed, Apart, apart-set, apart-inserted, apart-removed}
+use Rattle.hickory_resolver_pool_theorems.proofs.Keys.{nat-self, pair-self, at-is, found-inserted, found-set, others-inserted, others-set, others-removed, gone-removed, Apart, apart-set, apart-inserted, apart-removed}
 use Rattle.hickory_resolver_pool_theorems.proofs.KeySets.{pair-is, In, Once, in-old, in-before, not-in-removed, once-inserted, once-removed}
 use Rattle.hickory_resolver_pool_theorems.proofs.KeyEntries.{ApartBy}
 

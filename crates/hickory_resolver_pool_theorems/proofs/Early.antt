@@ -1,5 +1,5 @@
 -- What is done with a transaction before it goes on.
-use Rattle.std.proofs.Common.{◌≡◌, ◌≤◌, ◌<◌, ◌+◌, ◌-◌, ◌*◌, ◌^◌, min, suc, zero, ℕ, Bool, true, false, cond, List, [], ◌∷◌, ◌++◌, length, drop, refl, ap, sym, subst, ◌∙◌, true≢false, arith, inl, inr, ◌⊎◌, ltb, ltb-true}
+use Rattle.std.proofs.Common.{◌≡◌, ◌≤◌, ◌<◌, ◌+◌, ◌-◌, ◌^◌, min, suc, zero, ℕ, Bool, true, false, cond, List, [], ◌∷◌, length, drop, refl, ap, sym, subst, ◌∙◌, true≢false, arith, inl, inr, ◌⊎◌, ltb, ltb-true}
 use Rattle.std.specs.Prelude.{Option, None, Some, slice_get, position}
 use Rattle.std.specs.Ordering.{nat_cmp, is_eq}
 use Rattle.std.specs.BTreeMap.{is_at}
@@ -14,7 +14,7 @@ use Rattle.hickory_resolver_steps.specs.Ending.{try_at_place}
 use Rattle.hickory_resolver_steps.specs.declared.flying.SentTry.{SentTry}
 use Rattle.hickory_resolver_transactions.specs.Transaction.{wanted, freed}
 use Rattle.hickory_resolver_traffic.specs.Acting.{acted_with}
-use Rattle.hickory_resolver_traffic.specs.Doing.{Scene, IsDone, after_first, heard_of, heard_of_first, hears_octets, hears_first, hears, doubted, broken, doubts_message, doubts_first, doubts, fails_on, after_failed, fails, act_on, before_act, with_acted, moment_of, stalls_on, stalls, leaving_at, leave_at, closed_at, freed_if, leaves, quits_at, after_quit, quits, place_on, is_on, with_to_do, expires, frees, then_do, changing, is_stream, is_empty}
+use Rattle.hickory_resolver_traffic.specs.Doing.{Scene, IsDone, after_first, heard_of, hears_octets, hears, broken, doubts_message, doubts_first, doubts, fails_on, after_failed, fails, act_on, before_act, with_acted, moment_of, stalls_on, stalls, leaving_at, leave_at, closed_at, freed_if, leaves, quits_at, after_quit, quits, place_on, is_on, with_to_do, expires, frees, then_do, changing, is_stream, is_empty}
 use Rattle.hickory_resolver_traffic.specs.Groups.{GroupListState, list_in}
 use Rattle.hickory_resolver_traffic.specs.Inbox.{InboxState, MessageValue, first_message, without_message, first_failure, without_failure, with_failure}
 use Rattle.hickory_resolver_traffic.specs.Table.{is_blocked, without_blocked}
@@ -25,13 +25,13 @@ use Rattle.hickory_resolver_traffic.specs.declared.doing.Doing.TheVariants as do
 use Rattle.hickory_resolver_traffic.specs.declared.entry.ToDo.TheVariants as todo
 use Rattle.hickory_resolver_traffic.specs.declared.inbox.ChannelFailure.{ChannelFailure}
 use Rattle.hickory_resolver_pool_theorems.proofs.Budgets.{budget, budget-late, budget-freed}
-use Rattle.hickory_resolver_pool_theorems.proofs.Frames.{IsKept, kept-done}
+use Rattle.hickory_resolver_pool_theorems.proofs.Frames.{kept-done}
 use Rattle.hickory_resolver_pool_theorems.proofs.Keys.{nat-self}
 use Rattle.hickory_resolver_pool_theorems.proofs.KeySets.{or-left}
 use Rattle.hickory_resolver_pool_theorems.proofs.Moves.{cost_of, over_in, wants_in}
 use Rattle.hickory_resolver_pool_theorems.proofs.PutAway.{IsFit}
 use Rattle.hickory_resolver_pool_theorems.proofs.Weights.{octets_of, came_of, one-less, length-first}
-use Rattle.hickory_resolver_pool_theorems.proofs.Whole.{IsStreams, streams-done}
+use Rattle.hickory_resolver_pool_theorems.proofs.Whole.{streams-done}
 
 -- ---- a message is heard, or doubted
 

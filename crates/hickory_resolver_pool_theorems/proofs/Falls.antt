@@ -1,12 +1,11 @@
 -- How much is left of a pool that works on no transaction: it falls where one is put away, or over.
-use Rattle.std.proofs.Common.{◌≡◌, ◌≤◌, ◌<◌, ◌+◌, ℕ, true, false, not, length, refl, ap, sym, subst, ◌∙◌, true≢false, arith, inl, inr, ◌⊎◌, leb, leb-false, eqb, eqb-true, suc, zero}
+use Rattle.std.proofs.Common.{◌≡◌, ◌≤◌, ◌<◌, ◌+◌, ℕ, true, false, length, refl, ap, sym, subst, ◌∙◌, true≢false, arith, inl, inr, ◌⊎◌, leb, leb-false, eqb, eqb-true, suc, zero}
 use Rattle.std.specs.Prelude.{Option, None, Some, position}
 use Rattle.std.specs.Option.{is_some, option_map_or, option_and_then}
 use Rattle.std.specs.Ordering.{nat_cmp}
 use Rattle.std.specs.BTreeMap.{insert_entry, is_at}
 use Rattle.std.specs.List.{list_any}
 use Rattle.hickory_resolver_channels.specs.Channels.{pair_cmp}
-use Rattle.hickory_resolver_channels.specs.Channels as channels
 use Rattle.hickory_resolver_transactions.specs.Transaction.{next_deadline}
 use Rattle.hickory_resolver_traffic.specs.Doing.{Scene, doing, doing_for, by_failure, is_due, same_moment, is_on}
 use Rattle.hickory_resolver_traffic.specs.Inbox.{first_failure}
@@ -20,7 +19,7 @@ use Rattle.hickory_resolver_traffic.specs.declared.inbox.ChannelFailure.{Channel
 use Rattle.hickory_resolver_traffic.specs.declared.inbox.Failure.{Failure}
 use Rattle.hickory_resolver_traffic.specs.declared.inbox.Failure.TheVariants as failure
 use Rattle.hickory_resolver_pool.specs.Pool.{PoolState, scene_of, is_end, is_put, let_go, put_by}
-use Rattle.hickory_resolver_pool_theorems.proofs.Lex.{Numbers, Less, Ends}
+use Rattle.hickory_resolver_pool_theorems.proofs.Lex.{Numbers, Less}
 use Rattle.hickory_resolver_pool_theorems.proofs.Moves.{cost_of}
 use Rattle.hickory_resolver_pool_theorems.proofs.PutAway.{WhyGo, why-going}
 use Rattle.hickory_resolver_pool_theorems.proofs.Tracks.{tries_in, view_of, Start, IsHearing, Lower, of_cost, of_channels, of_due, of_waits, Track, has_read, has_settled, is_hearing, is_failing, is_quitting, has_quit, is_expiring, is_freeing, is_refused, goes}

@@ -12,7 +12,7 @@ use Rattle.hickory_resolver_tries.specs.declared.outcome.ReplyOutcome.TheVariant
 use Rattle.hickory_resolver_transactions.specs.Candidates.{candidate_of, is_again, is_queued, is_tried, is_waiting, is_blocked, is_udp, is_try, waits_as, waits_on, is_due, first_way, way_in, way_of, way_of_try, try_made, uncounted, counted, sent_with, without_channel, blocked_as, requeued, freed_one, freed_progress, channel_due_of, has_failed_by}
 use Rattle.hickory_resolver_transactions.specs.Laws.{TransactionEvent, round_begins, is_sent, has_no_room, reply_came, opt_refused, letters_differ, channel_failed, no_channel, channel_free, oldest_given_up, time_passed, after_event}
 use Rattle.hickory_resolver_transactions.specs.Table.{has_room, may_change_to_tcp, may_begin_tcp, again_if, after_reply, after_refused_opt, after_other_letters, after_deadline, after_closed_stream, then_in, then_of_reply, then_of_refused_opt, then_of_other_letters, stays_believed}
-use Rattle.hickory_resolver_transactions.specs.Transaction.{TransactionState, begun_with, replaced, replacing, putting, noting, without_oldest, late_too, with_late, kept_in, keeping, acted, gone_unless_waiting, acted_late, picked, candidate_at, late_at, late_came_to, late_replied, came_to, without_answered, came, opt_was_refused, other_letters_came, failed_at, failed_in, failed, blocked_in, blocked, freed, expired_in, late_expired, expired, wants_round, with_round, is_queued_at, first_queued, may_send, next_of, chosen, wanted, sent, unsent}
+use Rattle.hickory_resolver_transactions.specs.Transaction.{TransactionState, begun_with, replaced, replacing, putting, noting, without_oldest, late_too, with_late, kept_in, keeping, acted, acted_late, picked, candidate_at, late_at, late_came_to, late_replied, came_to, without_answered, came, opt_was_refused, other_letters_came, failed_at, failed_in, failed, blocked_in, blocked, freed, expired_in, late_expired, expired, wants_round, with_round, is_queued_at, first_queued, may_send, next_of, chosen, wanted, sent, unsent}
 use Rattle.hickory_resolver_transactions.specs.declared.candidate.Candidate.{Candidate}
 use Rattle.hickory_resolver_transactions.specs.declared.candidate.LateTry.{LateTry}
 use Rattle.hickory_resolver_transactions.specs.declared.candidate.Made.{Made}
@@ -21,8 +21,6 @@ use Rattle.hickory_resolver_transactions.specs.declared.candidate.Progress.TheVa
 use Rattle.hickory_resolver_transactions.specs.declared.candidate.Transport.{Transport}
 use Rattle.hickory_resolver_transactions.specs.declared.candidate.Transport.TheVariants.{Udp, Tcp}
 use Rattle.hickory_resolver_transactions.specs.declared.candidate.Try.{Try}
-use Rattle.hickory_resolver_transactions.specs.declared.candidate.Way.{Way}
-use Rattle.hickory_resolver_transactions.specs.declared.outcome.Outcome.{Outcome}
 use Rattle.hickory_resolver_transactions.specs.declared.outcome.Outcome.TheVariants as told
 use Rattle.hickory_resolver_transactions.specs.declared.settings.Settings.{Settings}
 use Rattle.hickory_resolver_transactions.specs.declared.table.Then.{Then}

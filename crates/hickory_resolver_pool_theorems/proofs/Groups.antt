@@ -1,8 +1,7 @@
 -- The servers of each group are those that it was given last.
-use Rattle.std.proofs.Common.{◌≡◌, ◌≤◌, ◌<◌, ◌+◌, max, ℕ, Bool, true, false, cond, eqb, eqb-true, eq-eqb, List, [], ◌∷◌, length, map, refl, ap, ap₂, sym, subst, ◌∙◌, true≢false, arith}
+use Rattle.std.proofs.Common.{◌≡◌, ◌≤◌, ◌<◌, ◌+◌, max, ℕ, Bool, true, false, cond, eqb, eqb-true, eq-eqb, List, [], ◌∷◌, length, map, refl, ap, sym, subst, ◌∙◌, true≢false, arith}
 use Rattle.std.specs.Prelude.{Option, None, Some, IfSome}
 use Rattle.std.specs.Ordering.{nat_cmp}
-use Rattle.std.specs.Map.{set_value}
 use Rattle.std.specs.BTreeMap.{insert_entry, is_at}
 use Rattle.std.specs.Option.{option_map_or}
 use Rattle.hickory_resolver_askers.specs.Askers.{joiner, place_for}
@@ -17,11 +16,9 @@ use Rattle.hickory_resolver_servers.specs.Server.{ServerState, server_of}
 use Rattle.hickory_resolver_tries.specs.Question.{question_of}
 use Rattle.hickory_resolver_tries.specs.declared.pool_question.PoolQuestion.{PoolQuestion}
 use Rattle.hickory_resolver_transactions.specs.declared.settings.Settings.{Settings}
-use Rattle.hickory_resolver_traffic.specs.Groups.{GroupListState, GroupsState, current_of, list_in, is_needed, kept_if_needed, swept, drop_list, changed_list, put_list, new_list, retired, without_current, numbers_of, with_servers}
-use Rattle.hickory_resolver_traffic.specs.Groups as groups
-use Rattle.hickory_resolver_traffic.specs.Traffic.{TrafficState, ticked, begun_as, begun_with, entry_of, came_on, failed_on, joined, begun}
+use Rattle.hickory_resolver_traffic.specs.Groups.{GroupListState, GroupsState, current_of, list_in, is_needed, kept_if_needed, swept, drop_list, changed_list, put_list, new_list, retired, without_current, with_servers}
+use Rattle.hickory_resolver_traffic.specs.Traffic.{ticked, begun_as, begun_with, entry_of, came_on, failed_on}
 use Rattle.hickory_resolver_traffic.specs.Table.{EntryState}
-use Rattle.hickory_resolver_traffic.specs.declared.groups.Sources.{Sources}
 use Rattle.hickory_resolver_traffic.specs.declared.inbox.ChannelFailure.{ChannelFailure}
 use Rattle.hickory_resolver_pool.specs.Laws.{PoolEvent, time_passes, group_has, is_asked, octets_come, channel_fails, is_forgotten, after_event}
 use Rattle.hickory_resolver_pool.specs.Pool.{PoolState, AskedOf, no_servers, settings_for, list_of, joiner_of, join_in, join_or_begin, ask_of, after_asking, Steps}
@@ -31,7 +28,7 @@ use Rattle.hickory_resolver_pool.specs.declared.limits.PoolLimits.{PoolLimits}
 use Rattle.hickory_resolver_pool_theorems.specs.Answers.{servers_in}
 use Rattle.hickory_resolver_pool_theorems.specs.Runs.{Happening, came, did, Runs, at_first, by_event, by_step}
 use Rattle.hickory_resolver_pool_theorems.proofs.Keys.{apart-is, nat-self, found-inserted, others-inserted, others-set, found-set, others-removed, gone-removed, Apart, apart-set, apart-inserted, apart-removed}
-use Rattle.hickory_resolver_pool_theorems.proofs.Lists.{bare_all, IsAlike, Stays, stays-self, AreKept, kept-self, kept-begun}
+use Rattle.hickory_resolver_pool_theorems.proofs.Lists.{bare_all, Stays, kept-begun}
 use Rattle.hickory_resolver_pool_theorems.proofs.ListsKept.{IsKept, groups-same, kept-step}
 use Rattle.hickory_resolver_pool_theorems.proofs.ByNumber.{At, none-inserted, none-set, none-removed}
 

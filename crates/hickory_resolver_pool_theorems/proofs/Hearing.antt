@@ -1,11 +1,10 @@
 -- Who waits for each transaction is as what happened says.
 use Rattle.std.proofs.Common.{◌≡◌, ◌≤◌, ◌<◌, ◌+◌, ℕ, Bool, true, false, cond, not, ◌||◌, eqb, eqb-true, eq-eqb, List, [], ◌∷◌, ◌++◌, length, append-nil, drop, refl, ap, sym, subst, ◌∙◌, true≢false, inl, inr, ◌⊎◌, arith}
-use Rattle.std.specs.Prelude.{Option, None, Some, IfSome, slice_get}
+use Rattle.std.specs.Prelude.{Option, None, Some, IfSome}
 use Rattle.std.specs.List.{AllByRecursion, list_any}
 use Rattle.std.specs.Option.{is_some, option_map, option_map_or, option_or}
-use Rattle.hickory_resolver_askers.specs.Askers.{AskersState, WaitingValue, flying_at, waiting_at, has_place, first_waiting, begun_in, next_one, with_asker, joined_flying, joined_waiting, joined, joiner, over, without, without_asker, what_is_left, left_of, forgot_as, forgot, to_admit, admitted_one, admitted, removed_flying, removed_waiting}
+use Rattle.hickory_resolver_askers.specs.Askers.{AskersState, WaitingValue, flying_at, waiting_at, has_place, first_waiting, begun_in, next_one, with_asker, joined_flying, joined_waiting, joined, joiner, over, without, without_asker, what_is_left, forgot_as, forgot, admitted_one, admitted}
 use Rattle.hickory_resolver_askers.specs.declared.asker.Asker.{Asker}
-use Rattle.hickory_resolver_askers.specs.declared.asker.Forgotten.{Forgotten}
 use Rattle.hickory_resolver_askers.specs.declared.asker.Forgotten.TheVariants.{Nobody, OthersAsk, Last}
 use Rattle.hickory_resolver_askers.specs.declared.asker.Place.TheVariants.{InFlight, Waits}
 use Rattle.hickory_resolver_pool_theorems.specs.Tellings.{IsNoneOf, EachOnce}

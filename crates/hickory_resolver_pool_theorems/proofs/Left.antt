@@ -14,7 +14,6 @@ use Rattle.hickory_resolver_steps.specs.declared.flying.SentTry.{SentTry}
 use Rattle.hickory_resolver_pool_theorems.specs.Agreement.{is_sent_as}
 use Rattle.hickory_resolver_pool_theorems.proofs.Keys.{at-is}
 use Rattle.hickory_resolver_pool_theorems.proofs.Keys as numbers
-use Rattle.hickory_resolver_pool_theorems.proofs.KeyEntries.{others-inserted}
 use Rattle.hickory_resolver_pool_theorems.proofs.KeySets.{or-true, or-left, or-split, or-more, not-true}
 
 -- ---- what is kept in mind

@@ -1,5 +1,5 @@
 -- So many numbers, of which the first counts first: each falling sequence of them ends.
-use Rattle.std.proofs.Common.{◌≡◌, ◌≤◌, ◌<◌, suc, zero, ℕ, Bool, true, false, ltb, ltb-true, ltb-false, refl, subst, sym, inl, inr, ◌⊎◌, arith}
+use Rattle.std.proofs.Common.{◌≡◌, ◌≤◌, ◌<◌, suc, zero, ℕ, Bool, true, false, ltb, ltb-true, ltb-false, refl, subst, inl, inr, ◌⊎◌, arith}
 
 abbrev pub Numbers : ℕ → Type 0
 Numbers zero = Unit {0}

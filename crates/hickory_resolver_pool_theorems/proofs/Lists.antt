@@ -1,17 +1,15 @@
 -- The servers of a list stay those that its group was given.
-use Rattle.std.proofs.Common.{◌≡◌, ◌≤◌, ◌<◌, ◌+◌, ◌-◌, ◌^◌, min, max, ℕ, Bool, true, false, cond, not, ltb, eqb, eqb-true, eq-eqb, List, [], ◌∷◌, length, map, set, refl, ap, ap₂, sym, subst, ◌∙◌, arith, zero, suc}
-use Rattle.std.specs.Prelude.{Option, None, Some, IfSome, slice_get}
+use Rattle.std.proofs.Common.{◌≡◌, ◌+◌, min, ℕ, Bool, true, false, cond, not, ltb, eqb, eqb-true, List, [], ◌∷◌, map, set, refl, ap, sym, subst, ◌∙◌, zero, suc}
+use Rattle.std.specs.Prelude.{Option, None, Some, slice_get}
 use Rattle.std.specs.Ordering.{nat_cmp}
-use Rattle.std.specs.Map.{lookup, remove_entry, set_value}
-use Rattle.std.specs.BTreeMap.{insert_entry, is_at}
+use Rattle.std.specs.BTreeMap.{is_at}
 use Rattle.std.specs.Option.{option_map_or}
-use Rattle.hickory_resolver_servers.specs.Measures.{after_answer, after_failure, after_timeout, doubled, changed_at, measured, released, is_sent_after}
+use Rattle.hickory_resolver_servers.specs.Measures.{after_failure, after_timeout, doubled, changed_at, measured, released, is_sent_after}
 use Rattle.hickory_resolver_servers.specs.Server.{ServerState, known_at}
 use Rattle.hickory_resolver_servers.specs.declared.choices.TheConstants.{GREATEST_ROUND_TRIP}
-use Rattle.hickory_resolver_traffic.specs.Groups.{GroupListState, GroupsState, no_groups, current_of, list_at, list_in, put_list, drop_list, is_needed, kept_if_needed, swept, changed_list, one_more, begun, one_less, ended, new_list, retired, without_current, numbers_of, with_servers}
-use Rattle.hickory_resolver_traffic.specs.declared.groups.Sources.{Sources}
-use Rattle.hickory_resolver_pool_theorems.proofs.Keys.{apart-is, found-inserted, nat-self, others-inserted, others-set, found-set, others-removed, gone-removed, Apart, apart-set, apart-inserted, apart-removed}
-use Rattle.hickory_resolver_pool_theorems.proofs.ByNumber.{At, none-inserted, none-set, none-removed}
+use Rattle.hickory_resolver_traffic.specs.Groups.{GroupListState, GroupsState, list_in, put_list, drop_list, kept_if_needed, swept, changed_list, one_more, begun, one_less, ended}
+use Rattle.hickory_resolver_pool_theorems.proofs.Keys.{apart-is, others-set, found-set, others-removed, gone-removed, Apart, apart-set, apart-removed}
+use Rattle.hickory_resolver_pool_theorems.proofs.ByNumber.{At}
 
 -- ---- as they were given: what was measured, and who tries them, left out
 

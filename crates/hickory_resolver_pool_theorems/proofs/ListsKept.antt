@@ -8,7 +8,7 @@ use Rattle.hickory_resolver_channels.specs.Channels.{ChannelsState, number_given
 use Rattle.hickory_resolver_channels.specs.declared.channel.ChannelKind.{ChannelKind}
 use Rattle.hickory_resolver_channels.specs.declared.channel.ChannelKind.TheVariants.{Datagram, Stream}
 use Rattle.hickory_resolver_config.specs.declared.strategies.ServerOrderingStrategy.{ServerOrderingStrategy}
-use Rattle.hickory_resolver_flights.specs.Flights.{FlightState, changed}
+use Rattle.hickory_resolver_flights.specs.Flights.{changed}
 use Rattle.hickory_resolver_flights.specs.declared.heard.Heard.{Heard}
 use Rattle.hickory_resolver_flights.specs.declared.heard.Heard.TheVariants as what_is
 use Rattle.hickory_resolver_servers.specs.Measures.{after_answer, after_failure, after_timeout}
@@ -18,7 +18,7 @@ use Rattle.hickory_resolver_servers.specs.declared.order.RoundStart.{RoundStart}
 use Rattle.hickory_resolver_steps.specs.Ending.{try_at_place}
 use Rattle.hickory_resolver_steps.specs.Lists.{ListState}
 use Rattle.hickory_resolver_steps.specs.Steps.{Parts, with_latest, sent_on, sent_to, sent_as, sent, stream_in, kind_of}
-use Rattle.hickory_resolver_steps.specs.Telling.{told_of, measured, measure_of, place_on, servers_heard, servers_heard_to, servers_failed, servers_late, servers_late_to, late_at}
+use Rattle.hickory_resolver_steps.specs.Telling.{told_of, measured, measure_of, place_on, servers_heard_to, servers_late_to, late_at}
 use Rattle.hickory_resolver_steps.specs.declared.flying.SentTry.{SentTry}
 use Rattle.hickory_resolver_steps.specs.declared.flying.Step.{Step}
 use Rattle.hickory_resolver_steps.specs.declared.telling.Measure.{Measure}
@@ -29,10 +29,10 @@ use Rattle.hickory_resolver_transactions.specs.declared.candidate.Try.{Try}
 use Rattle.hickory_resolver_transactions.specs.declared.transaction.Wanted.{Wanted}
 use Rattle.hickory_resolver_traffic.specs.Acting.{Acted, acted, acted_on, acted_with, parts_of, step_of, telling_of, with_list_servers}
 use Rattle.hickory_resolver_traffic.specs.Doing.{Scene, IsDone, hears_octets, after_first, heard_of_first, hears_first, hears, doubts_message, doubts, doing, is_empty, one_freed, fails_on, after_failed, fails, act_on, before_act, moment_of, stalls_on, stalls, leaving_at, leave_at, closed_at, freed_if, leaves, quits_at, after_quit, quits, place_on as place_of_failure, with_to_do, expires, frees, then_do, changing, draws, gives_up, blocks, sends, dates, with_probe, with_round_parts, round_of, is_stream}
-use Rattle.hickory_resolver_traffic.specs.Groups.{GroupListState, GroupsState, list_in, ended}
+use Rattle.hickory_resolver_traffic.specs.Groups.{GroupListState, GroupsState, list_in}
 use Rattle.hickory_resolver_traffic.specs.Inbox.{MessageValue, first_message, first_failure}
 use Rattle.hickory_resolver_traffic.specs.Table.{CurrentState, without_blocked}
-use Rattle.hickory_resolver_traffic.specs.Tasks.{task_of, after_task, closed, freed_by, freed_by_first, without_taken}
+use Rattle.hickory_resolver_traffic.specs.Tasks.{task_of, after_task, closed, freed_by, without_taken}
 use Rattle.hickory_resolver_traffic.specs.Traffic.{TrafficState}
 use Rattle.hickory_resolver_traffic.specs.declared.acting.Moment.{Moment}
 use Rattle.hickory_resolver_traffic.specs.declared.acting.ServerAct.{ServerAct}
@@ -47,7 +47,7 @@ use Rattle.hickory_resolver_traffic.specs.declared.tasks.Task.{Task}
 use Rattle.hickory_resolver_traffic.specs.declared.tasks.Task.TheVariants as task
 use Rattle.hickory_resolver_pool.specs.Pool.{PoolState, Starts, StepsBy, StepsIn, StepsAs, Steps, IsDoneTo, scene_of, is_end, is_put, put_by, let_go, started}
 use Rattle.hickory_resolver_pool.specs.declared.pool.Action.{Action}
-use Rattle.hickory_resolver_pool_theorems.proofs.Lists.{bare_all, bare-changed, bare-failure, bare-timeout, AreKept, kept-self, kept-then, kept-put, kept-changed, kept-ended}
+use Rattle.hickory_resolver_pool_theorems.proofs.Lists.{bare_all, bare-changed, bare-failure, bare-timeout, AreKept, kept-self, kept-put, kept-changed, kept-ended}
 
 -- ---- what is told of servers
 

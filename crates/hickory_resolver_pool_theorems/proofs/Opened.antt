@@ -22,7 +22,6 @@ use Rattle.hickory_resolver_traffic.specs.Table.{CurrentState}
 use Rattle.hickory_resolver_traffic.specs.Tasks.{task_of, after_task, did as did_of, outgoing_task, opened_outgoing, opening_of, opening_in, opening_to, did_open, did_write, took_up, taken_up, sent_of}
 use Rattle.hickory_resolver_traffic.specs.Tasks as tasks
 use Rattle.hickory_resolver_traffic.specs.Traffic.{TrafficState, OutgoingValue}
-use Rattle.hickory_resolver_traffic.specs.declared.acting.ServerAct.TheVariants.{Send}
 use Rattle.hickory_resolver_traffic.specs.declared.doing.Doing.{Doing}
 use Rattle.hickory_resolver_traffic.specs.declared.doing.Doing.TheVariants as doings
 use Rattle.hickory_resolver_traffic.specs.declared.entry.ToDo.TheVariants as todo

@@ -1,6 +1,6 @@
 -- Each channel is opened to a server of its transaction's group, under a number that none had before.
-use Rattle.std.proofs.Common.{◌≡◌, ◌≤◌, ◌<◌, ◌+◌, max, ℕ, Bool, true, false, cond, eqb, eqb-true, List, [], ◌∷◌, ◌++◌, length, map, refl, ap, sym, subst, ◌∙◌, true≢false, arith, zero, suc}
-use Rattle.std.specs.Prelude.{Contains, Option, None, Some, IfSome, slice_get, slice_index_or, unwrap_or}
+use Rattle.std.proofs.Common.{◌≡◌, ◌≤◌, ◌<◌, ℕ, Bool, true, false, cond, List, [], ◌∷◌, ◌++◌, map, refl, ap, sym, subst, ◌∙◌, true≢false, arith, zero, suc}
+use Rattle.std.specs.Prelude.{Contains, Option, None, Some, IfSome, slice_get, unwrap_or}
 use Rattle.std.specs.List.{AllByRecursion}
 use Rattle.std.specs.Option.{is_some, option_map, option_map_or, option_or, option_and_then}
 use Rattle.hickory_proto_core.specs.declared.dns_request.DnsRequestOptions.{DnsRequestOptions}
@@ -11,19 +11,17 @@ use Rattle.hickory_resolver_channels.specs.declared.channel.ChannelKind.{Channel
 use Rattle.hickory_resolver_channels.specs.declared.channel.ChannelKind.TheVariants.{Datagram, Stream}
 use Rattle.hickory_resolver_config.specs.ResolverConfig.{OptionsValue}
 use Rattle.hickory_resolver_servers.specs.Server.{ServerState, server_of}
-use Rattle.hickory_resolver_steps.specs.Steps.{SharedState, SendingValue}
+use Rattle.hickory_resolver_steps.specs.Steps.{SharedState}
 use Rattle.hickory_resolver_tries.specs.Question.{question_of}
 use Rattle.hickory_resolver_tries.specs.declared.pool_question.DnssecOptions.{DnssecOptions}
-use Rattle.hickory_resolver_traffic.specs.Doing.{Scene, doing, closed_by, is_empty}
-use Rattle.hickory_resolver_traffic.specs.Groups.{GroupListState, current_of, list_at}
+use Rattle.hickory_resolver_traffic.specs.Doing.{Scene, doing, closed_by}
+use Rattle.hickory_resolver_traffic.specs.Groups.{GroupListState, list_at}
 use Rattle.hickory_resolver_traffic.specs.Openings.{OpeningValue}
-use Rattle.hickory_resolver_traffic.specs.Table.{CurrentState, EntryState, entry_at}
+use Rattle.hickory_resolver_traffic.specs.Table.{CurrentState, EntryState}
 use Rattle.hickory_resolver_traffic.specs.Tasks.{task_of, after_task, did as did_of, outgoing_task, opened_outgoing, opening_of, opening_in, opening_to, did_open, did_write, took_up, taken_up, came_in, ran_out, port_for, source_for}
-use Rattle.hickory_resolver_traffic.specs.Tasks as tasks
 use Rattle.hickory_resolver_traffic.specs.Traffic.{TrafficState, OutgoingValue}
 use Rattle.hickory_resolver_traffic.specs.declared.doing.Doing.{Doing}
 use Rattle.hickory_resolver_traffic.specs.declared.doing.Doing.TheVariants.{Hears, Doubts, Stalls, Fails, Quits, PutsBack, Expires, Frees, Refused, Leaves, Ends, Draws, BeginsRound, GivesUp, Blocks, Sends, Dates, Rests}
-use Rattle.hickory_resolver_traffic.specs.declared.entry.ToDo.{ToDo}
 use Rattle.hickory_resolver_traffic.specs.declared.entry.ToDo.TheVariants.{GoOn}
 use Rattle.hickory_resolver_traffic.specs.declared.groups.Sources.{Sources}
 use Rattle.hickory_resolver_traffic.specs.declared.starting.Did.{Did}
@@ -31,21 +29,21 @@ use Rattle.hickory_resolver_traffic.specs.declared.starting.Did.TheVariants as d
 use Rattle.hickory_resolver_traffic.specs.declared.tasks.Task.{Task}
 use Rattle.hickory_resolver_traffic.specs.declared.tasks.Task.TheVariants as task
 use Rattle.hickory_resolver_pool.specs.Laws.{PoolEvent, time_passes, group_has, is_asked, octets_come, channel_fails, is_forgotten, after_event}
-use Rattle.hickory_resolver_pool.specs.Pool.{PoolState, AskedOf, no_servers, settings_for, list_of, if_servers, asking_told, action_of, close_or_continue, over_or_continue, current_after, started, Starts, StepsBy, StepsIn, StepsAs, Steps, IsDoneTo, scene_of, is_end, is_put, let_go, put_by}
+use Rattle.hickory_resolver_pool.specs.Pool.{PoolState, AskedOf, no_servers, list_of, asking_told, action_of, close_or_continue, over_or_continue, current_after, Starts, StepsBy, StepsIn, StepsAs, Steps, IsDoneTo, scene_of, is_end, is_put, let_go, put_by}
 use Rattle.hickory_resolver_pool.specs.Servers.{PoolServerValue, states_of, sources_of}
 use Rattle.hickory_resolver_pool.specs.declared.limits.PoolLimits.{PoolLimits}
 use Rattle.hickory_resolver_pool.specs.declared.pool.Action.{Action}
 use Rattle.hickory_resolver_pool.specs.declared.pool.Action.TheVariants as action
 use Rattle.hickory_resolver_pool.specs.declared.pool.Asked.TheVariants as asked
 use Rattle.hickory_resolver_pool_theorems.specs.Answers.{servers_in}
-use Rattle.hickory_resolver_pool_theorems.specs.Opens.{port_given, IsToServer, OpensOther, OpenedOther, IsOpening, OpensToOwnServers}
+use Rattle.hickory_resolver_pool_theorems.specs.Opens.{port_given, OpensOther, OpenedOther, OpensToOwnServers}
 use Rattle.hickory_resolver_pool_theorems.specs.Runs.{Happening, came, did, Runs, at_first, by_event, by_step}
 use Rattle.hickory_resolver_pool_theorems.proofs.EachEntry.{HoldOfEach, AtCurrent, Begins, each-step, each-event, each-as}
 use Rattle.hickory_resolver_pool_theorems.proofs.Fits.{by_kind, port_by, has_port}
-use Rattle.hickory_resolver_pool_theorems.proofs.Groups.{given_in, IsGivenAs, CurrentIs, IsCurrentList, GroupsAre, groups-runs, kept-asked, kept-came, kept-failed}
+use Rattle.hickory_resolver_pool_theorems.proofs.Groups.{given_in, IsGivenAs, CurrentIs, IsCurrentList, GroupsAre, groups-runs}
 use Rattle.hickory_resolver_pool_theorems.proofs.Lists.{bare, bare_all}
 use Rattle.hickory_resolver_pool_theorems.proofs.ListsKept.{kept-step}
-use Rattle.hickory_resolver_pool_theorems.proofs.OutKept.{GoesTo, IsSent, sends_none, sends_one, IsOut, is_calm, is_sent, out-done, IsBegun, opens, writes, keeps, begun-task}
+use Rattle.hickory_resolver_pool_theorems.proofs.OutKept.{IsSent, sends_none, sends_one, IsOut, is_calm, is_sent, out-done, IsBegun, opens, writes, keeps, begun-task}
 use Rattle.hickory_resolver_pool_theorems.proofs.Ports.{next_of, next-event, given-event, current-is, given_port, IsPorted, ported-runs, has-bare}
 use Rattle.hickory_resolver_pool_theorems.proofs.Scenes.{same-done}
 use Rattle.hickory_resolver_pool_theorems.proofs.Traces.{shared-event, current-event}

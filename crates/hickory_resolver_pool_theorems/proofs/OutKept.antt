@@ -17,7 +17,7 @@ use Rattle.hickory_resolver_flights.specs.declared.heard.Heard.{Heard}
 use Rattle.hickory_resolver_flights.specs.declared.heard.Heard.TheVariants as what_is
 use Rattle.hickory_resolver_steps.specs.Ending.{try_at_place}
 use Rattle.hickory_resolver_steps.specs.Lists.{number_of}
-use Rattle.hickory_resolver_steps.specs.Steps.{Parts, SendingValue, sent_on, sent_to, sent_as, sent, stream_in, kind_of, out, out_on, out_to, out_as, octets_on, sending_of}
+use Rattle.hickory_resolver_steps.specs.Steps.{Parts, SendingValue, sent_on, sent_to, sent_as, sent, stream_in, kind_of, out_on, out_to, out_as, octets_on, sending_of}
 use Rattle.hickory_resolver_steps.specs.declared.flying.SentTry.{SentTry}
 use Rattle.hickory_resolver_steps.specs.declared.flying.Step.{Step}
 use Rattle.hickory_resolver_transactions.specs.Transaction.{wanted, freed}

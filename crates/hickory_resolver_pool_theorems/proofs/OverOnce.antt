@@ -1,6 +1,6 @@
 -- A transaction is over once.
-use Rattle.std.proofs.Common.{◌≡◌, ◌≤◌, ◌<◌, ◌+◌, ℕ, Bool, true, false, cond, ◌||◌, eqb, eqb-true, leb, List, [], ◌∷◌, ◌++◌, append-nil, refl, ap, sym, subst, ◌∙◌, inl, inr, arith}
-use Rattle.std.specs.Prelude.{Option, None, Some, slice_get}
+use Rattle.std.proofs.Common.{◌≡◌, ◌≤◌, ◌<◌, ◌+◌, ℕ, Bool, true, false, cond, ◌||◌, eqb, eqb-true, leb, List, [], ◌∷◌, ◌++◌, append-nil, refl, ap, sym, subst, ◌∙◌, arith}
+use Rattle.std.specs.Prelude.{Option, None, Some}
 use Rattle.std.proofs.lemmas.Bool.{leb-true, leb-false}
 use Rattle.std.specs.List.{AllByRecursion}
 use Rattle.std.specs.Option.{is_some, option_map, option_map_or, option_or}
@@ -12,7 +12,6 @@ use Rattle.hickory_resolver_askers.specs.declared.asker.Place.TheVariants.{InFli
 use Rattle.hickory_resolver_config.specs.ResolverConfig.{OptionsValue}
 use Rattle.hickory_resolver_transactions.specs.Settings.{settings_of}
 use Rattle.hickory_resolver_tries.specs.Question.{question_of}
-use Rattle.hickory_resolver_tries.specs.declared.pool_question.PoolQuestion.{PoolQuestion}
 use Rattle.hickory_resolver_pool.specs.Laws.{PoolEvent, time_passes, group_has, is_asked, octets_come, channel_fails, is_forgotten, after_event}
 use Rattle.hickory_resolver_pool.specs.Over.{OverValue}
 use Rattle.hickory_resolver_pool.specs.Pool.{PoolState, no_servers, settings_for, list_of, after_asking, asking_told, Steps}
@@ -22,11 +21,11 @@ use Rattle.hickory_resolver_pool.specs.declared.pool.Action.TheVariants as actio
 use Rattle.hickory_resolver_pool.specs.declared.pool.Asked.{Asked}
 use Rattle.hickory_resolver_pool.specs.declared.pool.Asked.TheVariants as told
 use Rattle.hickory_resolver_pool_theorems.specs.Runs.{Happening, came, did, Runs, at_first, by_event, by_step}
-use Rattle.hickory_resolver_pool_theorems.specs.Tellings.{asking_in, IsNoneOf, IsToldElsewhere, WasToldElsewhere, IsNotOverBy, WasNotOver, IsOverOnce, OverOnce}
+use Rattle.hickory_resolver_pool_theorems.specs.Tellings.{asking_in, IsNoneOf, IsToldElsewhere, WasToldElsewhere, IsNotOverBy, WasNotOver, OverOnce}
 use Rattle.hickory_resolver_pool_theorems.proofs.Hearing.{Asking, AreHeard, Given, Forgot, given-all, forgot-all}
 use Rattle.hickory_resolver_pool_theorems.proofs.Keys.{gone-removed}
 use Rattle.hickory_resolver_pool_theorems.proofs.ByNumber.{At, all-as, none-inserted, none-removed, none-dropped, none-changed, first-at}
-use Rattle.hickory_resolver_pool_theorems.proofs.Overs.{IsLetGo, gone-at_end, told-at_end}
+use Rattle.hickory_resolver_pool_theorems.proofs.Overs.{gone-at_end, told-at_end}
 use Rattle.hickory_resolver_pool_theorems.proofs.Tellings.{IsChanged, stays, is_over, is_admitted, changed-step, After, IsAsked, joins, begins, waits, none_served, none_placed, asked-asking, came-askers, failed-askers, heard-runs, heard-at}
 
 -- its number was given, nobody asks for it, and who was told asks for no other

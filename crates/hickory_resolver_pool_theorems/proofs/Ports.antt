@@ -1,7 +1,7 @@
 -- What a transaction wants to send goes to a port that its server was given with.
-use Rattle.std.proofs.Common.{◌≡◌, ◌≤◌, ◌<◌, ◌+◌, max, ℕ, Bool, true, false, cond, ◌||◌, eqb, eqb-true, List, [], ◌∷◌, length, map, refl, ap, sym, subst, ◌∙◌, arith, zero, suc}
-use Rattle.std.specs.Prelude.{Option, None, Some, IfSome, slice_get}
-use Rattle.std.specs.Option.{is_some, option_map_or, option_and_then}
+use Rattle.std.proofs.Common.{◌≡◌, ◌≤◌, ◌<◌, ℕ, Bool, true, false, cond, eqb, eqb-true, List, [], ◌∷◌, refl, ap, sym, subst, ◌∙◌, arith, zero, suc}
+use Rattle.std.specs.Prelude.{Option, None, Some, IfSome}
+use Rattle.std.specs.Option.{is_some, option_and_then}
 use Rattle.hickory_resolver_config.specs.ResolverConfig.{OptionsValue}
 use Rattle.hickory_resolver_servers.specs.Server.{ServerState}
 use Rattle.hickory_resolver_tries.specs.Question.{question_of}

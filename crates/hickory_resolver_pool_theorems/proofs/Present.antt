@@ -1,11 +1,11 @@
 -- Which channels there are after a try is made or leaves, and after one is closed.
-use Rattle.std.proofs.Common.{◌≡◌, ◌+◌, ℕ, Bool, true, false, cond, not, ◌&&◌, ◌||◌, eqb, eqb-true, eq-eqb, ne_eqb, ltb, List, [], ◌∷◌, refl, ap, sym, subst, ◌∙◌, true≢false}
+use Rattle.std.proofs.Common.{◌≡◌, ◌+◌, ℕ, Bool, true, false, cond, not, ◌&&◌, ◌||◌, eqb, eq-eqb, ne_eqb, refl, ap, sym, ◌∙◌, true≢false}
 use Rattle.std.specs.Prelude.{Option, None, Some}
 use Rattle.std.specs.Ordering.{nat_cmp, is_eq}
-use Rattle.std.specs.Map.{lookup, remove_entry, set_value}
+use Rattle.std.specs.Map.{remove_entry, set_value}
 use Rattle.std.specs.BTreeMap.{insert_entry, is_at}
 use Rattle.std.specs.Option.{is_some, option_map_or, option_and_then}
-use Rattle.hickory_resolver_channels.specs.Channels.{ChannelsState, channel_at, channel_in, has_try, pair_cmp, replaced, left, left_in, left_last, left_to_others, has_others, closes, closes_last, closed, closed_one, if_empty, joined, joined_to, joinable, opened_for, has_place, new_channel, with_one_more, with_one_less, if_it_takes_try, takes_try, channel_of_try}
+use Rattle.hickory_resolver_channels.specs.Channels.{ChannelsState, channel_at, channel_in, has_try, pair_cmp, replaced, left, left_in, left_last, left_to_others, has_others, closes, closes_last, closed, closed_one, if_empty, joined, joined_to, joinable, opened_for, has_place, new_channel, with_one_more, with_one_less, channel_of_try}
 use Rattle.hickory_resolver_channels.specs.declared.channel.Channel.{Channel}
 use Rattle.hickory_resolver_channels.specs.declared.channel.ChannelKind.{ChannelKind}
 use Rattle.hickory_resolver_channels.specs.declared.channel.ChannelKind.TheVariants.{Datagram, Stream}

@@ -14,7 +14,7 @@ use Rattle.hickory_resolver_flights.specs.Flights.{changed}
 use Rattle.hickory_resolver_flights.specs.declared.heard.Heard.{Heard}
 use Rattle.hickory_resolver_flights.specs.declared.heard.Heard.TheVariants.{Nothing, OtherLetters, OptRefused, Reply}
 use Rattle.hickory_resolver_steps.specs.Ending.{first_done, try_at_place, is_done}
-use Rattle.hickory_resolver_steps.specs.Steps.{Parts, FlyingState, SendingValue, kind_of, stream_in, sent_on_open, sent_on_new, without_channel, with_sent, sent_on, sent_to, sent_as, sent, out_on, out_to, out_as, out, made_on}
+use Rattle.hickory_resolver_steps.specs.Steps.{Parts, FlyingState, SendingValue, kind_of, stream_in, sent_on_open, sent_on_new, without_channel, with_sent, sent_on, sent_to, sent_as, out_on, out_to, out_as, out, made_on}
 use Rattle.hickory_resolver_steps.specs.declared.flying.SentTry.{SentTry}
 use Rattle.hickory_resolver_steps.specs.declared.flying.Step.{Step}
 use Rattle.hickory_resolver_transactions.specs.Candidates.{is_tried}

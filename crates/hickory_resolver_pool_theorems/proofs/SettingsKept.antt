@@ -1,8 +1,8 @@
 -- The settings of a transaction stay.
-use Rattle.std.proofs.Common.{◌≡◌, ◌-◌, ℕ, Bool, true, false, cond, ltb, List, [], ◌∷◌, length, refl, ap, sym, ◌∙◌}
+use Rattle.std.proofs.Common.{◌≡◌, ◌-◌, ℕ, Bool, true, false, cond, List, [], ◌∷◌, refl, ap, ◌∙◌}
 use Rattle.std.specs.Prelude.{Option, None, Some}
 use Rattle.std.specs.List.{list_any}
-use Rattle.std.specs.Option.{is_some, option_map, option_map_or}
+use Rattle.std.specs.Option.{is_some, option_map_or}
 use Rattle.hickory_resolver_channels.specs.Channels.{number_given}
 use Rattle.hickory_resolver_channels.specs.declared.channel.ChannelKind.{ChannelKind}
 use Rattle.hickory_resolver_flights.specs.Flights.{FlightState, heard, heard_as, heard_by, changed}
@@ -30,13 +30,12 @@ use Rattle.hickory_resolver_transactions.specs.declared.candidate.Progress.TheVa
 use Rattle.hickory_resolver_transactions.specs.declared.candidate.Transport.{Transport}
 use Rattle.hickory_resolver_transactions.specs.declared.candidate.Transport.TheVariants.{Udp, Tcp}
 use Rattle.hickory_resolver_transactions.specs.declared.candidate.Try.{Try}
-use Rattle.hickory_resolver_transactions.specs.declared.settings.Settings.{Settings}
 use Rattle.hickory_resolver_transactions.specs.declared.table.Then.{Then}
 use Rattle.hickory_resolver_transactions.specs.declared.table.Then.TheVariants.{Ends, Leaves, Rests, Again, Nothing}
 use Rattle.hickory_resolver_transactions.specs.declared.transaction.Wanted.{Wanted}
 use Rattle.hickory_resolver_traffic.specs.Acting.{Acted, acted_on, acted_with, parts_of, step_of}
 use Rattle.hickory_resolver_traffic.specs.Acting as acting
-use Rattle.hickory_resolver_traffic.specs.Doing.{Scene, IsDone, hears_octets, after_first, heard_of_first, hears_first, hears, doubts, fails_on, after_failed, fails, act_on, before_act, moment_of, stalls_on, stalls, leaving_at, leave_at, closed_at, freed_if, leaves, quits_at, after_quit, quits, place_on, with_to_do, expires, frees, then_do, changing, draws, gives_up, blocks, sends, dates, with_round_parts, BeginsWith, round_of, is_stream}
+use Rattle.hickory_resolver_traffic.specs.Doing.{Scene, IsDone, hears_octets, after_first, heard_of_first, hears_first, hears, doubts, fails_on, after_failed, fails, act_on, before_act, moment_of, stalls_on, stalls, leaving_at, leave_at, closed_at, freed_if, leaves, quits_at, after_quit, quits, place_on, with_to_do, expires, frees, then_do, changing, draws, gives_up, blocks, sends, dates, BeginsWith, round_of, is_stream}
 use Rattle.hickory_resolver_traffic.specs.Groups.{GroupListState, list_in, list_at}
 use Rattle.hickory_resolver_traffic.specs.Inbox.{MessageValue, first_message, first_failure}
 use Rattle.hickory_resolver_traffic.specs.Table.{without_blocked}

@@ -1,5 +1,5 @@
 -- Who asked is told.
-use Rattle.std.proofs.Common.{◌≡◌, ℕ, Bool, true, false, cond, ◌&&◌, eqb-true, List, [], ◌∷◌, ◌++◌, append-nil, refl, ap, sym, subst, ◌∙◌, inl, inr, arith}
+use Rattle.std.proofs.Common.{◌≡◌, ℕ, Bool, true, false, ◌&&◌, eqb-true, List, [], ◌∷◌, ◌++◌, append-nil, refl, ap, sym, subst, ◌∙◌, inl}
 use Rattle.std.specs.Prelude.{Option, None, Some, IfSome, nat_eq}
 use Rattle.std.specs.List.{AllByRecursion}
 use Rattle.std.specs.Option.{is_some, option_map, option_map_or, option_or, option_and_then}
@@ -32,10 +32,10 @@ use Rattle.hickory_resolver_pool.specs.declared.pool.Action.{Action}
 use Rattle.hickory_resolver_pool.specs.declared.pool.Asked.{Asked}
 use Rattle.hickory_resolver_pool.specs.declared.pool.Asked.TheVariants as told
 use Rattle.hickory_resolver_pool_theorems.specs.Runs.{Happening, came, did, Runs, at_first, by_event, by_step}
-use Rattle.hickory_resolver_pool_theorems.specs.Tellings.{number_of, asking_in, EachOnce, AsksEqual, AreTold, WhoAsksIsTold}
-use Rattle.hickory_resolver_pool_theorems.proofs.Asked.{next-one_freed, next-freed_first, IsOwn, Asks, own-event, own-step, known-runs, AsksIt, asks-it, and-right}
+use Rattle.hickory_resolver_pool_theorems.specs.Tellings.{number_of, asking_in, EachOnce, AsksEqual, WhoAsksIsTold}
+use Rattle.hickory_resolver_pool_theorems.proofs.Asked.{next-one_freed, next-freed_first, IsOwn, Asks, own-event, own-step, known-runs, asks-it, and-right}
 use Rattle.hickory_resolver_pool_theorems.proofs.Askings.{put-is}
-use Rattle.hickory_resolver_pool_theorems.proofs.Hearing.{Asking, AreHeard, FliesAs, WaitsAs, Given, Forgot, heard-same, heard-over, heard-admitted, heard-joined, heard-begun_flying, heard-begun_waiting, heard-forgot}
+use Rattle.hickory_resolver_pool_theorems.proofs.Hearing.{Asking, AreHeard, FliesAs, WaitsAs, heard-same, heard-over, heard-admitted, heard-joined, heard-begun_flying, heard-begun_waiting, heard-forgot}
 use Rattle.hickory_resolver_pool_theorems.proofs.Overs.{IsEnd, told-at_end}
 use Rattle.hickory_resolver_pool_theorems.proofs.Scenes.{same-done}
 

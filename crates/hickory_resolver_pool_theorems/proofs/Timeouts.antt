@@ -4,13 +4,12 @@ use Rattle.std.specs.Prelude.{Option, None, Some, filter, unwrap_or}
 use Rattle.std.specs.List.{list_any}
 use Rattle.std.specs.Option.{option_map_or}
 use Rattle.std.proofs.lemmas.List.Sums.{fold-append}
-use Rattle.hickory_resolver_servers.specs.Server.{ServerState}
 use Rattle.hickory_resolver_tries.specs.declared.outcome.ReplyOutcome.{ReplyOutcome}
 use Rattle.hickory_resolver_tries.specs.declared.outcome.ReplyOutcome.TheVariants as came
 use Rattle.hickory_resolver_transactions.specs.Candidates.{is_busy, is_tried, is_waiting, is_blocked, waits_as, waits_on, is_due, is_try, way_of_try, sent_with, without_channel, uncounted, blocked_as, requeued, freed_one, freed_progress, has_failed_by}
 use Rattle.hickory_resolver_transactions.specs.Laws.{TransactionEvent, round_begins, is_sent, has_no_room, reply_came, opt_refused, letters_differ, channel_failed, no_channel, channel_free, oldest_given_up, time_passed, after_event, after_events}
 use Rattle.hickory_resolver_transactions.specs.Outcomes.{better}
-use Rattle.hickory_resolver_transactions.specs.Table.{has_room, may_change_to_tcp, may_begin_tcp, after_reply, after_refused_opt, after_other_letters, after_deadline, after_closed_stream, again_if, then_in, then_of_reply, then_of_refused_opt, then_of_other_letters, stays_believed}
+use Rattle.hickory_resolver_transactions.specs.Table.{has_room, may_begin_tcp, after_reply, after_refused_opt, after_other_letters, after_deadline, after_closed_stream, again_if, then_of_reply, then_of_refused_opt, then_of_other_letters, stays_believed}
 use Rattle.hickory_resolver_transactions.specs.Transaction.{TransactionState, begun_with, replaced, replacing, putting, noting, noted_of_closed, without_oldest, late_too, with_late, kept_in, keeping, acted, gone_unless_waiting, acted_late, picked, candidate_at, late_at, late_came_to, late_replied, without_answered, came_to, opt_was_refused, other_letters_came, failed_at, failed_in, failed, blocked_in, blocked, freed, expired_in, late_expired, expired, wants_round, with_round, chosen, sent, unsent}
 use Rattle.hickory_resolver_transactions.specs.Transaction as transaction
 use Rattle.hickory_resolver_transactions.specs.declared.candidate.Candidate.{Candidate}
@@ -22,12 +21,11 @@ use Rattle.hickory_resolver_transactions.specs.declared.candidate.Transport.TheV
 use Rattle.hickory_resolver_transactions.specs.declared.candidate.Try.{Try}
 use Rattle.hickory_resolver_transactions.specs.declared.outcome.Outcome.{Outcome}
 use Rattle.hickory_resolver_transactions.specs.declared.outcome.Outcome.TheVariants as told
-use Rattle.hickory_resolver_transactions.specs.declared.settings.Settings.{Settings}
 use Rattle.hickory_resolver_transactions.specs.declared.table.Then.{Then}
 use Rattle.hickory_resolver_transactions.specs.declared.table.Then.TheVariants.{Ends, Leaves, Rests, Again, Nothing}
 use Rattle.hickory_resolver_pool_theorems.proofs.MayTell.{told_by, MayTell, may-again, may-reply, may-then}
 use Rattle.hickory_resolver_pool_theorems.proofs.Tries.{found-passes}
-use Rattle.hickory_resolver_pool_theorems.specs.Timeouts.{IsTimeoutAtMost, HasTimedOutAtMost, is_awaited, HasPassed, HasFailedThere, OnlyTimePassed, TimeoutsAreAlone}
+use Rattle.hickory_resolver_pool_theorems.specs.Timeouts.{IsTimeoutAtMost, HasTimedOutAtMost, is_awaited, HasPassed, HasFailedThere, TimeoutsAreAlone}
 
 -- ---- what is noted gets no worse
 

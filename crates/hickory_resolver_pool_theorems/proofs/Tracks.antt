@@ -1,19 +1,15 @@
 -- What holds of a transaction that is worked on since it was taken up: what is left of the pool falls, or will have
 -- fallen once it is put away.
-use Rattle.std.proofs.Common.{◌≡◌, ◌≤◌, ◌<◌, ◌+◌, ℕ, Bool, true, false, List, [], ◌∷◌, length, drop, refl, ap, sym, subst, ◌∙◌, true≢false, arith, inl, inr, ◌⊎◌, leb, leb-false, eqb-true}
-use Rattle.std.specs.Prelude.{Option, None, Some, IfSome, slice_get}
+use Rattle.std.proofs.Common.{◌≡◌, ◌≤◌, ◌<◌, ◌+◌, ℕ, Bool, true, false, List, length, refl, ap, sym, subst, ◌∙◌, true≢false, arith, inl, inr, ◌⊎◌}
+use Rattle.std.specs.Prelude.{Option, None, Some, slice_get}
 use Rattle.std.specs.Option.{is_some, option_map_or}
 use Rattle.std.specs.BTreeMap.{is_at}
 use Rattle.std.specs.Ordering.{nat_cmp}
 use Rattle.std.specs.List.{list_any}
 use Rattle.hickory_resolver_askers.specs.Askers.{AskersState}
-use Rattle.hickory_resolver_channels.specs.Channels.{pair_cmp}
-use Rattle.hickory_resolver_transactions.specs.Transaction.{next_deadline}
-use Rattle.hickory_resolver_traffic.specs.Doing.{Scene, IsDone, doing, doing_for, by_failure, is_due, same_moment, place_on, hears, doubts, stalls, fails, quits, expires, frees}
+use Rattle.hickory_resolver_traffic.specs.Doing.{Scene, IsDone, doing, doing_for, by_failure, place_on, hears, doubts, stalls, fails, quits, expires, frees}
 use Rattle.hickory_resolver_traffic.specs.Inbox.{InboxState, first_message, first_failure, without_message, without_failure}
-use Rattle.hickory_resolver_traffic.specs.Table.{EntryState, CurrentState, is_blocked}
-use Rattle.hickory_resolver_traffic.specs.Traffic.{TrafficState}
-use Rattle.hickory_resolver_traffic.specs.declared.doing.Doing.{Doing}
+use Rattle.hickory_resolver_traffic.specs.Table.{EntryState, is_blocked}
 use Rattle.hickory_resolver_traffic.specs.declared.doing.Doing.TheVariants as doings
 use Rattle.hickory_resolver_traffic.specs.declared.entry.ToDo.{ToDo}
 use Rattle.hickory_resolver_traffic.specs.declared.entry.ToDo.TheVariants as todo
@@ -24,9 +20,9 @@ use Rattle.hickory_resolver_pool.specs.Pool.{is_end, is_put}
 use Rattle.hickory_resolver_pool_theorems.proofs.Early.{IsHeard, is_doubted, is_dropped, hears-is, doubts-less, came-done, IsFailed, is_left, is_over, stalls-is, fails-is, HasQuit, goes_back, is_closed, Quitting, quits-is, placed-failure, expires-is, frees-is}
 use Rattle.hickory_resolver_pool_theorems.proofs.Frames.{kept-done}
 use Rattle.hickory_resolver_pool_theorems.proofs.Moves.{cost_of, over_in, wants_in, Change, falls, stays, notes, Moves, moves-done}
-use Rattle.hickory_resolver_pool_theorems.proofs.PutAway.{WhyGo, why-going, IsFit}
+use Rattle.hickory_resolver_pool_theorems.proofs.PutAway.{why-going, IsFit}
 use Rattle.hickory_resolver_pool_theorems.proofs.Scenes.{same-done}
-use Rattle.hickory_resolver_pool_theorems.proofs.Weights.{weigh, came_of, one-less, overdue}
+use Rattle.hickory_resolver_pool_theorems.proofs.Weights.{weigh, came_of, one-less}
 
 -- ---- what is looked at
 

@@ -1,5 +1,5 @@
 -- How much is left in a table, in what came, among the deadlines and among those that wait.
-use Rattle.std.proofs.Common.{◌≡◌, ◌≤◌, ◌<◌, ◌+◌, ◌*◌, suc, zero, ℕ, Bool, true, false, cond, not, ◌&&◌, ◌||◌, leb, leb-true, le-leb, eqb, eq-eqb, eqb-true, ltb, List, [], ◌∷◌, ◌++◌, length, take, drop, refl, ap, sym, subst, ◌∙◌, true≢false, inl, inr, ◌⊎◌, arith}
+use Rattle.std.proofs.Common.{◌≡◌, ◌≤◌, ◌<◌, ◌+◌, ◌*◌, suc, zero, ℕ, Bool, true, false, cond, not, ◌&&◌, leb, leb-true, le-leb, eqb, eq-eqb, eqb-true, ltb, List, [], ◌∷◌, ◌++◌, length, take, drop, refl, ap, sym, ◌∙◌, true≢false, arith}
 use Rattle.std.specs.Prelude.{Option, None, Some, slice_get}
 use Rattle.std.specs.declared.cmp.Ordering.{Ordering}
 use Rattle.std.specs.declared.cmp.Ordering.TheVariants.{Less, Equal, Greater}
@@ -12,11 +12,11 @@ use Rattle.std.specs.BTreeSet.{insert_key}
 use Rattle.std.specs.Option.{is_some, option_map_or, option_and_then}
 use Rattle.hickory_resolver_channels.specs.Channels.{pair_cmp}
 use Rattle.hickory_resolver_tries.specs.Stream.{first_of}
-use Rattle.hickory_resolver_traffic.specs.Inbox.{InboxState, octets_in, first_on, first_unread, cut_off, cut_on, without_unread}
+use Rattle.hickory_resolver_traffic.specs.Inbox.{InboxState, octets_in, first_unread, cut_off, cut_on, without_unread}
 use Rattle.hickory_resolver_traffic.specs.Table.{EntryState}
 use Rattle.hickory_resolver_pool_theorems.specs.Ticks.{one_if}
-use Rattle.hickory_resolver_pool_theorems.proofs.Keys.{nat-self, pair-self, at-is}
-use Rattle.hickory_resolver_pool_theorems.proofs.KeySets.{or-true, or-left, or-split}
+use Rattle.hickory_resolver_pool_theorems.proofs.Keys.{nat-self, pair-self}
+use Rattle.hickory_resolver_pool_theorems.proofs.KeySets.{or-true, or-left}
 
 -- ---- lists
 

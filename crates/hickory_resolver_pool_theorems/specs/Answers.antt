@@ -1,5 +1,5 @@
 -- What one who asks is answered at once.
-use Rattle.std.specs.Prelude.{◌≡◌, ◌≤◌, ℕ, true, ◌==◌, ◌⊎◌, List, [], ◌∷◌, length, None, Some, if◌then◌else◌}
+use Rattle.std.specs.Prelude.{◌≡◌, ◌≤◌, ℕ, true, ◌==◌, ◌⊎◌, List, [], ◌∷◌, length, if◌then◌else◌}
 use Rattle.std.specs.Option.{is_some}
 use Rattle.hickory_resolver_askers.specs.Askers.{to_admit}
 use Rattle.hickory_resolver_config.specs.ResolverConfig.{OptionsValue}

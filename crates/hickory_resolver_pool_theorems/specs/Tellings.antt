@@ -1,5 +1,5 @@
 -- Who is told that a transaction is over.
-use Rattle.std.specs.Prelude.{◌≡◌, ℕ, true, ◌==◌, List, [], ◌∷◌, ◌++◌, Option, None, Some, if◌then◌else◌}
+use Rattle.std.specs.Prelude.{◌≡◌, ℕ, true, ◌==◌, List, [], ◌∷◌, ◌++◌, Option, Some, if◌then◌else◌}
 use Rattle.std.specs.List.{AllByRecursion}
 use Rattle.hickory_resolver_askers.specs.Askers.{without}
 use Rattle.hickory_resolver_askers.specs.declared.asker.Asker.{Asker}
