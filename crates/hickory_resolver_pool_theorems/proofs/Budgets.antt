@@ -494,26 +494,6 @@ module _ (is_far : Bool) where
             found-lower c (found-inside (λ x. is_due now x.progress) t.candidates c found) c.progress refl
             (found-passes (λ (x : Candidate). is_due now x.progress) t.candidates c found)
 
-    -- also where nothing has run out
-    pub budget-late : budget (expired now t) ≤ budget t
-    budget-late = by (picked (is_due now) t) refl
-      where
-        late : (some : Bool) → list_any (has_failed_by now) t.late ≡ some → budget (late_expired now t) ≤ budget t
-        late true is = let less = late-lower is in omega (arith, less)
-        late false is =
-            let same : budget (late_expired now t) ≡ budget t =
-            ap (λ (b : Bool). budget (cond b
-            (noting told.Unreachable (record t { late = filter (λ l. not (has_failed_by now l)) t.late })) t)) is in
-            omega (arith, same)
-
-        by : (found : Option Candidate) → picked (is_due now) t ≡ found
-            → budget (option_map_or (λ c. expired_in c c.progress t) found (late_expired now t)) ≤ budget t
-        by None none = late (list_any (has_failed_by now) t.late) refl
-        by (Some c) found =
-            let less = found-lower c (found-inside (λ x. is_due now x.progress) t.candidates c found) c.progress refl
-            (found-passes (λ (x : Candidate). is_due now x.progress) t.candidates c found) in
-            omega (arith, less)
-
 -- ---- a channel is free: what waits for one is to be asked again, which is as far
 
 freed-stage : (p : Progress) → stage true (freed_progress p) ≤ stage true p

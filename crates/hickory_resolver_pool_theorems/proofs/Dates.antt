@@ -39,13 +39,13 @@ use Rattle.hickory_resolver_pool_theorems.proofs.Scenes.{same-done}
 use Rattle.hickory_resolver_pool_theorems.proofs.Shapes.{IsStep, goes_out, begins, does, puts, ends, step-is, IsEvent, keeps, regroups, enters, event-is}
 use Rattle.hickory_resolver_pool_theorems.proofs.Traces.{current-event}
 
-abbrev Keys : Type 0
+abbrev pub Keys : Type 0
 Keys = List (ℕ × ℕ)
 
-abbrev Stands : ℕ → ℕ → Keys → Type 0
+abbrev pub Stands : ℕ → ℕ → Keys → Type 0
 Stands due n ds = In pair_cmp pair-self pair-is (due, n) ds
 
-abbrev OneEach : Keys → Type 0
+abbrev pub OneEach : Keys → Type 0
 OneEach ds = Once pair_cmp pair-self pair-is ds
 
 pub record Agrees (ds : Keys) (n : ℕ) (e : EntryState) : Type 0 where
@@ -65,7 +65,7 @@ module _ (n : ℕ) (old new : Option ℕ) (ds : Keys) where
   abbrev redone : Keys
   redone = not_dated n old (dated n new ds)
 
-  in-dated : (due m : ℕ) → Stands due m (dated n new ds) → ((m ≡ n) × (new ≡ Some due)) ⊎ Stands due m ds
+  pub in-dated : (due m : ℕ) → Stands due m (dated n new ds) → ((m ≡ n) × (new ≡ Some due)) ⊎ Stands due m ds
   in-dated due m h = by new h
     where
       same : (d : ℕ) → (◌≡◌ {A = ℕ × ℕ} (due, m) (d, n)) ⊎ Stands due m ds → ((m ≡ n) × (Some d ≡ Some due)) ⊎ Stands due m ds
@@ -89,7 +89,7 @@ module _ (n : ℕ) (old new : Option ℕ) (ds : Keys) where
       (in-inserted pair_cmp pair-self pair-is (due, n) ds)
 
   module _ (ks : Keys) where
-    undated-before : (due m : ℕ) → Stands due m (not_dated n old ks) → Stands due m ks
+    pub undated-before : (due m : ℕ) → Stands due m (not_dated n old ks) → Stands due m ks
     undated-before due m h = by old h
       where
         by : (o : Option ℕ) → Stands due m (not_dated n o ks) → Stands due m ks
@@ -105,7 +105,7 @@ module _ (n : ℕ) (old new : Option ℕ) (ds : Keys) where
             in-removed pair_cmp pair-self pair-is (due, m) (d, n) ks
             (λ (e : ◌≡◌ {A = ℕ × ℕ} (d, n) (due, m)). apart (is ∙ ap (λ (p : ℕ × ℕ). Some p.0) e) (sym (ap (λ (p : ℕ × ℕ). p.1) e))) h
 
-    undated-gone : (due : ℕ) → old ≡ Some due → OneEach ks → Stands due n (not_dated n old ks) → ⊥
+    pub undated-gone : (due : ℕ) → old ≡ Some due → OneEach ks → Stands due n (not_dated n old ks) → ⊥
     undated-gone due is once h =
         not-in-removed pair_cmp pair-self pair-is (due, n) ks once
         (subst (λ (o : Option ℕ). Stands due n (not_dated n o ks)) is h)
@@ -223,7 +223,7 @@ not-has : (o : Option EntryState) → is_some o ≡ false → o ≡ None
 not-has None e = refl
 not-has (Some x) e = absurd (true≢false e)
 
-dates-task : (t : TrafficState) (what : Task) → Why t what → Dated t.table (after_task what t).table
+pub dates-task : (t : TrafficState) (what : Task) → Why t what → Dated t.table (after_task what t).table
 dates-task t task.Opens why = same_dates refl
 dates-task t task.Writes why = same_dates refl
 dates-task t task.Doubts why = same_dates (by (first_message t.inbox))

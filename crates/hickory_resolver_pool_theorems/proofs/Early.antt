@@ -1,5 +1,5 @@
 -- What is done with a transaction before it goes on.
-use Rattle.std.proofs.Common.{◌≡◌, ◌≤◌, ◌<◌, ◌+◌, ◌-◌, ◌^◌, min, suc, zero, ℕ, Bool, true, false, cond, List, [], ◌∷◌, length, drop, refl, ap, sym, subst, ◌∙◌, true≢false, arith, inl, inr, ◌⊎◌, ltb, ltb-true}
+use Rattle.std.proofs.Common.{◌≡◌, ◌≤◌, ◌<◌, ◌+◌, ◌-◌, ◌^◌, min, suc, zero, ℕ, Bool, true, false, cond, List, [], ◌∷◌, length, drop, refl, ap, sym, subst, ◌∙◌, true≢false, arith, inl, inr, ◌⊎◌, ltb, ltb-true, leb, leb-true}
 use Rattle.std.specs.Prelude.{Option, None, Some, slice_get, position}
 use Rattle.std.specs.Ordering.{nat_cmp, is_eq}
 use Rattle.std.specs.BTreeMap.{is_at}
@@ -12,9 +12,9 @@ use Rattle.hickory_resolver_flights.specs.declared.heard.Heard.{Heard}
 use Rattle.hickory_resolver_flights.specs.declared.heard.Heard.TheVariants.{Nothing, OtherLetters, OptRefused, Reply}
 use Rattle.hickory_resolver_steps.specs.Ending.{try_at_place}
 use Rattle.hickory_resolver_steps.specs.declared.flying.SentTry.{SentTry}
-use Rattle.hickory_resolver_transactions.specs.Transaction.{wanted, freed}
+use Rattle.hickory_resolver_transactions.specs.Transaction.{wanted, freed, next_deadline, expired}
 use Rattle.hickory_resolver_traffic.specs.Acting.{acted_with}
-use Rattle.hickory_resolver_traffic.specs.Doing.{Scene, IsDone, after_first, heard_of, hears_octets, hears, broken, doubts_message, doubts_first, doubts, fails_on, after_failed, fails, act_on, before_act, with_acted, moment_of, stalls_on, stalls, leaving_at, leave_at, closed_at, freed_if, leaves, quits_at, after_quit, quits, place_on, is_on, with_to_do, expires, frees, then_do, changing, is_stream, is_empty}
+use Rattle.hickory_resolver_traffic.specs.Doing.{Scene, IsDone, after_first, heard_of, hears_octets, hears, broken, doubts_message, doubts_first, doubts, fails_on, after_failed, fails, act_on, before_act, with_acted, moment_of, stalls_on, stalls, leaving_at, leave_at, closed_at, freed_if, leaves, quits_at, after_quit, quits, place_on, is_on, with_to_do, expires, frees, then_do, changing, is_stream, is_empty, is_due}
 use Rattle.hickory_resolver_traffic.specs.Groups.{GroupListState, list_in}
 use Rattle.hickory_resolver_traffic.specs.Inbox.{InboxState, MessageValue, first_message, without_message, first_failure, without_failure, with_failure}
 use Rattle.hickory_resolver_traffic.specs.Table.{is_blocked, without_blocked}
@@ -24,11 +24,11 @@ use Rattle.hickory_resolver_traffic.specs.declared.doing.Doing.{Doing}
 use Rattle.hickory_resolver_traffic.specs.declared.doing.Doing.TheVariants as doing
 use Rattle.hickory_resolver_traffic.specs.declared.entry.ToDo.TheVariants as todo
 use Rattle.hickory_resolver_traffic.specs.declared.inbox.ChannelFailure.{ChannelFailure}
-use Rattle.hickory_resolver_pool_theorems.proofs.Budgets.{budget, budget-late, budget-freed}
+use Rattle.hickory_resolver_pool_theorems.proofs.Budgets.{budget, budget-expired, budget-freed}
 use Rattle.hickory_resolver_pool_theorems.proofs.Frames.{kept-done}
 use Rattle.hickory_resolver_pool_theorems.proofs.Keys.{nat-self}
 use Rattle.hickory_resolver_pool_theorems.proofs.KeySets.{or-left}
-use Rattle.hickory_resolver_pool_theorems.proofs.Moves.{cost_of, over_in, wants_in}
+use Rattle.hickory_resolver_pool_theorems.proofs.Moves.{cost_of, wants_in}
 use Rattle.hickory_resolver_pool_theorems.proofs.PutAway.{IsFit}
 use Rattle.hickory_resolver_pool_theorems.proofs.Weights.{octets_of, came_of, one-less, length-first}
 use Rattle.hickory_resolver_pool_theorems.proofs.Whole.{streams-done}
@@ -327,21 +327,26 @@ quits-is x placed = by (place_on x) refl placed
 pub record HasExpired (x y : Scene) : Type 0 where
   pub inbox : y.traffic.inbox ≡ x.traffic.inbox
   pub to_do : y.current.to_do ≡ todo.GoOn
-  pub cost : cost_of y.current.entry ≤ cost_of x.current.entry
-  pub channels : length y.traffic.shared.channels.channels ≡ length x.traffic.shared.channels.channels
-  pub ready : y.traffic.ready ≡ x.traffic.ready
-  pub over : over_in y ≡ over_in x
+  pub cost : cost_of y.current.entry < cost_of x.current.entry
 
-pub expires-is : (x : Scene) → IsFit x → HasExpired x (expires x)
-expires-is x fit = by (list_in x.current.entry.asked.0 x.traffic.groups.lists)
+pub expires-is : (x : Scene) → IsFit x → is_due x.current.entry x.traffic ≡ true → HasExpired x (expires x)
+expires-is x fit due = by (list_in x.current.entry.asked.0 x.traffic.groups.lists) fit.there
   where
-    by : (l : Option GroupListState) → HasExpired x (with_to_do todo.GoOn (with_acted x (option_map_or
+    when : (o : Option ℕ) → next_deadline x.current.entry.flying.flight.transaction ≡ o
+        → option_map_or (λ d. leb d x.traffic.clock) o false ≡ true
+        → budget true (expired x.traffic.clock x.current.entry.flying.flight.transaction) + 4
+        ≤ budget true x.current.entry.flying.flight.transaction
+    when None at h = absurd (true≢false (sym h))
+    when (Some d) at h =
+        budget-expired true x.current.entry.flying.flight.transaction x.traffic.clock fit.places d at (leb-true d x.traffic.clock h)
+
+    by : (l : Option GroupListState) → is_some l ≡ true → HasExpired x (with_to_do todo.GoOn (with_acted x (option_map_or
         (acted_with Expire x.current.number (moment_of x.traffic) [] x.current.entry.asked.0 (before_act x)) l
         (before_act x))))
-    by None = record { inbox = refl; to_do = refl; cost = omega arith; channels = refl; ready = refl; over = refl }
-    by (Some l) =
-        let less = budget-late true x.current.entry.flying.flight.transaction x.traffic.clock fit.places in
-        record { inbox = refl; to_do = refl; cost = omega (arith, less); channels = refl; ready = refl; over = refl }
+    by None h = absurd (true≢false (sym h))
+    by (Some l) h =
+        let less = when (next_deadline x.current.entry.flying.flight.transaction) refl due in
+        record { inbox = refl; to_do = refl; cost = omega (arith, less) }
 
 -- ---- a channel is free
 
@@ -351,7 +356,6 @@ pub record HasFreed (x y : Scene) : Type 0 where
   pub cost : cost_of y.current.entry ≤ cost_of x.current.entry
   pub channels : length y.traffic.shared.channels.channels ≡ length x.traffic.shared.channels.channels
   pub ready : y.traffic.ready ≡ x.traffic.ready
-  pub over : over_in y ≡ over_in x
   pub waits : y.traffic.freed + length y.traffic.table.blocked < x.traffic.freed + length x.traffic.table.blocked
   pub why : (is_blocked y.current.number y.traffic.table ≡ true) ⊎ (wants_in y ≡ false)
 
@@ -387,7 +391,6 @@ frees-is x fit first some = by (is_some (wanted (changed freed x.current.entry.f
           cost = omega (arith, fewer);
           channels = refl;
           ready = refl;
-          over = refl;
           waits = omega (arith, some);
           why = inl (in-first x.traffic.table.blocked first);
         }
@@ -400,7 +403,6 @@ frees-is x fit first some = by (is_some (wanted (changed freed x.current.entry.f
           cost = omega (arith, fewer);
           channels = refl;
           ready = refl;
-          over = refl;
           waits = omega (arith, shorter);
           why = inr is;
         }

@@ -23,7 +23,7 @@ use Rattle.hickory_resolver_pool_theorems.proofs.Lex.{Numbers, Less}
 use Rattle.hickory_resolver_pool_theorems.proofs.Moves.{cost_of}
 use Rattle.hickory_resolver_pool_theorems.proofs.PutAway.{WhyGo, why-going}
 use Rattle.hickory_resolver_pool_theorems.proofs.Tracks.{tries_in, view_of, Start, IsHearing, Lower, of_cost, of_channels, of_due, of_waits, Track, has_read, has_settled, is_hearing, is_failing, is_quitting, has_quit, is_expiring, is_freeing, is_refused, goes}
-use Rattle.hickory_resolver_pool_theorems.proofs.Weights.{weigh, weigh-inserted, came_of, overdue, overdue-back}
+use Rattle.hickory_resolver_pool_theorems.proofs.Weights.{weigh, weigh-inserted, came_of}
 
 -- ---- how much is left of a pool that works on none
 
@@ -34,7 +34,7 @@ start_of t = record {
   tries = weigh tries_in t.table.entries;
   cost = weigh cost_of t.table.entries;
   channels = length t.shared.channels.channels;
-  due = length t.ready + overdue t.clock None t.table.deadlines + length t.askers.waiting;
+  due = length t.ready + length t.askers.waiting;
   waits = t.freed + length t.table.blocked;
 }
 
@@ -127,7 +127,7 @@ module _ (b : Start) (s : PoolState) (c : CurrentState) where
   end-fell end (is_quitting came failed some few to_do placed) =
       absurd (true≢false (sym end ∙ ap (λ (e : ToDo). is_end (doing_for e c.number c.entry s.traffic)) to_do))
   end-fell end (has_quit came failed some few to_do) = fell_tries came failed some (omega (arith, few))
-  end-fell end (is_expiring came failed none cost channels due to_do) =
+  end-fell end (is_expiring came failed none cost past to_do) =
       absurd (true≢false (sym end ∙ ap (λ (e : ToDo). is_end (doing_for e c.number c.entry s.traffic)) to_do))
   end-fell end (is_freeing came failed none cost channels due waits first some to_do) =
       absurd (true≢false (sym end ∙ ap (λ (e : ToDo). is_end (doing_for e c.number c.entry s.traffic)) to_do))
@@ -141,155 +141,127 @@ module _ (b : Start) (s : PoolState) (c : CurrentState) where
       by (of_waits le one two less why) = omega (arith, le)
 
   -- it waits, or goes on later
-  module _ (ahead : (d : ℕ) → list_any (is_at (pair_cmp (d, c.number))) s.traffic.table.deadlines ≡ true
-      → c.entry.due ≡ Some d) where
-    abbrev pub Put : Doing → Type 0
-    Put what = Fell b (start_of (put_by what c s).traffic)
+  abbrev pub Put : Doing → Type 0
+  Put what = Fell b (start_of (put_by what c s).traffic)
 
-    put-read : came_of s.traffic.inbox < b.came → (what : Doing) → is_put what ≡ true → Put what
-    put-read less doings.PutsBack h = fell_read less
-    put-read less doings.Rests h = fell_read less
-    put-read less doings.Hears h = absurd (true≢false (sym h))
-    put-read less doings.Doubts h = absurd (true≢false (sym h))
-    put-read less doings.Stalls h = absurd (true≢false (sym h))
-    put-read less doings.Fails h = absurd (true≢false (sym h))
-    put-read less doings.Quits h = absurd (true≢false (sym h))
-    put-read less doings.Expires h = absurd (true≢false (sym h))
-    put-read less doings.Frees h = absurd (true≢false (sym h))
-    put-read less doings.Refused h = absurd (true≢false (sym h))
-    put-read less (doings.Leaves place) h = absurd (true≢false (sym h))
-    put-read less doings.Ends h = absurd (true≢false (sym h))
-    put-read less doings.Draws h = absurd (true≢false (sym h))
-    put-read less (doings.BeginsRound place) h = absurd (true≢false (sym h))
-    put-read less doings.GivesUp h = absurd (true≢false (sym h))
-    put-read less doings.Blocks h = absurd (true≢false (sym h))
-    put-read less doings.Sends h = absurd (true≢false (sym h))
-    put-read less (doings.Dates due) h = absurd (true≢false (sym h))
+  put-read : came_of s.traffic.inbox < b.came → (what : Doing) → is_put what ≡ true → Put what
+  put-read less doings.PutsBack h = fell_read less
+  put-read less doings.Rests h = fell_read less
+  put-read less doings.Hears h = absurd (true≢false (sym h))
+  put-read less doings.Doubts h = absurd (true≢false (sym h))
+  put-read less doings.Stalls h = absurd (true≢false (sym h))
+  put-read less doings.Fails h = absurd (true≢false (sym h))
+  put-read less doings.Quits h = absurd (true≢false (sym h))
+  put-read less doings.Expires h = absurd (true≢false (sym h))
+  put-read less doings.Frees h = absurd (true≢false (sym h))
+  put-read less doings.Refused h = absurd (true≢false (sym h))
+  put-read less (doings.Leaves place) h = absurd (true≢false (sym h))
+  put-read less doings.Ends h = absurd (true≢false (sym h))
+  put-read less doings.Draws h = absurd (true≢false (sym h))
+  put-read less (doings.BeginsRound place) h = absurd (true≢false (sym h))
+  put-read less doings.GivesUp h = absurd (true≢false (sym h))
+  put-read less doings.Blocks h = absurd (true≢false (sym h))
+  put-read less doings.Sends h = absurd (true≢false (sym h))
+  put-read less (doings.Dates due) h = absurd (true≢false (sym h))
 
-    put-settled : came_of s.traffic.inbox ≤ b.came → length s.traffic.inbox.failures < b.failed → (what : Doing)
-        → is_put what ≡ true → Put what
-    put-settled came less doings.PutsBack h = fell_settled came less
-    put-settled came less doings.Rests h = fell_settled came less
-    put-settled came less doings.Hears h = absurd (true≢false (sym h))
-    put-settled came less doings.Doubts h = absurd (true≢false (sym h))
-    put-settled came less doings.Stalls h = absurd (true≢false (sym h))
-    put-settled came less doings.Fails h = absurd (true≢false (sym h))
-    put-settled came less doings.Quits h = absurd (true≢false (sym h))
-    put-settled came less doings.Expires h = absurd (true≢false (sym h))
-    put-settled came less doings.Frees h = absurd (true≢false (sym h))
-    put-settled came less doings.Refused h = absurd (true≢false (sym h))
-    put-settled came less (doings.Leaves place) h = absurd (true≢false (sym h))
-    put-settled came less doings.Ends h = absurd (true≢false (sym h))
-    put-settled came less doings.Draws h = absurd (true≢false (sym h))
-    put-settled came less (doings.BeginsRound place) h = absurd (true≢false (sym h))
-    put-settled came less doings.GivesUp h = absurd (true≢false (sym h))
-    put-settled came less doings.Blocks h = absurd (true≢false (sym h))
-    put-settled came less doings.Sends h = absurd (true≢false (sym h))
-    put-settled came less (doings.Dates due) h = absurd (true≢false (sym h))
+  put-settled : came_of s.traffic.inbox ≤ b.came → length s.traffic.inbox.failures < b.failed → (what : Doing)
+      → is_put what ≡ true → Put what
+  put-settled came less doings.PutsBack h = fell_settled came less
+  put-settled came less doings.Rests h = fell_settled came less
+  put-settled came less doings.Hears h = absurd (true≢false (sym h))
+  put-settled came less doings.Doubts h = absurd (true≢false (sym h))
+  put-settled came less doings.Stalls h = absurd (true≢false (sym h))
+  put-settled came less doings.Fails h = absurd (true≢false (sym h))
+  put-settled came less doings.Quits h = absurd (true≢false (sym h))
+  put-settled came less doings.Expires h = absurd (true≢false (sym h))
+  put-settled came less doings.Frees h = absurd (true≢false (sym h))
+  put-settled came less doings.Refused h = absurd (true≢false (sym h))
+  put-settled came less (doings.Leaves place) h = absurd (true≢false (sym h))
+  put-settled came less doings.Ends h = absurd (true≢false (sym h))
+  put-settled came less doings.Draws h = absurd (true≢false (sym h))
+  put-settled came less (doings.BeginsRound place) h = absurd (true≢false (sym h))
+  put-settled came less doings.GivesUp h = absurd (true≢false (sym h))
+  put-settled came less doings.Blocks h = absurd (true≢false (sym h))
+  put-settled came less doings.Sends h = absurd (true≢false (sym h))
+  put-settled came less (doings.Dates due) h = absurd (true≢false (sym h))
 
-    -- it rests, so that it is not overdue
-    resting : same_moment (next_deadline c.entry.flying.flight.transaction) c.entry.due ≡ true
-        → is_due c.entry s.traffic ≡ false → (d : ℕ)
-        → list_any (is_at (pair_cmp (d, c.number))) s.traffic.table.deadlines ≡ true → s.traffic.clock < d
-    resting same early d h = by (next_deadline c.entry.flying.flight.transaction) refl (ahead d h)
-      where
-        at : (n : ℕ) → next_deadline c.entry.flying.flight.transaction ≡ Some n → eqb n d ≡ true → s.traffic.clock < d
-        at n is equal =
-            let moment : n ≡ d = eqb-true n d equal in
-            let later = leb-false n s.traffic.clock
-            (sym (ap (λ (o : Option ℕ). option_map_or (λ due. leb due s.traffic.clock) o false) is) ∙ early) in
-            omega (arith, moment, later)
+  put-rests : came_of s.traffic.inbox ≤ b.came → length s.traffic.inbox.failures ≤ 0 → b.failed ≡ 0
+      → Lower b (view_of x) → (what : Doing) → is_put what ≡ true → WhyGo c.entry c.number s.traffic what → Put what
+  put-rests came failed none low doings.Rests h why = by low
+    where
+      cost : weigh cost_of (insert_entry nat_cmp s.traffic.table.entries c.number c.entry)
+          ≤ weigh cost_of s.traffic.table.entries + cost_of c.entry
+      cost = weigh-inserted cost_of c.number c.entry s.traffic.table.entries
 
-        by : (o : Option ℕ) → next_deadline c.entry.flying.flight.transaction ≡ o → c.entry.due ≡ Some d → s.traffic.clock < d
-        by None is own =
-            absurd (true≢false (sym same ∙ ap (λ (p : Option ℕ). same_moment p c.entry.due) is
-            ∙ ap (λ (p : Option ℕ). same_moment None p) own))
-        by (Some n) is own =
-            at n is (sym (ap (λ (p : Option ℕ). same_moment p c.entry.due) is ∙ ap (λ (p : Option ℕ). same_moment (Some n) p) own) ∙ same)
+      by : Lower b (view_of x) → Put doings.Rests
+      by (of_cost less) = let le = cost in fell_cost came failed none (omega (arith, le, less))
+      by (of_channels le less) = let more = cost in fell_channels came failed none (omega (arith, le, more)) less
+      by (of_due le one less) =
+          let more = cost in fell_due came failed none (omega (arith, le, more)) one less
+      by (of_waits le one two less w) =
+          let more = cost in fell_waits came failed none (omega (arith, le, more)) one two less
+  put-rests came failed none low doings.PutsBack h why = absurd why
+  put-rests came failed none low doings.Hears h why = absurd why
+  put-rests came failed none low doings.Doubts h why = absurd why
+  put-rests came failed none low doings.Stalls h why = absurd why
+  put-rests came failed none low doings.Fails h why = absurd why
+  put-rests came failed none low doings.Quits h why = absurd why
+  put-rests came failed none low doings.Expires h why = absurd (true≢false (sym h))
+  put-rests came failed none low doings.Frees h why = absurd why
+  put-rests came failed none low doings.Refused h why = absurd why
+  put-rests came failed none low (doings.Leaves place) h why = absurd (true≢false (sym h))
+  put-rests came failed none low doings.Ends h why = absurd (true≢false (sym h))
+  put-rests came failed none low doings.Draws h why = absurd (true≢false (sym h))
+  put-rests came failed none low (doings.BeginsRound place) h why = absurd (true≢false (sym h))
+  put-rests came failed none low doings.GivesUp h why = absurd (true≢false (sym h))
+  put-rests came failed none low doings.Blocks h why = absurd (true≢false (sym h))
+  put-rests came failed none low doings.Sends h why = absurd (true≢false (sym h))
+  put-rests came failed none low (doings.Dates due) h why = absurd (true≢false (sym h))
 
-    put-rests : came_of s.traffic.inbox ≤ b.came → length s.traffic.inbox.failures ≤ 0 → b.failed ≡ 0
-        → Lower b (view_of x) → (what : Doing) → is_put what ≡ true → WhyGo c.entry c.number s.traffic what → Put what
-    put-rests came failed none low doings.Rests h why = by low
-      where
-        cost : weigh cost_of (insert_entry nat_cmp s.traffic.table.entries c.number c.entry)
-            ≤ weigh cost_of s.traffic.table.entries + cost_of c.entry
-        cost = weigh-inserted cost_of c.number c.entry s.traffic.table.entries
+  no_put : (d : ToDo) → c.to_do ≡ d → is_put (doing_for d c.number c.entry s.traffic) ≡ false
+      → is_put (doing c s.traffic) ≡ true → ⊥
+  no_put d same none put =
+      true≢false (sym put ∙ ap (λ (e : ToDo). is_put (doing_for e c.number c.entry s.traffic)) same ∙ none)
 
-        over : overdue s.traffic.clock None s.traffic.table.deadlines
-            ≤ overdue s.traffic.clock (Some c.number) s.traffic.table.deadlines
-        over = overdue-back s.traffic.clock c.number s.traffic.table.deadlines (resting why.0 why.1)
+  pub put-fell : is_put (doing c s.traffic) ≡ true → Track b (view_of x) → Put (doing c s.traffic)
+  put-fell put (has_read less) = put-read less (doing c s.traffic) put
+  put-fell put (has_settled came fewer late) = put-settled came fewer (doing c s.traffic) put
+  put-fell put (is_hearing came some hearing) = absurd (by c.to_do refl hearing)
+    where
+      by : (d : ToDo) → c.to_do ≡ d → IsHearing d → ⊥
+      by todo.Hear same h = no_put todo.Hear same refl put
+      by todo.Doubt same h = no_put todo.Doubt same refl put
+      by todo.GoOn same h = h
+      by todo.PutBack same h = h
+      by todo.Fail same h = h
+      by todo.Quit same h = h
+      by todo.Expire same h = h
+      by todo.Free same h = h
+      by todo.Refuse same h = h
+  put-fell put (is_failing came failed some few to_do placed) = absurd (by (first_failure s.traffic.inbox) refl placed)
+    where
+      no_end : (f : Failure) → is_put (by_failure f) ≡ false
+      no_end failure.Local = refl
+      no_end failure.Refused = refl
+      no_end failure.Unreachable = refl
+      no_end failure.Closed = refl
 
-        by : Lower b (view_of x) → Put doings.Rests
-        by (of_cost less) = let le = cost in fell_cost came failed none (omega (arith, le, less))
-        by (of_channels le less) = let more = cost in fell_channels came failed none (omega (arith, le, more)) less
-        by (of_due le one less) =
-            let more = cost in let ov = over in
-            fell_due came failed none (omega (arith, le, more)) one (omega (arith, ov, less))
-        by (of_waits le one two less w) =
-            let more = cost in let ov = over in
-            fell_waits came failed none (omega (arith, le, more)) one (omega (arith, ov, two)) less
-    put-rests came failed none low doings.PutsBack h why = absurd why
-    put-rests came failed none low doings.Hears h why = absurd why
-    put-rests came failed none low doings.Doubts h why = absurd why
-    put-rests came failed none low doings.Stalls h why = absurd why
-    put-rests came failed none low doings.Fails h why = absurd why
-    put-rests came failed none low doings.Quits h why = absurd why
-    put-rests came failed none low doings.Expires h why = absurd (true≢false (sym h))
-    put-rests came failed none low doings.Frees h why = absurd why
-    put-rests came failed none low doings.Refused h why = absurd why
-    put-rests came failed none low (doings.Leaves place) h why = absurd (true≢false (sym h))
-    put-rests came failed none low doings.Ends h why = absurd (true≢false (sym h))
-    put-rests came failed none low doings.Draws h why = absurd (true≢false (sym h))
-    put-rests came failed none low (doings.BeginsRound place) h why = absurd (true≢false (sym h))
-    put-rests came failed none low doings.GivesUp h why = absurd (true≢false (sym h))
-    put-rests came failed none low doings.Blocks h why = absurd (true≢false (sym h))
-    put-rests came failed none low doings.Sends h why = absurd (true≢false (sym h))
-    put-rests came failed none low (doings.Dates due) h why = absurd (true≢false (sym h))
-
-    no_put : (d : ToDo) → c.to_do ≡ d → is_put (doing_for d c.number c.entry s.traffic) ≡ false
-        → is_put (doing c s.traffic) ≡ true → ⊥
-    no_put d same none put =
-        true≢false (sym put ∙ ap (λ (e : ToDo). is_put (doing_for e c.number c.entry s.traffic)) same ∙ none)
-
-    pub put-fell : is_put (doing c s.traffic) ≡ true → Track b (view_of x) → Put (doing c s.traffic)
-    put-fell put (has_read less) = put-read less (doing c s.traffic) put
-    put-fell put (has_settled came fewer late) = put-settled came fewer (doing c s.traffic) put
-    put-fell put (is_hearing came some hearing) = absurd (by c.to_do refl hearing)
-      where
-        by : (d : ToDo) → c.to_do ≡ d → IsHearing d → ⊥
-        by todo.Hear same h = no_put todo.Hear same refl put
-        by todo.Doubt same h = no_put todo.Doubt same refl put
-        by todo.GoOn same h = h
-        by todo.PutBack same h = h
-        by todo.Fail same h = h
-        by todo.Quit same h = h
-        by todo.Expire same h = h
-        by todo.Free same h = h
-        by todo.Refuse same h = h
-    put-fell put (is_failing came failed some few to_do placed) = absurd (by (first_failure s.traffic.inbox) refl placed)
-      where
-        no_end : (f : Failure) → is_put (by_failure f) ≡ false
-        no_end failure.Local = refl
-        no_end failure.Refused = refl
-        no_end failure.Unreachable = refl
-        no_end failure.Closed = refl
-
-        by : (f : Option ChannelFailure) → first_failure s.traffic.inbox ≡ f
-            → is_some (option_and_then (λ g. position (is_on g.channel) c.entry.flying.tries) f) ≡ true → ⊥
-        by None at h = true≢false (sym h)
-        by (Some f) at h =
-            no_put todo.Fail to_do
-            (ap (λ (o : Option ChannelFailure). is_put (option_map_or (λ g. by_failure g.why) o doings.PutsBack)) at ∙ no_end f.why)
-            put
-    put-fell put (is_quitting came failed some few to_do placed) = absurd (no_put todo.Quit to_do refl put)
-    put-fell put (has_quit came failed some few to_do) =
-        subst Put (sym (ap (λ (e : ToDo). doing_for e c.number c.entry s.traffic) to_do))
-        (let more = weigh-inserted tries_in c.number c.entry s.traffic.table.entries in
-        fell_tries came failed some (omega (arith, more, few)))
-    put-fell put (is_expiring came failed none cost channels due to_do) = absurd (no_put todo.Expire to_do refl put)
-    put-fell put (is_freeing came failed none cost channels due waits first some to_do) = absurd (no_put todo.Free to_do refl put)
-    put-fell put (is_refused came failed none cost to_do) = absurd (no_put todo.Refuse to_do refl put)
-    put-fell put (goes came failed none low to_do) =
-        put-rests came failed none low (doing c s.traffic) put
-        (subst (WhyGo c.entry c.number s.traffic)
-        (sym (ap (λ (d : ToDo). doing_for d c.number c.entry s.traffic) to_do)) (why-going c.entry c.number s.traffic))
+      by : (f : Option ChannelFailure) → first_failure s.traffic.inbox ≡ f
+          → is_some (option_and_then (λ g. position (is_on g.channel) c.entry.flying.tries) f) ≡ true → ⊥
+      by None at h = true≢false (sym h)
+      by (Some f) at h =
+          no_put todo.Fail to_do
+          (ap (λ (o : Option ChannelFailure). is_put (option_map_or (λ g. by_failure g.why) o doings.PutsBack)) at ∙ no_end f.why)
+          put
+  put-fell put (is_quitting came failed some few to_do placed) = absurd (no_put todo.Quit to_do refl put)
+  put-fell put (has_quit came failed some few to_do) =
+      subst Put (sym (ap (λ (e : ToDo). doing_for e c.number c.entry s.traffic) to_do))
+      (let more = weigh-inserted tries_in c.number c.entry s.traffic.table.entries in
+      fell_tries came failed some (omega (arith, more, few)))
+  put-fell put (is_expiring came failed none cost past to_do) = absurd (no_put todo.Expire to_do refl put)
+  put-fell put (is_freeing came failed none cost channels due waits first some to_do) = absurd (no_put todo.Free to_do refl put)
+  put-fell put (is_refused came failed none cost to_do) = absurd (no_put todo.Refuse to_do refl put)
+  put-fell put (goes came failed none low to_do) =
+      put-rests came failed none low (doing c s.traffic) put
+      (subst (WhyGo c.entry c.number s.traffic)
+      (sym (ap (λ (d : ToDo). doing_for d c.number c.entry s.traffic) to_do)) (why-going c.entry c.number s.traffic))

@@ -1,3 +1,4 @@
+pub mod Alive
 pub mod Answers
 pub mod Asked
 pub mod Askings
@@ -43,6 +44,7 @@ pub mod Opens
 pub mod OutKept
 pub mod OverOnce
 pub mod Overs
+pub mod Owned
 pub mod Pools
 pub mod Ports
 pub mod Present

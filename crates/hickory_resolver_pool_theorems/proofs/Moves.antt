@@ -28,14 +28,10 @@ use Rattle.hickory_resolver_traffic.specs.declared.entry.ToDo.TheVariants as tod
 use Rattle.hickory_resolver_pool.specs.Pool.{is_end, is_put}
 use Rattle.hickory_resolver_pool_theorems.proofs.Budgets.{budget, length-pushed, budget-given_up, budget-round, budget-sent, budget-unsent, budget-expired}
 use Rattle.hickory_resolver_pool_theorems.proofs.PutAway.{WhyGo, IsFit}
-use Rattle.hickory_resolver_pool_theorems.proofs.Weights.{overdue, overdue-inserted, overdue-removed}
 
 -- how much is left of a transaction
 abbrev pub cost_of : EntryState → ℕ
 cost_of e = budget true e.flying.flight.transaction + 4 * length e.flying.tries + 1
-
-abbrev pub over_in : Scene → ℕ
-over_in x = overdue x.traffic.clock (Some x.current.number) x.traffic.table.deadlines
 
 abbrev pub wants_in : Scene → Bool
 wants_in x = is_some (wanted x.current.entry.flying.flight.transaction)
@@ -44,7 +40,6 @@ wants_in x = is_some (wanted x.current.entry.flying.flight.transaction)
 pub record IsLike (x y : Scene) : Type 0 where
   pub cost : cost_of y.current.entry ≤ cost_of x.current.entry
   pub channels : length y.traffic.shared.channels.channels ≡ length x.traffic.shared.channels.channels
-  pub over : over_in y ≤ over_in x
   pub freed : y.traffic.freed ≡ x.traffic.freed
   pub blocked : y.traffic.table.blocked ≡ x.traffic.table.blocked
   pub wants : (wants_in x ≡ true) ⊎ (wants_in y ≡ wants_in x)
@@ -53,7 +48,6 @@ pub record IsLike (x y : Scene) : Type 0 where
 pub record IsNoting (x y : Scene) : Type 0 where
   pub cost : cost_of y.current.entry ≤ cost_of x.current.entry
   pub channels : length y.traffic.shared.channels.channels ≡ length x.traffic.shared.channels.channels
-  pub over : over_in y ≤ over_in x
   pub none : is_blocked x.current.number x.traffic.table ≡ false
   pub wants : wants_in x ≡ true
 
@@ -134,7 +128,6 @@ module _ (x : Scene) (fit : IsFit x) (going : x.current.to_do ≡ todo.GoOn) whe
     change = stays (record {
       cost = omega arith;
       channels = refl;
-      over = omega arith;
       freed = refl;
       blocked = refl;
       wants = inr refl;
@@ -172,7 +165,7 @@ module _ (x : Scene) (fit : IsFit x) (going : x.current.to_do ≡ todo.GoOn) whe
     go = going;
     ready = refl;
     clock = refl;
-    change = notes (record { cost = omega arith; channels = refl; over = omega arith; none = none; wants = wants });
+    change = notes (record { cost = omega arith; channels = refl; none = none; wants = wants });
   }
 
   moves-dates : (due : Option ℕ) → Moves x (dates due x)
@@ -184,31 +177,11 @@ module _ (x : Scene) (fit : IsFit x) (going : x.current.to_do ≡ todo.GoOn) whe
     change = stays (record {
       cost = omega arith;
       channels = refl;
-      over = all x.current.entry.due due;
       freed = refl;
       blocked = refl;
       wants = inr refl;
     });
   }
-    where
-      n : ℕ
-      n = x.current.number
-
-      clock : ℕ
-      clock = x.traffic.clock
-
-      put : (o : Option ℕ) → overdue clock (Some n) (dated n o x.traffic.table.deadlines)
-          ≤ overdue clock (Some n) x.traffic.table.deadlines
-      put None = omega arith
-      put (Some d) = overdue-inserted clock n d x.traffic.table.deadlines
-
-      all : (old new : Option ℕ) → overdue clock (Some n) (not_dated n old (dated n new x.traffic.table.deadlines))
-          ≤ overdue clock (Some n) x.traffic.table.deadlines
-      all None new = put new
-      all (Some d) new =
-          let one = put new in
-          let two = overdue-removed clock (Some n) (is_at (pair_cmp (d, n))) (dated n new x.traffic.table.deadlines) in
-          omega (arith, one, two)
 
   -- ---- what is sent
 
@@ -248,8 +221,7 @@ module _ (x : Scene) (fit : IsFit x) (going : x.current.to_do ≡ todo.GoOn) whe
             change = stays (record {
               cost = omega (arith, less);
               channels = refl;
-              over = omega arith;
-              freed = refl;
+                      freed = refl;
               blocked = refl;
               wants = inl wants;
             });

@@ -225,6 +225,15 @@ port-is : (kind : ChannelKind) (server : ServerState) → is_some (port_by (by_k
 port-is Datagram server h = port-some server.udp_port h
 port-is Stream server h = port-some server.tcp_port h
 
+-- of the server of a list that is at a place, as its servers were given
+port-given : (kind : ChannelKind) (place : ℕ) (servers given : List ServerState) (server config : ServerState)
+    → bare_all servers ≡ given → slice_get servers place ≡ Some server → bare server ≡ config
+    → has_port given place (by_kind kind) ≡ true → port_given kind config ≡ Some (port_for kind server)
+port-given kind place servers given server config as_given at is has =
+    ap (λ (x : ServerState). port_given kind x) (sym is) ∙ port-is kind server
+    (sym (ap (λ (x : Option ServerState). option_map_or (λ v. is_some (port_by (by_kind kind) v)) x false) at)
+    ∙ has-bare servers place (by_kind kind) ∙ ap (λ (xs : List ServerState). has_port xs place (by_kind kind)) as_given ∙ has)
+
 -- ---- channels that were opened
 
 abbrev OpensBelow : ℕ → Option Action → Type 0
@@ -651,13 +660,6 @@ opens_to_own_servers options limits seed past s after o runs steps =
     ap (λ (n : ℕ). given_in n past) going.list ∙ sym served.servers in
     let at = found-at (given_in opened.out.list past) opened.out.sending.place l.servers.servers l.sources server
     given.states given.sources of.at_place in
-    let kind : ChannelKind = opened.out.sending.kind in
-    let place : ℕ = opened.out.sending.place in
-    let has : has_port l.servers.servers place (by_kind kind) ≡ true =
-    has-bare l.servers.servers place (by_kind kind)
-    ∙ ap (λ (xs : List ServerState). has_port xs place (by_kind kind)) given.states ∙ going.port in
-    let own : is_some (port_by (by_kind kind) server) ≡ true =
-    sym (ap (λ (x : Option ServerState). option_map_or (λ v. is_some (port_by (by_kind kind) v)) x false) of.at_place) ∙ has in
     record {
       current = going.current;
       works = going.works;
@@ -679,8 +681,9 @@ opens_to_own_servers options limits seed past s after o runs steps =
         address = ap (λ (x : OpeningValue). x.address) of.is ∙ ap (λ (x : ServerState). x.address) at.3;
         scope = ap (λ (x : OpeningValue). x.scope) of.is ∙ ap (λ (x : ServerState). x.scope) at.3;
         port = ap (λ (x : OpeningValue). port_given x.kind (server_of at.0.config at.0.scope)) of.is
-            ∙ ap (λ (x : ServerState). port_given kind x) (sym at.3)
-            ∙ port-is kind server own
+            ∙ port-given opened.out.sending.kind opened.out.sending.place l.servers.servers
+            (states_of (given_in opened.out.list past)) server (server_of at.0.config at.0.scope) given.states of.at_place at.3
+            going.port
             ∙ ap (λ (x : OpeningValue). Some x.port) (sym of.is);
         bind_addr = ap (λ (x : OpeningValue). x.bind_addr) of.is
             ∙ ap (λ (x : Option Sources). option_and_then (source_for opened.out.sending.kind) x) at.4

@@ -70,19 +70,23 @@ WhyGo e n t Sends = is_some (wanted e.flying.flight.transaction) ≡ true
 WhyGo e n t (Dates due) =
     (same_moment due e.due ≡ false) × (due ≡ next_deadline e.flying.flight.transaction)
 WhyGo e n t Ends = Unit {0}
-WhyGo e n t Rests = (same_moment (next_deadline e.flying.flight.transaction) e.due ≡ true) × (is_due e t ≡ false)
+WhyGo e n t Rests =
+    (same_moment (next_deadline e.flying.flight.transaction) e.due ≡ true) × (is_due e t ≡ false)
+    × (is_ending n e.flying t ≡ false) × (wants_round e.flying.flight.transaction ≡ false)
+    × (is_some (wanted e.flying.flight.transaction) ≡ false)
 WhyGo e n t other = ⊥
 
 module _ (e : EntryState) (n : ℕ) (t : TrafficState) where
   abbrev tr : TransactionState
   tr = e.flying.flight.transaction
 
-  why-rest : is_due e t ≡ false → WhyGo e n t (at_rest e)
-  why-rest early = by (same_moment (next_deadline tr) e.due) refl
+  why-rest : is_due e t ≡ false → is_ending n e.flying t ≡ false → wants_round tr ≡ false → is_some (wanted tr) ≡ false
+      → WhyGo e n t (at_rest e)
+  why-rest early lives no_round no_want = by (same_moment (next_deadline tr) e.due) refl
     where
       by : (b : Bool) → same_moment (next_deadline tr) e.due ≡ b
           → WhyGo e n t (cond b Rests (Dates (next_deadline tr)))
-      by true is = (is, early)
+      by true is = (is, early, lives, no_round, no_want)
       by false is = (is, refl)
 
   why-sends : is_some (wanted tr) ≡ true → WhyGo e n t (sends_or_blocks n tr t)
@@ -101,21 +105,22 @@ module _ (e : EntryState) (n : ℕ) (t : TrafficState) where
       place true = wants
       place false = late (has_late tr) refl
 
-  why-forward : is_due e t ≡ false → WhyGo e n t (forward n e t)
-  why-forward early = by (wants_round tr) refl
+  why-forward : is_due e t ≡ false → is_ending n e.flying t ≡ false → WhyGo e n t (forward n e t)
+  why-forward early lives = by (wants_round tr) refl
     where
       place : wants_round tr ≡ true → (o : Option ℕ) → e.place ≡ o → WhyGo e n t (option_map_or BeginsRound o Draws)
       place wants None is = is
       place wants (Some p) is = wants
 
-      send : (b : Bool) → is_some (wanted tr) ≡ b → WhyGo e n t (cond b (sends_or_blocks n tr t) (at_rest e))
-      send true is = why-sends is
-      send false is = why-rest early
+      send : wants_round tr ≡ false → (b : Bool) → is_some (wanted tr) ≡ b
+          → WhyGo e n t (cond b (sends_or_blocks n tr t) (at_rest e))
+      send no_round true is = why-sends is
+      send no_round false is = why-rest early lives no_round is
 
       by : (b : Bool) → wants_round tr ≡ b
           → WhyGo e n t (cond b (round_or_place e) (cond (is_some (wanted tr)) (sends_or_blocks n tr t) (at_rest e)))
       by true is = place is e.place refl
-      by false is = send (is_some (wanted tr)) refl
+      by false is = send is (is_some (wanted tr)) refl
 
   some-within : (xs : List SentTry) (i : ℕ) → i < length xs → is_some (slice_get xs i) ≡ true
   some-within [] i less = absurd (omega (arith, less))
@@ -130,27 +135,28 @@ module _ (e : EntryState) (n : ℕ) (t : TrafficState) where
   found-there xs i n false is h = absurd cc
 
   pub why-going : WhyGo e n t (going_on n e t)
-  why-going = by (is_ending n e.flying t)
+  why-going = by (is_ending n e.flying t) refl
     where
       all_left : (ts : List SentTry) → e.flying.tries ≡ ts → WhyGo e n t (cond (is_empty ts) Ends (Leaves 0))
       all_left [] is = tt
       all_left (x ∷ xs) is = ap (λ (ts : List SentTry). is_some (slice_get ts 0)) is
 
-      done : is_due e t ≡ false → (o : Option ℕ) → first_done e.flying ≡ o
+      done : is_ending n e.flying t ≡ false → is_due e t ≡ false → (o : Option ℕ) → first_done e.flying ≡ o
           → WhyGo e n t (option_map_or Leaves o (forward n e t))
-      done early None is = why-forward early
-      done early (Some place) is =
+      done lives early None is = why-forward early lives
+      done lives early (Some place) is =
           found-there e.flying.tries place (position_or_len (is_done tr) e.flying.tries)
           (ltb (position_or_len (is_done tr) e.flying.tries) (length e.flying.tries)) refl is
 
-      due : (b : Bool) → is_due e t ≡ b → WhyGo e n t (cond b Expires (option_map_or Leaves (first_done e.flying) (forward n e t)))
-      due true is = is
-      due false is = done is (first_done e.flying) refl
+      due : is_ending n e.flying t ≡ false → (b : Bool) → is_due e t ≡ b
+          → WhyGo e n t (cond b Expires (option_map_or Leaves (first_done e.flying) (forward n e t)))
+      due lives true is = is
+      due lives false is = done lives is (first_done e.flying) refl
 
-      by : (b : Bool) → WhyGo e n t (cond b (cond (is_empty e.flying.tries) Ends (Leaves 0))
+      by : (b : Bool) → is_ending n e.flying t ≡ b → WhyGo e n t (cond b (cond (is_empty e.flying.tries) Ends (Leaves 0))
           (cond (is_due e t) Expires (option_map_or Leaves (first_done e.flying) (forward n e t))))
-      by true = all_left e.flying.tries refl
-      by false = due (is_due e t) refl
+      by true lives = all_left e.flying.tries refl
+      by false lives = due lives (is_due e t) refl
 
 -- ---- how much is left to be done with it
 

@@ -1,23 +1,23 @@
 -- A pool comes to rest.
-use Rattle.std.proofs.Common.{◌≡◌, ◌≤◌, ◌<◌, ◌+◌, ◌-◌, ◌^◌, min, ℕ, Bool, true, false, cond, not, List, [], ◌∷◌, length, drop, refl, ap, sym, subst, ◌∙◌, true≢false, arith, inl, inr, ◌⊎◌, eqb, eq-eqb, lt-ltb, suc, ◌*◌}
+use Rattle.std.proofs.Common.{◌≡◌, ◌≤◌, ◌<◌, ◌+◌, ◌-◌, ◌^◌, min, ℕ, Bool, true, false, cond, not, List, [], ◌∷◌, length, drop, refl, ap, sym, subst, ◌∙◌, true≢false, arith, inl, inr, ◌⊎◌, eqb, eq-eqb, lt-ltb, suc, ◌*◌, leb, le-leb, max}
 use Rattle.std.specs.Prelude.{Option, None, Some, slice_get, position}
 use Rattle.std.specs.Option.{is_some, option_map, option_map_or, option_and_then}
 use Rattle.std.specs.Ordering.{nat_cmp, is_eq}
-use Rattle.std.specs.Map.{remove_entry}
+use Rattle.std.specs.Map.{remove_entry, lookup}
 use Rattle.std.specs.BTreeMap.{is_at}
 use Rattle.std.specs.List.{list_any, position_or_len}
 use Rattle.hickory_resolver_askers.specs.Askers.{WaitingValue, first_waiting, to_admit}
 use Rattle.hickory_resolver_askers.specs.Askers as ask
-use Rattle.hickory_resolver_channels.specs.Channels.{ChannelsState, channel_at, transaction_at, pair_cmp, closed_one, if_empty}
+use Rattle.hickory_resolver_channels.specs.Channels.{ChannelsState, channel_at, transaction_at, pair_cmp, closed_one, if_empty, first_idle}
 use Rattle.hickory_resolver_channels.specs.Channels as channels
 use Rattle.hickory_resolver_channels.specs.declared.channel.Channel.{Channel}
 use Rattle.hickory_resolver_config.specs.ResolverConfig.{OptionsValue}
 use Rattle.hickory_resolver_steps.specs.Steps.{SharedState}
 use Rattle.hickory_resolver_steps.specs.declared.flying.SentTry.{SentTry}
-use Rattle.hickory_resolver_traffic.specs.Doing.{IsDone, doing, is_empty, is_on, one_freed}
+use Rattle.hickory_resolver_traffic.specs.Doing.{IsDone, doing, is_empty, is_on, one_freed, is_due}
 use Rattle.hickory_resolver_traffic.specs.Inbox.{InboxState, first_message, first_failure, without_failure}
-use Rattle.hickory_resolver_traffic.specs.Table.{EntryState, CurrentState, entry_at, has_entry}
-use Rattle.hickory_resolver_traffic.specs.Tasks.{task_of, after_task, did, closed, freed_by, freed_by_first, took_up, taken_up, without_taken}
+use Rattle.hickory_resolver_traffic.specs.Table.{EntryState, CurrentState, entry_at, has_entry, first_due}
+use Rattle.hickory_resolver_traffic.specs.Tasks.{task_of, after_task, did, closed, freed_by, freed_by_first, took_up, taken_up, without_taken, next_deadline, earlier}
 use Rattle.hickory_resolver_traffic.specs.Traffic.{TrafficState, OutgoingValue}
 use Rattle.hickory_resolver_traffic.specs.declared.entry.ToDo.{ToDo}
 use Rattle.hickory_resolver_traffic.specs.declared.entry.ToDo.TheVariants as todo
@@ -28,20 +28,25 @@ use Rattle.hickory_resolver_traffic.specs.declared.starting.Did.{Did}
 use Rattle.hickory_resolver_traffic.specs.declared.starting.Did.TheVariants as done
 use Rattle.hickory_resolver_traffic.specs.declared.tasks.Task.{Task}
 use Rattle.hickory_resolver_traffic.specs.declared.tasks.Task.TheVariants as task
-use Rattle.hickory_resolver_pool.specs.Pool.{PoolState, no_servers, action_of, current_after, started, started_action, scene_of, is_end, is_put, IsDoneTo, StepsBy, StepsIn, StepsAs, Steps, let_go, put_by}
+use Rattle.hickory_resolver_pool.specs.Pool.{PoolState, no_servers, action_of, current_after, started, started_action, scene_of, is_end, is_put, IsDoneTo, StepsBy, StepsIn, StepsAs, Steps, let_go, put_by, after_tick}
 use Rattle.hickory_resolver_pool.specs.declared.limits.PoolLimits.{PoolLimits}
 use Rattle.hickory_resolver_pool.specs.declared.pool.Action.{Action}
 use Rattle.hickory_resolver_pool_theorems.specs.Agreement.{in_table, in_hand, is_sent_as, keeps_try}
-use Rattle.hickory_resolver_pool_theorems.specs.Rest.{IsPutAway, none_in_hand, goes_on as goes_on_with, ComesToRest, nothing_left, goes_on, EachComesToRest}
-use Rattle.hickory_resolver_pool_theorems.specs.Runs.{Happening, did as did_step, Runs, by_step}
+use Rattle.hickory_resolver_pool_theorems.specs.Rest.{IsPutAway, none_in_hand, goes_on as goes_on_with, ComesToRest, nothing_left, goes_on, EachComesToRest, ComesToEnd, none_left, steps_on, waits, EachComesToEnd}
+use Rattle.hickory_resolver_pool.specs.Laws.{time_passes}
+use Rattle.hickory_resolver_pool_theorems.specs.Runs.{Happening, came, did as did_step, Runs, by_event, by_step}
+use Rattle.hickory_resolver_pool_theorems.proofs.Alive.{IsAlive, is_next, is_in_line, is_settled, OfTraffic, alive-runs}
 use Rattle.hickory_resolver_pool_theorems.proofs.Askings.{put-is}
+use Rattle.hickory_resolver_pool_theorems.proofs.Dates.{Stands}
+use Rattle.hickory_resolver_pool_theorems.proofs.Ends.{rests_until_due}
+use Rattle.hickory_resolver_pool_theorems.proofs.Owned.{owned-runs, owned-there}
 use Rattle.hickory_resolver_pool_theorems.proofs.ByNumber.{first-at}
 use Rattle.hickory_resolver_pool_theorems.proofs.Counts.{AreCounted, IsIdle, first-tried}
 use Rattle.hickory_resolver_pool_theorems.proofs.Counted.{counted-runs}
 use Rattle.hickory_resolver_pool_theorems.proofs.Dates.{deadlines_agree}
 use Rattle.hickory_resolver_pool_theorems.proofs.Early.{doubts-less}
 use Rattle.hickory_resolver_pool_theorems.proofs.Kept.{AreKept, channels-one_freed, kept-runs, tries_agree}
-use Rattle.hickory_resolver_pool_theorems.proofs.Keys.{pair-self}
+use Rattle.hickory_resolver_pool_theorems.proofs.Keys.{pair-self, nat-self}
 use Rattle.hickory_resolver_pool_theorems.proofs.KeyEntries.{ApartBy}
 use Rattle.hickory_resolver_pool_theorems.proofs.KeySets.{pair-is, or-left, or-split}
 use Rattle.hickory_resolver_pool_theorems.proofs.Left.{sent-is}
@@ -53,7 +58,7 @@ use Rattle.hickory_resolver_pool_theorems.proofs.PutAway.{fit-of, rank-away, ran
 use Rattle.hickory_resolver_pool_theorems.proofs.Shapes.{IsStep, goes_out, begins, does, puts, ends, step-is}
 use Rattle.hickory_resolver_pool_theorems.proofs.Tasking.{TaskIs, IsSound, IsPast, IsFree, IsFailing, task-is}
 use Rattle.hickory_resolver_pool_theorems.proofs.Tracks.{tries_in, view_of, Start, of_due, Track, is_hearing, is_failing, is_expiring, is_freeing, is_refused, goes, track-done}
-use Rattle.hickory_resolver_pool_theorems.proofs.Weights.{one-less, first-some, length-removed, length-first, weigh, weigh-removed, weigh-taken, came_of, octets-removed, came-cut, overdue, overdue-own, overdue-first, overdue-gone}
+use Rattle.hickory_resolver_pool_theorems.proofs.Weights.{one-less, first-some, length-removed, length-first, weigh, weigh-removed, weigh-taken, came_of, octets-removed, came-cut}
 use Rattle.hickory_resolver_pool_theorems.proofs.Falls.{start_of, numbers_of, Fell, fell_read, fell_settled, fell_channels, fell_due, fell_waits, fell-less, end-fell, put-fell}
 
 -- ---- one is taken up
@@ -101,12 +106,12 @@ module _ (t : TrafficState) (out : t.outgoing ≡ None) where
         by None at = none at
         by (Some e) at = some e at
 
-  -- more of those that are ready, overdue or wait is gone
-  ready-up : (n : ℕ) (u : TrafficState) → u.inbox ≡ t.inbox → u.shared ≡ t.shared → u.clock ≡ t.clock
-      → u.table.entries ≡ remove_entry (is_at (nat_cmp n)) t.table.entries → u.table.deadlines ≡ t.table.deadlines
+  -- fewer are ready, or wait for a place
+  ready-up : (n : ℕ) (u : TrafficState) → u.inbox ≡ t.inbox → u.shared ≡ t.shared
+      → u.table.entries ≡ remove_entry (is_at (nat_cmp n)) t.table.entries
       → IsSound t → length u.ready + length u.askers.waiting < length t.ready + length t.askers.waiting
       → Begun here u (current_after (took_up (taken_up n todo.GoOn t.table)) None)
-  ready-up n u inbox shared clock entries deadlines sound less =
+  ready-up n u inbox shared entries sound less =
       taken n todo.GoOn u entries (Begun here u) none some
     where
       came : came_of u.inbox ≡ came_of t.inbox
@@ -120,23 +125,18 @@ module _ (t : TrafficState) (out : t.outgoing ≡ None) where
       channels : length u.shared.channels.channels ≡ length t.shared.channels.channels
       channels = ap (λ (x : SharedState). length x.channels.channels) shared
 
-      over : (c : Option ℕ) → overdue u.clock c u.table.deadlines ≡ overdue t.clock c t.table.deadlines
-      over c = ap (λ (k : ℕ). overdue k c u.table.deadlines) clock ∙ ap (λ (ds : List (ℕ × ℕ)). overdue t.clock c ds) deadlines
-
       none : entry_at n t.table ≡ None → Fell here (start_of u)
       none at =
           let cost = gone-weight n todo.GoOn u entries cost_of in
-          let one = came in let ch = channels in let ov = over None in
-          fell_due (omega (arith, one)) failed (none-failed sound) cost (omega (arith, ch)) (omega (arith, ov, less))
+          let one = came in let ch = channels in
+          fell_due (omega (arith, one)) failed (none-failed sound) cost (omega (arith, ch)) less
 
       some : (e : EntryState) → entry_at n t.table ≡ Some e
           → Track here (view_of (record { traffic = u; current = record { number = n; to_do = todo.GoOn; entry = e } }))
       some e at =
           let cost = taken-weight n todo.GoOn u entries e at cost_of in
-          let one = came in let ch = channels in let ov = over (Some n) in
-          let le = overdue-own t.clock n t.table.deadlines in
-          goes (omega (arith, one)) failed (none-failed sound)
-          (of_due cost (omega (arith, ch)) (omega (arith, ov, le, less))) refl
+          let one = came in let ch = channels in
+          goes (omega (arith, one)) failed (none-failed sound) (of_due cost (omega (arith, ch)) less) refl
 
   no-entry : (n : ℕ) → has_entry n t.table ≡ true → entry_at n t.table ≡ None → ⊥
   no-entry n there at = true≢false (sym there ∙ ap (λ (o : Option EntryState). is_some o) at)
@@ -244,7 +244,10 @@ module _ (t : TrafficState) (out : t.outgoing ≡ None) where
   module _ (counted : AreCounted t.shared.channels) (once : ApartBy pair_cmp pair-self pair-is t.shared.channels.tries)
       (kept : (n : ℕ) (e : EntryState) → entry_at n t.table ≡ Some e → (channel id : ℕ)
       → is_some (channel_at channel t.shared.channels) ≡ true
-      → transaction_at channel id t.shared.channels ≡ Some n → keeps_try channel id e ≡ true) where
+      → transaction_at channel id t.shared.channels ≡ Some n → keeps_try channel id e ≡ true)
+      (alive : OfTraffic t) (owned : (due n : ℕ) → Stands due n t.table.deadlines → is_some (entry_at n t.table) ≡ true)
+      (agree : (n : ℕ) (e : EntryState) → entry_at n t.table ≡ Some e → (due : ℕ) → Stands due n t.table.deadlines
+      → e.due ≡ Some due) where
     abbrev ByTask : Task → Type 0
     ByTask what = Begun here (after_task what t) (current_after (did what t) None)
 
@@ -264,16 +267,46 @@ module _ (t : TrafficState) (out : t.outgoing ≡ None) where
         (taken-weight n todo.Fail (after_task (task.TakesUp n todo.Fail) t) refl e at tries_in) refl
         (placed-on n f e at once (kept n e at)))
 
+    stands-first : (due n : ℕ) → first_due t.table ≡ Some (due, n) → Stands due n t.table.deadlines
+    stands-first due n first = by t.table.deadlines first
+      where
+        by : (ds : List (ℕ × ℕ)) → slice_get ds 0 ≡ Some (due, n) → Stands due n ds
+        by [] h = absurd cc
+        by (d ∷ ds) h =
+            let same : ◌≡◌ {A = ℕ × ℕ} d (due, n) = cc in
+            or-left (is_at (pair_cmp (due, n)) d) (list_any (is_at (pair_cmp (due, n))) ds)
+            (ap (λ (p : ℕ × ℕ). is_at (pair_cmp (due, n)) p) same ∙ ap is_eq (pair-self (due, n)))
+
+    -- what is to run out has run out
+    past-due : (n due : ℕ) → IsPast t due n → (e : EntryState) → entry_at n t.table ≡ Some e → is_due e t ≡ true
+    past-due n due past e at = by (alive n e at)
+      where
+        own : e.due ≡ Some due
+        own = agree n e at due (stands-first due n past.first)
+
+        none_ready : (xs : List ℕ) → slice_get xs 0 ≡ None → list_any (eqb n) xs ≡ true → ⊥
+        none_ready [] h g = true≢false (sym g)
+        none_ready (x ∷ xs) h g = absurd cc
+
+        by : IsAlive t.ready t.askers.waiting n e → is_due e t ≡ true
+        by (is_next h) = absurd (none_ready t.ready past.none_ready h)
+        by (is_in_line h none) = let no_such : None ≡ Some due = sym none ∙ own in absurd cc
+        by (is_settled d nd is) =
+            let both : Some d ≡ Some due = sym is ∙ own in
+            let same : d ≡ due = cc in
+            let come = past.come in
+            ap (λ (o : Option ℕ). option_map_or (λ k. leb k t.clock) o false) nd
+            ∙ le-leb d t.clock (omega (arith, same, come))
+
     begun-expire : (n due : ℕ) → IsPast t due n → has_entry n t.table ≡ true → ByTask (task.TakesUp n todo.Expire)
     begun-expire n due past there =
         taken n todo.Expire (after_task (task.TakesUp n todo.Expire) t) refl (Begun here (after_task (task.TakesUp n todo.Expire) t))
         (λ at. absurd (no-entry n there at))
         (λ e at.
         let none = none-failed past.sound in
-        let less = overdue-first t.clock due n past.come t.table.deadlines past.first in
         is_expiring (omega arith) (omega (arith, none)) none
-        (taken-weight n todo.Expire (after_task (task.TakesUp n todo.Expire) t) refl e at cost_of) (omega arith)
-        (omega (arith, less)) refl)
+        (taken-weight n todo.Expire (after_task (task.TakesUp n todo.Expire) t) refl e at cost_of)
+        (past-due n due past e at) refl)
 
     begun-free : (n : ℕ) → IsFree t n → has_entry n t.table ≡ true → ByTask (task.TakesUp n todo.Free)
     begun-free n free there =
@@ -281,10 +314,9 @@ module _ (t : TrafficState) (out : t.outgoing ≡ None) where
         (λ at. absurd (no-entry n there at))
         (λ e at.
         let none = none-failed free.sound in
-        let le = overdue-own t.clock n t.table.deadlines in
         is_freeing (omega arith) (omega (arith, none)) none
         (taken-weight n todo.Free (after_task (task.TakesUp n todo.Free) t) refl e at cost_of) (omega arith)
-        (omega (arith, le)) (omega arith) free.first free.some refl)
+        (omega arith) (omega arith) free.first free.some refl)
 
     begun-refuse : (n : ℕ) → IsSound t → has_entry n t.table ≡ true → ByTask (task.TakesUp n todo.Refuse)
     begun-refuse n sound there =
@@ -319,7 +351,7 @@ module _ (t : TrafficState) (out : t.outgoing ≡ None) where
         let less = one-less t.inbox.failures is in inl (fell_settled (omega arith) (omega (arith, less)))
     begun-task (task.TakesReady n) is =
         let less = one-less t.ready (first-some (slice_get t.ready 0) n is.1) in
-        inl (ready-up n (after_task (task.TakesReady n) t) refl refl refl refl refl is.0 (omega (arith, less)))
+        inl (ready-up n (after_task (task.TakesReady n) t) refl refl refl is.0 (omega (arith, less)))
     begun-task (task.TakesUp n to_do) is = inl (by to_do is)
       where
         by : (d : ToDo) → TaskIs t (task.TakesUp n d) → ByTask (task.TakesUp n d)
@@ -333,9 +365,7 @@ module _ (t : TrafficState) (out : t.outgoing ≡ None) where
         by todo.Quit h = absurd h
         by todo.PutBack h = absurd h
     begun-task (task.Undates due n) is =
-        let none = none-failed is.sound in
-        let less = overdue-gone t.clock due n is.come t.table.deadlines is.first in
-        inl (fell_due (omega arith) (omega (arith, none)) none (omega arith) (omega arith) (omega (arith, less)))
+        absurd (true≢false (sym (owned due n (stands-first due n is.0.first)) ∙ is.1))
     begun-task (task.Strays n) is =
         let none = none-failed is.0 in
         let found = first-at (n, is.1.0) t.askers.waiting is.1.1 in
@@ -365,7 +395,7 @@ module _ (t : TrafficState) (out : t.outgoing ≡ None) where
             ⊎ IsIdleTask task.Admits
         by None at = inr (refl, at)
         by (Some f) at =
-            inl (ready-up f.0 (without_taken f.0 (record t { askers = ask.admitted t.askers })) refl refl refl refl refl is
+            inl (ready-up f.0 (without_taken f.0 (record t { askers = ask.admitted t.askers })) refl refl refl is.0
             (let less = fewer in omega (arith, less)))
           where
             waits : (b : Bool) → cond b (first_waiting t.askers) None ≡ Some f → first_waiting t.askers ≡ Some f
@@ -418,6 +448,44 @@ worked-is s t r c works is = by s.traffic.outgoing refl is
         (subst (λ (x : Option CurrentState). StepsIn x s r t) works h)
     by (Some o) at h = out o at (step-is s t r is)
 
+-- something is begun with less left, or nothing is left to be done
+abbrev BegunHere : PoolState → Type 0
+BegunHere s =
+    Begun (start_of s.traffic) (after_task (task_of s.traffic) s.traffic) (current_after (did (task_of s.traffic) s.traffic) None)
+
+abbrev IsIdleHere : PoolState → Type 0
+IsIdleHere s = (task_of s.traffic ≡ task.Admits) × (to_admit s.traffic.askers ≡ None)
+
+-- the step is to begin what is to be done first
+starting : (s : PoolState) (r : Option Action) (t : PoolState) → s.traffic.outgoing ≡ None → s.current ≡ None → Steps s r t
+    → t ≡ started s
+starting s r t out none is =
+    (subst (λ (x : Option CurrentState). StepsIn x s r t) none
+    (subst (λ (o : Option OutgoingValue). StepsAs (is_some o) s r t) out is)).1
+
+idle-steps : (s : PoolState) → s.current ≡ None → s.traffic.outgoing ≡ None → IsIdleHere s → Steps s None s
+idle-steps s none out idle =
+    subst (λ (o : Option OutgoingValue). StepsAs (is_some o) s None s) (sym out)
+    (subst (λ (x : Option CurrentState). StepsIn x s None s) (sym none) (action, pool))
+  where
+    did_is : did (task_of s.traffic) s.traffic ≡ done.Idle
+    did_is =
+        ap (λ (what : Task). did what s.traffic) idle.0
+        ∙ ap (λ (f : Option (ℕ × WaitingValue)). option_map_or (λ p. took_up (taken_up p.0 todo.GoOn s.traffic.table)) f done.Idle) idle.1
+
+    action : None ≡ started_action s
+    action = sym (ap action_of did_is)
+
+    traffic : after_task (task_of s.traffic) s.traffic ≡ s.traffic
+    traffic =
+        ap (λ (what : Task). after_task what s.traffic) idle.0
+        ∙ ap (λ (f : Option (ℕ × WaitingValue)). option_map_or (λ p. without_taken p.0 (record s.traffic { askers = ask.admitted s.traffic.askers })) f s.traffic) idle.1
+
+    pool : s ≡ started s
+    pool =
+        sym (ap (λ (u : TrafficState). record s { traffic = u; current = current_after (did (task_of s.traffic) s.traffic) s.current }) traffic
+        ∙ ap (λ (d : Did). record s { current = current_after d s.current }) did_is)
+
 module _ (options : OptionsValue) (limits : PoolLimits) (seed : List ℕ) (most : ℕ) where
   -- reached so, with few transactions
   pub record IsRun (s : PoolState) : Type 0 where
@@ -451,47 +519,66 @@ module _ (options : OptionsValue) (limits : PoolLimits) (seed : List ℕ) (most 
           rank-away options limits seed most (suc (3 * rank c.to_do + going_out s.traffic.outgoing)) run.past s run.runs
           run.kept c works (omega arith)
 
-  abbrev Rested : Start → Type 0
-  Rested b = (s : PoolState) → IsRun s → s.current ≡ None → Fell b (start_of s.traffic) → ComesToRest s
+  -- ---- with what comes of all steps
 
-  -- a transaction is worked on: it comes to be put away, with less left
-  work : (b : Start) → Rested b → (s : PoolState) → IsPutAway s → IsRun s → (c : CurrentState) → s.current ≡ Some c
-      → Track b (view_of (scene_of s c)) → ComesToRest s
-  work b rested _ (none_in_hand s none) run c works track = let no_such : None ≡ Some c = sym none ∙ works in absurd cc
-  work b rested _ (goes_on_with s more) run c works track =
-      goes_on s (λ r t is. by r t is (λ d at w. work b rested t (more r t is) (run-step s t r is run) d at w) (worked-is s t r c works is))
-    where
-      by : (r : Option Action) (t : PoolState) → Steps s r t
-          → ((d : CurrentState) → t.current ≡ Some d → Track b (view_of (scene_of t d)) → ComesToRest t)
-          → IsWorked s t c → ComesToRest t
-      by r t is again (is_out current traffic) =
-          again c current (subst (λ (u : TrafficState). Track b (view_of (record { traffic = u; current = c }))) (sym traffic) track)
-      by r t is again (is_ended e same) =
-          rested t (run-step s t r is run) (ap (λ (u : PoolState). u.current) same)
-          (subst (λ (u : PoolState). Fell b (start_of u.traffic)) (sym same) (end-fell b s c e track))
-      by r t is again (is_put_by p same) =
-          rested t (run-step s t r is run)
-          (ap (λ (u : PoolState). u.current) same ∙ (put-is (doing c s.traffic) c s).none)
-          (subst (λ (u : PoolState). Fell b (start_of u.traffic)) (sym same)
-          (put-fell b s c
-          (deadlines_agree options limits seed run.past s run.runs c.number c.entry (in_hand c.to_do works)).no_other p track))
-      by r t is again (is_done d at e p done) =
-          again d at (track-done b (scene_of s c) (record { traffic = t.traffic; current = d })
-          (fit-of options limits seed most run.past s run.runs run.kept c works) e p done track)
+  module _ (G : PoolState → Type 0) (on : (s : PoolState) → ((r : Option Action) (after : PoolState) → Steps s r after → G after) → G s) where
+    abbrev Rested : Start → Type 0
+    Rested b = (s : PoolState) → IsRun s → s.current ≡ None → Fell b (start_of s.traffic) → G s
 
-  calm : (w : Numbers 6) → Ends 6 w → (s : PoolState) → IsRun s → s.current ≡ None → numbers_of (start_of s.traffic) ≡ w
-      → ComesToRest s
-  calm _ (ended w more) s run none same =
-      by (begun-task s.traffic out counted kept.apart tries (task_of s.traffic) (task-is s.traffic out))
-      (λ t after works fell. calm (numbers_of (start_of t.traffic))
-      (more (numbers_of (start_of t.traffic)) (subst (Less 6 (numbers_of (start_of t.traffic))) same
-      (fell-less (start_of s.traffic) (start_of t.traffic) fell))) t after works refl)
+    -- a transaction is worked on: it comes to be put away, with less left
+    work : (b : Start) → Rested b → (s : PoolState) → IsPutAway s → IsRun s → (c : CurrentState) → s.current ≡ Some c
+        → Track b (view_of (scene_of s c)) → G s
+    work b rested _ (none_in_hand s none) run c works track = let no_such : None ≡ Some c = sym none ∙ works in absurd cc
+    work b rested _ (goes_on_with s more) run c works track =
+        on s (λ r t is. by r t is (λ d at w. work b rested t (more r t is) (run-step s t r is run) d at w) (worked-is s t r c works is))
+      where
+        by : (r : Option Action) (t : PoolState) → Steps s r t
+            → ((d : CurrentState) → t.current ≡ Some d → Track b (view_of (scene_of t d)) → G t)
+            → IsWorked s t c → G t
+        by r t is again (is_out current traffic) =
+            again c current (subst (λ (u : TrafficState). Track b (view_of (record { traffic = u; current = c }))) (sym traffic) track)
+        by r t is again (is_ended e same) =
+            rested t (run-step s t r is run) (ap (λ (u : PoolState). u.current) same)
+            (subst (λ (u : PoolState). Fell b (start_of u.traffic)) (sym same) (end-fell b s c e track))
+        by r t is again (is_put_by p same) =
+            rested t (run-step s t r is run)
+            (ap (λ (u : PoolState). u.current) same ∙ (put-is (doing c s.traffic) c s).none)
+            (subst (λ (u : PoolState). Fell b (start_of u.traffic)) (sym same) (put-fell b s c p track))
+        by r t is again (is_done d at e p done) =
+            again d at (track-done b (scene_of s c) (record { traffic = t.traffic; current = d })
+            (fit-of options limits seed most run.past s run.runs run.kept c works) e p done track)
+
+    -- something is begun
+    stepped : (s : PoolState) → IsRun s → s.current ≡ None → s.traffic.outgoing ≡ None → BegunHere s
+        → Rested (start_of s.traffic) → G s
+    stepped s run none out begun again = on s (λ r t is. next r t is (starting s r t out none is))
+      where
+        at : (r : Option Action) (t : PoolState) → Steps s r t → (c : Option CurrentState) → t.current ≡ c
+            → Begun (start_of s.traffic) t.traffic c → G t
+        at r t is None works fell = again t (run-step s t r is run) works fell
+        at r t is (Some c) works track =
+            work (start_of s.traffic) again t (put-away t (run-step s t r is run)) (run-step s t r is run) c works track
+
+        next : (r : Option Action) (t : PoolState) → Steps s r t → t ≡ started s → G t
+        next r t is begins_so =
+            at r t is t.current refl
+            (subst (λ (u : TrafficState). Begun (start_of s.traffic) u t.current)
+            (sym (ap (λ (u : PoolState). u.traffic) begins_so))
+            (subst (λ (c : Option CurrentState). Begun (start_of s.traffic) (after_task (task_of s.traffic) s.traffic) c)
+            (sym (ap (λ (u : PoolState). u.current) begins_so
+            ∙ ap (λ (c : Option CurrentState). current_after (did (task_of s.traffic) s.traffic) c) none)) begun))
+
+  -- what is begun, or that nothing is left to be done
+  begun-or : (s : PoolState) → IsRun s → s.current ≡ None → BegunHere s ⊎ IsIdleHere s
+  begun-or s run none =
+      begun-task s.traffic out (counted-runs options limits seed run.past s run.runs) kept.apart tries
+      (alive-runs options limits seed run.past s run.runs)
+      (owned-there s (owned-runs options limits seed run.past s run.runs) none)
+      (λ n e at. (deadlines_agree options limits seed run.past s run.runs n e (in_table at)).no_other)
+      (task_of s.traffic) (task-is s.traffic out)
     where
       out : s.traffic.outgoing ≡ None
       out = calm-out s run none
-
-      counted : AreCounted s.traffic.shared.channels
-      counted = counted-runs options limits seed run.past s run.runs
 
       kept : AreKept s.traffic.askers.next_transaction s.traffic.shared.channels s.traffic.table.entries s.current
       kept = kept-runs options limits seed run.past s run.runs
@@ -501,52 +588,123 @@ module _ (options : OptionsValue) (limits : PoolLimits) (seed : List ℕ) (most 
           → transaction_at channel id s.traffic.shared.channels ≡ Some n → keeps_try channel id e ≡ true
       tries n e at = (tries_agree options limits seed run.past s run.runs n e (in_table at)).kept
 
-      -- the step is to begin what is to be done first
-      starting : (r : Option Action) (t : PoolState) → Steps s r t → t ≡ started s
-      starting r t is =
-          (subst (λ (x : Option CurrentState). StepsIn x s r t) none
-          (subst (λ (o : Option OutgoingValue). StepsAs (is_some o) s r t) out is)).1
+  -- ---- it comes to rest
 
-      by : (Begun (start_of s.traffic) (after_task (task_of s.traffic) s.traffic) (current_after (did (task_of s.traffic) s.traffic) None))
-          ⊎ ((task_of s.traffic ≡ task.Admits) × (to_admit s.traffic.askers ≡ None))
-          → ((t : PoolState) → IsRun t → t.current ≡ None → Fell (start_of s.traffic) (start_of t.traffic) → ComesToRest t)
-          → ComesToRest s
-      by (inl begun) again = goes_on s (λ r t is. next r t is (starting r t is))
+  calm-rests : (w : Numbers 6) → Ends 6 w → (s : PoolState) → IsRun s → s.current ≡ None → numbers_of (start_of s.traffic) ≡ w
+      → ComesToRest s
+  calm-rests _ (ended w more) s run none same =
+      by (begun-or s run none)
+      (λ t after works fell. calm-rests (numbers_of (start_of t.traffic))
+      (more (numbers_of (start_of t.traffic)) (subst (Less 6 (numbers_of (start_of t.traffic))) same
+      (fell-less (start_of s.traffic) (start_of t.traffic) fell))) t after works refl)
+    where
+      by : BegunHere s ⊎ IsIdleHere s → Rested ComesToRest goes_on (start_of s.traffic) → ComesToRest s
+      by (inl begun) again = stepped ComesToRest goes_on s run none (calm-out s run none) begun again
+      by (inr idle) again = nothing_left s (idle-steps s none (calm-out s run none) idle)
+
+  -- ---- and to its end
+
+  -- where nothing is left to be done a transaction that is left waits up to a moment
+  waits-up : (s : PoolState) → IsRun s → s.current ≡ None → (p : ℕ × EntryState) (es : List (ℕ × EntryState))
+      → s.traffic.table.entries ≡ p ∷ es → slice_get s.traffic.ready 0 ≡ None
+      → (due : ℕ) × (next_deadline s.traffic ≡ Some due)
+  waits-up s run none p es entries calm = found (next_deadline s.traffic) refl (by (alive-runs options limits seed run.past s run.runs p.0 p.1 there))
+    where
+      t : TrafficState
+      t = s.traffic
+
+      there : entry_at p.0 t.table ≡ Some p.1
+      there =
+          ap (λ (xs : List (ℕ × EntryState)). lookup (is_at (nat_cmp p.0)) xs) entries
+          ∙ ap (λ (b : Bool). cond b (Some p.1) (lookup (is_at (nat_cmp p.0)) es)) (ap is_eq (nat-self p.0))
+
+      none_ready : (xs : List ℕ) → slice_get xs 0 ≡ None → list_any (eqb p.0) xs ≡ true → ⊥
+      none_ready [] h g = true≢false (sym g)
+      none_ready (x ∷ xs) h g = absurd cc
+
+      some-line : (xs : List (ℕ × WaitingValue)) → is_some (lookup (is_at (nat_cmp p.0)) xs) ≡ true → is_some (slice_get xs 0) ≡ true
+      some-line [] h = h
+      some-line (x ∷ xs) h = refl
+
+      some-dates : (d : ℕ) (ds : List (ℕ × ℕ)) → Stands d p.0 ds → is_some (slice_get ds 0) ≡ true
+      some-dates d [] h = h
+      some-dates d (x ∷ xs) h = refl
+
+      some-map : {A : Type 0} (f : A → ℕ) (o : Option A) → is_some o ≡ true → is_some (option_map f o) ≡ true
+      some-map f None h = h
+      some-map f (Some a) h = refl
+
+      some-left : (a b : Option ℕ) → is_some a ≡ true → is_some (earlier a b) ≡ true
+      some-left None b h = absurd (true≢false (sym h))
+      some-left (Some n) None h = refl
+      some-left (Some n) (Some m) h = refl
+
+      some-right : (a b : Option ℕ) → is_some b ≡ true → is_some (earlier a b) ≡ true
+      some-right None b h = h
+      some-right (Some n) None h = refl
+      some-right (Some n) (Some m) h = refl
+
+      dates_of : Option ℕ
+      dates_of = option_map (λ q. q.0) (first_due t.table)
+
+      streams_of : Option ℕ
+      streams_of = option_map (λ q. q.0) (first_idle t.shared.channels)
+
+      by : IsAlive t.ready t.askers.waiting p.0 p.1 → is_some (next_deadline t) ≡ true
+      by (is_next h) = absurd (none_ready t.ready calm h)
+      by (is_in_line h due) =
+          some-right dates_of (earlier (ask.next_deadline t.askers) streams_of)
+          (some-left (ask.next_deadline t.askers) streams_of
+          (some-map (λ f. f.1.until) (first_waiting t.askers) (some-line t.askers.waiting h)))
+      by (is_settled d nd own) =
+          let noted = (deadlines_agree options limits seed run.past s run.runs p.0 p.1 (in_table there)).own d own in
+          some-left dates_of (earlier (ask.next_deadline t.askers) streams_of)
+          (some-map (λ q. q.0) (first_due t.table) (some-dates d t.table.deadlines noted))
+
+      found : (o : Option ℕ) → next_deadline t ≡ o → is_some (next_deadline t) ≡ true → (due : ℕ) × (next_deadline t ≡ Some due)
+      found None is h = absurd (true≢false (sym h ∙ ap (λ (o : Option ℕ). is_some o) is))
+      found (Some due) is h = (due, is)
+
+  -- after a tick
+  run-tick : (s : PoolState) (now : ℕ) → IsRun s → IsRun (after_tick now s)
+  run-tick s now run = record {
+    past = came s (time_passes now) ∷ run.past;
+    runs = by_event run.past s (time_passes now) run.runs;
+    kept = record { held = run.kept.held; few = run.kept.few; old = run.kept.old };
+  }
+
+  calm-ends : (w : Numbers 6) → Ends 6 w → (s : PoolState) → IsRun s → s.current ≡ None → numbers_of (start_of s.traffic) ≡ w
+      → ComesToEnd s
+  calm-ends _ (ended w more) s run none same =
+      by (begun-or s run none)
+      (λ t after works fell. calm-ends (numbers_of (start_of t.traffic))
+      (more (numbers_of (start_of t.traffic)) (subst (Less 6 (numbers_of (start_of t.traffic))) same
+      (fell-less (start_of s.traffic) (start_of t.traffic) fell))) t after works refl)
+    where
+      ticking : Rested ComesToEnd steps_on (start_of s.traffic) → (due : ℕ) → next_deadline s.traffic ≡ Some due → (now : ℕ)
+          → due ≤ now → ComesToEnd (after_tick now s)
+      ticking again due nd now le = by (begun-or (after_tick now s) (run-tick s now run) none)
         where
-          at : (r : Option Action) (t : PoolState) → Steps s r t → (c : Option CurrentState) → t.current ≡ c
-              → Begun (start_of s.traffic) t.traffic c → ComesToRest t
-          at r t is None works fell = again t (run-step s t r is run) works fell
-          at r t is (Some c) works track =
-              work (start_of s.traffic) again t (put-away t (run-step s t r is run)) (run-step s t r is run) c works track
+          by : BegunHere (after_tick now s) ⊎ IsIdleHere (after_tick now s) → ComesToEnd (after_tick now s)
+          by (inl begun) =
+              stepped ComesToEnd steps_on (after_tick now s) (run-tick s now run) none (calm-out s run none) begun again
+          by (inr idle) =
+              let step = idle-steps (after_tick now s) none (calm-out s run none) idle in
+              let ahead : max s.traffic.clock now < due =
+              (rests_until_due (after_tick now s) (after_tick now s) step).ahead due nd in
+              absurd (omega (arith, ahead, le))
 
-          next : (r : Option Action) (t : PoolState) → Steps s r t → t ≡ started s → ComesToRest t
-          next r t is begins_so =
-              at r t is t.current refl
-              (subst (λ (u : TrafficState). Begun (start_of s.traffic) u t.current)
-              (sym (ap (λ (u : PoolState). u.traffic) begins_so))
-              (subst (λ (c : Option CurrentState). Begun (start_of s.traffic) (after_task (task_of s.traffic) s.traffic) c)
-              (sym (ap (λ (u : PoolState). u.current) begins_so
-              ∙ ap (λ (c : Option CurrentState). current_after (did (task_of s.traffic) s.traffic) c) none)) begun))
-      by (inr idle) again = nothing_left s (subst (λ (o : Option OutgoingValue). StepsAs (is_some o) s None s) (sym out)
-          (subst (λ (x : Option CurrentState). StepsIn x s None s) (sym none) (action, pool)))
-        where
-          did_is : did (task_of s.traffic) s.traffic ≡ done.Idle
-          did_is =
-              ap (λ (what : Task). did what s.traffic) idle.0
-              ∙ ap (λ (f : Option (ℕ × WaitingValue)). option_map_or (λ p. took_up (taken_up p.0 todo.GoOn s.traffic.table)) f done.Idle) idle.1
+      left : IsIdleHere s → Rested ComesToEnd steps_on (start_of s.traffic) → (es : List (ℕ × EntryState))
+          → s.traffic.table.entries ≡ es → ComesToEnd s
+      left idle again [] entries = none_left s entries none
+      left idle again (p ∷ es) entries =
+          let calm = subst (TaskIs s.traffic) idle.0 (task-is s.traffic (calm-out s run none)) in
+          let moment = waits-up s run none p es entries calm.1 in
+          waits s moment.0 (idle-steps s none (calm-out s run none) idle) moment.1 (ticking again moment.0 moment.1)
 
-          action : None ≡ started_action s
-          action = sym (ap action_of did_is)
-
-          traffic : after_task (task_of s.traffic) s.traffic ≡ s.traffic
-          traffic =
-              ap (λ (what : Task). after_task what s.traffic) idle.0
-              ∙ ap (λ (f : Option (ℕ × WaitingValue)). option_map_or (λ p. without_taken p.0 (record s.traffic { askers = ask.admitted s.traffic.askers })) f s.traffic) idle.1
-
-          pool : s ≡ started s
-          pool =
-              sym (ap (λ (u : TrafficState). record s { traffic = u; current = current_after (did (task_of s.traffic) s.traffic) s.current }) traffic
-              ∙ ap (λ (d : Did). record s { current = current_after d s.current }) did_is)
+      by : BegunHere s ⊎ IsIdleHere s → Rested ComesToEnd steps_on (start_of s.traffic) → ComesToEnd s
+      by (inl begun) again = stepped ComesToEnd steps_on s run none (calm-out s run none) begun again
+      by (inr idle) again = left idle again s.traffic.table.entries refl
 
 pub each_comes_to_rest : EachComesToRest
 each_comes_to_rest options limits seed past s runs short =
@@ -557,5 +715,17 @@ each_comes_to_rest options limits seed past s runs short =
 
     by : (u : PoolState) → IsPutAway u → IsRun options limits seed (length past) u → ComesToRest u
     by _ (none_in_hand u none) r =
-        calm options limits seed (length past) (numbers_of (start_of u.traffic)) (all-end 6 (numbers_of (start_of u.traffic))) u r none refl
+        calm-rests options limits seed (length past) (numbers_of (start_of u.traffic)) (all-end 6 (numbers_of (start_of u.traffic))) u r none refl
     by _ (goes_on_with u more) r = goes_on u (λ a t is. by t (more a t is) (run-step options limits seed (length past) u t a is r))
+
+pub each_comes_to_end : EachComesToEnd
+each_comes_to_end options limits seed past s runs short =
+    by s (put-away options limits seed (length past) s run) run
+  where
+    run : IsRun options limits seed (length past) s
+    run = record { past = past; runs = runs; kept = listed-runs options limits seed past s runs short }
+
+    by : (u : PoolState) → IsPutAway u → IsRun options limits seed (length past) u → ComesToEnd u
+    by _ (none_in_hand u none) r =
+        calm-ends options limits seed (length past) (numbers_of (start_of u.traffic)) (all-end 6 (numbers_of (start_of u.traffic))) u r none refl
+    by _ (goes_on_with u more) r = steps_on u (λ a t is. by t (more a t is) (run-step options limits seed (length past) u t a is r))

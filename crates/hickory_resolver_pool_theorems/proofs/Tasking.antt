@@ -31,9 +31,10 @@ module _ (t : TrafficState) where
     pub tried : first_try failure.channel t.shared.channels ≡ Some (id, n)
     pub there : has_entry n t.table ≡ true
 
-  -- its deadline is the first, and past
+  -- its deadline is the first, and past, and none goes on before
   pub record IsPast (due n : ℕ) : Type 0 where
     pub sound : IsSound
+    pub none_ready : slice_get t.ready 0 ≡ None
     pub first : first_due t.table ≡ Some (due, n)
     pub come : due ≤ t.clock
 
@@ -63,14 +64,19 @@ module _ (t : TrafficState) where
   TaskIs task.DropsFailure = is_some (first_failure t.inbox) ≡ true
   TaskIs (task.TakesReady n) = IsSound × (slice_get t.ready 0 ≡ Some n)
   TaskIs (task.TakesUp n to_do) = TakesIs n to_do
-  TaskIs (task.Undates due n) = IsPast due n
-  TaskIs (task.Strays n) = IsSound × ((w : WaitingValue) × (first_waiting t.askers ≡ Some (n, w)))
+  TaskIs (task.Undates due n) = IsPast due n × (has_entry n t.table ≡ false)
+  TaskIs (task.Strays n) =
+      IsSound × ((w : WaitingValue) × (first_waiting t.askers ≡ Some (n, w))) × (has_entry n t.table ≡ false)
   TaskIs (task.Unblocks n) = IsSound × (first_blocked t.table ≡ Some n)
   TaskIs (task.ClosesIdle channel) = IsSound × ((until : ℕ) × (first_idle t.shared.channels ≡ Some (until, channel)))
-  TaskIs task.Admits = IsSound
+  TaskIs task.Admits = IsSound × (slice_get t.ready 0 ≡ None)
 
   abbrev TaskIf : Option Task → Type 0
   TaskIf o = IfSome o TaskIs
+
+  task-else : (a b : Option Task) → TaskIf a → (a ≡ None → TaskIf b) → TaskIf (option_or a b)
+  task-else None b h k = k refl
+  task-else (Some what) b h k = h
 
   task-or : (a b : Option Task) → TaskIf a → TaskIf b → TaskIf (option_or a b)
   task-or None b h k = k
@@ -80,9 +86,13 @@ module _ (t : TrafficState) where
   task-map f None h = tt
   task-map f (Some a) h = h a refl
 
-  task-unwrap : (o : Option Task) → TaskIf o → IsSound → TaskIs (unwrap_or o task.Admits)
-  task-unwrap None h sound = sound
-  task-unwrap (Some what) h sound = h
+  task-unwrap : (o : Option Task) → TaskIf o → (o ≡ None → TaskIs task.Admits) → TaskIs (unwrap_or o task.Admits)
+  task-unwrap None h last = last refl
+  task-unwrap (Some what) h last = h
+
+  or-none : (a b : Option Task) → option_or a b ≡ None → a ≡ None
+  or-none None b h = refl
+  or-none (Some what) b h = absurd cc
 
   -- ---- a channel failed
 
@@ -139,9 +149,9 @@ module _ (t : TrafficState) where
   -- ---- what runs out
 
   module _ (sound : IsSound) where
-    task-due : (due : ℕ × ℕ) → option_and_then (if_by t.clock) (first_due t.table) ≡ Some due
+    task-due : slice_get t.ready 0 ≡ None → (due : ℕ × ℕ) → option_and_then (if_by t.clock) (first_due t.table) ≡ Some due
         → TaskIs (expires_or_undates t.table due)
-    task-due due is = by (first_due t.table) refl is
+    task-due calm due is = by (first_due t.table) refl is
       where
         come : (first : ℕ × ℕ) (b : Bool) → leb first.0 t.clock ≡ b → cond b (Some first) None ≡ Some due
             → (first ≡ due) × (first.0 ≤ t.clock)
@@ -150,8 +160,8 @@ module _ (t : TrafficState) where
 
         has : (first_due t.table ≡ Some due) → (due.0 ≤ t.clock) → (b : Bool) → has_entry due.1 t.table ≡ b
             → TaskIs (cond b (task.TakesUp due.1 todo.Expire) (task.Undates due.0 due.1))
-        has found le true h = ((due.0, record { sound = sound; first = found; come = le }), h)
-        has found le false h = record { sound = sound; first = found; come = le }
+        has found le true h = ((due.0, record { sound = sound; none_ready = calm; first = found; come = le }), h)
+        has found le false h = (record { sound = sound; none_ready = calm; first = found; come = le }, h)
 
         by : (first : Option (ℕ × ℕ)) → first_due t.table ≡ first → option_and_then (if_by t.clock) first ≡ Some due
             → TaskIs (expires_or_undates t.table due)
@@ -182,7 +192,7 @@ module _ (t : TrafficState) where
 
         by : (b : Bool) → has_entry n t.table ≡ b → TaskIs (cond b (task.TakesUp n todo.Refuse) (task.Strays n))
         by true h = (sound, h)
-        by false h = (sound, full (ask.has_place t.askers) is)
+        by false h = (sound, full (ask.has_place t.askers) is, h)
 
     task-free : (n : ℕ) → free_one t ≡ Some n → TaskIs (frees_or_unblocks t.table n)
     task-free n is = has (first (ltb 0 t.freed) refl is) (has_entry n t.table) refl
@@ -210,10 +220,10 @@ module _ (t : TrafficState) where
         by (Some first) found e =
             (sound, (p.0, found ∙ ap (λ (q : ℕ × ℕ). Some q) (kept first (leb (kept_until t first.0) t.clock) e)))
 
-    task-ran : TaskIf (ran_out t)
-    task-ran =
+    task-ran : slice_get t.ready 0 ≡ None → TaskIf (ran_out t)
+    task-ran calm =
         task-or (due_in t) (option_or (late_in t) (option_or (free_in t) (idle_in t)))
-        (task-map (expires_or_undates t.table) (option_and_then (if_by t.clock) (first_due t.table)) task-due)
+        (task-map (expires_or_undates t.table) (option_and_then (if_by t.clock) (first_due t.table)) (task-due calm))
         (task-or (late_in t) (option_or (free_in t) (idle_in t))
         (task-map (refuses_or_strays t.table) (refused_one t) task-late)
         (task-or (free_in t) (idle_in t)
@@ -234,6 +244,16 @@ module _ (t : TrafficState) where
         (task-map (λ channel. task.Cuts channel) (first_unread t.inbox) (λ channel is. is))
         (task-map (λ n. task.TakesReady n) (slice_get t.ready 0) (λ n is. (sound, is))))
 
+    none-left : (a b : Option Task) (ready : Option ℕ) → option_or a (option_or b (option_map task.TakesReady ready)) ≡ None
+        → ready ≡ None
+    none-left None None None h = refl
+    none-left None None (Some n) h = absurd cc
+    none-left None (Some b) ready h = absurd cc
+    none-left (Some a) b ready h = absurd cc
+
+    calm-of : others ≡ None → slice_get t.ready 0 ≡ None
+    calm-of h = none-left (message_in t) (option_map task.Cuts (first_unread t.inbox)) (slice_get t.ready 0) h
+
   pub task-is : t.outgoing ≡ None → TaskIs (task_of t)
   task-is calm =
       subst (λ (o : Option OutgoingValue). TaskIs (unwrap_or (option_or (option_map outgoing_task o) (option_or (came_in t) (ran_out t))) task.Admits))
@@ -246,5 +266,6 @@ module _ (t : TrafficState) where
           (ran_out t)) task.Admits)
       by None none =
           task-unwrap (option_or (others none) (ran_out t))
-          (task-or (others none) (ran_out t) (task-others none) (task-ran none)) none
+          (task-else (others none) (ran_out t) (task-others none) (λ h. task-ran none (calm-of none h)))
+          (λ h. (none, calm-of none (or-none (others none) (ran_out t) h)))
       by (Some f) is = task-failure f is

@@ -7,7 +7,7 @@ use Rattle.std.specs.BTreeMap.{is_at}
 use Rattle.std.specs.Ordering.{nat_cmp}
 use Rattle.std.specs.List.{list_any}
 use Rattle.hickory_resolver_askers.specs.Askers.{AskersState}
-use Rattle.hickory_resolver_traffic.specs.Doing.{Scene, IsDone, doing, doing_for, by_failure, place_on, hears, doubts, stalls, fails, quits, expires, frees}
+use Rattle.hickory_resolver_traffic.specs.Doing.{Scene, IsDone, doing, doing_for, by_failure, place_on, is_due, hears, doubts, stalls, fails, quits, expires, frees}
 use Rattle.hickory_resolver_traffic.specs.Inbox.{InboxState, first_message, first_failure, without_message, without_failure}
 use Rattle.hickory_resolver_traffic.specs.Table.{EntryState, is_blocked}
 use Rattle.hickory_resolver_traffic.specs.declared.doing.Doing.TheVariants as doings
@@ -19,7 +19,7 @@ use Rattle.hickory_resolver_traffic.specs.declared.inbox.Failure.TheVariants as 
 use Rattle.hickory_resolver_pool.specs.Pool.{is_end, is_put}
 use Rattle.hickory_resolver_pool_theorems.proofs.Early.{IsHeard, is_doubted, is_dropped, hears-is, doubts-less, came-done, IsFailed, is_left, is_over, stalls-is, fails-is, HasQuit, goes_back, is_closed, Quitting, quits-is, placed-failure, expires-is, frees-is}
 use Rattle.hickory_resolver_pool_theorems.proofs.Frames.{kept-done}
-use Rattle.hickory_resolver_pool_theorems.proofs.Moves.{cost_of, over_in, wants_in, Change, falls, stays, notes, Moves, moves-done}
+use Rattle.hickory_resolver_pool_theorems.proofs.Moves.{cost_of, wants_in, Change, falls, stays, notes, Moves, moves-done}
 use Rattle.hickory_resolver_pool_theorems.proofs.PutAway.{why-going, IsFit}
 use Rattle.hickory_resolver_pool_theorems.proofs.Scenes.{same-done}
 use Rattle.hickory_resolver_pool_theorems.proofs.Weights.{weigh, came_of, one-less}
@@ -29,8 +29,8 @@ use Rattle.hickory_resolver_pool_theorems.proofs.Weights.{weigh, came_of, one-le
 abbrev pub tries_in : EntryState → ℕ
 tries_in e = length e.flying.tries
 
--- what came; channels that failed; tries; what is left of all transactions; channels; those that are ready, overdue or
--- wait for a place; and those that wait for a channel, with the channels that came free
+-- what came; channels that failed; tries; what is left of all transactions; channels; those that are ready or wait for a
+-- place; and those that wait for a channel, with the channels that came free
 pub record View : Type 0 where
   pub came : ℕ
   pub failed : ℕ
@@ -44,6 +44,7 @@ pub record View : Type 0 where
   pub placed : Bool
   pub blocked : Bool
   pub wants : Bool
+  pub past : Bool
   pub freed : ℕ
   pub first : Option ℕ
   pub number : ℕ
@@ -55,13 +56,14 @@ view_of x = record {
   tries = weigh tries_in x.traffic.table.entries + tries_in x.current.entry;
   cost = weigh cost_of x.traffic.table.entries + cost_of x.current.entry;
   channels = length x.traffic.shared.channels.channels;
-  due = length x.traffic.ready + over_in x + length x.traffic.askers.waiting;
+  due = length x.traffic.ready + length x.traffic.askers.waiting;
   waits = x.traffic.freed + length x.traffic.table.blocked;
   to_do = x.current.to_do;
   message = is_some (first_message x.traffic.inbox);
   placed = is_some (place_on x);
   blocked = is_blocked x.current.number x.traffic.table;
   wants = wants_in x;
+  past = is_due x.current.entry x.traffic;
   freed = x.traffic.freed;
   first = slice_get x.traffic.table.blocked 0;
   number = x.current.number;
@@ -105,8 +107,8 @@ module _ (b : Start) where
         → v.placed ≡ true → Track v
     has_quit : v.came ≤ b.came → v.failed ≤ b.failed → 0 < b.failed → v.tries < b.tries → v.to_do ≡ todo.PutBack
         → Track v
-    is_expiring : v.came ≤ b.came → v.failed ≤ 0 → b.failed ≡ 0 → v.cost ≤ b.cost → v.channels ≤ b.channels
-        → v.due < b.due → v.to_do ≡ todo.Expire → Track v
+    is_expiring : v.came ≤ b.came → v.failed ≤ 0 → b.failed ≡ 0 → v.cost ≤ b.cost → v.past ≡ true
+        → v.to_do ≡ todo.Expire → Track v
     is_freeing : v.came ≤ b.came → v.failed ≤ 0 → b.failed ≡ 0 → v.cost ≤ b.cost → v.channels ≤ b.channels
         → v.due ≤ b.due → v.waits ≤ b.waits → v.first ≡ Some v.number → 0 < v.freed → v.to_do ≡ todo.Free → Track v
     is_refused : v.came ≤ b.came → v.failed ≤ 0 → b.failed ≡ 0 → v.cost ≤ b.cost → v.to_do ≡ todo.Refuse → Track v
@@ -304,14 +306,14 @@ module _ (b : Start) where
             let es = entries in let le = k.cost in let ch = k.channels in
             of_channels (omega (arith, le, one, es)) (omega (arith, ch, less))
         by (stays k) (of_due one two less) =
-            let es = entries in let le = k.cost in let ch = k.channels in let ov = k.over in let rd = ready in
+            let es = entries in let le = k.cost in let ch = k.channels in  let rd = ready in
             let wt = same-waiting in
-            of_due (omega (arith, le, one, es)) (omega (arith, ch, two)) (omega (arith, ov, rd, wt, less))
+            of_due (omega (arith, le, one, es)) (omega (arith, ch, two)) (omega (arith, rd, wt, less))
         by (stays k) (of_waits one two three less why) =
-            let es = entries in let le = k.cost in let ch = k.channels in let ov = k.over in let rd = ready in
+            let es = entries in let le = k.cost in let ch = k.channels in  let rd = ready in
             let wt = same-waiting in let fr = k.freed in
             let bl : length y.traffic.table.blocked ≡ length x.traffic.table.blocked = ap length k.blocked in
-            of_waits (omega (arith, le, one, es)) (omega (arith, ch, two)) (omega (arith, ov, rd, wt, three))
+            of_waits (omega (arith, le, one, es)) (omega (arith, ch, two)) (omega (arith, rd, wt, three))
             (omega (arith, fr, bl, less)) (still why k.wants)
           where
             noted : is_blocked x.current.number x.traffic.table ≡ true → is_blocked y.current.number y.traffic.table ≡ true
@@ -330,9 +332,9 @@ module _ (b : Start) where
             let es = entries in let le = k.cost in let ch = k.channels in
             of_channels (omega (arith, le, one, es)) (omega (arith, ch, less))
         by (notes k) (of_due one two less) =
-            let es = entries in let le = k.cost in let ch = k.channels in let ov = k.over in let rd = ready in
+            let es = entries in let le = k.cost in let ch = k.channels in  let rd = ready in
             let wt = same-waiting in
-            of_due (omega (arith, le, one, es)) (omega (arith, ch, two)) (omega (arith, ov, rd, wt, less))
+            of_due (omega (arith, le, one, es)) (omega (arith, ch, two)) (omega (arith, rd, wt, less))
         by (notes k) (of_waits one two three less (inl h)) = absurd (true≢false (sym h ∙ k.none))
         by (notes k) (of_waits one two three less (inr h)) = absurd (true≢false (sym k.wants ∙ h))
 
@@ -343,20 +345,16 @@ module _ (b : Start) where
     track-done (is_failing came failed some few to_do placed) = next-failing came failed some few to_do placed
     track-done (is_quitting came failed some few to_do placed) = next-quitting came failed some few to_do placed
     track-done (has_quit came failed some few to_do) = absurd (true≢false (at-to_do todo.PutBack to_do).1)
-    track-done (is_expiring came failed none cost channels due to_do) =
+    track-done (is_expiring came failed none cost past to_do) =
         next-by (expires x) (at-to_do todo.Expire to_do).2
-        (let k = expires-is x fit in
+        (let k = expires-is x fit past in
         let one = came-same (expires x) k.inbox in
         let two : length (expires x).traffic.inbox.failures ≡ length x.traffic.inbox.failures =
         ap (λ (i : InboxState). length i.failures) k.inbox in
         let es : weigh cost_of (expires x).traffic.table.entries ≡ weigh cost_of x.traffic.table.entries =
         ap (λ (xs : List (ℕ × EntryState)). weigh cost_of xs) (same-done doings.Expires x (expires x) refl).entries in
-        let wt : length (expires x).traffic.askers.waiting ≡ length x.traffic.askers.waiting =
-        ap (λ (a : AskersState). length a.waiting) (same-done doings.Expires x (expires x) refl).askers in
-        let le = k.cost in let ch = k.channels in let rd : length (expires x).traffic.ready ≡ length x.traffic.ready = ap length k.ready in
-        let ov = k.over in
-        goes (omega (arith, one, came)) (omega (arith, two, failed)) none
-        (of_due (omega (arith, es, le, cost)) (omega (arith, ch, channels)) (omega (arith, wt, rd, ov, due))) k.to_do)
+        let less = k.cost in
+        goes (omega (arith, one, came)) (omega (arith, two, failed)) none (of_cost (omega (arith, es, less, cost))) k.to_do)
     track-done (is_freeing came failed none cost channels due waits first some to_do) =
         next-by (frees x) (at-to_do todo.Free to_do).2
         (let k = frees-is x fit first some in
@@ -368,9 +366,9 @@ module _ (b : Start) where
         let wt : length (frees x).traffic.askers.waiting ≡ length x.traffic.askers.waiting =
         ap (λ (a : AskersState). length a.waiting) (same-done doings.Frees x (frees x) refl).askers in
         let le = k.cost in let ch = k.channels in let rd : length (frees x).traffic.ready ≡ length x.traffic.ready = ap length k.ready in
-        let ov = k.over in let less = k.waits in
+         let less = k.waits in
         goes (omega (arith, one, came)) (omega (arith, two, failed)) none
-        (of_waits (omega (arith, es, le, cost)) (omega (arith, ch, channels)) (omega (arith, wt, rd, ov, due))
+        (of_waits (omega (arith, es, le, cost)) (omega (arith, ch, channels)) (omega (arith, wt, rd, due))
         (omega (arith, less, waits)) k.why) k.to_do)
     track-done (is_refused came failed none cost to_do) = absurd (true≢false (at-to_do todo.Refuse to_do).0)
     track-done (goes came failed none low to_do) =

@@ -1,10 +1,11 @@
--- What is held where nothing is left to be done; and that it comes to that.
-use Rattle.std.specs.Prelude.{◌≡◌, ◌<◌, ◌+◌, ◌^◌, ℕ, List, [], length, Option, None, Some}
+-- What is held where nothing is left to be done; that it comes to that; and that it ends.
+use Rattle.std.specs.Prelude.{◌≡◌, ◌≤◌, ◌<◌, ◌+◌, ◌^◌, ℕ, List, [], length, Option, None, Some}
 use Rattle.std.specs.List.{AllByRecursion}
 use Rattle.hickory_resolver_config.specs.ResolverConfig.{OptionsValue}
 use Rattle.hickory_resolver_tries.specs.Stream.{first_of}
 use Rattle.hickory_resolver_traffic.specs.Inbox.{octets_in}
-use Rattle.hickory_resolver_pool.specs.Pool.{PoolState, no_servers, Steps}
+use Rattle.hickory_resolver_traffic.specs.Tasks.{next_deadline}
+use Rattle.hickory_resolver_pool.specs.Pool.{PoolState, no_servers, after_tick, Steps}
 use Rattle.hickory_resolver_pool.specs.declared.limits.PoolLimits.{PoolLimits}
 use Rattle.hickory_resolver_pool.specs.declared.pool.Action.{Action}
 use Rattle.hickory_resolver_pool_theorems.specs.Runs.{Happening, Runs}
@@ -55,3 +56,21 @@ abbrev pub EachComesToRest : Type 0
 EachComesToRest =
     (options : OptionsValue) (limits : PoolLimits) (seed : List ℕ) (past : List Happening) (s : PoolState)
     → Runs (no_servers options limits seed) past s → length past < 2 ^ 64 → ComesToRest s
+
+-- ---- it ends
+
+-- No transaction is left; or, whatever the next step does, that comes to be so; or nothing is left to be done, something
+-- is waited for up to a moment, and after a tick at that moment or later that comes to be so.
+pub data ComesToEnd : PoolState → Type 0 where
+  none_left : (s : PoolState) → s.traffic.table.entries ≡ [] → s.current ≡ None → ComesToEnd s
+  steps_on : (s : PoolState) → ((r : Option Action) (after : PoolState) → Steps s r after → ComesToEnd after)
+      → ComesToEnd s
+  waits : (s : PoolState) (due : ℕ) → Steps s None s → next_deadline s.traffic ≡ Some due
+      → ((now : ℕ) → due ≤ now → ComesToEnd (after_tick now s)) → ComesToEnd s
+
+-- Where steps are all that happens, and a tick at the next deadline, or later, where nothing is left to be done: after
+-- finitely many of them no transaction is left.
+abbrev pub EachComesToEnd : Type 0
+EachComesToEnd =
+    (options : OptionsValue) (limits : PoolLimits) (seed : List ℕ) (past : List Happening) (s : PoolState)
+    → Runs (no_servers options limits seed) past s → length past < 2 ^ 64 → ComesToEnd s

@@ -5,7 +5,7 @@ ghost use Rattle.hickory_resolver_pool_theorems.specs.MadeUp.{NothingIsMadeUp};
 ghost use Rattle.hickory_resolver_pool_theorems.specs.Handles.{CoreIsToldWhatCame, FromOctetsToOctets};
 ghost use Rattle.hickory_resolver_pool_theorems.specs.Causes.{TimeoutsRanOut, UnreachableOnesFailed, TransactionsStayBounded};
 ghost use Rattle.hickory_resolver_pool_theorems.specs.Ends.{RestsUntilDue};
-ghost use Rattle.hickory_resolver_pool_theorems.specs.Rest.{AllIsReadAtRest, EachIsPutAway, EachComesToRest};
+ghost use Rattle.hickory_resolver_pool_theorems.specs.Rest.{AllIsReadAtRest, EachIsPutAway, EachComesToRest, EachComesToEnd};
 ghost use Rattle.hickory_resolver_pool_theorems.specs.Ticks.{EachTickLowers};
 ghost use Rattle.hickory_resolver_pool_theorems.specs.Failures.{OverloadedOnlyWithoutPlace, FailuresAreToldLast};
 ghost use Rattle.hickory_resolver_pool_theorems.specs.Tellings.{WhoAsksIsTold, OverOnce};
@@ -151,4 +151,10 @@ pub fn each_is_put_away()
 /// came before.
 pub fn each_comes_to_rest()
     ensures { EachComesToRest }
+{}
+
+/// It ends: where steps are all that happens, and a tick at the next deadline, or later, wherever nothing is left to be
+/// done, no transaction is left after finitely many steps and ticks.
+pub fn each_comes_to_end()
+    ensures { EachComesToEnd }
 {}
