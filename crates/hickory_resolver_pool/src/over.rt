@@ -110,7 +110,7 @@ impl Over {
     pub fn question(&self) -> &PoolQuestion
         ensures { result.now ≡ self.now.question }
     {
-        &self.entry.asked.1
+        &self.entry.parts.asked.1
     }
 
     // The reply, where it is one or is made of one.
@@ -118,7 +118,7 @@ impl Over {
         ensures { option_copied result ≡ reply_of self.now }
     {
         if self.outcome.is_of_reply() {
-            self.entry.flying.flight.kept()
+            self.entry.parts.flying.flight.kept()
         } else {
             None
         }

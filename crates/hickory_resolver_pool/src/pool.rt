@@ -417,7 +417,7 @@ impl<S: BuildHasher> NameServerPool<S> {
     {
         let Current { number, entry, .. } = current;
         self.traffic.end(number, &entry);
-        remove_own(&mut self.questions, &entry.asked, number);
+        remove_own(&mut self.questions, &entry.parts.asked, number);
         match askers {
             Some(askers) => Action::Over(Over {
                 transaction: number,
@@ -482,7 +482,7 @@ fn outcome_in(doing: Doing, entry: &Entry) -> PoolOutcome
 {
     match doing {
         Doing::Refused => PoolOutcome::Overloaded,
-        _ => told_outcome(entry.flying.flight.transaction().outcome()),
+        _ => told_outcome(entry.parts.flying.flight.transaction().outcome()),
     }
 }
 

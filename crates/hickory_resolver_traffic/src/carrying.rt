@@ -1,9 +1,10 @@
 //! What is done with the transaction that is worked on.
 ghost use Rattle.std.specs.Prelude.{◌≡◌, ◌==◌, [], position, None, Some, IfOk, OnOk, OnErr};
-ghost use Rattle.std.specs.Option.{option_map, option_map_or, option_and_then};
+ghost use Rattle.std.specs.Option.{is_some, option_map, option_map_or, option_and_then};
 ghost use Rattle.hickory_resolver_servers.specs.Order.{IsOrder};
 ghost use Rattle.hickory_resolver_steps.specs.Ending.{ended_of, try_at_place, channels_without, without_first};
-ghost use Rattle.hickory_resolver_transactions.specs.Transaction.{places_left};
+ghost use Rattle.hickory_resolver_flights.specs.Flights.{changed};
+ghost use Rattle.hickory_resolver_transactions.specs.Transaction.{freed, places_left, wanted};
 ghost use Rattle.hickory_resolver_traffic.specs.Groups.{list_at, list_in};
 ghost use Rattle.hickory_resolver_traffic.specs.Inbox.{first_message, first_failure};
 ghost use Rattle.hickory_resolver_traffic.specs.Doing.{Scene, id_of, act_on, value_of_act, with_to_do, after_heard, hear_of, heard_of_first, hears_first, hears, is_stream_kind, is_stream, broken, doubted, doubts_first, doubts, after_failed, fails_on, fails, stalls_on, stalls, idle_until, leaving_at, leave_at, closed_if, closed_at, one_freed, freed_if, leaves, is_on, place_on, after_quit, quits_at, quits, closed_by_quitting, expires, after_free, frees, draws, gives_up, blocks, outgoing_of, with_outgoing, sends, dates, round_of, with_probe, with_round_parts, in_order_of, probed_lists, IsRound, BeginsWith, BeginsRoundIn, IsDone, closed_by};
@@ -96,6 +97,15 @@ fn closed_if(ended: Option<Ended>) -> Option<u64>
     }
 }
 
+// A channel is free for the first that waits for one; whether something is to be sent then.
+fn goes_on_freed(flying: &mut Flying) -> bool
+    ensures wants { result ≡ is_some (wanted (freed flying.old.flight.transaction)) }
+    ensures flying { flying.new ≡ record flying.old { flight = changed freed flying.old.flight } }
+{
+    flying.flight.freed();
+    flying.flight.transaction().wanted().is_some()
+}
+
 fn place_of(tries: &[SentTry], channel: u64) -> Option<usize>
     ensures { result ≡ position (is_on channel) tries.now }
 {
@@ -155,16 +165,17 @@ impl Traffic {
         ensures unchanged { OnErr result (current.new ≡ current.old) }
     {
         let moment = self.moment();
+        let list = current.entry.parts.asked.0;
         act(
             &mut self.shared,
             &mut self.groups.lists,
-            &mut current.entry.flying,
+            &mut current.entry.parts.flying,
             self.alloc,
             what,
             current.number,
             &moment,
             &[],
-            current.entry.asked.0,
+            list,
         )
     }
 
@@ -182,16 +193,17 @@ impl Traffic {
             return Ok(None);
         };
         let what = ServerAct::Hear(message.channel, id_of(&message.octets));
+        let list = current.entry.parts.asked.0;
         let acted = act(
             &mut self.shared,
             &mut self.groups.lists,
-            &mut current.entry.flying,
+            &mut current.entry.parts.flying,
             self.alloc,
             what,
             current.number,
             &moment,
             &message.octets,
-            current.entry.asked.0,
+            list,
         )?;
         Ok(Some(acted.heard))
     }
@@ -261,7 +273,7 @@ impl Traffic {
             return Ok(());
         };
         self.table.block(current.number)?;
-        current.entry.flying.flight.blocked(failure.channel);
+        current.entry.parts.flying.flight.blocked(failure.channel);
         current.to_do = ToDo::Quit;
         Ok(())
     }
@@ -278,7 +290,7 @@ impl Traffic {
         let until = later(self.clock, IDLE_FOR);
         let ended = end_at(
             &mut self.shared.channels,
-            &mut current.entry.flying,
+            &mut current.entry.parts.flying,
             place,
             until,
         )?;
@@ -334,7 +346,7 @@ impl Traffic {
         ensures { result ≡ place_on (record { traffic = self.now; current = current.now }) }
     {
         match self.inbox.first_failure() {
-            Some(failure) => place_of(&current.entry.flying.tries, failure.channel),
+            Some(failure) => place_of(&current.entry.parts.flying.tries, failure.channel),
             None => None,
         }
     }
@@ -344,8 +356,7 @@ impl Traffic {
             ≡ frees (record { traffic = self.old; current = current.old }) }
     {
         current.to_do = ToDo::GoOn;
-        current.entry.flying.flight.freed();
-        if current.entry.flying.flight.transaction().wanted().is_some() {
+        if goes_on_freed(&mut current.entry.parts.flying) {
             self.freed = self.freed.saturating_sub(1);
         } else {
             self.table.unblock(current.number);
@@ -356,7 +367,7 @@ impl Traffic {
         ensures { record { traffic = self.new; current = current.new }
             ≡ draws (record { traffic = self.old; current = current.old }) }
     {
-        current.entry.place = Some(self.shared.draws.number() as usize);
+        current.entry.parts.place = Some(self.shared.draws.number() as usize);
     }
 
     fn begin_round(&mut self, current: &mut Current, place: usize) -> Result<(), AllocError>
@@ -373,13 +384,14 @@ impl Traffic {
             place,
             moment: self.clock,
         };
+        let list = current.entry.parts.asked.0;
         begin_round(
             &mut self.groups.lists,
-            &mut current.entry.flying,
+            &mut current.entry.parts.flying,
             self.alloc,
             self.rules.strategy,
             &round,
-            current.entry.asked.0,
+            list,
         )
     }
 
@@ -390,7 +402,7 @@ impl Traffic {
         ensures unchanged { OnErr result (current.new ≡ current.old) }
     {
         let acted = self.act_on(current, ServerAct::Send)?;
-        self.outgoing = outgoing_of(current.entry.asked.0, acted.sending);
+        self.outgoing = outgoing_of(current.entry.parts.asked.0, acted.sending);
         Ok(())
     }
 
@@ -400,8 +412,9 @@ impl Traffic {
         ensures err { OnErr result (self.new ≡ self.old) }
         ensures unchanged { OnErr result (current.new ≡ current.old) }
     {
-        self.table.redate(current.number, current.entry.due, due)?;
-        current.entry.due = due;
+        self.table
+            .redate(current.number, current.entry.parts.due, due)?;
+        current.entry.parts.due = due;
         Ok(())
     }
 
@@ -436,7 +449,7 @@ impl Traffic {
             Doing::Frees => self.free(current),
             Doing::Draws => self.draw(current),
             Doing::BeginsRound(place) => self.begin_round(current, place)?,
-            Doing::GivesUp => current.entry.flying.flight.give_up_oldest(),
+            Doing::GivesUp => current.entry.parts.flying.flight.give_up_oldest(),
             Doing::Blocks => self.table.block(current.number)?,
             Doing::Sends => self.send(current)?,
             Doing::Dates(due) => self.date(current, due)?,

@@ -102,8 +102,8 @@ impl Entry {
     fn at_rest(&self) -> Doing
         ensures { result ≡ at_rest self.now }
     {
-        let due = self.flying.flight.transaction().next_deadline();
-        if same_moment(due, self.due) {
+        let due = self.parts.flying.flight.transaction().next_deadline();
+        if same_moment(due, self.parts.due) {
             Doing::Rests
         } else {
             Doing::Dates(due)
@@ -113,7 +113,7 @@ impl Entry {
     fn round_or_place(&self) -> Doing
         ensures { result ≡ round_or_place self.now }
     {
-        match self.place {
+        match self.parts.place {
             Some(place) => Doing::BeginsRound(place),
             None => Doing::Draws,
         }
@@ -151,7 +151,7 @@ impl Traffic {
     fn forward(&self, number: u64, entry: &Entry) -> Doing
         ensures { result ≡ forward number entry.now self.now }
     {
-        let transaction = entry.flying.flight.transaction();
+        let transaction = entry.parts.flying.flight.transaction();
         if transaction.wants_round() {
             entry.round_or_place()
         } else if transaction.wanted().is_some() {
@@ -165,7 +165,7 @@ impl Traffic {
     fn is_due(&self, entry: &Entry) -> bool
         ensures { result ≡ is_due entry.now self.now }
     {
-        match entry.flying.flight.transaction().next_deadline() {
+        match entry.parts.flying.flight.transaction().next_deadline() {
             Some(due) => due <= self.clock,
             None => false,
         }
@@ -174,8 +174,8 @@ impl Traffic {
     fn going_on(&self, number: u64, entry: &Entry) -> Doing
         ensures { result ≡ going_on number entry.now self.now }
     {
-        if self.is_ending(number, &entry.flying) {
-            return if no_tries(&entry.flying.tries) {
+        if self.is_ending(number, &entry.parts.flying) {
+            return if no_tries(&entry.parts.flying.tries) {
                 Doing::Ends
             } else {
                 Doing::Leaves(0)
@@ -184,7 +184,7 @@ impl Traffic {
         if self.is_due(entry) {
             return Doing::Expires;
         }
-        match first_done(&entry.flying) {
+        match first_done(&entry.parts.flying) {
             Some(place) => Doing::Leaves(place),
             None => self.forward(number, entry),
         }

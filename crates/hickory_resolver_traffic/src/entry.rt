@@ -3,9 +3,30 @@ use hickory_resolver_steps::Flying;
 use hickory_resolver_tries::PoolQuestion;
 use std::marker::Model;
 
-/// A transaction, in flight or waiting for a place.
+/// A transaction, in flight or waiting for a place. Its parts lie in a place of their own, so that to hand it on from
+/// step to step moves an address and not the whole of it.
 #[derive(Drop)]
 pub struct Entry {
+    /// Its parts.
+    pub parts: Box<EntryParts>,
+}
+
+impl Model for Entry {
+    ghost use Rattle.hickory_resolver_traffic.specs.Table.{EntryState};
+
+    ghost Value = { EntryState };
+
+    ghost view = { λ e. record {
+      asked = e.parts.value.asked;
+      flying = e.parts.value.flying;
+      place = e.parts.value.place;
+      due = e.parts.value.due;
+    } };
+}
+
+/// What is kept of a transaction.
+#[derive(Drop)]
+pub struct EntryParts {
     /// The number of the list of its servers, and what is asked of them.
     pub asked: (u64, PoolQuestion),
     /// Its question in flight.
@@ -14,14 +35,6 @@ pub struct Entry {
     pub place: Option<usize>,
     /// The moment under which it stands among the deadlines.
     pub due: Option<u64>,
-}
-
-impl Model for Entry {
-    ghost use Rattle.hickory_resolver_traffic.specs.Table.{EntryState};
-
-    ghost Value = { EntryState };
-
-    ghost view = { λ e. record { asked = e.asked; flying = e.flying; place = e.place; due = e.due } };
 }
 
 /// What a transaction is taken up for.

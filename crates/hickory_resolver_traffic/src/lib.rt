@@ -15,7 +15,7 @@ pub mod tasks;
 pub mod traffic;
 
 pub use doing::Doing;
-pub use entry::{Current, Entry, ToDo};
+pub use entry::{Current, Entry, EntryParts, ToDo};
 pub use groups::{GroupList, Groups, Sources};
 pub use inbox::{CameMessage, ChannelFailure, Failure, Inbox};
 pub use starting::{Did, Opening, Sent};

@@ -382,8 +382,8 @@ impl Traffic {
         ensures { self.new ≡ ended number entry.now self.old }
     {
         self.askers.over(number);
-        self.groups.end(entry.asked.0, number);
-        self.table.undate(number, entry.due);
+        self.groups.end(entry.parts.asked.0, number);
+        self.table.undate(number, entry.parts.due);
         self.table.unblock(number);
     }
 }

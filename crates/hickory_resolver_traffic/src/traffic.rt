@@ -8,7 +8,7 @@ ghost use Rattle.hickory_resolver_traffic.specs.Table.{with_entry, has_entry};
 ghost use Rattle.hickory_resolver_traffic.specs.Traffic.{no_traffic, ticked, with_group, joined, entry_of, ready_in, until_of, begun_as, begun_with, begun, begun_asker, came_on, came, failed, ready_after, forgotten};
 
 use crate::acting::{Moment, later};
-use crate::entry::Entry;
+use crate::entry::{Entry, EntryParts};
 use crate::groups::{GroupList, Groups, Sources};
 use crate::inbox::{ChannelFailure, Inbox};
 use crate::table::Table;
@@ -296,7 +296,7 @@ impl Entry {
         ensures { IfOk result (λ e. e ≡ entry_of list question settings held.now) }
     {
         let flight = Flight::new(alloc, settings, held.servers.servers(), message)?;
-        Ok(Entry {
+        let parts = EntryParts {
             asked: (list, question),
             flying: Flying {
                 flight,
@@ -304,6 +304,9 @@ impl Entry {
             },
             place: None,
             due: None,
+        };
+        Ok(Entry {
+            parts: Box::new(alloc, parts)?,
         })
     }
 }
