@@ -1,11 +1,11 @@
 -- Each transaction of the table goes on next, waits for a place, or waits up to its moment.
-use Rattle.std.proofs.Common.{◌≡◌, ◌≤◌, ◌<◌, ◌+◌, ◌-◌, ◌^◌, min, ℕ, Bool, true, false, cond, not, ◌&&◌, ◌||◌, eqb, eqb-true, eq-eqb, ne_eqb, List, [], ◌∷◌, ◌++◌, length, drop, refl, ap, sym, subst, ◌∙◌, true≢false, inl, inr, ◌⊎◌, arith}
+use Rattle.std.proofs.Common.{◌≡◌, ◌≤◌, ◌+◌, ◌-◌, ◌^◌, min, ℕ, Bool, true, false, cond, ◌||◌, eqb, eqb-true, eq-eqb, List, [], ◌∷◌, ◌++◌, drop, refl, ap, sym, subst, ◌∙◌, true≢false, inl, inr, ◌⊎◌, arith}
 use Rattle.std.specs.Prelude.{Option, None, Some, IfSome, slice_get}
 use Rattle.std.specs.Ordering.{nat_cmp, is_eq}
 use Rattle.std.specs.List.{list_any}
 use Rattle.std.specs.Map.{lookup, remove_entry, set_value}
 use Rattle.std.specs.BTreeMap.{insert_entry, is_at}
-use Rattle.std.specs.Option.{is_some, is_none, option_map_or, option_and_then}
+use Rattle.std.specs.Option.{is_some, is_none, option_map_or}
 use Rattle.hickory_resolver_askers.specs.Askers.{AskersState, WaitingValue, askers_of, to_admit, place_for, joiner, first_waiting, left_of, forgot_as, with_asker, without_asker}
 use Rattle.hickory_resolver_askers.specs.Askers as ask
 use Rattle.hickory_resolver_askers.specs.declared.asker.Asker.{Asker}
@@ -23,15 +23,15 @@ use Rattle.hickory_resolver_steps.specs.Ending.{try_at_place}
 use Rattle.hickory_resolver_steps.specs.declared.flying.SentTry.{SentTry}
 use Rattle.hickory_resolver_transactions.proofs.Waiting.{never_waits_for_ever}
 use Rattle.hickory_resolver_transactions.specs.Laws.{WaitsForSomething}
-use Rattle.hickory_resolver_transactions.specs.Transaction.{TransactionState, next_deadline, outcome_of, wants_round, wanted, freed}
+use Rattle.hickory_resolver_transactions.specs.Transaction.{TransactionState, next_deadline, outcome_of, wanted, freed}
 use Rattle.hickory_resolver_transactions.specs.declared.outcome.Outcome.{Outcome}
 use Rattle.hickory_resolver_transactions.specs.declared.settings.Settings.{Settings}
 use Rattle.hickory_resolver_tries.specs.Question.{question_of}
 use Rattle.hickory_resolver_tries.specs.declared.pool_question.PoolQuestion.{PoolQuestion}
-use Rattle.hickory_resolver_traffic.specs.Doing.{Scene, IsDone, doing, doing_for, by_failure, is_ending, is_empty, same_moment, doubts_message, one_freed, after_first, heard_of_first, hears_first, hears_octets, hears, doubts, stalls_on, stalls, fails_on, after_failed, fails, act_on, leaving_at, leave_at, closed_at, freed_if, leaves, quits_at, after_quit, quits, place_on, with_to_do, frees, then_do, changing, is_stream}
+use Rattle.hickory_resolver_traffic.specs.Doing.{Scene, IsDone, doing, doing_for, by_failure, is_empty, same_moment, doubts_message, one_freed, after_first, heard_of_first, hears_first, hears_octets, hears, doubts, stalls_on, stalls, fails_on, after_failed, fails, act_on, leaving_at, leave_at, closed_at, freed_if, leaves, quits_at, after_quit, quits, place_on, with_to_do, frees, then_do, changing, is_stream}
 use Rattle.hickory_resolver_traffic.specs.Groups.{GroupListState, list_at}
 use Rattle.hickory_resolver_traffic.specs.Inbox.{MessageValue, first_message, first_failure}
-use Rattle.hickory_resolver_traffic.specs.Table.{CurrentState, EntryState, TableState, entry_at, has_entry, without_blocked}
+use Rattle.hickory_resolver_traffic.specs.Table.{CurrentState, EntryState, entry_at, without_blocked}
 use Rattle.hickory_resolver_traffic.specs.Tasks.{task_of, after_task, closed, freed_by, freed_by_first, without_taken}
 use Rattle.hickory_resolver_traffic.specs.Traffic.{TrafficState, ticked, begun_as, begun_with, entry_of, came_on, failed_on, forgotten, joined, begun, until_of, ready_after}
 use Rattle.hickory_resolver_traffic.specs.declared.acting.ServerAct.TheVariants.{Fail}

@@ -1,13 +1,10 @@
 -- How much is left of a pool that works on no transaction: it falls where one is put away, or over.
-use Rattle.std.proofs.Common.{◌≡◌, ◌≤◌, ◌<◌, ◌+◌, ℕ, true, false, length, refl, ap, sym, subst, ◌∙◌, true≢false, arith, inl, inr, ◌⊎◌, leb, leb-false, eqb, eqb-true, suc, zero}
+use Rattle.std.proofs.Common.{◌≡◌, ◌≤◌, ◌<◌, ◌+◌, ℕ, true, false, length, refl, ap, sym, subst, ◌∙◌, true≢false, arith, inl, inr, ◌⊎◌, suc, zero}
 use Rattle.std.specs.Prelude.{Option, None, Some, position}
 use Rattle.std.specs.Option.{is_some, option_map_or, option_and_then}
 use Rattle.std.specs.Ordering.{nat_cmp}
-use Rattle.std.specs.BTreeMap.{insert_entry, is_at}
-use Rattle.std.specs.List.{list_any}
-use Rattle.hickory_resolver_channels.specs.Channels.{pair_cmp}
-use Rattle.hickory_resolver_transactions.specs.Transaction.{next_deadline}
-use Rattle.hickory_resolver_traffic.specs.Doing.{Scene, doing, doing_for, by_failure, is_due, same_moment, is_on}
+use Rattle.std.specs.BTreeMap.{insert_entry}
+use Rattle.hickory_resolver_traffic.specs.Doing.{Scene, doing, doing_for, by_failure, is_on}
 use Rattle.hickory_resolver_traffic.specs.Inbox.{first_failure}
 use Rattle.hickory_resolver_traffic.specs.Table.{CurrentState}
 use Rattle.hickory_resolver_traffic.specs.Traffic.{TrafficState}

@@ -2,11 +2,10 @@
 use Rattle.std.proofs.Common.{◌≡◌, ◌≤◌, ◌<◌, ◌+◌, ◌-◌, ◌*◌, ◌^◌, min, ℕ, Bool, true, false, cond, ◌&&◌, [], length, refl, ap, sym, subst, ◌∙◌, true≢false, arith, leb, leb-true, ltb, ltb-true, inl, inr, ◌⊎◌}
 use Rattle.std.specs.Prelude.{Option, None, Some}
 use Rattle.std.specs.List.{list_any}
-use Rattle.std.specs.BTreeMap.{is_at}
 use Rattle.std.specs.Option.{is_some, is_none, option_map_or, option_and_then}
 use Rattle.std.proofs.lemmas.List.Edits.{length-remove}
 use Rattle.std.proofs.lemmas.Option.{slice_get_within}
-use Rattle.hickory_resolver_channels.specs.Channels.{number_given, pair_cmp}
+use Rattle.hickory_resolver_channels.specs.Channels.{number_given}
 use Rattle.hickory_resolver_channels.specs.Draws.{try_drawn}
 use Rattle.hickory_resolver_channels.specs.declared.channel.ChannelKind.{ChannelKind}
 use Rattle.hickory_resolver_steps.specs.Ending.{try_at_place}
@@ -20,7 +19,7 @@ use Rattle.hickory_resolver_transactions.specs.declared.transaction.Wanted.{Want
 use Rattle.hickory_resolver_traffic.specs.Acting.{acted_with, acted_to, value_with, nothing_acted, parts_of, step_of}
 use Rattle.hickory_resolver_traffic.specs.Doing.{Scene, IsDone, is_due, is_empty, leaving_at, closed_at, freed_if, leaves, expires, before_act, with_acted, moment_of, draws, gives_up, blocks, sends, with_outgoing, dates, with_round_parts, BeginsRoundIn, BeginsWith, round_of, with_to_do}
 use Rattle.hickory_resolver_traffic.specs.Groups.{GroupListState, list_in, list_at}
-use Rattle.hickory_resolver_traffic.specs.Table.{EntryState, is_blocked, dated, not_dated}
+use Rattle.hickory_resolver_traffic.specs.Table.{EntryState, is_blocked}
 use Rattle.hickory_resolver_traffic.specs.declared.acting.ServerAct.TheVariants.{Expire, Send}
 use Rattle.hickory_resolver_traffic.specs.declared.doing.Doing.{Doing}
 use Rattle.hickory_resolver_traffic.specs.declared.doing.Doing.TheVariants.{Hears, Doubts, Stalls, Fails, Quits, PutsBack, Expires, Frees, Refused, Leaves, Ends, Draws, BeginsRound, GivesUp, Blocks, Sends, Dates, Rests}

@@ -1,20 +1,20 @@
 -- Each deadline is one of a transaction, in the table or in hand.
-use Rattle.std.proofs.Common.{◌≡◌, ◌<◌, ℕ, Bool, true, false, List, [], ◌∷◌, refl, ap, sym, subst, ◌∙◌, true≢false, inl, inr, ◌⊎◌, arith}
-use Rattle.std.specs.Prelude.{Option, None, Some, IfSome}
-use Rattle.std.specs.Ordering.{nat_cmp, is_eq}
+use Rattle.std.proofs.Common.{◌≡◌, ℕ, Bool, true, false, List, refl, ap, sym, subst, ◌∙◌, true≢false, inl, inr, ◌⊎◌}
+use Rattle.std.specs.Prelude.{Option, None, Some}
+use Rattle.std.specs.Ordering.{nat_cmp}
 use Rattle.std.specs.Map.{lookup, remove_entry}
 use Rattle.std.specs.BTreeMap.{insert_entry, is_at}
 use Rattle.std.specs.Option.{is_some}
 use Rattle.hickory_resolver_channels.specs.Channels.{pair_cmp}
 use Rattle.hickory_resolver_config.specs.ResolverConfig.{OptionsValue}
-use Rattle.hickory_resolver_traffic.specs.Doing.{Scene, IsDone, doing, dates}
+use Rattle.hickory_resolver_traffic.specs.Doing.{Scene, IsDone, doing}
 use Rattle.hickory_resolver_traffic.specs.Table.{CurrentState, EntryState, TableState, entry_at, dated, not_dated}
 use Rattle.hickory_resolver_traffic.specs.Tasks.{task_of, after_task, did}
 use Rattle.hickory_resolver_traffic.specs.Traffic.{TrafficState, entry_of}
 use Rattle.hickory_resolver_traffic.specs.declared.doing.Doing.{Doing}
 use Rattle.hickory_resolver_traffic.specs.declared.doing.Doing.TheVariants.{Hears, Doubts, Stalls, Fails, Quits, PutsBack, Expires, Frees, Refused, Leaves, Ends, Draws, BeginsRound, GivesUp, Blocks, Sends, Dates, Rests}
 use Rattle.hickory_resolver_traffic.specs.declared.tasks.Task.{Task}
-use Rattle.hickory_resolver_pool.specs.Laws.{PoolEvent, after_event}
+use Rattle.hickory_resolver_pool.specs.Laws.{after_event}
 use Rattle.hickory_resolver_pool.specs.Pool.{PoolState, no_servers, current_after, scene_of, put_by}
 use Rattle.hickory_resolver_pool.specs.declared.limits.PoolLimits.{PoolLimits}
 use Rattle.hickory_resolver_pool_theorems.specs.Runs.{Happening, Runs, at_first, by_event, by_step}

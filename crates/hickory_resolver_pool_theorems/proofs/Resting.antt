@@ -31,7 +31,7 @@ use Rattle.hickory_resolver_traffic.specs.declared.tasks.Task.TheVariants as tas
 use Rattle.hickory_resolver_pool.specs.Pool.{PoolState, no_servers, action_of, current_after, started, started_action, scene_of, is_end, is_put, IsDoneTo, StepsBy, StepsIn, StepsAs, Steps, let_go, put_by, after_tick}
 use Rattle.hickory_resolver_pool.specs.declared.limits.PoolLimits.{PoolLimits}
 use Rattle.hickory_resolver_pool.specs.declared.pool.Action.{Action}
-use Rattle.hickory_resolver_pool_theorems.specs.Agreement.{in_table, in_hand, is_sent_as, keeps_try}
+use Rattle.hickory_resolver_pool_theorems.specs.Agreement.{in_table, is_sent_as, keeps_try}
 use Rattle.hickory_resolver_pool_theorems.specs.Rest.{IsPutAway, none_in_hand, goes_on as goes_on_with, ComesToRest, nothing_left, goes_on, EachComesToRest, ComesToEnd, none_left, steps_on, waits, EachComesToEnd}
 use Rattle.hickory_resolver_pool.specs.Laws.{time_passes}
 use Rattle.hickory_resolver_pool_theorems.specs.Runs.{Happening, came, did as did_step, Runs, by_event, by_step}

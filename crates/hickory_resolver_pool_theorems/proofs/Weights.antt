@@ -1,22 +1,17 @@
 -- How much is left in a table and in what came.
-use Rattle.std.proofs.Common.{◌≡◌, ◌≤◌, ◌<◌, ◌+◌, ◌*◌, suc, zero, ℕ, Bool, true, false, cond, not, ◌&&◌, leb, leb-true, le-leb, eqb, eq-eqb, eqb-true, ltb, List, [], ◌∷◌, ◌++◌, length, take, drop, refl, ap, sym, ◌∙◌, true≢false, arith}
+use Rattle.std.proofs.Common.{◌≡◌, ◌≤◌, ◌<◌, ◌+◌, ◌*◌, suc, zero, ℕ, Bool, true, false, cond, ltb, List, [], ◌∷◌, ◌++◌, length, take, drop, refl, ap, sym, ◌∙◌, true≢false, arith}
 use Rattle.std.specs.Prelude.{Option, None, Some, slice_get}
 use Rattle.std.specs.declared.cmp.Ordering.{Ordering}
 use Rattle.std.specs.declared.cmp.Ordering.TheVariants.{Less, Equal, Greater}
 use Rattle.std.specs.Ordering.{nat_cmp, is_eq, match_ordering}
-use Rattle.std.specs.List.{list_any}
 use Rattle.std.specs.Map.{lookup, remove_entry, set_value}
 use Rattle.std.specs.Set.{remove_key}
 use Rattle.std.specs.BTreeMap.{insert_entry, is_at}
-use Rattle.std.specs.BTreeSet.{insert_key}
 use Rattle.std.specs.Option.{is_some, option_map_or, option_and_then}
-use Rattle.hickory_resolver_channels.specs.Channels.{pair_cmp}
 use Rattle.hickory_resolver_tries.specs.Stream.{first_of}
 use Rattle.hickory_resolver_traffic.specs.Inbox.{InboxState, octets_in, first_unread, cut_off, cut_on, without_unread}
 use Rattle.hickory_resolver_traffic.specs.Table.{EntryState}
-use Rattle.hickory_resolver_pool_theorems.specs.Ticks.{one_if}
-use Rattle.hickory_resolver_pool_theorems.proofs.Keys.{nat-self, pair-self}
-use Rattle.hickory_resolver_pool_theorems.proofs.KeySets.{or-true, or-left}
+use Rattle.hickory_resolver_pool_theorems.proofs.Keys.{nat-self}
 
 -- ---- lists
 
