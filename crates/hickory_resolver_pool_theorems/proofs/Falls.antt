@@ -79,8 +79,14 @@ module _ (b a : Start) where
   fell-less (fell_due came failed none cost channels less) =
       inr (came, inr (omega (arith, failed), both-zero a.failed b.failed failed none (inr (cost, inr (channels, inl less)))))
   fell-less (fell_waits came failed none cost channels due less) =
-      inr (came, inr (omega (arith, failed), both-zero a.failed b.failed failed none
-      (inr (cost, inr (channels, inr (due, inl less))))))
+      inr (
+        came,
+        inr (
+          omega (arith, failed),
+          both-zero a.failed b.failed failed none
+              (inr (cost, inr (channels, inr (due, inl less)))),
+        ),
+      )
 
 -- ---- it is put away, or over
 

@@ -1,11 +1,12 @@
 -- A run over a pool, from octets to octets.
 use Rattle.std.proofs.Common.{◌≡◌, ℕ, true, List, [], ◌∷◌, ◌++◌, ap, sym, subst, ◌∙◌, append_assoc, inl, inr, ◌⊎◌}
-use Rattle.std.specs.Prelude.{Some, Ok, Err}
+use Rattle.std.specs.Prelude.{Option, None, Some, Ok, Err}
 use Rattle.std.specs.List.{AllByRecursion}
 use Rattle.hickory_proto_core.specs.Handles.{OutcomeValue, Leads}
 use Rattle.hickory_proto_core.specs.Messages.{MessageValue}
 use Rattle.hickory_proto_core.specs.declared.dns_request.DnsRequest.{DnsRequest}
 use Rattle.hickory_proto_core.specs.declared.dns_request.DnsRequestOptions.{DnsRequestOptions}
+use Rattle.hickory_proto_core.specs.declared.net_error.DnsError.TheVariants.{NoRecordsFound}
 use Rattle.hickory_proto_core.specs.declared.net_error.NetError.TheVariants as error
 use Rattle.hickory_proto_core.specs.declared.recorded.Exchange.{Exchange}
 use Rattle.hickory_resolver_config.specs.ResolverConfig.{OptionsValue}
@@ -13,11 +14,15 @@ use Rattle.hickory_resolver_theorems.proofs.PromisesHold.{promised_run}
 use Rattle.hickory_resolver_tries.specs.Question.{question_of, question_eq}
 use Rattle.hickory_resolver_tries.specs.declared.pool_question.DnssecOptions.{DnssecOptions}
 use Rattle.hickory_resolver_pool.specs.Laws.{after_event}
-use Rattle.hickory_resolver_pool.specs.Over.{OverValue, IsCoreOutcome}
+use Rattle.hickory_proto_wire.specs.declared.wire_message.WireMessage.{WireMessage}
+use Rattle.hickory_resolver_pool.specs.Over.{OverValue, IsCoreOutcome, IsFault, IsToldToCore, message_of}
+use Rattle.hickory_resolver_pool.specs.declared.over.PoolOutcome.{PoolOutcome}
+use Rattle.hickory_resolver_pool.specs.declared.over.PoolOutcome.TheVariants.{Response, Cut, Code, Unreachable, Timeout, Overloaded}
+use Rattle.hickory_resolver_pool.specs.declared.over.TheConstants.{CUT, UNREACHABLE, OVERLOADED}
 use Rattle.hickory_resolver_pool.specs.Pool.{PoolState, no_servers}
 use Rattle.hickory_resolver_pool.specs.declared.limits.PoolLimits.{PoolLimits}
 use Rattle.hickory_resolver_pool.specs.declared.pool.Action.TheVariants.{Over}
-use Rattle.hickory_resolver_pool_theorems.specs.Handles.{IsReadOfOctets, CameFor, PoolHandle, asking, IsTold, PoolStep, CameAsOctets, IsPoolOf, FromOctetsToOctets}
+use Rattle.hickory_resolver_pool_theorems.specs.Handles.{IsReadOfOctets, CameFor, PoolHandle, asking, IsTold, PoolStep, CameAsOctets, IsDenial, IsPoolOf, FromOctetsToOctets}
 use Rattle.hickory_resolver_pool_theorems.specs.Runs.{Happening, came, did, Runs, at_first, by_event, by_step}
 use Rattle.hickory_resolver_pool_theorems.proofs.Asked.{known-runs, asks-it, own-runs, end-asks}
 use Rattle.hickory_resolver_pool_theorems.proofs.Overs.{told-at_end}
@@ -50,6 +55,23 @@ read-on : (more past : List Happening) (o : OverValue) (m : MessageValue) → Is
     → IsReadOfOctets (more ++ past) o m
 read-on [] past o m r = r
 read-on (a ∷ more) past o m r = read-more a (more ++ past) o m (read-on more past o m r)
+
+-- ---- that there are no records is told by no error
+
+fault-denies : (words : List ℕ) (outcome : OutcomeValue) → IsFault words outcome → IsDenial outcome → ⊥
+fault-denies words (Err (error.Dns (NoRecordsFound n))) fault denial = fault
+fault-denies words (Err (error.Message text)) fault denial = denial
+fault-denies words other fault denial = fault
+
+told-denies : (told : PoolOutcome) (message : Option WireMessage) (outcome : OutcomeValue)
+    → IsToldToCore told message outcome → IsDenial outcome → ⊥
+told-denies Response None outcome is denial = subst IsDenial is denial
+told-denies Response (Some m) outcome is denial = subst IsDenial is denial
+told-denies Cut message outcome is denial = fault-denies CUT.now outcome is denial
+told-denies Code message outcome is denial = subst IsDenial is denial
+told-denies Unreachable message outcome is denial = fault-denies UNREACHABLE.now outcome is denial
+told-denies Timeout message outcome is denial = subst IsDenial is denial
+told-denies Overloaded message outcome is denial = fault-denies OVERLOADED.now outcome is denial
 
 -- ---- steps of the handle
 
@@ -122,6 +144,15 @@ module _ (options : OptionsValue) (limits : PoolLimits) (seed : List ℕ) (group
           }
   step-octets before request outcome after is (inr f) m e = absurd (f.fails m e)
 
+  step-denies : (before : PoolHandle) (request : DnsRequest) (outcome : OutcomeValue) (after : PoolHandle)
+      → Step before request outcome after → IsDenial outcome → ⊥
+  step-denies before request outcome after (inl t) denial = by t.told
+    where
+      by : (outcome ≡ Err error.OutOfMemory) ⊎ IsCoreOutcome t.over outcome → ⊥
+      by (inl none) = subst IsDenial none denial
+      by (inr told) = told-denies t.over.outcome (message_of t.over) outcome told denial
+  step-denies before request outcome after (inr f) denial = f.denies_nothing denial
+
   all-octets : (request : DnsRequestOptions) (before after : PoolHandle) (xs : List Exchange)
       → IsPoolOf options limits seed before → Leads Step request before xs after
       → AllByRecursion (CameAsOctets after.past request dnssec) xs × IsLater before after
@@ -137,12 +168,14 @@ module _ (options : OptionsValue) (limits : PoolLimits) (seed : List ℕ) (group
       let asked : DnsRequest = record { query = x.query; options = request } in
       let next = step-later before asked x.outcome mid is sent in
       let more = all-octets request mid after xs next.pool rest in
-      let here : CameAsOctets after.past request dnssec x =
-      λ m e. let found = step-octets before asked x.outcome mid is sent m e in record {
-        over = found.over;
-        read = subst (λ (p : List Happening). IsReadOfOctets p found.over m) (sym more.1.past_is)
-            (read-on more.1.more mid.past found.over m found.read);
-        same = found.same;
+      let here : CameAsOctets after.past request dnssec x = record {
+        response = λ m e. let found = step-octets before asked x.outcome mid is sent m e in record {
+          over = found.over;
+          read = subst (λ (p : List Happening). IsReadOfOctets p found.over m) (sym more.1.past_is)
+              (read-on more.1.more mid.past found.over m found.read);
+          same = found.same;
+        };
+        denies_nothing = step-denies before asked x.outcome mid sent;
       } in (
         (here, more.0),
         record {

@@ -220,7 +220,7 @@ module _ (x : Scene) (fit : IsFit x) (going : x.current.to_do ≡ todo.GoOn) whe
             change = stays (record {
               cost = omega (arith, less);
               channels = refl;
-                      freed = refl;
+              freed = refl;
               blocked = refl;
               wants = inl wants;
             });

@@ -306,11 +306,11 @@ module _ (b : Start) where
             let es = entries in let le = k.cost in let ch = k.channels in
             of_channels (omega (arith, le, one, es)) (omega (arith, ch, less))
         by (stays k) (of_due one two less) =
-            let es = entries in let le = k.cost in let ch = k.channels in  let rd = ready in
+            let es = entries in let le = k.cost in let ch = k.channels in let rd = ready in
             let wt = same-waiting in
             of_due (omega (arith, le, one, es)) (omega (arith, ch, two)) (omega (arith, rd, wt, less))
         by (stays k) (of_waits one two three less why) =
-            let es = entries in let le = k.cost in let ch = k.channels in  let rd = ready in
+            let es = entries in let le = k.cost in let ch = k.channels in let rd = ready in
             let wt = same-waiting in let fr = k.freed in
             let bl : length y.traffic.table.blocked ≡ length x.traffic.table.blocked = ap length k.blocked in
             of_waits (omega (arith, le, one, es)) (omega (arith, ch, two)) (omega (arith, rd, wt, three))
@@ -332,7 +332,7 @@ module _ (b : Start) where
             let es = entries in let le = k.cost in let ch = k.channels in
             of_channels (omega (arith, le, one, es)) (omega (arith, ch, less))
         by (notes k) (of_due one two less) =
-            let es = entries in let le = k.cost in let ch = k.channels in  let rd = ready in
+            let es = entries in let le = k.cost in let ch = k.channels in let rd = ready in
             let wt = same-waiting in
             of_due (omega (arith, le, one, es)) (omega (arith, ch, two)) (omega (arith, rd, wt, less))
         by (notes k) (of_waits one two three less (inl h)) = absurd (true≢false (sym h ∙ k.none))
@@ -366,7 +366,7 @@ module _ (b : Start) where
         let wt : length (frees x).traffic.askers.waiting ≡ length x.traffic.askers.waiting =
         ap (λ (a : AskersState). length a.waiting) (same-done doings.Frees x (frees x) refl).askers in
         let le = k.cost in let ch = k.channels in let rd : length (frees x).traffic.ready ≡ length x.traffic.ready = ap length k.ready in
-         let less = k.waits in
+        let less = k.waits in
         goes (omega (arith, one, came)) (omega (arith, two, failed)) none
         (of_waits (omega (arith, es, le, cost)) (omega (arith, ch, channels)) (omega (arith, wt, rd, due))
         (omega (arith, less, waits)) k.why) k.to_do)

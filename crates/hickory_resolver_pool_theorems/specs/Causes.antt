@@ -12,7 +12,6 @@ use Rattle.hickory_resolver_transactions.specs.Candidates.{is_due, is_waiting, w
 use Rattle.hickory_resolver_transactions.specs.Laws.{TransactionEvent, channel_failed, time_passed, after_events, IsBounded}
 use Rattle.hickory_resolver_transactions.specs.Transaction.{TransactionState, begun_with, picked}
 use Rattle.hickory_resolver_transactions.specs.declared.candidate.Candidate.{Candidate}
-use Rattle.hickory_resolver_transactions.specs.declared.choices.TheConstants.{MOST_ROUNDS}
 use Rattle.hickory_resolver_transactions.specs.declared.settings.Settings.{Settings}
 use Rattle.hickory_resolver_traffic.specs.Table.{CurrentState}
 use Rattle.hickory_resolver_pool.specs.Laws.{is_asked}
@@ -110,11 +109,12 @@ UnreachableOnesFailed =
 -- ---- each transaction is bounded
 
 -- Rounds, messages to a server in a round by one transport, tries that wait at once, and late tries are within their
--- bounds, and these are those of the options: attempts are retries.
+-- bounds, and these are those of the options: attempts are retries. There are three rounds at most (RFC 9520, section
+-- 3.1).
 pub record IsBoundedBy (options : OptionsValue) (t : TransactionState) : Type 0 where
   pub bounded : IsBounded t
   pub attempts : t.round ≤ options.attempts + 1
-  pub rounds : t.round ≤ MOST_ROUNDS
+  pub rounds : t.round ≤ 3
   pub waiting : count_by (λ c. is_waiting c.progress) t.candidates ≤ max options.num_concurrent_reqs 1
 
 -- each transaction that there is stays within its bounds

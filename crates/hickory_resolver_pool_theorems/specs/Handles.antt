@@ -5,6 +5,7 @@ use Rattle.hickory_proto_core.specs.Handles.{OutcomeValue, HandleStep}
 use Rattle.hickory_proto_core.specs.Messages.{MessageValue}
 use Rattle.hickory_proto_core.specs.declared.dns_request.DnsRequest.{DnsRequest}
 use Rattle.hickory_proto_core.specs.declared.dns_request.DnsRequestOptions.{DnsRequestOptions}
+use Rattle.hickory_proto_core.specs.declared.net_error.DnsError.TheVariants.{NoRecordsFound}
 use Rattle.hickory_proto_core.specs.declared.net_error.NetError.TheVariants as error
 use Rattle.hickory_proto_core.specs.declared.recorded.Exchange.{Exchange}
 use Rattle.hickory_proto_wire.specs.Messages.{message_of}
@@ -80,9 +81,16 @@ pub record IsTold
   pub past_is : after.past
       ≡ did last (Some (Over over)) ∷ waited ++ came before.pool (asking group dnssec request now) ∷ before.past
 
+-- an error that says that there are no records
+abbrev pub IsDenial : OutcomeValue → Type 0
+IsDenial (Err (error.Dns (NoRecordsFound n))) = Unit {0}
+IsDenial other = ⊥
+
 -- An error is answered, as where there is no place or no server, or where nobody waits on; whatever happens meanwhile.
+-- It denies nothing: that there are no records is said by a response.
 pub record IsFailed (before : PoolHandle) (outcome : OutcomeValue) (after : PoolHandle) : Type 0 where
   pub fails : (m : MessageValue) → outcome ≡ Ok m → ⊥
+  pub denies_nothing : IsDenial outcome → ⊥
   pub waited : List Happening
   pub runs : Runs before.pool waited after.pool
   pub past_is : after.past ≡ waited ++ before.past
@@ -100,16 +108,18 @@ pub record CameFor (past : List Happening) (question : PoolQuestion) (m : Messag
   pub read : IsReadOfOctets past over m
   pub same : question_eq question over.question ≡ true
 
--- where a response came back, it came so for what was asked
-abbrev pub CameAsOctets : List Happening → DnsRequestOptions → DnssecOptions → Exchange → Type 0
-CameAsOctets past options dnssec x =
-    (m : MessageValue) → x.outcome ≡ Ok m → CameFor past (question_of x.query options dnssec) m
+-- where a response came back, it came so for what was asked; and that there are no records is said by no error
+pub record CameAsOctets (past : List Happening) (options : DnsRequestOptions) (dnssec : DnssecOptions) (x : Exchange)
+    : Type 0 where
+  pub response : (m : MessageValue) → x.outcome ≡ Ok m → CameFor past (question_of x.query options dnssec) m
+  pub denies_nothing : IsDenial x.outcome → ⊥
 
 abbrev pub IsPoolOf : OptionsValue → PoolLimits → List ℕ → PoolHandle → Type 0
 IsPoolOf options limits seed h = Runs (no_servers options limits seed) h.past h.pool
 
--- A run of a resolver over a pool keeps all that is promised of runs, and each response of its exchanges is what octets
--- spell that came for its question: so of what it answers nothing outlives what was received on the wire.
+-- A run of a resolver over a pool keeps all that is promised of runs, and each response of its exchanges, also one that
+-- says that there are no records, is what octets spell that came for its question: so of what it answers nothing outlives
+-- what was received on the wire.
 abbrev pub FromOctetsToOctets : Type 0
 FromOctetsToOctets =
     (options : OptionsValue) (limits : PoolLimits) (seed : List ℕ) (group : ℕ) (dnssec : DnssecOptions)
