@@ -1,4 +1,5 @@
 pub mod Alive
+pub mod Always
 pub mod Answers
 pub mod Asked
 pub mod Askings
@@ -49,6 +50,7 @@ pub mod Pools
 pub mod Ports
 pub mod Present
 pub mod PutAway
+pub mod Ranks
 pub mod Reaching
 pub mod Reasons
 pub mod Refusals

@@ -11,7 +11,7 @@ use Rattle.hickory_resolver_channels.specs.declared.channel.ChannelKind.{Channel
 use Rattle.hickory_resolver_channels.specs.declared.channel.ChannelKind.TheVariants.{Datagram, Stream}
 use Rattle.hickory_resolver_config.specs.ResolverConfig.{OptionsValue}
 use Rattle.hickory_resolver_servers.specs.Server.{ServerState, server_of}
-use Rattle.hickory_resolver_steps.specs.Steps.{SharedState}
+use Rattle.hickory_resolver_steps.specs.Steps.{SharedState, SendingValue}
 use Rattle.hickory_resolver_tries.specs.Question.{question_of}
 use Rattle.hickory_resolver_tries.specs.declared.pool_question.DnssecOptions.{DnssecOptions}
 use Rattle.hickory_resolver_traffic.specs.Doing.{Scene, doing, closed_by}
@@ -36,7 +36,7 @@ use Rattle.hickory_resolver_pool.specs.declared.pool.Action.{Action}
 use Rattle.hickory_resolver_pool.specs.declared.pool.Action.TheVariants as action
 use Rattle.hickory_resolver_pool.specs.declared.pool.Asked.TheVariants as asked
 use Rattle.hickory_resolver_pool_theorems.specs.Answers.{servers_in}
-use Rattle.hickory_resolver_pool_theorems.specs.Opens.{port_given, OpensOther, OpenedOther, OpensToOwnServers}
+use Rattle.hickory_resolver_pool_theorems.specs.Opens.{port_given, IsToServer, OpensOther, OpenedOther, OpensToOwnServers}
 use Rattle.hickory_resolver_pool_theorems.specs.Runs.{Happening, came, did, Runs, at_first, by_event, by_step}
 use Rattle.hickory_resolver_pool_theorems.proofs.EachEntry.{HoldOfEach, AtCurrent, Begins, each-step, each-event, each-as}
 use Rattle.hickory_resolver_pool_theorems.proofs.Fits.{by_kind, port_by, has_port}
@@ -641,6 +641,22 @@ module _ (s after : PoolState) (opening : OpeningValue) where
           opened-out out e out.sending.is_new refl
           (steps.0 ∙ ap (λ (what : Task). action_of (did_of what s.traffic)) (writing s out e))
 
+-- it is opened to a server as that was given
+to-server : (value : PoolServerValue) (server : ServerState) (l : GroupListState) (sending : SendingValue) (opening : OpeningValue)
+    → opening ≡ opening_to sending l server → bare server ≡ server_of value.config value.scope
+    → slice_get l.sources sending.place ≡ Some (sources_of value)
+    → port_given sending.kind (server_of value.config value.scope) ≡ Some (port_for sending.kind server)
+    → IsToServer value opening
+to-server value server l sending opening is given sources port = record {
+  address = ap (λ (x : OpeningValue). x.address) is ∙ ap (λ (x : ServerState). x.address) given;
+  scope = ap (λ (x : OpeningValue). x.scope) is ∙ ap (λ (x : ServerState). x.scope) given;
+  port = ap (λ (x : OpeningValue). port_given x.kind (server_of value.config value.scope)) is ∙ port
+      ∙ ap (λ (x : OpeningValue). Some x.port) (sym is);
+  bind_addr = ap (λ (x : OpeningValue). x.bind_addr) is
+      ∙ ap (λ (x : Option Sources). option_and_then (source_for sending.kind) x) sources
+      ∙ ap (λ (x : OpeningValue). source_for x.kind (sources_of value)) (sym is);
+}
+
 pub opens_to_own_servers : OpensToOwnServers
 opens_to_own_servers options limits seed past s after o runs steps =
     let opened = opened-is s after o steps in
@@ -677,18 +693,10 @@ opens_to_own_servers options limits seed past s after o runs steps =
       server = at.0;
       has = subst (λ (xs : List PoolServerValue). Contains xs at.0) same
           (contains-at (given_in opened.out.list past) at.1 at.0 at.2);
-      to = record {
-        address = ap (λ (x : OpeningValue). x.address) of.is ∙ ap (λ (x : ServerState). x.address) at.3;
-        scope = ap (λ (x : OpeningValue). x.scope) of.is ∙ ap (λ (x : ServerState). x.scope) at.3;
-        port = ap (λ (x : OpeningValue). port_given x.kind (server_of at.0.config at.0.scope)) of.is
-            ∙ port-given opened.out.sending.kind opened.out.sending.place l.servers.servers
-            (states_of (given_in opened.out.list past)) server (server_of at.0.config at.0.scope) given.states of.at_place at.3
-            going.port
-            ∙ ap (λ (x : OpeningValue). Some x.port) (sym of.is);
-        bind_addr = ap (λ (x : OpeningValue). x.bind_addr) of.is
-            ∙ ap (λ (x : Option Sources). option_and_then (source_for opened.out.sending.kind) x) at.4
-            ∙ ap (λ (x : OpeningValue). source_for x.kind (sources_of at.0)) (sym of.is);
-      };
+      to = to-server at.0 server l opened.out.sending o of.is at.3 at.4
+          (port-given opened.out.sending.kind opened.out.sending.place l.servers.servers
+          (states_of (given_in opened.out.list past)) server (server_of at.0.config at.0.scope) given.states of.at_place at.3
+          going.port);
       is_new = subst (λ (n : ℕ). AllByRecursion (OpenedOther n) past)
           (sym (ap (λ (x : OpeningValue). x.channel) of.is)) (going.is_new opened.is_new);
     }

@@ -1,4 +1,4 @@
--- What is held where nothing is left to be done; that it comes to that; and that it ends.
+-- There is always a next step; what is held where nothing is left to be done; that it comes to that; and that it ends.
 use Rattle.std.specs.Prelude.{◌≡◌, ◌≤◌, ◌<◌, ◌+◌, ◌^◌, ℕ, List, [], length, Option, None, Some}
 use Rattle.std.specs.List.{AllByRecursion}
 use Rattle.hickory_resolver_config.specs.ResolverConfig.{OptionsValue}
@@ -28,6 +28,17 @@ abbrev pub AllIsReadAtRest : Type 0
 AllIsReadAtRest =
     (options : OptionsValue) (limits : PoolLimits) (seed : List ℕ) (past : List Happening) (s after : PoolState)
     → Runs (no_servers options limits seed) past s → Steps s None after → IsReadThrough s
+
+-- ---- there is always a next step
+
+pub record HasStep (s : PoolState) : Type 0 where
+  pub action : Option Action
+  pub after : PoolState
+  pub is : Steps s action after
+
+-- So what is said of whatever the next step does is said of something.
+abbrev pub AlwaysSteps : Type 0
+AlwaysSteps = (s : PoolState) → HasStep s
 
 -- ---- what is worked on is put away
 

@@ -5,7 +5,7 @@ ghost use Rattle.hickory_resolver_pool_theorems.specs.MadeUp.{NothingIsMadeUp};
 ghost use Rattle.hickory_resolver_pool_theorems.specs.Handles.{CoreIsToldWhatCame, FromOctetsToOctets};
 ghost use Rattle.hickory_resolver_pool_theorems.specs.Causes.{TimeoutsRanOut, UnreachableOnesFailed, TransactionsStayBounded};
 ghost use Rattle.hickory_resolver_pool_theorems.specs.Ends.{RestsUntilDue};
-ghost use Rattle.hickory_resolver_pool_theorems.specs.Rest.{AllIsReadAtRest, EachIsPutAway, EachComesToRest, EachComesToEnd};
+ghost use Rattle.hickory_resolver_pool_theorems.specs.Rest.{AllIsReadAtRest, AlwaysSteps, EachIsPutAway, EachComesToRest, EachComesToEnd};
 ghost use Rattle.hickory_resolver_pool_theorems.specs.Ticks.{EachTickLowers};
 ghost use Rattle.hickory_resolver_pool_theorems.specs.Failures.{OverloadedOnlyWithoutPlace, FailuresAreToldLast};
 ghost use Rattle.hickory_resolver_pool_theorems.specs.Tellings.{WhoAsksIsTold, OverOnce};
@@ -140,6 +140,11 @@ pub fn all_is_read_at_rest()
 /// The servers that a transaction asks are kept as long as it asks them, also where its group has others since.
 pub fn servers_are_kept()
     ensures { ServersAreKept }
+{}
+
+/// There is always a next step, so that what is said of whatever it does is said of something.
+pub fn always_steps()
+    ensures { AlwaysSteps }
 {}
 
 /// Where steps are all that happens, the transaction that is worked on is put away, or over, after finitely many of them.
