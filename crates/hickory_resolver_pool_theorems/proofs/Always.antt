@@ -1,5 +1,5 @@
 -- There is always a next step.
-use Rattle.std.proofs.Common.{◌≡◌, ℕ, Bool, true, false, List, refl, ap, sym, subst, ◌∙◌}
+use Rattle.std.proofs.Common.{ℕ, Bool, true, false, List, refl}
 use Rattle.std.specs.Prelude.{Option, None, Some}
 use Rattle.std.specs.Option.{is_some}
 use Rattle.hickory_resolver_config.specs.declared.strategies.ServerOrderingStrategy.{ServerOrderingStrategy}
@@ -9,16 +9,15 @@ use Rattle.hickory_resolver_servers.specs.Server.{ServerState}
 use Rattle.hickory_resolver_servers.specs.declared.order.RoundStart.{RoundStart}
 use Rattle.hickory_resolver_steps.specs.Steps.{FlyingState}
 use Rattle.hickory_resolver_transactions.specs.Transaction.{places_left}
-use Rattle.hickory_resolver_traffic.specs.Doing.{Scene, IsDone, doing, closed_by, round_of, in_order_of, BeginsWith, BeginsRoundIn, with_round_parts, hears, doubts, stalls, fails, quits, expires, frees, leaves, draws, gives_up, blocks, sends, dates}
+use Rattle.hickory_resolver_traffic.specs.Doing.{Scene, IsDone, doing, closed_by, round_of, in_order_of, BeginsWith, with_round_parts, hears, doubts, stalls, fails, quits, expires, frees, leaves, draws, gives_up, blocks, sends, dates}
 use Rattle.hickory_resolver_traffic.specs.Groups.{GroupListState, list_at}
 use Rattle.hickory_resolver_traffic.specs.Table.{CurrentState}
-use Rattle.hickory_resolver_traffic.specs.Traffic.{OutgoingValue}
 use Rattle.hickory_resolver_traffic.specs.declared.doing.Doing.{Doing}
 use Rattle.hickory_resolver_traffic.specs.declared.doing.Doing.TheVariants.{Hears, Doubts, Stalls, Fails, Quits, PutsBack, Expires, Frees, Refused, Leaves, Ends, Draws, BeginsRound, GivesUp, Blocks, Sends, Dates, Rests}
 use Rattle.hickory_resolver_pool.specs.Pool.{PoolState, close_or_continue, let_go_action, started, started_action, scene_of, is_end, is_put, let_go, put_by, StepsBy, StepsIn, StepsAs}
 use Rattle.hickory_resolver_pool.specs.declared.pool.Action.{Action}
 use Rattle.hickory_resolver_pool.specs.declared.pool.Action.TheVariants.{Continue}
-use Rattle.hickory_resolver_pool_theorems.specs.Rest.{HasStep, AlwaysSteps}
+use Rattle.hickory_resolver_pool_theorems.specs.Rest.{AlwaysSteps}
 use Rattle.hickory_resolver_pool_theorems.proofs.Ranks.{ranked, ranked-same, ranked-sorted, ranked-stable}
 
 -- an order by each strategy

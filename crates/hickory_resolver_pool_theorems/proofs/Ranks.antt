@@ -1,5 +1,5 @@
 -- Places can be put in an order by a number of each.
-use Rattle.std.proofs.Common.{◌≡◌, ◌≤◌, ◌<◌, ◌+◌, suc, zero, ℕ, Bool, true, false, cond, not, ◌&&◌, leb, leb-true, leb-false, eqb, ltb, ltb-false, le-ltb, List, [], ◌∷◌, ◌++◌, length, refl, ap, sym, subst, ◌∙◌, true≢false, arith}
+use Rattle.std.proofs.Common.{◌≡◌, ◌≤◌, ◌<◌, ◌+◌, suc, zero, ℕ, Bool, true, false, cond, not, ◌&&◌, leb, leb-true, leb-false, eqb, ltb, ltb-false, le-ltb, List, [], ◌∷◌, refl, ap, sym, subst, ◌∙◌, true≢false, arith}
 use Rattle.std.specs.Prelude.{filter, slice_index_or, IsPermutation, IsSortedByKey}
 use Rattle.std.specs.List.Sorted.{IsStableByKey, ties}
 use Rattle.std.specs.declared.cmp.Ordering.TheVariants.{Less, Equal, Greater}
