@@ -81,26 +81,27 @@ pub record IsPut (c : CurrentState) (s t : PoolState) : Type 0 where
   pub none : t.current ≡ None
   pub askers : t.traffic.askers ≡ s.traffic.askers
   pub questions : t.questions ≡ s.questions
+  pub clock : t.traffic.clock ≡ s.traffic.clock
 
 pub put-is : (what : Doing) (c : CurrentState) (s : PoolState) → IsPut c s (put_by what c s)
-put-is PutsBack c s = record { entries = refl; none = refl; askers = refl; questions = refl }
-put-is Rests c s = record { entries = refl; none = refl; askers = refl; questions = refl }
-put-is Ends c s = record { entries = refl; none = refl; askers = refl; questions = refl }
-put-is Refused c s = record { entries = refl; none = refl; askers = refl; questions = refl }
-put-is Hears c s = record { entries = refl; none = refl; askers = refl; questions = refl }
-put-is Doubts c s = record { entries = refl; none = refl; askers = refl; questions = refl }
-put-is Stalls c s = record { entries = refl; none = refl; askers = refl; questions = refl }
-put-is Fails c s = record { entries = refl; none = refl; askers = refl; questions = refl }
-put-is Quits c s = record { entries = refl; none = refl; askers = refl; questions = refl }
-put-is Expires c s = record { entries = refl; none = refl; askers = refl; questions = refl }
-put-is Frees c s = record { entries = refl; none = refl; askers = refl; questions = refl }
-put-is (Leaves place) c s = record { entries = refl; none = refl; askers = refl; questions = refl }
-put-is Draws c s = record { entries = refl; none = refl; askers = refl; questions = refl }
-put-is (BeginsRound place) c s = record { entries = refl; none = refl; askers = refl; questions = refl }
-put-is GivesUp c s = record { entries = refl; none = refl; askers = refl; questions = refl }
-put-is Blocks c s = record { entries = refl; none = refl; askers = refl; questions = refl }
-put-is Sends c s = record { entries = refl; none = refl; askers = refl; questions = refl }
-put-is (Dates due) c s = record { entries = refl; none = refl; askers = refl; questions = refl }
+put-is PutsBack c s = record { entries = refl; none = refl; askers = refl; questions = refl; clock = refl }
+put-is Rests c s = record { entries = refl; none = refl; askers = refl; questions = refl; clock = refl }
+put-is Ends c s = record { entries = refl; none = refl; askers = refl; questions = refl; clock = refl }
+put-is Refused c s = record { entries = refl; none = refl; askers = refl; questions = refl; clock = refl }
+put-is Hears c s = record { entries = refl; none = refl; askers = refl; questions = refl; clock = refl }
+put-is Doubts c s = record { entries = refl; none = refl; askers = refl; questions = refl; clock = refl }
+put-is Stalls c s = record { entries = refl; none = refl; askers = refl; questions = refl; clock = refl }
+put-is Fails c s = record { entries = refl; none = refl; askers = refl; questions = refl; clock = refl }
+put-is Quits c s = record { entries = refl; none = refl; askers = refl; questions = refl; clock = refl }
+put-is Expires c s = record { entries = refl; none = refl; askers = refl; questions = refl; clock = refl }
+put-is Frees c s = record { entries = refl; none = refl; askers = refl; questions = refl; clock = refl }
+put-is (Leaves place) c s = record { entries = refl; none = refl; askers = refl; questions = refl; clock = refl }
+put-is Draws c s = record { entries = refl; none = refl; askers = refl; questions = refl; clock = refl }
+put-is (BeginsRound place) c s = record { entries = refl; none = refl; askers = refl; questions = refl; clock = refl }
+put-is GivesUp c s = record { entries = refl; none = refl; askers = refl; questions = refl; clock = refl }
+put-is Blocks c s = record { entries = refl; none = refl; askers = refl; questions = refl; clock = refl }
+put-is Sends c s = record { entries = refl; none = refl; askers = refl; questions = refl; clock = refl }
+put-is (Dates due) c s = record { entries = refl; none = refl; askers = refl; questions = refl; clock = refl }
 
 -- ---- of each transaction, by its number and what it asks
 

@@ -182,12 +182,13 @@ module _ (G : ℕ → EntryState → Type 0) where
 
   -- ---- steps, where what is done with a transaction keeps it
 
-  module _ (keeps : (what : Doing) (x y : Scene) → IsDone what x y → G x.current.number x.current.entry
-      → G x.current.number y.current.entry) where
-    each-by : (s t : PoolState) → t ≡ s → HoldOfEach s → HoldOfEach t
-    each-by s t is w = subst HoldOfEach (sym is) w
+  each-by : (s t : PoolState) → t ≡ s → HoldOfEach s → HoldOfEach t
+  each-by s t is w = subst HoldOfEach (sym is) w
 
-    module _ (s t : PoolState) (r : Option Action) (w : HoldOfEach s) where
+  module _ (s t : PoolState) (r : Option Action)
+      (keeps : (what : Doing) (x y : Scene) → x.traffic ≡ s.traffic → IsDone what x y → G x.current.number x.current.entry
+      → G x.current.number y.current.entry) where
+    module _ (w : HoldOfEach s) where
       each-starts : Starts s r t → HoldOfEach t
       each-starts is = each-by (started s) t is.1 (record {
         table = entries-task s.traffic w.table (task_of s.traffic);
@@ -201,7 +202,7 @@ module _ (G : ℕ → EntryState → Type 0) where
           let y : Scene = record { traffic = t.traffic; current = after } in
           let same = same-done what (scene_of s c) y is in
           let mine : G after.number after.entry =
-          subst (λ (n : ℕ). G n after.entry) (sym same.number) (keeps what (scene_of s c) y is own) in
+          subst (λ (n : ℕ). G n after.entry) (sym same.number) (keeps what (scene_of s c) y refl is own) in
           record {
             table = subst AllEntries (sym same.entries) w.table;
             worked = subst (λ (o : Option CurrentState). IfSome o AtCurrent) (sym at) mine;
@@ -223,12 +224,16 @@ module _ (G : ℕ → EntryState → Type 0) where
           each-stepped c (subst (λ (o : Option CurrentState). IfSome o AtCurrent) works w.worked)
           (is_end (doing c s.traffic)) (is_put (doing c s.traffic)) (doing c s.traffic) is
 
-      pub each-step : Steps s r t → HoldOfEach t
-      each-step is = by (is_some s.traffic.outgoing) is
+      pub each-step-in : Steps s r t → HoldOfEach t
+      each-step-in is = by (is_some s.traffic.outgoing) is
         where
           by : (writes : Bool) → StepsAs writes s r t → HoldOfEach t
           by true steps = each-starts steps
           by false steps = each-in s.current refl steps
+
+  pub each-step : ((what : Doing) (x y : Scene) → IsDone what x y → G x.current.number x.current.entry
+      → G x.current.number y.current.entry) → (s t : PoolState) (r : Option Action) → HoldOfEach s → Steps s r t → HoldOfEach t
+  each-step keeps s t r w is = each-step-in s t r (λ what x y same done k. keeps what x y done k) w is
 
   -- ---- events: one that begins has the next number, and is given to who asks
 

@@ -10,6 +10,7 @@ pub mod Budgets
 pub mod ByEvents
 pub mod ByNumber
 pub mod Causes
+pub mod Clocks
 pub mod Counted
 pub mod Counts
 pub mod Dates

@@ -140,8 +140,8 @@ ported-runs options limits seed _ _ (by_step past s after r is more) =
     let list : y.current.entry.asked.0 ≡ x.current.entry.asked.0 = ap (λ (a : AskedOf). a.0) (same-done what x y done).asked in
     record {
       fits = subst (λ (n : ℕ). AreFor (given_port past n) y.current.entry.flying.flight.transaction) (sym list)
-          (keeps-done (AreFor (given_port past x.current.entry.asked.0)) (for-event (given_port past x.current.entry.asked.0))
-          what x y done w.fits);
+          (keeps-done (AreFor (given_port past x.current.entry.asked.0)) x.traffic.clock
+          (λ t e told. for-event (given_port past x.current.entry.asked.0) t e) what x y (omega arith) done w.fits);
       old = let less = w.old in omega (arith, less, list);
     })
     s after r (ported-runs options limits seed past s more) is)

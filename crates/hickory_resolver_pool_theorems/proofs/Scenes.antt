@@ -25,9 +25,10 @@ pub record IsSame (x y : Scene) : Type 0 where
   pub to_do : y.current.to_do ≡ todo.Refuse → x.current.to_do ≡ todo.Refuse
   pub entries : y.traffic.table.entries ≡ x.traffic.table.entries
   pub askers : y.traffic.askers ≡ x.traffic.askers
+  pub clock : y.traffic.clock ≡ x.traffic.clock
 
 same-self : (x : Scene) → IsSame x x
-same-self x = record { number = refl; asked = refl; to_do = λ h. h; entries = refl; askers = refl }
+same-self x = record { number = refl; asked = refl; to_do = λ h. h; entries = refl; askers = refl; clock = refl }
 
 same-then : (x y z : Scene) → IsSame x y → IsSame y z → IsSame x z
 same-then x y z one two = record {
@@ -36,6 +37,7 @@ same-then x y z one two = record {
   to_do = λ h. one.to_do (two.to_do h);
   entries = two.entries ∙ one.entries;
   askers = two.askers ∙ one.askers;
+  clock = two.clock ∙ one.clock;
 }
 
 same-hears_first : (x : Scene) → IsSame x (hears_first x)
@@ -43,31 +45,31 @@ same-hears_first x = by (first_message x.traffic.inbox)
   where
     by : (m : Option MessageValue) → IsSame x (option_map_or (hears_octets x) m x)
     by None = same-self x
-    by (Some m) = record { number = refl; asked = refl; to_do = λ h. h; entries = refl; askers = refl }
+    by (Some m) = record { number = refl; asked = refl; to_do = λ h. h; entries = refl; askers = refl; clock = refl }
 
 same-after_first : (heard : Option Heard) (x : Scene) → IsSame x (after_first heard x)
-same-after_first None x = record { number = refl; asked = refl; to_do = λ h. absurd cc; entries = refl; askers = refl }
-same-after_first (Some Nothing) x = record { number = refl; asked = refl; to_do = λ h. absurd cc; entries = refl; askers = refl }
-same-after_first (Some OtherLetters) x = record { number = refl; asked = refl; to_do = λ h. absurd cc; entries = refl; askers = refl }
-same-after_first (Some OptRefused) x = record { number = refl; asked = refl; to_do = λ h. absurd cc; entries = refl; askers = refl }
-same-after_first (Some (Reply outcome)) x = record { number = refl; asked = refl; to_do = λ h. absurd cc; entries = refl; askers = refl }
+same-after_first None x = record { number = refl; asked = refl; to_do = λ h. absurd cc; entries = refl; askers = refl; clock = refl }
+same-after_first (Some Nothing) x = record { number = refl; asked = refl; to_do = λ h. absurd cc; entries = refl; askers = refl; clock = refl }
+same-after_first (Some OtherLetters) x = record { number = refl; asked = refl; to_do = λ h. absurd cc; entries = refl; askers = refl; clock = refl }
+same-after_first (Some OptRefused) x = record { number = refl; asked = refl; to_do = λ h. absurd cc; entries = refl; askers = refl; clock = refl }
+same-after_first (Some (Reply outcome)) x = record { number = refl; asked = refl; to_do = λ h. absurd cc; entries = refl; askers = refl; clock = refl }
 
 same-stalls : (x : Scene) → IsSame x (stalls x)
 same-stalls x = by (first_failure x.traffic.inbox)
   where
     by : (f : Option ChannelFailure) → IsSame x (option_map_or (stalls_on x) f (with_to_do todo.GoOn x))
-    by None = record { number = refl; asked = refl; to_do = λ h. absurd cc; entries = refl; askers = refl }
-    by (Some f) = record { number = refl; asked = refl; to_do = λ h. absurd cc; entries = refl; askers = refl }
+    by None = record { number = refl; asked = refl; to_do = λ h. absurd cc; entries = refl; askers = refl; clock = refl }
+    by (Some f) = record { number = refl; asked = refl; to_do = λ h. absurd cc; entries = refl; askers = refl; clock = refl }
 
 same-fails : (x : Scene) → IsSame x (fails x)
 same-fails x = by (first_failure x.traffic.inbox)
   where
     after : (f : ChannelFailure) (stream : Bool) → IsSame x (after_failed stream (act_on (Fail f.channel) [] x))
-    after f true = record { number = refl; asked = refl; to_do = λ h. absurd cc; entries = refl; askers = refl }
-    after f false = record { number = refl; asked = refl; to_do = λ h. absurd cc; entries = refl; askers = refl }
+    after f true = record { number = refl; asked = refl; to_do = λ h. absurd cc; entries = refl; askers = refl; clock = refl }
+    after f false = record { number = refl; asked = refl; to_do = λ h. absurd cc; entries = refl; askers = refl; clock = refl }
 
     by : (f : Option ChannelFailure) → IsSame x (option_map_or (fails_on x) f (with_to_do todo.GoOn x))
-    by None = record { number = refl; asked = refl; to_do = λ h. absurd cc; entries = refl; askers = refl }
+    by None = record { number = refl; asked = refl; to_do = λ h. absurd cc; entries = refl; askers = refl; clock = refl }
     by (Some f) = after f (is_stream f.channel x.traffic.shared.channels)
 
 same-leave_at : (place : ℕ) (x : Scene) → IsSame x (leave_at place x)
@@ -75,7 +77,7 @@ same-leave_at place x = by (try_at_place x.current.entry.flying place)
   where
     by : (one : Option SentTry) → IsSame x (option_map_or (leaving_at place x) one x)
     by None = same-self x
-    by (Some one) = record { number = refl; asked = refl; to_do = λ h. h; entries = refl; askers = refl }
+    by (Some one) = record { number = refl; asked = refl; to_do = λ h. h; entries = refl; askers = refl; clock = refl }
 
 same-quits : (x : Scene) → IsSame x (quits x)
 same-quits x = by (place_on x)
@@ -87,6 +89,7 @@ same-quits x = by (place_on x)
       to_do = λ h. absurd cc;
       entries = same.entries;
       askers = same.askers;
+      clock = same.clock;
     }
     after y same (Some channel) = record {
       number = same.number;
@@ -94,10 +97,11 @@ same-quits x = by (place_on x)
       to_do = λ h. absurd cc;
       entries = same.entries;
       askers = same.askers;
+      clock = same.clock;
     }
 
     by : (place : Option ℕ) → IsSame x (option_map_or (quits_at x) place (with_to_do todo.PutBack x))
-    by None = record { number = refl; asked = refl; to_do = λ h. absurd cc; entries = refl; askers = refl }
+    by None = record { number = refl; asked = refl; to_do = λ h. absurd cc; entries = refl; askers = refl; clock = refl }
     by (Some place) = after (leave_at place x) (same-leave_at place x) (closed_at place x)
 
 same-frees : (x : Scene) → IsSame x (frees x)
@@ -112,8 +116,8 @@ same-frees x = by (is_some (wanted (changed freed x.current.entry.flying.flight)
           traffic = record x.traffic { table = without_blocked x.current.number x.traffic.table };
           current = then_do todo.GoOn (changing (changed freed) x.current);
         }))
-    by true = record { number = refl; asked = refl; to_do = λ h. absurd cc; entries = refl; askers = refl }
-    by false = record { number = refl; asked = refl; to_do = λ h. absurd cc; entries = refl; askers = refl }
+    by true = record { number = refl; asked = refl; to_do = λ h. absurd cc; entries = refl; askers = refl; clock = refl }
+    by false = record { number = refl; asked = refl; to_do = λ h. absurd cc; entries = refl; askers = refl; clock = refl }
 
 same-freed_if : (closed : Option ℕ) (x : Scene) → IsSame x (freed_if closed x)
 same-freed_if None x = same-self x
@@ -124,7 +128,7 @@ same-freed_if (Some channel) x = by (is_empty x.traffic.table.blocked)
       current = x.current;
     })
     by true = same-self x
-    by false = record { number = refl; asked = refl; to_do = λ h. h; entries = refl; askers = refl }
+    by false = record { number = refl; asked = refl; to_do = λ h. h; entries = refl; askers = refl; clock = refl }
 
 same-doubts : (x : Scene) → IsSame x (doubts x)
 same-doubts x = by (first_message x.traffic.inbox)
@@ -133,8 +137,8 @@ same-doubts x = by (first_message x.traffic.inbox)
       traffic = option_map_or (doubts_message x.traffic) m x.traffic;
       current = then_do todo.GoOn x.current;
     })
-    by None = record { number = refl; asked = refl; to_do = λ h. absurd cc; entries = refl; askers = refl }
-    by (Some m) = record { number = refl; asked = refl; to_do = λ h. absurd cc; entries = refl; askers = refl }
+    by None = record { number = refl; asked = refl; to_do = λ h. absurd cc; entries = refl; askers = refl; clock = refl }
+    by (Some m) = record { number = refl; asked = refl; to_do = λ h. absurd cc; entries = refl; askers = refl; clock = refl }
 
 same-by : (x y z : Scene) → y ≡ z → IsSame x z → IsSame x y
 same-by x y z is w = subst (λ (v : Scene). IsSame x v) (sym is) w
@@ -148,19 +152,19 @@ same-done Doubts x y is = same-by x y (doubts x) is (same-doubts x)
 same-done Stalls x y is = same-by x y (stalls x) is (same-stalls x)
 same-done Fails x y is = same-by x y (fails x) is (same-fails x)
 same-done Quits x y is = same-by x y (quits x) is (same-quits x)
-same-done Expires x y is = same-by x y (expires x) is (record { number = refl; asked = refl; to_do = λ h. absurd cc; entries = refl; askers = refl })
+same-done Expires x y is = same-by x y (expires x) is (record { number = refl; asked = refl; to_do = λ h. absurd cc; entries = refl; askers = refl; clock = refl })
 same-done Frees x y is = same-by x y (frees x) is (same-frees x)
 same-done (Leaves place) x y is =
     same-by x y (leaves place x) is
     (same-then x (leave_at place x) (leaves place x) (same-leave_at place x)
     (same-freed_if (closed_at place x) (leave_at place x)))
-same-done Draws x y is = same-by x y (draws x) is (record { number = refl; asked = refl; to_do = λ h. h; entries = refl; askers = refl })
+same-done Draws x y is = same-by x y (draws x) is (record { number = refl; asked = refl; to_do = λ h. h; entries = refl; askers = refl; clock = refl })
 same-done (BeginsRound place) x y is =
-    same-by x y (with_round_parts place x y.current.entry.flying) is.after (record { number = refl; asked = refl; to_do = λ h. h; entries = refl; askers = refl })
-same-done GivesUp x y is = same-by x y (gives_up x) is (record { number = refl; asked = refl; to_do = λ h. h; entries = refl; askers = refl })
-same-done Blocks x y is = same-by x y (blocks x) is (record { number = refl; asked = refl; to_do = λ h. h; entries = refl; askers = refl })
-same-done Sends x y is = same-by x y (sends x) is (record { number = refl; asked = refl; to_do = λ h. h; entries = refl; askers = refl })
-same-done (Dates due) x y is = same-by x y (dates due x) is (record { number = refl; asked = refl; to_do = λ h. h; entries = refl; askers = refl })
+    same-by x y (with_round_parts place x y.current.entry.flying) is.after (record { number = refl; asked = refl; to_do = λ h. h; entries = refl; askers = refl; clock = refl })
+same-done GivesUp x y is = same-by x y (gives_up x) is (record { number = refl; asked = refl; to_do = λ h. h; entries = refl; askers = refl; clock = refl })
+same-done Blocks x y is = same-by x y (blocks x) is (record { number = refl; asked = refl; to_do = λ h. h; entries = refl; askers = refl; clock = refl })
+same-done Sends x y is = same-by x y (sends x) is (record { number = refl; asked = refl; to_do = λ h. h; entries = refl; askers = refl; clock = refl })
+same-done (Dates due) x y is = same-by x y (dates due x) is (record { number = refl; asked = refl; to_do = λ h. h; entries = refl; askers = refl; clock = refl })
 same-done PutsBack x y is = same-by x y x is (same-self x)
 same-done Refused x y is = same-by x y x is (same-self x)
 same-done Ends x y is = same-by x y x is (same-self x)

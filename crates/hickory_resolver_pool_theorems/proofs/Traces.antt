@@ -1,5 +1,5 @@
 -- What holds of a pool and what happened to it holds after each event and each step.
-use Rattle.std.proofs.Common.{◌≡◌, ◌≤◌, ℕ, Bool, true, false, cond, arith, List, [], ◌∷◌, ◌++◌, refl, ap, ap₂, sym, subst, ◌∙◌, inl, inr}
+use Rattle.std.proofs.Common.{◌≡◌, ◌≤◌, ℕ, Bool, true, false, cond, arith, List, [], ◌∷◌, ◌++◌, max, refl, ap, ap₂, sym, subst, ◌∙◌, inl, inr}
 use Rattle.std.specs.Prelude.{Option, None, Some, IfSome, unwrap_or}
 use Rattle.std.specs.List.{AllByRecursion}
 use Rattle.std.specs.Ordering.{nat_cmp}
@@ -36,7 +36,7 @@ use Rattle.hickory_resolver_pool.specs.Pool as pool
 use Rattle.hickory_resolver_pool.specs.declared.limits.PoolLimits.{PoolLimits}
 use Rattle.hickory_resolver_pool.specs.declared.pool.Action.{Action}
 use Rattle.hickory_resolver_pool.specs.declared.pool.Action.TheVariants.{Send}
-use Rattle.hickory_resolver_pool_theorems.specs.Runs.{Happening, came as event_of, did as step_of, Runs, at_first, by_event, by_step}
+use Rattle.hickory_resolver_pool_theorems.specs.Runs.{Happening, came as event_of, did as step_of, moment_told, Runs, at_first, by_event, by_step}
 use Rattle.hickory_resolver_pool_theorems.specs.Wire.{sent_value, stream_on}
 use Rattle.hickory_resolver_pool_theorems.proofs.Boxes.{IsBox, box-first, box-step, box-later, box-closed, box-open, box-failures}
 use Rattle.hickory_resolver_pool_theorems.proofs.Flights.{held-first, held-more}
@@ -165,72 +165,73 @@ module _ (past : List Happening) (s : PoolState) (e : PoolEvent) (w : Holds past
           table = entries;
         }
 
--- what goes out next, and the channels, stay
-pub record IsShared (t u : TrafficState) : Type 0 where
+-- what goes out next, and the channels, stay; and the clock is no later than it was, or than the moment that is told
+pub record IsShared (at : ℕ) (t u : TrafficState) : Type 0 where
   pub outgoing : u.outgoing ≡ t.outgoing
   pub channels : u.shared.channels ≡ t.shared.channels
+  pub clock : u.clock ≤ max t.clock at
 
-shared-joined : (n at : ℕ) (t : TrafficState) → IsShared t (joined n at t)
+shared-joined : (n at : ℕ) (t : TrafficState) → IsShared at t (joined n at t)
 shared-joined n at t = by (joiner n t.askers)
   where
     by : (a : Option Asker)
-        → IsShared t (option_map_or (λ b. ticked at (record t { askers = ask.joined n t.askers })) a t)
-    by None = record { outgoing = refl; channels = refl }
-    by (Some a) = record { outgoing = refl; channels = refl }
+        → IsShared at t (option_map_or (λ b. ticked at (record t { askers = ask.joined n t.askers })) a t)
+    by None = record { outgoing = refl; channels = refl; clock = omega arith }
+    by (Some a) = record { outgoing = refl; channels = refl; clock = omega arith }
 
-shared-begun_as : (place : Place) (e : EntryState) (list at : ℕ) (t : TrafficState) → IsShared t (begun_as place e list at t)
-shared-begun_as Overloaded e list at t = record { outgoing = refl; channels = refl }
-shared-begun_as InFlight e list at t = record { outgoing = refl; channels = refl }
-shared-begun_as Waits e list at t = record { outgoing = refl; channels = refl }
+shared-begun_as : (place : Place) (e : EntryState) (list at : ℕ) (t : TrafficState) → IsShared at t (begun_as place e list at t)
+shared-begun_as Overloaded e list at t = record { outgoing = refl; channels = refl; clock = omega arith }
+shared-begun_as InFlight e list at t = record { outgoing = refl; channels = refl; clock = omega arith }
+shared-begun_as Waits e list at t = record { outgoing = refl; channels = refl; clock = omega arith }
 
 shared-begun : (list : ℕ) (question : PoolQuestion) (settings : Settings) (at : ℕ) (t : TrafficState)
-    → IsShared t (begun list question settings at t)
+    → IsShared at t (begun list question settings at t)
 shared-begun list question settings at t = by (list_at list t.groups)
   where
     by : (l : Option GroupListState)
-        → IsShared t (option_map_or (begun_with list question settings at t) l (ticked at t))
-    by None = record { outgoing = refl; channels = refl }
+        → IsShared at t (option_map_or (begun_with list question settings at t) l (ticked at t))
+    by None = record { outgoing = refl; channels = refl; clock = omega arith }
     by (Some l) = shared-begun_as (place_for t.askers) (entry_of list question settings l) list at t
 
 shared-asked : (key : AskedOf) (settings : Settings) (at : ℕ) (s : PoolState)
-    → IsShared s.traffic (ask_of key settings at s).traffic
+    → IsShared at s.traffic (ask_of key settings at s).traffic
 shared-asked key settings at s = by (joiner_of key s)
   where
-    joins : (n : Option ℕ) → IsShared s.traffic (option_map_or (join_in at s) n s).traffic
-    joins None = record { outgoing = refl; channels = refl }
+    joins : (n : Option ℕ) → IsShared at s.traffic (option_map_or (join_in at s) n s).traffic
+    joins None = record { outgoing = refl; channels = refl; clock = omega arith }
     joins (Some n) = shared-joined n at s.traffic
 
-    by : (a : Option Asker) → IsShared s.traffic (join_or_begin a key settings at s).traffic
+    by : (a : Option Asker) → IsShared at s.traffic (join_or_begin a key settings at s).traffic
     by None = shared-begun key.0 key.1 settings at s.traffic
     by (Some a) = joins (pool.number_of key s.questions)
 
 shared-asks : (list : Option ℕ) (question : PoolQuestion) (settings : Settings) (at : ℕ) (s : PoolState)
-    → IsShared s.traffic (after_asking list question settings at s).traffic
-shared-asks None question settings at s = record { outgoing = refl; channels = refl }
+    → IsShared at s.traffic (after_asking list question settings at s).traffic
+shared-asks None question settings at s = record { outgoing = refl; channels = refl; clock = omega arith }
 shared-asks (Some list) question settings at s = shared-asked (list, question) settings at s
 
-shared-came : (channel : ℕ) (octets : List ℕ) (at : ℕ) (t : TrafficState) → IsShared t (came channel octets at t)
+shared-came : (channel : ℕ) (octets : List ℕ) (at : ℕ) (t : TrafficState) → IsShared at t (came channel octets at t)
 shared-came channel octets at t = by (channel_at channel t.shared.channels)
   where
-    by : (c : Option Channel) → IsShared t (ticked at (option_map_or (came_on channel octets t) c t))
-    by None = record { outgoing = refl; channels = refl }
-    by (Some c) = record { outgoing = refl; channels = refl }
+    by : (c : Option Channel) → IsShared at t (ticked at (option_map_or (came_on channel octets t) c t))
+    by None = record { outgoing = refl; channels = refl; clock = omega arith }
+    by (Some c) = record { outgoing = refl; channels = refl; clock = omega arith }
 
-shared-failed : (f : ChannelFailure) (at : ℕ) (t : TrafficState) → IsShared t (failed f at t)
+shared-failed : (f : ChannelFailure) (at : ℕ) (t : TrafficState) → IsShared at t (failed f at t)
 shared-failed f at t = by (channel_at f.channel t.shared.channels)
   where
-    by : (c : Option Channel) → IsShared t (ticked at (option_map_or (failed_on f t) c t))
-    by None = record { outgoing = refl; channels = refl }
-    by (Some c) = record { outgoing = refl; channels = refl }
+    by : (c : Option Channel) → IsShared at t (ticked at (option_map_or (failed_on f t) c t))
+    by None = record { outgoing = refl; channels = refl; clock = omega arith }
+    by (Some c) = record { outgoing = refl; channels = refl; clock = omega arith }
 
-pub shared-event : (s : PoolState) (e : PoolEvent) → IsShared s.traffic (after_event s e).traffic
-shared-event s (time_passes at) = record { outgoing = refl; channels = refl }
-shared-event s (group_has group servers) = record { outgoing = refl; channels = refl }
+pub shared-event : (s : PoolState) (e : PoolEvent) → IsShared (moment_told e) s.traffic (after_event s e).traffic
+shared-event s (time_passes at) = record { outgoing = refl; channels = refl; clock = omega arith }
+shared-event s (group_has group servers) = record { outgoing = refl; channels = refl; clock = omega arith }
 shared-event s (is_asked group query options dnssec at) =
     shared-asks (list_of group s.traffic) (question_of query options dnssec) (settings_for s.options options) at s
 shared-event s (octets_come channel octets at) = shared-came channel octets at s.traffic
 shared-event s (channel_fails f at) = shared-failed f at s.traffic
-shared-event s (is_forgotten a) = record { outgoing = refl; channels = refl }
+shared-event s (is_forgotten a) = record { outgoing = refl; channels = refl; clock = omega arith }
 
 -- the transaction that is worked on stays
 current-asked : (key : AskedOf) (settings : Settings) (at : ℕ) (s : PoolState) → (ask_of key settings at s).current ≡ s.current
@@ -281,7 +282,7 @@ traffic-came past s channel octets at w = by (channel_at channel s.traffic.share
     }
 
 -- a question has a round at least
-some-rounds : (o : OptionsValue) (request : DnsRequestOptions) → 1 ≤ (settings_for o request).rounds
+pub some-rounds : (o : OptionsValue) (request : DnsRequestOptions) → 1 ≤ (settings_for o request).rounds
 some-rounds o request = omega arith
 
 traffic-event : (past : List Happening) (s : PoolState) (e : PoolEvent) → Holds past s

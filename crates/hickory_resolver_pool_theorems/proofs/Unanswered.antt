@@ -23,11 +23,12 @@ use Rattle.hickory_resolver_pool.specs.Pool.{PoolState, no_servers, settings_for
 use Rattle.hickory_resolver_pool.specs.declared.over.PoolOutcome.{PoolOutcome}
 use Rattle.hickory_resolver_pool.specs.declared.over.PoolOutcome.TheVariants.{Unreachable, Timeout, Overloaded}
 use Rattle.hickory_resolver_pool_theorems.specs.Causes.{IsMade, HasBegun, IsTimeout, IsUnreachable, TimeoutsRanOut, UnreachableOnesFailed, IsBoundedBy, TransactionsStayBounded}
-use Rattle.hickory_resolver_pool_theorems.specs.Runs.{Happening}
+use Rattle.hickory_resolver_pool_theorems.specs.Runs.{Happening, latest_told}
 use Rattle.hickory_resolver_pool_theorems.specs.Timeouts.{IsTimeoutAtMost, HasTimedOutAtMost}
 use Rattle.hickory_resolver_pool_theorems.proofs.Begun.{BegunIn, begun-runs, worked-begun}
 use Rattle.hickory_resolver_pool_theorems.proofs.MayTell.{best_of}
-use Rattle.hickory_resolver_pool_theorems.proofs.Causes.{Cause, has-cause}
+use Rattle.hickory_resolver_pool_theorems.proofs.Causes.{IsMadeBy, Cause, has-cause}
+use Rattle.hickory_resolver_pool_theorems.proofs.Clocks.{worked-made}
 use Rattle.hickory_resolver_pool_theorems.proofs.EachEntry.{AllEntries, AtCurrent}
 use Rattle.hickory_resolver_pool_theorems.proofs.Failures.{end-for, IsEnding, not-over}
 use Rattle.hickory_resolver_pool_theorems.proofs.Overs.{IsEnd, told-at_end}
@@ -114,13 +115,13 @@ not-unreachable : (o : PoolOutcome) → o ≡ Unreachable → o ≡ Overloaded �
 not-unreachable o one other = let no_such : Unreachable ≡ Overloaded = sym one ∙ other in cc
 
 module _ (options : OptionsValue) (past : List Happening) (s : PoolState) (o : OverValue) (end : IsEnd s o)
-    (own : IsCurrent (SentIn past s) past end.current)
+    (own : IsMadeBy (latest_told past) end.current.entry.flying.flight.transaction)
     (begins : HasBegun options past end.current.number end.current.entry.flying.flight.transaction.settings) where
   abbrev tr : TransactionState
   tr = end.current.entry.flying.flight.transaction
 
   abbrev made : IsMade tr
-  made = own.flight.made
+  made = own.made
 
   -- its settings are those with which it was made
   begun : HasBegun options past o.transaction made.settings
@@ -144,6 +145,7 @@ module _ (options : OptionsValue) (past : List Happening) (s : PoolState) (o : O
         number = sym (ap (λ (x : OverValue). x.transaction) end.told);
         made = made;
         begun = begun;
+        told = own.told;
         ran_out = subst (λ (b : Option Outcome). IfSome b (Cause (begun_with made.settings made.servers) made.events))
             best_is (has-cause tr made);
         alone = timeouts_are_alone made.settings made.servers made.events
@@ -161,6 +163,7 @@ module _ (options : OptionsValue) (past : List Happening) (s : PoolState) (o : O
         number = sym (ap (λ (x : OverValue). x.transaction) end.told);
         made = made;
         begun = begun;
+        told = own.told;
         failed = inl (subst (λ (b : Option Outcome). IfSome b (Cause (begun_with made.settings made.servers) made.events))
             best_is (has-cause tr made));
       }
@@ -170,6 +173,7 @@ module _ (options : OptionsValue) (past : List Happening) (s : PoolState) (o : O
         number = sym (ap (λ (x : OverValue). x.transaction) end.told);
         made = made;
         begun = begun;
+        told = own.told;
         failed =
             let last = is-out tr.ended (is_idle tr) (may_go_on tr) tr.noted (sym ended.outcome ∙ is) ended.over in
             none-asked made.settings made.servers made.events made.rounds tr made.made none last.ended_is last.idle_is last.more_is;
@@ -178,15 +182,13 @@ module _ (options : OptionsValue) (past : List Happening) (s : PoolState) (o : O
 pub timeouts_ran_out : TimeoutsRanOut
 timeouts_ran_out options limits seed past s after o runs steps is =
     let end = told-at_end o s after steps in
-    let held = holds-runs (no_servers options limits seed) past s (holds-first options limits seed) runs in
-    let own = subst (λ (x : Option CurrentState). IfSome x (IsCurrent (SentIn past s) past)) end.works held.current in
+    let own = worked-made options limits seed past s end.current runs end.works in
     timeout-by options past s o end own (worked-begun options limits seed past s end.current runs end.works) (is-ended s o end (not-timeout o.outcome is)) is
 
 pub unreachable_ones_failed : UnreachableOnesFailed
 unreachable_ones_failed options limits seed past s after o runs steps is =
     let end = told-at_end o s after steps in
-    let held = holds-runs (no_servers options limits seed) past s (holds-first options limits seed) runs in
-    let own = subst (λ (x : Option CurrentState). IfSome x (IsCurrent (SentIn past s) past)) end.works held.current in
+    let own = worked-made options limits seed past s end.current runs end.works in
     unreachable-by options past s o end own (worked-begun options limits seed past s end.current runs end.works)
     (is-ended s o end (not-unreachable o.outcome is)) is
 

@@ -21,7 +21,7 @@ use Rattle.hickory_resolver_pool.specs.declared.limits.PoolLimits.{PoolLimits}
 use Rattle.hickory_resolver_pool.specs.declared.over.PoolOutcome.TheVariants.{Unreachable, Timeout}
 use Rattle.hickory_resolver_pool.specs.declared.pool.Action.TheVariants.{Over}
 use Rattle.hickory_resolver_pool.specs.declared.pool.Asked.TheVariants as asked
-use Rattle.hickory_resolver_pool_theorems.specs.Runs.{Happening, came, Runs}
+use Rattle.hickory_resolver_pool_theorems.specs.Runs.{Happening, came, latest_told, Runs}
 use Rattle.hickory_resolver_pool_theorems.specs.Timeouts.{OnlyTimePassed}
 
 -- from its servers on, with a round at least, these events made the transaction what it is
@@ -50,6 +50,11 @@ pub record HasBegun (options : OptionsValue) (past : List Happening) (transactio
       ≡ asked.Asker (next_one pool.traffic.askers)
   pub settings_are : settings ≡ settings_for options request
 
+-- where time passed, it did so up to the latest moment that was told, or up to one before it
+abbrev pub IsTold : ℕ → TransactionEvent → Type 0
+IsTold latest (time_passed now) = now ≤ latest
+IsTold latest other = Unit {0}
+
 -- time passed up to a moment at which a try of it was to have been answered, or a channel to have come free for it
 pub record HasRunOut (start : TransactionState) (events : List TransactionEvent) : Type 0 where
   pub before : List TransactionEvent
@@ -76,6 +81,7 @@ pub record IsTimeout (options : OptionsValue) (past : List Happening) (s : PoolS
   pub number : current.number ≡ o.transaction
   pub made : IsMade current.entry.flying.flight.transaction
   pub begun : HasBegun options past o.transaction made.settings
+  pub told : AllByRecursion (IsTold (latest_told past)) made.events
   pub ran_out : HasRunOut (begun_with made.settings made.servers) made.events
   pub alone : OnlyTimePassed (begun_with made.settings made.servers) made.events
 
@@ -91,6 +97,7 @@ pub record IsUnreachable (options : OptionsValue) (past : List Happening) (s : P
   pub number : current.number ≡ o.transaction
   pub made : IsMade current.entry.flying.flight.transaction
   pub begun : HasBegun options past o.transaction made.settings
+  pub told : AllByRecursion (IsTold (latest_told past)) made.events
   pub failed : HasFailed (begun_with made.settings made.servers) made.events
       ⊎ AllByRecursion HasNoPort current.entry.flying.flight.transaction.candidates
 

@@ -1,6 +1,6 @@
 -- What happened to a pool, one thing after another.
-use Rattle.std.specs.Prelude.{List, [], ◌∷◌, Option}
-use Rattle.hickory_resolver_pool.specs.Laws.{PoolEvent, after_event, Reached}
+use Rattle.std.specs.Prelude.{ℕ, max, List, [], ◌∷◌, Option}
+use Rattle.hickory_resolver_pool.specs.Laws.{PoolEvent, time_passes, is_asked, octets_come, channel_fails, after_event, Reached}
 use Rattle.hickory_resolver_pool.specs.Pool.{PoolState, Steps}
 use Rattle.hickory_resolver_pool.specs.declared.pool.Action.{Action}
 
@@ -16,6 +16,20 @@ pub data Runs (start : PoolState) : List Happening → PoolState → Type 0 wher
       → Runs start (came s e ∷ past) (after_event s e)
   by_step : (past : List Happening) (s after : PoolState) (r : Option Action) → Steps s r after → Runs start past s
       → Runs start (did s r ∷ past) after
+
+-- the moment that an event tells, which is nought where it tells none
+abbrev pub moment_told : PoolEvent → ℕ
+moment_told (time_passes now) = now
+moment_told (is_asked group query options dnssec now) = now
+moment_told (octets_come channel octets now) = now
+moment_told (channel_fails failure now) = now
+moment_told other = 0
+
+-- the latest of them
+abbrev pub latest_told : List Happening → ℕ
+latest_told [] = 0
+latest_told (came s e ∷ past) = max (moment_told e) (latest_told past)
+latest_told (did s r ∷ past) = latest_told past
 
 -- what is reached from a pool by events and steps is what happens to it, and the other way round
 pub record IsReachedByRuns (start s : PoolState) : Type 0 where
