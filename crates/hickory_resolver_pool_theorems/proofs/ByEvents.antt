@@ -34,10 +34,10 @@ use Rattle.hickory_resolver_traffic.specs.declared.doing.Doing.{Doing}
 use Rattle.hickory_resolver_traffic.specs.declared.doing.Doing.TheVariants.{Hears, Doubts, Stalls, Fails, Quits, PutsBack, Expires, Frees, Refused, Leaves as Left, Ends as Ended, Draws, BeginsRound, GivesUp, Blocks, Sends, Dates, Rests as Waits}
 use Rattle.hickory_resolver_traffic.specs.declared.entry.ToDo.TheVariants as todo
 use Rattle.hickory_resolver_traffic.specs.declared.inbox.ChannelFailure.{ChannelFailure}
-use Rattle.hickory_resolver_pool_theorems.specs.Causes.{IsTold}
+use Rattle.hickory_resolver_pool_theorems.specs.Causes.{PassesToldTime}
 
 module _ (P : TransactionState → Type 0) (latest : ℕ)
-    (keeps : (t : TransactionState) (e : TransactionEvent) → IsTold latest e → P t → P (after_event t e)) where
+    (keeps : (t : TransactionState) (e : TransactionEvent) → PassesToldTime latest e → P t → P (after_event t e)) where
   -- ---- of a question in flight
 
   abbrev In : FlightState → FlightState → Type 0

@@ -12,7 +12,7 @@ use Rattle.hickory_resolver_transactions.specs.declared.candidate.LateTry.{LateT
 use Rattle.hickory_resolver_transactions.specs.declared.outcome.Outcome.{Outcome}
 use Rattle.hickory_resolver_transactions.specs.declared.outcome.Outcome.TheVariants as told
 use Rattle.hickory_resolver_transactions.specs.declared.settings.Settings.{Settings}
-use Rattle.hickory_resolver_pool_theorems.specs.Causes.{IsMade, IsTold, HasRunOut, HasFailed}
+use Rattle.hickory_resolver_pool_theorems.specs.Causes.{IsMade, PassesToldTime, HasRunOut, HasFailed}
 use Rattle.hickory_resolver_pool_theorems.proofs.MayTell.{best, told_by}
 use Rattle.hickory_resolver_pool_theorems.proofs.Reasons.{Well, FailedLate, well-came, well-opt, well-letters, well-failed, well-blocked, well-freed, well-oldest, well-unsent, well-sent, well-round, well-expired}
 
@@ -41,15 +41,15 @@ made-first settings servers some = record {
 -- it is made what it is by events whose moments were told
 pub record IsMadeBy (latest : ℕ) (t : TransactionState) : Type 0 where
   pub made : IsMade t
-  pub told : AllByRecursion (IsTold latest) made.events
+  pub told : AllByRecursion (PassesToldTime latest) made.events
 
 module _ (latest : ℕ) where
-  all-pushed : (es : List TransactionEvent) (e : TransactionEvent) → AllByRecursion (IsTold latest) es → IsTold latest e
-      → AllByRecursion (IsTold latest) (es ++ e ∷ [])
+  all-pushed : (es : List TransactionEvent) (e : TransactionEvent) → AllByRecursion (PassesToldTime latest) es → PassesToldTime latest e
+      → AllByRecursion (PassesToldTime latest) (es ++ e ∷ [])
   all-pushed [] e all one = (one, tt)
   all-pushed (x ∷ xs) e all one = (all.0, all-pushed xs e all.1 one)
 
-  pub by-next : (t : TransactionState) (e : TransactionEvent) → IsTold latest e → IsMadeBy latest t
+  pub by-next : (t : TransactionState) (e : TransactionEvent) → PassesToldTime latest e → IsMadeBy latest t
       → IsMadeBy latest (after_event t e)
   unfolding made-next
   by-next t e one m = record { made = made-next t e m.made; told = all-pushed m.made.events e m.told one }

@@ -23,7 +23,7 @@ use Rattle.hickory_resolver_pool.specs.Laws.{PoolEvent, time_passes, group_has, 
 use Rattle.hickory_resolver_pool.specs.Pool.{PoolState, no_servers, settings_for, Starts, IsDoneTo, StepsBy, StepsIn, StepsAs, Steps, is_end, is_put, scene_of}
 use Rattle.hickory_resolver_pool.specs.declared.limits.PoolLimits.{PoolLimits}
 use Rattle.hickory_resolver_pool.specs.declared.pool.Action.{Action}
-use Rattle.hickory_resolver_pool_theorems.specs.Causes.{IsTold}
+use Rattle.hickory_resolver_pool_theorems.specs.Causes.{PassesToldTime}
 use Rattle.hickory_resolver_pool_theorems.specs.Runs.{Happening, came, latest_told, Runs, at_first, by_event, by_step}
 use Rattle.hickory_resolver_pool_theorems.proofs.Askings.{put-is}
 use Rattle.hickory_resolver_pool_theorems.proofs.ByEvents.{keeps-done}
@@ -35,7 +35,7 @@ use Rattle.hickory_resolver_pool_theorems.proofs.Traces.{shared-event, some-roun
 -- ---- of a transaction
 
 module _ (latest later : ℕ) (le : latest ≤ later) where
-  told-later : (e : TransactionEvent) → IsTold latest e → IsTold later e
+  told-later : (e : TransactionEvent) → PassesToldTime latest e → PassesToldTime later e
   told-later (round_begins order) k = tt
   told-later (is_sent made) k = tt
   told-later (has_no_room due) k = tt
@@ -48,7 +48,7 @@ module _ (latest later : ℕ) (le : latest ≤ later) where
   told-later oldest_given_up k = tt
   told-later (time_passed now) k = omega (arith, le, k)
 
-  all-later : (es : List TransactionEvent) → AllByRecursion (IsTold latest) es → AllByRecursion (IsTold later) es
+  all-later : (es : List TransactionEvent) → AllByRecursion (PassesToldTime latest) es → AllByRecursion (PassesToldTime later) es
   all-later [] all = tt
   all-later (e ∷ es) all = (told-later e all.0, all-later es all.1)
 

@@ -51,9 +51,9 @@ pub record HasBegun (options : OptionsValue) (past : List Happening) (transactio
   pub settings_are : settings ≡ settings_for options request
 
 -- where time passed, it did so up to the latest moment that was told, or up to one before it
-abbrev pub IsTold : ℕ → TransactionEvent → Type 0
-IsTold latest (time_passed now) = now ≤ latest
-IsTold latest other = Unit {0}
+abbrev pub PassesToldTime : ℕ → TransactionEvent → Type 0
+PassesToldTime latest (time_passed now) = now ≤ latest
+PassesToldTime latest other = Unit {0}
 
 -- time passed up to a moment at which a try of it was to have been answered, or a channel to have come free for it
 pub record HasRunOut (start : TransactionState) (events : List TransactionEvent) : Type 0 where
@@ -81,7 +81,7 @@ pub record IsTimeout (options : OptionsValue) (past : List Happening) (s : PoolS
   pub number : current.number ≡ o.transaction
   pub made : IsMade current.entry.flying.flight.transaction
   pub begun : HasBegun options past o.transaction made.settings
-  pub told : AllByRecursion (IsTold (latest_told past)) made.events
+  pub told : AllByRecursion (PassesToldTime (latest_told past)) made.events
   pub ran_out : HasRunOut (begun_with made.settings made.servers) made.events
   pub alone : OnlyTimePassed (begun_with made.settings made.servers) made.events
 
@@ -97,7 +97,7 @@ pub record IsUnreachable (options : OptionsValue) (past : List Happening) (s : P
   pub number : current.number ≡ o.transaction
   pub made : IsMade current.entry.flying.flight.transaction
   pub begun : HasBegun options past o.transaction made.settings
-  pub told : AllByRecursion (IsTold (latest_told past)) made.events
+  pub told : AllByRecursion (PassesToldTime (latest_told past)) made.events
   pub failed : HasFailed (begun_with made.settings made.servers) made.events
       ⊎ AllByRecursion HasNoPort current.entry.flying.flight.transaction.candidates
 
