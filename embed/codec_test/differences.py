@@ -7,11 +7,12 @@ import dns.rdatatype
 from facts import ADDITIONAL
 
 PARSED = (1, 2, 5, 6, 12, 15, 16, 28, 33)
+# Kept as they stand, but for names in them, which are read whole.
+OLD = (3, 4, 7, 8, 9, 14, 17, 18, 21, 24, 26, 30, 35)
 OF_THE_INTERNET = (1, 28, 33)
 OPT, TSIG, UPDATE = 41, 250, 5
-SHORT, BAD_LABEL, NAME_TOO_LONG, TOO_MANY_POINTERS, POINTER_NOT_BACK, TRAILING_DATA, OPT_NAME, SECOND_OPT, TRAILING_BYTES = (
-    range(1, 10)
-)
+SHORT, BAD_LABEL, NAME_TOO_LONG, TOO_MANY_POINTERS, POINTER_NOT_BACK, TRAILING_DATA, OPT_NAME, SECOND_OPT = range(1, 9)
+TOO_MANY_LABELS = 10
 WE, THEY, OTHER = "we refuse", "they refuse", "another message"
 
 # A case: which of WE, THEY and OTHER, the facts of the message, our fault, and the words of the other's refusal.
@@ -30,6 +31,16 @@ def has_other_class(case):
 
 
 DNSPYTHON = [
+    Class(
+        "octets behind the message",
+        "dnspython refuses them; here they are passed over, as BIND and unbound do.",
+        lambda case: case.kind == THEY and "TrailingJunk" in case.words and case.facts.end < len(case.facts.wire),
+    ),
+    Class(
+        "names in data of MINFO and its like",
+        "Here they are read whole, whatever the class (RFC 3597, section 4). dnspython keeps such data as they stand.",
+        lambda case: case.kind != THEY and case.facts.has(*OLD),
+    ),
     Class(
         "a chain of more than 16 pointers",
         "dnspython takes 16 pointers in a name, RFC 1035 names no number, and here it is 128. A message that is written here "
@@ -84,11 +95,6 @@ DNSPYTHON = [
 
 LDNS = [
     Class(
-        "bytes behind the message",
-        "ldns leaves them out; here all of the bytes have to be the message.",
-        lambda case: case.kind == WE and case.fault == TRAILING_BYTES and case.facts.end < len(case.facts.wire),
-    ),
-    Class(
         "a chain of more than 128 pointers",
         "ldns takes 65,535.",
         lambda case: case.kind == WE and case.fault == TOO_MANY_POINTERS and case.facts.pointers() > 128,
@@ -108,7 +114,7 @@ LDNS = [
         "ldns takes data of length 0 under any type.",
         lambda case: case.kind == WE
         and case.fault == SHORT
-        and any(record.code in PARSED and record.start == record.end for record in case.facts.records),
+        and any(record.code in (*PARSED, *OLD) and record.start == record.end for record in case.facts.records),
     ),
     Class(
         "a name past the data",
@@ -132,12 +138,6 @@ LDNS = [
         "a signature",
         "ldns takes TSIG out of the count of the additional section, and so leaves the last record unread.",
         lambda case: case.kind == WE and case.facts.has(TSIG),
-    ),
-    Class(
-        "names in data of MINFO and its like",
-        "RFC 3597, section 4, has names in data of the types of RFC 1035 decompressed. Those that the core does not know are "
-        "kept as they stand, so that a pointer in them leads elsewhere once the message is written again.",
-        lambda case: case.kind == OTHER and case.facts.has(3, 4, 7, 8, 9, 14),
     ),
     Class(
         "a type that ldns takes apart",

@@ -6,7 +6,9 @@ from collections import namedtuple
 Record = namedtuple("Record", "section owner code rdclass start end")
 ADDITIONAL, SOA = 3, 6
 # How many octets of data stand before the first name in them.
-FIRST_NAME = {2: 0, 5: 0, SOA: 0, 12: 0, 15: 2, 33: 6}
+FIRST_NAME = {2: 0, 3: 0, 4: 0, 5: 0, SOA: 0, 7: 0, 8: 0, 9: 0, 12: 0, 14: 0, 15: 2, 17: 0, 18: 2, 21: 2,
+              24: 18, 26: 2, 30: 0, 33: 6}
+TWO_NAMES = (SOA, 14, 17, 26)
 
 
 class Facts:
@@ -70,7 +72,7 @@ class Facts:
     def _is_long(self, record):
         try:
             behind = self.behind_name(record.start + FIRST_NAME[record.code])
-            return behind > record.end or record.code == SOA and self.behind_name(behind) > record.end
+            return behind > record.end or record.code in TWO_NAMES and self.behind_name(behind) > record.end
         except IndexError:
             return True
 

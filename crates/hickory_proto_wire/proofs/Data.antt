@@ -1,5 +1,5 @@
 -- Record data that were added are read again, where the bytes end with them.
-use Rattle.std.proofs.Common.{◌≡◌, ℕ, zero, suc, ◌-◌, ◌+◌, ◌≤◌, Bool, true, false, cond, eqb, List, [], ◌∷◌, ◌++◌, length, get_or, Ok, refl, ap, ◌∙◌, length-append, arith}
+use Rattle.std.proofs.Common.{◌≡◌, ℕ, zero, suc, ◌+◌, ◌≤◌, Bool, true, false, cond, eqb, List, [], ◌∷◌, ◌++◌, length, get_or, Ok, refl, ap, ◌∙◌, length-append, arith}
 use Rattle.std.proofs.lemmas.Bool.{le-ltb, lt-ltb}
 use Rattle.hickory_proto_names.specs.Name.{NameValue}
 use Rattle.hickory_proto_core.specs.Records.{DataValue, a_data, aaaa_data, cname_data, ns_data, ptr_data, soa_data, srv_data, mx_data, txt_data, unknown_data}
@@ -7,9 +7,11 @@ use Rattle.hickory_proto_wire.specs.declared.wire_record_data.Times.{Times}
 use Rattle.hickory_proto_wire.specs.Octets.{◌>>=◌, u16_at, u32_at}
 use Rattle.hickory_proto_wire.specs.Names.{name_at}
 use Rattle.hickory_proto_wire.specs.RecordData.{a_at, half_at, aaaa_at, cname_at, ns_at, ptr_at, mx_at, srv_at, times_at, soa_at, string_at, strings_at, txt_at, unknown_at, data_at}
+use Rattle.hickory_proto_wire.specs.OldData.{is_spelled_out}
 use Rattle.hickory_proto_wire.specs.Writing.{Stands, Spells, Adds, AddsData, data_code, is_parsed, run_of}
 use Rattle.hickory_proto_wire.proofs.Stands.{stands_front, stands_behind, stands_rest, octet_there, octets_there}
 use Rattle.hickory_proto_wire.proofs.Adds.{Reader, adds_one, adds_both, adds_then}
+use Rattle.hickory_proto_wire.proofs.SpelledOut.{data_again}
 
 -- data whose reader does not look for the end
 data_adds : (read : Reader DataValue) (known old new : List ℕ) (x : DataValue)
@@ -177,15 +179,13 @@ is_unknown code bytes at e =
     let p9 = pass (eqb code 33) false (srv_at bytes at) (unknown_at code bytes at) p8.1 in
     p1.0 ∙ p2.0 ∙ p3.0 ∙ p4.0 ∙ p5.0 ∙ p6.0 ∙ p7.0 ∙ p8.0 ∙ p9.0
 
-pub unknown_adds : (known old new : List ℕ) (code : ℕ) (octets : List ℕ) → is_parsed code ≡ false → new ≡ old ++ octets
-    → AddsData known old new (unknown_data code octets)
+pub unknown_adds : (known old new : List ℕ) (code : ℕ) (octets : List ℕ) → is_parsed code ≡ false
+    → is_spelled_out code octets ≡ true → new ≡ old ++ octets → AddsData known old new (unknown_data code octets)
 unfolding unknown_at
-unknown_adds known old new code octets not e = (
+unknown_adds known old new code octets not spelled e = (
   octets,
   e,
-  λ bytes at b le s end.
-      let count : length bytes - at ≡ length octets = omega (arith, end) in
-      is_unknown code bytes at not ∙ rw (count, octets_there octets bytes at s) refl,
+  λ bytes at b le s end. is_unknown code bytes at not ∙ rw (data_again code octets spelled bytes at s end) refl,
 )
 
 -- the eight elements of a list of eight

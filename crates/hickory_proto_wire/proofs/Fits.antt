@@ -139,7 +139,7 @@ branch_fits inner ih bytes walk (Pointer target) after x some is e =
     let more : AreLabels walk.left r.0.0 = ih (at_target walk target) r.0 some r.1 in
     subst (λ (y : List (List ℕ) × ℕ). AreLabels walk.left y.0) (ok_is (r.0.0, after) x r.2) more
 
-labels_fit : (steps : ℕ) (bytes : List ℕ) (walk : Walk) (x : List (List ℕ) × ℕ) → 0 < walk.left
+pub labels_fit : (steps : ℕ) (bytes : List ℕ) (walk : Walk) (x : List (List ℕ) × ℕ) → 0 < walk.left
     → labels_at steps bytes walk ≡ Ok x → AreLabels walk.left x.0
 unfolding labels_at
 labels_fit zero bytes walk x some e = absurd cc

@@ -10,7 +10,7 @@ use Rattle.hickory_proto_core.specs.declared.query.Query.{Query}
 use Rattle.hickory_proto_wire.specs.declared.to_wire_error.ToWireError.TheVariants.{LimitTooSmall}
 use Rattle.hickory_proto_wire.specs.declared.wire_message.WireMessage.{WireMessage}
 use Rattle.hickory_proto_wire.specs.Edns.{AreInRange}
-use Rattle.hickory_proto_wire.specs.Messages.{message_of}
+use Rattle.hickory_proto_wire.specs.Messages.{spelled_message}
 use Rattle.hickory_proto_wire.specs.Writing.{record_count}
 use Rattle.hickory_proto_wire.specs.Place.{PlaceValue}
 use Rattle.hickory_proto_wire.specs.Written.{Body, query_added, record_added, records_added, queries_body, records_of, record_octets, opt_octets, header_octets, octets_of}
@@ -210,7 +210,7 @@ is_written m limit around kept body octets e le k is right made_queries made ran
       kept = kept;
       known = omega (arith, k.known, counted_records m);
       written = same;
-      read = ap message_of same ∙ octets_read m kept right made_queries made range;
+      read = ap spelled_message same ∙ octets_read m kept right made_queries made range;
       within = omega (arith, ap length same, octets_len m kept, body_len, k.within, e, le);
       most = λ more.
           let next = k.next (omega (arith, more, counted_records m)) in

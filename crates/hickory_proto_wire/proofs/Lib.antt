@@ -1,6 +1,11 @@
 pub mod Walks
+pub mod Measures
 pub mod Fits
+pub mod Readings
+pub mod ReadTable
 pub mod Loops
+pub mod Counted
+pub mod FewLabels
 pub mod Stands
 pub mod Runs
 pub mod Adds
@@ -16,3 +21,6 @@ pub mod Whole
 pub mod Keeps
 pub mod Same
 pub mod Strings
+pub mod Parts
+pub mod Uncompressed
+pub mod SpelledOut

@@ -1,6 +1,5 @@
 -- The parts of a message that follow one another are read as the message.
 use Rattle.std.proofs.Common.{◌≡◌, ℕ, zero, suc, ◌-◌, ◌+◌, List, [], ◌++◌, length, None, Ok, refl, sym, ap, ◌∙◌, arith}
-use Rattle.std.proofs.lemmas.Bool.{eq-eqb}
 use Rattle.std.proofs.lemmas.List.{append-nil}
 use Rattle.hickory_proto_core.specs.Records.{RecordValue}
 use Rattle.hickory_proto_core.specs.declared.query.Query.{Query}
@@ -9,7 +8,7 @@ use Rattle.hickory_proto_wire.specs.declared.wire_record.RecordHead.{RecordHead}
 use Rattle.hickory_proto_wire.specs.Found.{Found}
 use Rattle.hickory_proto_wire.specs.Octets.{◌>>=◌}
 use Rattle.hickory_proto_wire.specs.Records.{repeat_at, query_at, head_at, record_from, record_at, found_with, additionals_at, nothing_found}
-use Rattle.hickory_proto_wire.specs.Messages.{header_at, assembled, message_of}
+use Rattle.hickory_proto_wire.specs.Messages.{header_at, assembled, spelled_message}
 use Rattle.hickory_proto_wire.specs.Writing.{Begins, Stands, Follows, u16_octets, coded_at}
 use Rattle.hickory_proto_wire.proofs.Fits.{bind_ok, ok_is}
 use Rattle.hickory_proto_wire.proofs.Stands.{stands_front, stands_behind, begins_more, u16_spelled}
@@ -105,8 +104,8 @@ pub whole_is : (header : Header) (v0 v1 v2 v3 v4 : List ℕ) (queries : List Que
     → Follows (λ bytes at. repeat_at (record_at bytes) header.answers at) v1 v2 answers
     → Follows (λ bytes at. repeat_at (record_at bytes) header.authorities at) v2 v3 authorities
     → Follows (λ bytes at. additionals_at header.additionals bytes at nothing_found) v3 v4 found
-    → message_of v4 ≡ Ok (assembled header queries answers authorities found)
-unfolding message_of
+    → spelled_message v4 ≡ Ok (assembled header queries answers authorities found)
+unfolding spelled_message
 whole_is header v0 v1 v2 v3 v4 queries answers authorities found twelve h q a n r =
     let b4 : Begins v4 v4 = ([], sym (append-nil v4)) in
     let b3 = begins_more v3 v4 r.0 v4 r.1 b4 in
@@ -115,4 +114,4 @@ whole_is header v0 v1 v2 v3 v4 queries answers authorities found twelve h q a n 
     let b0 = begins_more v0 v1 q.0 v4 q.1 b1 in
     let first : repeat_at (query_at v4) header.queries 12 ≡ Ok (queries, length v1) =
     ap (λ (n : ℕ). repeat_at (query_at v4) header.queries n) (sym twelve) ∙ q.2 v4 b1 in
-    rw (h v4 b0, first, a.2 v4 b2, n.2 v4 b3, r.2 v4 b4, eq-eqb (length v4) (length v4) refl) refl
+    rw (h v4 b0, first, a.2 v4 b2, n.2 v4 b3, r.2 v4 b4) refl

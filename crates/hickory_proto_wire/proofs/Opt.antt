@@ -16,7 +16,7 @@ use Rattle.hickory_proto_wire.specs.Found.{Found}
 use Rattle.hickory_proto_wire.specs.Octets.{◌>>=◌, u16_at, u32_at}
 use Rattle.hickory_proto_wire.specs.Names.{name_at}
 use Rattle.hickory_proto_wire.specs.Records.{repeat_at, query_at, record_at, head_at, opt_from, found_with, additionals_at, nothing_found}
-use Rattle.hickory_proto_wire.specs.Messages.{header_at, bit, extended_of, metadata_of, assembled, message_of}
+use Rattle.hickory_proto_wire.specs.Messages.{header_at, bit, extended_of, metadata_of, assembled, spelled_message}
 use Rattle.hickory_proto_wire.specs.Writing.{Begins, Stands, Spells, Adds, Follows, u16_octets, weighed, flags_of, named_query, named_record, shown, opt_of, opt_at, opt_count, IsHeader, record_count, cut}
 use Rattle.hickory_proto_wire.proofs.Fits.{bind_ok, ok_is}
 use Rattle.hickory_proto_wire.proofs.Stands.{stands_front, stands_behind, begins_more, u16_spelled}
@@ -279,7 +279,7 @@ pub message_is : (m : WireMessage) (truncated : Bool) (queries : List Query) (ed
     → Follows (λ bytes at. repeat_at (record_at bytes) (length authorities) at) v2 v3 (map named_record authorities)
     → Follows (λ bytes at. additionals_at (length additionals + opt_count edns) bytes at nothing_found) v3 v4
     (record { records = map named_record additionals; opt = opt_of edns extended })
-    → message_of v4 ≡ Ok (shown m truncated answers authorities additionals)
+    → spelled_message v4 ≡ Ok (shown m truncated answers authorities additionals)
 message_is m truncated queries edns answers authorities additionals header extended v0 v1 v2 v3 v4 same alike is twelve h q a n rest =
     let r : Follows (λ bytes at. additionals_at (length additionals + opt_count m.edns) bytes at nothing_found) v3 v4
     (record { records = map named_record additionals; opt = opt_of m.edns extended }) =

@@ -53,7 +53,7 @@ place_found known (p ∷ ps) labels at all e =
 -- ---- a name is read
 
 -- its first label, and the others behind it
-label_first : (l : List ℕ) (ls : List (List ℕ)) (tail bytes : List ℕ) (walk : Walk) (steps end : ℕ)
+pub label_first : (l : List ℕ) (ls : List (List ℕ)) (tail bytes : List ℕ) (walk : Walk) (steps end : ℕ)
     → AreLabels walk.left (l ∷ ls) → 0 < steps → Stands (counted l ++ tail) bytes walk.at
     → labels_at (steps - 1) bytes (behind_label walk (length l) (walk.at + 1 + length l)) ≡ Ok (ls, end)
     → labels_at steps bytes walk ≡ Ok (l ∷ ls, end)
@@ -117,7 +117,7 @@ name_reads places (l ∷ ls) known bytes walk steps all b fits enough jumps befo
         label_first l ls rest bytes walk steps (walk.at + 1 + length l + length rest) fits (omega (arith, enough)) t more
         ∙ ap (λ (n : ℕ). Ok (l ∷ ls, n)) end
 
-few_labels : (left : ℕ) (labels : List (List ℕ)) → AreLabels left labels → 2 * length labels + 1 ≤ wire_len labels
+pub few_labels : (left : ℕ) (labels : List (List ℕ)) → AreLabels left labels → 2 * length labels + 1 ≤ wire_len labels
 few_labels left [] fits = omega arith
 few_labels left (l ∷ ls) fits =
     let one = one_less left l ls fits in

@@ -1,18 +1,20 @@
 -- Questions, records and their data that were written are read again.
 use Rattle.std.proofs.Common.{◌≡◌, ℕ, ◌+◌, ◌/◌, ◌%◌, Bool, true, false, eqb, List, [], ◌∷◌, ◌++◌, length, refl, sym, ap, subst, ◌∙◌, append_assoc, length-append, arith}
-use Rattle.std.specs.Prelude.{Option, None, Some}
-use Rattle.std.specs.Option.{is_none}
+use Rattle.std.specs.Prelude.{Option, None, Some, not}
+use Rattle.std.specs.Option.{is_none, option_or}
 use Rattle.std.proofs.lemmas.Bool.{eqb-true}
 use Rattle.hickory_proto_names.specs.Name.{NameValue, label_fault}
 use Rattle.hickory_proto_codes.specs.Codes.{type_code, class_code}
 use Rattle.hickory_proto_core.specs.declared.query.Query.{Query}
 use Rattle.hickory_proto_core.specs.Records.{RecordValue, DataValue, a_data, aaaa_data, cname_data, ns_data, ptr_data, soa_data, srv_data, mx_data, txt_data, unknown_data}
 use Rattle.hickory_proto_wire.specs.declared.to_wire_error.ToWireError.{ToWireError}
+use Rattle.hickory_proto_wire.specs.declared.to_wire_error.ToWireError.TheVariants.{KnownType, NotSpelledOut}
 use Rattle.hickory_proto_wire.specs.declared.wire_record_data.Times.{Times}
 use Rattle.hickory_proto_wire.specs.Octets.{u16_at, u32_at}
 use Rattle.hickory_proto_wire.specs.Names.{name_at}
 use Rattle.hickory_proto_wire.specs.RecordData.{times_at}
 use Rattle.hickory_proto_wire.specs.Records.{query_at}
+use Rattle.hickory_proto_wire.specs.OldData.{is_spelled_out}
 use Rattle.hickory_proto_wire.specs.Writing.{Spells, Adds, SpellsData, Follows, coded_at, data_code, is_parsed, run_of, u16_octets, named_query, named_record}
 use Rattle.hickory_proto_wire.specs.Place.{PlaceValue}
 use Rattle.hickory_proto_wire.specs.Written.{name_octets, whole_count, u32_octets, data_octets, query_octets, record_octets, Body, body_with, query_added, record_added}
@@ -169,6 +171,10 @@ name_data_spelled known places target all valid right =
     let a = name_data_adds known [] n target (adds_octets name_at known [] n target (name_told known places target all valid right)) in
     (own_data known [] n _ refl a.0, own_data known [] n _ refl a.1, own_data known [] n _ refl a.2)
 
+is_so : (b : Bool) → not b ≡ false → b ≡ true
+is_so true e = refl
+is_so false e = absurd cc
+
 pub data_spelled : (known : List ℕ) (places : List PlaceValue) (d : DataValue) → AllStand known places
     → data_flaw d ≡ None → data_fault d ≡ None → SpellsData known (data_octets places d) d
 data_spelled known places (a_data octets) all valid right =
@@ -192,8 +198,12 @@ data_spelled known places (mx_data preference exchange) all valid right =
 data_spelled known places (txt_data strings) all valid right =
     own_data known [] (run_of strings) _ refl (txt_adds known [] (run_of strings) strings refl)
 data_spelled known places (unknown_data code octets) all valid right =
-    own_data known [] octets _ refl
-    (unknown_adds known [] octets code octets (not_faulty (is_parsed code) _ (or_first (fault_if (is_parsed code) _) (size_fault (length octets)) right)) refl)
+    let spelled = is_spelled_out code octets in
+    let behind = option_or (fault_if (not spelled) NotSpelledOut) (size_fault (length octets)) in
+    let parsed = not_faulty (is_parsed code) KnownType (or_first (fault_if (is_parsed code) KnownType) behind right) in
+    let whole =
+    not_faulty (not spelled) NotSpelledOut (or_first (fault_if (not spelled) NotSpelledOut) (size_fault (length octets)) (or_second (fault_if (is_parsed code) KnownType) behind right)) in
+    own_data known [] octets _ refl (unknown_adds known [] octets code octets parsed (is_so spelled whole) refl)
 
 -- ---- questions and records
 

@@ -51,3 +51,9 @@ pointer_fails (errors.Fault f) steps rest bytes walk piece target after front k 
         → with_front front (inner >>= λ x. Ok (x.0, after)) ≡ Err f
     without (Ok x) e = absurd cc
     without (Err g) e = e
+
+pub piece_fails : (e : WireError) (steps rest : ℕ) (bytes : List ℕ) (walk : Walk) (front : List (List ℕ)) → steps ≡ suc rest
+    → Fails e (piece_at bytes walk.at) → Fails e (with_front front (labels_at steps bytes walk))
+unfolding labels_at
+piece_fails errors.OutOfMemory steps rest bytes walk front k read = tt
+piece_fails (errors.Fault f) steps rest bytes walk front k read = rw (k, read) refl

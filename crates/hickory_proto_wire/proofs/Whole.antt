@@ -14,7 +14,7 @@ use Rattle.hickory_proto_wire.specs.declared.wire_record.OptRecord.{OptRecord}
 use Rattle.hickory_proto_wire.specs.Edns.{EdnsValue, IsInRange, AreInRange}
 use Rattle.hickory_proto_wire.specs.Found.{Found}
 use Rattle.hickory_proto_wire.specs.Records.{repeat_at, query_at, record_at, found_with, additionals_at, nothing_found}
-use Rattle.hickory_proto_wire.specs.Messages.{extended_of, message_of}
+use Rattle.hickory_proto_wire.specs.Messages.{extended_of, spelled_message}
 use Rattle.hickory_proto_wire.specs.Writing.{Begins, Adds, Follows, u16_octets, coded_at, data_code, flags_of, named_query, named_record, opt_of, opt_at, opt_count, IsHeader, cut}
 use Rattle.hickory_proto_wire.specs.Written.{u32_octets, Body, query_added, record_added, records_added, queries_body, records_of, edns_octets, opt_octets, is_cut, header_octets, octets_of}
 use Rattle.hickory_proto_wire.specs.Refused.{fault_if, first_fault, query_fault, record_fault, additional_fault, data_fault, name_fault, op_fault, code_fault, counts_fault, header_fault, opt_fault, sections_fault, message_fault}
@@ -188,7 +188,7 @@ whole_code (Some x) code e = omega arith
 
 pub octets_read : (m : WireMessage) (kept : ℕ) → message_fault m ≡ None → first_fault query_flaw m.message.queries ≡ None
     → first_fault record_flaw (take kept (records_of m)) ≡ None → AreInRange m.edns
-    → message_of (octets_of m kept) ≡ Ok (cut m kept)
+    → spelled_message (octets_of m kept) ≡ Ok (cut m kept)
 octets_read m kept right made_queries made range =
     let code : ℕ = response_code m.message.metadata.response_code in
     let op : ℕ = op_code m.message.metadata.op_code in
@@ -257,5 +257,5 @@ octets_read m kept right made_queries made range =
     message_is m (is_cut m kept) m.message.queries m.edns a n r header (code / 16) (h ++ []) (h ++ b1.octets) (h ++ b2.octets) (h ++ b3.octets) ((h ++ b4.octets) ++ opt_octets m.edns code) refl refl is refl
     (λ bytes b. header_there m.message.metadata.id flags (length m.message.queries) (length a) (length n) (length r + opt_count m.edns) bytes
     (subst (λ (o : List ℕ). Begins o bytes) (append-nil h) b)) f1.0 f2.0 f3.0 f5 in
-    ap message_of octets ∙ read
+    ap spelled_message octets ∙ read
     ∙ ap (λ (x : WireMessage). Ok x) (shown_cut m kept (is_cut m kept) a n r refl refl refl refl)

@@ -1,9 +1,14 @@
 pub mod Octets
 pub mod Names
+pub mod LabelsPlace
+pub mod ReadNames
+pub mod OldData
 pub mod RecordData
 pub mod Edns
 pub mod Found
 pub mod Records
+pub mod Taken
+pub mod LabelsTaken
 pub mod Messages
 pub mod Writing
 pub mod Place

@@ -1,17 +1,18 @@
 -- Messages on the wire (RFC 1035, section 4.1; RFC 4035, section 3.1.6 for AD and CD).
-use Rattle.std.specs.Prelude.{ℕ, ◌+◌, ◌*◌, ◌/◌, ◌%◌, Bool, List, length, Option, None, Some, Result, Ok, Err, ◌==◌, if◌then◌else◌}
+use Rattle.std.specs.Prelude.{ℕ, ◌+◌, ◌*◌, ◌/◌, ◌%◌, Bool, List, Option, None, Some, Result, Ok, Err, nat_lt, ◌==◌, if◌then◌else◌}
 use Rattle.std.specs.Option.{option_map}
 use Rattle.hickory_proto_codes.specs.Codes.{op_of, response_of}
 use Rattle.hickory_proto_core.specs.Records.{RecordValue}
 use Rattle.hickory_proto_core.specs.declared.query.Query.{Query}
 use Rattle.hickory_proto_core.specs.declared.message.Metadata.{Metadata}
 use Rattle.hickory_proto_wire.specs.declared.wire_error.WireFault.{WireFault}
-use Rattle.hickory_proto_wire.specs.declared.wire_error.WireFault.TheVariants.{TrailingBytes}
+use Rattle.hickory_proto_wire.specs.declared.wire_error.WireFault.TheVariants.{TooManyLabels}
 use Rattle.hickory_proto_wire.specs.declared.wire_record.OptRecord.{OptRecord}
 use Rattle.hickory_proto_wire.specs.declared.header.Header.{Header}
 use Rattle.hickory_proto_wire.specs.declared.wire_message.WireMessage.{WireMessage}
 use Rattle.hickory_proto_wire.specs.Octets.{◌>>=◌, u16_at}
 use Rattle.hickory_proto_wire.specs.Found.{Found}
+use Rattle.hickory_proto_wire.specs.LabelsTaken.{most_labels, labels_taken}
 use Rattle.hickory_proto_wire.specs.Records.{repeat_at, query_at, record_at, additionals_at, nothing_found}
 
 -- the header: six numbers of 16 bits
@@ -69,14 +70,18 @@ assembled header queries answers authorities found = record {
   };
 }
 
--- The message that the bytes spell, all of the bytes, or the first fault from left to right.
-unfoldable pub message_of : List ℕ → Result WireMessage WireFault
-message_of bytes = do
+-- The message that the bytes spell, or the first fault from left to right. Octets behind the message say nothing.
+unfoldable pub spelled_message : List ℕ → Result WireMessage WireFault
+spelled_message bytes = do
   header ← header_at bytes
   queries ← repeat_at (query_at bytes) header.queries 12
   answers ← repeat_at (record_at bytes) header.answers queries.1
   authorities ← repeat_at (record_at bytes) header.authorities answers.1
   additionals ← additionals_at header.additionals bytes authorities.1 nothing_found
-  if additionals.1 == length bytes
-      then Ok (assembled header queries.0 answers.0 authorities.0 additionals.0)
-      else Err TrailingBytes
+  Ok (assembled header queries.0 answers.0 authorities.0 additionals.0)
+
+-- What is read of the bytes: that message, unless its names take too many labels before its first fault.
+unfoldable pub message_of : List ℕ → Result WireMessage WireFault
+message_of bytes = do
+  header ← header_at bytes
+  if nat_lt most_labels (labels_taken bytes header) then Err TooManyLabels else spelled_message bytes

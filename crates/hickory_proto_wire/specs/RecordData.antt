@@ -1,12 +1,13 @@
 -- The data of records on the wire (RFC 1035, sections 3.3 and 3.4.1; RFC 3596, section 2.2; RFC 2782). The bytes end
 -- with the data.
-use Rattle.std.specs.Prelude.{ℕ, zero, suc, ◌-◌, List, [], ◌∷◌, length, take, Result, Ok, Err, nat_lt, ◌==◌, if◌then◌else◌}
+use Rattle.std.specs.Prelude.{ℕ, zero, suc, List, [], ◌∷◌, length, take, Result, Ok, Err, nat_lt, ◌==◌, if◌then◌else◌}
 use Rattle.hickory_proto_core.specs.Records.{DataValue, a_data, aaaa_data, cname_data, ns_data, ptr_data, soa_data, srv_data, mx_data, txt_data, unknown_data}
 use Rattle.hickory_proto_wire.specs.declared.wire_error.WireFault.{WireFault}
 use Rattle.hickory_proto_wire.specs.declared.wire_error.WireFault.TheVariants.{TrailingData}
 use Rattle.hickory_proto_wire.specs.declared.wire_record_data.Times.{Times}
 use Rattle.hickory_proto_wire.specs.Octets.{◌>>=◌, octet_at, octets_at, u16_at, u32_at}
 use Rattle.hickory_proto_wire.specs.Names.{name_at}
+use Rattle.hickory_proto_wire.specs.OldData.{parts_of, whole_name_at, parts_at}
 
 -- four octets
 unfoldable pub a_at : List ℕ → ℕ → Result (DataValue × ℕ) WireFault
@@ -111,10 +112,10 @@ txt_at bytes at = do
   strings ← strings_at (length bytes) bytes at
   Ok (txt_data strings.0, strings.1)
 
--- any other data are all octets up to the end
+-- any other data
 unfoldable pub unknown_at : ℕ → List ℕ → ℕ → Result (DataValue × ℕ) WireFault
 unknown_at code bytes at = do
-  octets ← octets_at (length bytes - at) bytes at
+  octets ← parts_at whole_name_at (parts_of code) bytes at
   Ok (unknown_data code octets.0, octets.1)
 
 -- the data of a type, whatever the class

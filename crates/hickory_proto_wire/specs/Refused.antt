@@ -6,9 +6,10 @@ use Rattle.hickory_proto_codes.specs.Codes.{op_code, response_code}
 use Rattle.hickory_proto_core.specs.declared.query.Query.{Query}
 use Rattle.hickory_proto_core.specs.Records.{RecordValue, DataValue, a_data, aaaa_data, cname_data, ns_data, ptr_data, soa_data, srv_data, mx_data, txt_data, unknown_data}
 use Rattle.hickory_proto_wire.specs.declared.to_wire_error.ToWireError.{ToWireError}
-use Rattle.hickory_proto_wire.specs.declared.to_wire_error.ToWireError.TheVariants.{OutOfMemory, RelativeName, StringTooLong, KnownType, OpCodeTooLarge, ResponseCodeTooLarge, TooManyRecords, LimitTooSmall, DataTooLong}
+use Rattle.hickory_proto_wire.specs.declared.to_wire_error.ToWireError.TheVariants.{OutOfMemory, RelativeName, StringTooLong, KnownType, NotSpelledOut, OpCodeTooLarge, ResponseCodeTooLarge, TooManyRecords, LimitTooSmall, DataTooLong}
 use Rattle.hickory_proto_wire.specs.declared.wire_message.WireMessage.{WireMessage}
 use Rattle.hickory_proto_wire.specs.Edns.{EdnsValue}
+use Rattle.hickory_proto_wire.specs.OldData.{is_spelled_out}
 use Rattle.hickory_proto_wire.specs.Writing.{data_code, is_parsed, run_of, opt_count}
 use Rattle.hickory_proto_wire.specs.Written.{octets_of}
 
@@ -30,7 +31,7 @@ size_fault n = fault_if (nat_lt 65535 n) DataTooLong
 abbrev pub string_fault : List ℕ → Option ToWireError
 string_fault s = fault_if (nat_lt 255 (length s)) StringTooLong
 
--- Data that are not parsed may not have the type of data that are.
+-- Data that are not parsed may not have the type of data that are, and they are read as they stand.
 abbrev pub data_fault : DataValue → Option ToWireError
 data_fault (a_data octets) = None
 data_fault (aaaa_data segments) = None
@@ -42,7 +43,9 @@ data_fault (soa_data mname rname serial refresh retry expire minimum) =
 data_fault (srv_data priority weight port target) = name_fault target
 data_fault (mx_data preference exchange) = name_fault exchange
 data_fault (txt_data strings) = option_or (first_fault string_fault strings) (size_fault (length (run_of strings)))
-data_fault (unknown_data code octets) = option_or (fault_if (is_parsed code) KnownType) (size_fault (length octets))
+data_fault (unknown_data code octets) =
+    option_or (fault_if (is_parsed code) KnownType)
+    (option_or (fault_if (not (is_spelled_out code octets)) NotSpelledOut) (size_fault (length octets)))
 
 abbrev pub query_fault : Query → Option ToWireError
 query_fault q = name_fault q.name

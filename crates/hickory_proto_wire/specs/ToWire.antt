@@ -2,17 +2,17 @@
 use Rattle.std.specs.Prelude.{◌≡◌, ℕ, ◌+◌, ◌≤◌, ◌<◌, List, length, take, Ok}
 use Rattle.hickory_proto_core.specs.Records.{RecordValue}
 use Rattle.hickory_proto_wire.specs.declared.wire_message.WireMessage.{WireMessage}
-use Rattle.hickory_proto_wire.specs.Messages.{message_of}
+use Rattle.hickory_proto_wire.specs.Messages.{spelled_message}
 use Rattle.hickory_proto_wire.specs.Writing.{record_count, cut}
 use Rattle.hickory_proto_wire.specs.Written.{Body, records_added, octets_of}
 
--- The octets of the message with its first records. They are read as the message with these, truncated where any is
--- left out; they are within the limit, and with one record more they would not be.
+-- The octets of the message with its first records. They spell the message with these, truncated where any is left
+-- out; they are within the limit, and with one record more they would not be.
 pub record IsWritten (m : WireMessage) (limit : ℕ) (octets : List ℕ) : Type 0 where
   pub kept : ℕ
   pub known : kept ≤ record_count m
   pub written : octets ≡ octets_of m kept
-  pub read : message_of octets ≡ Ok (cut m kept)
+  pub read : spelled_message octets ≡ Ok (cut m kept)
   pub within : length octets ≤ limit
   pub most : kept < record_count m → limit < length (octets_of m (kept + 1))
 

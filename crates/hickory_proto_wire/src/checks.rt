@@ -7,6 +7,7 @@ ghost use Rattle.hickory_proto_wire.specs.Refused.{Tests, first_fault, name_faul
 ghost use Rattle.hickory_proto_wire.specs.Writing.{is_parsed, run_of, opt_count};
 
 use crate::edns::Edns;
+use crate::old_data::is_spelled_out;
 use crate::record_writer::data_code;
 use crate::to_wire_error::ToWireError;
 use crate::wire_message::WireMessage;
@@ -86,6 +87,9 @@ fn check_unknown(code: u16, octets: &[u8]) -> Result<(), ToWireError>
 {
     if is_parsed(code) {
         return Err(ToWireError::KnownType);
+    }
+    if !is_spelled_out(code, octets) {
+        return Err(ToWireError::NotSpelledOut);
     }
     check_size(octets.len())
 }

@@ -17,6 +17,10 @@ pub enum ToWireError {
     /// Unknown data have the code of a type that is parsed, or the code of OPT in the additional section.
     #[error("unknown data of a known type")]
     KnownType,
+    /// Unknown data of an old type, such as MINFO, are not read as they stand: a name in them is not whole, or they are
+    /// no data of their type (RFC 3597, section 4).
+    #[error("data not spelled out")]
+    NotSpelledOut,
     /// The kind of message has a code past 15 (RFC 1035, section 4.1.1).
     #[error("kind of message past 15")]
     OpCodeTooLarge,

@@ -20,6 +20,9 @@ pub enum WireFault {
     /// A pointer that leads to no earlier place than where the labels before it began (RFC 1035, section 4.1.4).
     #[error("pointer not back")]
     PointerNotBack,
+    /// Names that would take more than 16,384 labels, where labels that stand at one place are taken once.
+    #[error("too many labels")]
+    TooManyLabels,
     /// Octets within a record's data, behind the data.
     #[error("trailing data")]
     TrailingData,
@@ -29,9 +32,6 @@ pub enum WireFault {
     /// A second OPT record (RFC 6891, section 6.1.1).
     #[error("second OPT")]
     SecondOpt,
-    /// Octets behind the message.
-    #[error("trailing bytes")]
-    TrailingBytes,
 }
 
 /// Why there is no message.

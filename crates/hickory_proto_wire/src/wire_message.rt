@@ -1,13 +1,16 @@
 //! Messages and their bytes (RFC 1035, section 4.1).
 ghost use Rattle.std.specs.Prelude.{◌≡◌, ℕ, List, IfOk};
 ghost use Rattle.hickory_proto_wire.specs.Octets.{Gives};
-ghost use Rattle.hickory_proto_wire.specs.Messages.{message_of, assembled};
+ghost use Rattle.hickory_proto_wire.specs.Messages.{message_of, spelled_message, assembled};
+ghost use Rattle.hickory_proto_wire.specs.ReadNames.{IsFront};
 ghost use Rattle.hickory_proto_wire.specs.Refused.{Refuses, wire_fault};
 ghost use Rattle.hickory_proto_wire.specs.ToWire.{IsWritten};
 
 use crate::edns::Edns;
 use crate::header::{Header, bit, header_at, metadata_of};
+use crate::label_count::has_too_many_labels;
 use crate::message_writer::octets_within;
+use crate::read_names::ReadNames;
 use crate::to_wire_error::ToWireError;
 use crate::wire_error::{WireError, WireFault};
 use crate::wire_record::{Additionals, additionals_at, queries_at, records_at};
@@ -33,7 +36,10 @@ pub struct WireMessage {
 }
 
 impl WireMessage {
-    /// The message that the bytes spell, all of the bytes, or the first fault from left to right.
+    /// The message that the bytes spell, or the first fault from left to right. Octets behind the message are passed
+    /// over, as BIND and unbound do: some servers pad what they send. Names whose labels stand at one place of the bytes
+    /// share them. It is `TooManyLabels` where the names would take more than 16,384 labels, before the first name that
+    /// passes this bound, and before memory is taken for more than so many.
     pub fn from_wire(alloc: Global, bytes: &[u8]) -> Result<WireMessage, WireError>
         ensures { Gives (λ m. m) result (message_of bytes.now) }
     {
@@ -42,9 +48,9 @@ impl WireMessage {
 
     /// The octets of the message, at most `limit` of them (RFC 1035, section 4.1): 512 or what OPT allows over UDP,
     /// and 65,535 over TCP. A name ends with a pointer where the owner of an earlier record or question has the same
-    /// last labels, octet for octet; in data only where RFC 1035 has the type (RFC 3597, section 4). Where the octets
-    /// are more than the limit, records are left out from the end, whole, as few as can be, and the message says that
-    /// it is truncated. Header, questions and the OPT record stay (RFC 6891, section 7).
+    /// last labels, octet for octet; in data only where RFC 1035 has the type and it is parsed (RFC 3597, section 4).
+    /// Where the octets are more than the limit, records are left out from the end, whole, as few as can be, and the
+    /// message says that it is truncated. Header, questions and the OPT record stay (RFC 6891, section 7).
     ///
     /// # Errors
     /// The first fault in the order of writing, over all records, also those that would be left out; then
@@ -63,13 +69,23 @@ fn message_of(alloc: Global, bytes: &[u8]) -> Result<WireMessage, WireError>
     ensures { Gives (λ m. m) result (message_of bytes.now) }
 {
     let header = header_at(bytes)?;
-    let (queries, at) = queries_at(alloc, header.queries, bytes, 12)?;
-    let (answers, at) = records_at(alloc, header.answers, bytes, at)?;
-    let (authorities, at) = records_at(alloc, header.authorities, bytes, at)?;
-    let (additionals, at) = additionals_at(alloc, header.additionals, bytes, at)?;
-    if at != bytes.len() {
-        return Err(WireError::Fault(WireFault::TrailingBytes));
+    let mut names = ReadNames::new(alloc, bytes);
+    if has_too_many_labels(&mut names, header, bytes)? {
+        return Err(WireError::Fault(WireFault::TooManyLabels));
     }
+    spelled_message(&mut names, bytes)
+}
+
+#[tactic(auto, unfolding(crate::specs::Messages::spelled_message))]
+fn spelled_message(names: &mut ReadNames<'_>, bytes: &[u8]) -> Result<WireMessage, WireError>
+    requires { IsFront bytes.now names.old }
+    ensures { Gives (λ m. m) result (spelled_message bytes.now) }
+{
+    let header = header_at(bytes)?;
+    let (queries, at) = queries_at(names, header.queries, bytes, 12)?;
+    let (answers, at) = records_at(names, header.answers, bytes, at)?;
+    let (authorities, at) = records_at(names, header.authorities, bytes, at)?;
+    let (additionals, _) = additionals_at(names, header.additionals, bytes, at)?;
     Ok(assembled(header, queries, answers, authorities, additionals))
 }
 

@@ -1,8 +1,12 @@
 //! Names at a position of a message (RFC 1035, sections 3.1 and 4.1.4).
+ghost use Rattle.std.specs.Prelude.{◌≡◌};
 ghost use Rattle.hickory_proto_names.specs.Name.{label_bytes};
 ghost use Rattle.hickory_proto_wire.specs.Octets.{Gives, with_front};
 ghost use Rattle.hickory_proto_wire.specs.Names.{piece_at, labels_at, name_at};
+ghost use Rattle.hickory_proto_wire.specs.ReadNames.{IsFront};
 
+use crate::name_measure::{labels_place, measure_at};
+use crate::read_names::ReadNames;
 use crate::reader::{octet_at, octets_at};
 use crate::wire_error::{WireError, WireFault};
 use hickory_proto_names::Name;
@@ -103,9 +107,13 @@ fn labels_at(
     }
 }
 
-// The name there, and the position behind it.
+// The name there with labels of its own, and the position behind it.
 #[tactic(auto, unfolding(crate::specs::Names::name_at))]
-pub(crate) fn name_at(alloc: Global, bytes: &[u8], at: usize) -> Result<(Name, usize), WireError>
+pub(crate) fn own_name_at(
+    alloc: Global,
+    bytes: &[u8],
+    at: usize,
+) -> Result<(Name, usize), WireError>
     ensures { Gives (λ x. x) result (name_at bytes.now at) }
 {
     let mut labels = Vec::new(alloc);
@@ -120,4 +128,24 @@ pub(crate) fn name_at(alloc: Global, bytes: &[u8], at: usize) -> Result<(Name, u
         Ok(name) => Ok((name, end)),
         Err(_) => unreachable!(),
     }
+}
+
+// The name there, and the position behind it. It shares its labels with a name that was read before, where the labels
+// of both stand at one place.
+pub(crate) fn name_at(
+    names: &mut ReadNames<'_>,
+    bytes: &[u8],
+    at: usize,
+) -> Result<(Name, usize), WireError>
+    requires { IsFront bytes.now names.old }
+    ensures exact { Gives (λ x. x) result (name_at bytes.now at) }
+    ensures same { names.new ≡ names.old }
+{
+    let place = labels_place(bytes, at)?;
+    if let Some(name) = names.known(place) {
+        let (_, end) = measure_at(bytes, at)?;
+        return Ok((Clone::clone(name)?, end));
+    }
+    let (name, end) = own_name_at(names.alloc(), bytes, at)?;
+    Ok((names.remembered(place, name)?, end))
 }

@@ -1,10 +1,12 @@
 //! Questions and records at a position of a message (RFC 1035, sections 4.1.2 and 4.1.3), and OPT (RFC 6891,
 //! section 6.1).
-ghost use Rattle.std.specs.Prelude.{length, ◌≤◌, IfOk};
+ghost use Rattle.std.specs.Prelude.{◌≡◌, length, ◌≤◌, IfOk};
 ghost use Rattle.hickory_proto_wire.specs.Octets.{Gives};
+ghost use Rattle.hickory_proto_wire.specs.ReadNames.{IsFront};
 ghost use Rattle.hickory_proto_wire.specs.Records.{repeat_at, query_at, head_at, record_from, record_at, opt_from, nothing_found, found_with, additionals_at};
 
 use crate::edns::Edns;
+use crate::read_names::ReadNames;
 use crate::reader::{u16_at, u32_at};
 use crate::wire_error::{WireError, WireFault};
 use crate::wire_name::name_at;
@@ -17,10 +19,10 @@ use std::marker::Model;
 #[derive(Drop)]
 pub(crate) struct RecordHead {
     name: Name,
-    code: u16,
+    pub(crate) code: u16,
     class: u16,
     ttl: u32,
-    start: usize,
+    pub(crate) start: usize,
     pub(crate) end: usize,
 }
 
@@ -47,10 +49,16 @@ impl Model for Additionals {
 }
 
 #[tactic(auto, unfolding(crate::specs::Records::query_at))]
-fn query_at(alloc: Global, bytes: &[u8], at: usize) -> Result<(Query, usize), WireError>
-    ensures { Gives (λ x. x) result (query_at bytes.now at) }
+pub(crate) fn query_at(
+    names: &mut ReadNames<'_>,
+    bytes: &[u8],
+    at: usize,
+) -> Result<(Query, usize), WireError>
+    requires { IsFront bytes.now names.old }
+    ensures exact { Gives (λ x. x) result (query_at bytes.now at) }
+    ensures same { names.new ≡ names.old }
 {
-    let (name, at) = name_at(alloc, bytes, at)?;
+    let (name, at) = name_at(names, bytes, at)?;
     let (code, at) = u16_at(bytes, at)?;
     let (class, at) = u16_at(bytes, at)?;
     Ok((
@@ -64,17 +72,19 @@ fn query_at(alloc: Global, bytes: &[u8], at: usize) -> Result<(Query, usize), Wi
 }
 
 pub(crate) fn queries_at(
-    alloc: Global,
+    names: &mut ReadNames<'_>,
     count: u16,
     bytes: &[u8],
     at: usize,
 ) -> Result<(Vec<Query>, usize), WireError>
-    ensures { Gives (λ x. (x.0.items, x.1)) result (repeat_at (query_at bytes.now) count at) }
+    requires { IsFront bytes.now names.old }
+    ensures exact { Gives (λ x. (x.0.items, x.1)) result (repeat_at (query_at bytes.now) count at) }
+    ensures same { names.new ≡ names.old }
 {
-    let mut queries = Vec::new(alloc);
+    let mut queries = Vec::new(names.alloc());
     let mut at = at;
     for _ in 0..count {
-        let (query, after) = query_at(alloc, bytes, at)?;
+        let (query, after) = query_at(names, bytes, at)?;
         queries.push(query)?;
         at = after;
     }
@@ -82,11 +92,17 @@ pub(crate) fn queries_at(
 }
 
 #[tactic(auto, unfolding(crate::specs::Records::head_at))]
-pub(crate) fn head_at(alloc: Global, bytes: &[u8], at: usize) -> Result<RecordHead, WireError>
+pub(crate) fn head_at(
+    names: &mut ReadNames<'_>,
+    bytes: &[u8],
+    at: usize,
+) -> Result<RecordHead, WireError>
+    requires { IsFront bytes.now names.old }
     ensures exact { Gives (λ x. x) result (head_at bytes.now at) }
     ensures within { IfOk result (λ x. (x.start ≤ x.end) × (x.end ≤ length bytes.now)) }
+    ensures same { names.new ≡ names.old }
 {
-    let (name, at) = name_at(alloc, bytes, at)?;
+    let (name, at) = name_at(names, bytes, at)?;
     let (code, at) = u16_at(bytes, at)?;
     let (class, at) = u16_at(bytes, at)?;
     let (ttl, at) = u32_at(bytes, at)?;
@@ -106,11 +122,17 @@ pub(crate) fn head_at(alloc: Global, bytes: &[u8], at: usize) -> Result<RecordHe
 }
 
 #[tactic(auto, unfolding(crate::specs::Records::record_from))]
-fn record_from(alloc: Global, bytes: &[u8], head: RecordHead) -> Result<Record, WireError>
-    requires { head.end ≤ length bytes.now }
-    ensures { Gives (λ x. x) result (record_from bytes.now head) }
+fn record_from(
+    names: &mut ReadNames<'_>,
+    bytes: &[u8],
+    head: RecordHead,
+) -> Result<Record, WireError>
+    requires front { IsFront bytes.now names.old }
+    requires within { head.end ≤ length bytes.now }
+    ensures exact { Gives (λ x. x) result (record_from bytes.now head) }
+    ensures same { names.new ≡ names.old }
 {
-    let rdata = record_data_at(alloc, head.code, bytes, head.start, head.end)?;
+    let rdata = record_data_at(names, head.code, bytes, head.start, head.end)?;
     Ok(Record {
         name: head.name,
         dns_class: DNSClass::from_code(head.class),
@@ -120,26 +142,34 @@ fn record_from(alloc: Global, bytes: &[u8], head: RecordHead) -> Result<Record, 
 }
 
 #[tactic(auto, unfolding(crate::specs::Records::record_at))]
-fn record_at(alloc: Global, bytes: &[u8], at: usize) -> Result<(Record, usize), WireError>
-    ensures { Gives (λ x. x) result (record_at bytes.now at) }
+pub(crate) fn record_at(
+    names: &mut ReadNames<'_>,
+    bytes: &[u8],
+    at: usize,
+) -> Result<(Record, usize), WireError>
+    requires { IsFront bytes.now names.old }
+    ensures exact { Gives (λ x. x) result (record_at bytes.now at) }
+    ensures same { names.new ≡ names.old }
 {
-    let head = head_at(alloc, bytes, at)?;
+    let head = head_at(names, bytes, at)?;
     let end = head.end;
-    Ok((record_from(alloc, bytes, head)?, end))
+    Ok((record_from(names, bytes, head)?, end))
 }
 
 pub(crate) fn records_at(
-    alloc: Global,
+    names: &mut ReadNames<'_>,
     count: u16,
     bytes: &[u8],
     at: usize,
 ) -> Result<(Vec<Record>, usize), WireError>
-    ensures { Gives (λ x. (x.0.items, x.1)) result (repeat_at (record_at bytes.now) count at) }
+    requires { IsFront bytes.now names.old }
+    ensures exact { Gives (λ x. (x.0.items, x.1)) result (repeat_at (record_at bytes.now) count at) }
+    ensures same { names.new ≡ names.old }
 {
-    let mut records = Vec::new(alloc);
+    let mut records = Vec::new(names.alloc());
     let mut at = at;
     for _ in 0..count {
-        let (added, after) = record_at(alloc, bytes, at)?;
+        let (added, after) = record_at(names, bytes, at)?;
         records.push(added)?;
         at = after;
     }
@@ -170,25 +200,27 @@ fn opt_from(alloc: Global, bytes: &[u8], head: RecordHead) -> Result<OptRecord, 
 
 // What was found and one record more.
 #[tactic(auto, unfolding(crate::specs::Records::found_with))]
-fn found_with(
-    alloc: Global,
+pub(crate) fn found_with(
+    names: &mut ReadNames<'_>,
     bytes: &[u8],
     head: RecordHead,
     found: Additionals,
 ) -> Result<Additionals, WireError>
+    requires front { IsFront bytes.now names.old }
     requires order { head.start ≤ head.end }
     requires within { head.end ≤ length bytes.now }
-    ensures { Gives (λ x. x) result (found_with bytes.now head found) }
+    ensures exact { Gives (λ x. x) result (found_with bytes.now head found) }
+    ensures same { names.new ≡ names.old }
 {
     let Additionals { mut records, opt } = found;
     if head.code != 41 {
-        records.push(record_from(alloc, bytes, head)?)?;
+        records.push(record_from(names, bytes, head)?)?;
         return Ok(Additionals { records, opt });
     }
     if opt.is_some() {
         return Err(WireError::Fault(WireFault::SecondOpt));
     }
-    let opt = opt_from(alloc, bytes, head)?;
+    let opt = opt_from(names.alloc(), bytes, head)?;
     Ok(Additionals {
         records,
         opt: Some(opt),
@@ -196,22 +228,24 @@ fn found_with(
 }
 
 pub(crate) fn additionals_at(
-    alloc: Global,
+    names: &mut ReadNames<'_>,
     count: u16,
     bytes: &[u8],
     at: usize,
 ) -> Result<(Additionals, usize), WireError>
-    ensures { Gives (λ x. x) result (additionals_at count bytes.now at nothing_found) }
+    requires { IsFront bytes.now names.old }
+    ensures exact { Gives (λ x. x) result (additionals_at count bytes.now at nothing_found) }
+    ensures same { names.new ≡ names.old }
 {
     let mut found = Additionals {
-        records: Vec::new(alloc),
+        records: Vec::new(names.alloc()),
         opt: None,
     };
     let mut at = at;
     for _ in 0..count {
-        let head = head_at(alloc, bytes, at)?;
+        let head = head_at(names, bytes, at)?;
         let end = head.end;
-        found = found_with(alloc, bytes, head, found)?;
+        found = found_with(names, bytes, head, found)?;
         at = end;
     }
     Ok((found, at))

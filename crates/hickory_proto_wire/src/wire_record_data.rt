@@ -1,10 +1,13 @@
 //! The data of records at a position of a message (RFC 1035, sections 3.3 and 3.4.1).
-ghost use Rattle.std.specs.Prelude.{length, ◌≤◌};
+ghost use Rattle.std.specs.Prelude.{◌≡◌, length, ◌≤◌};
 ghost use Rattle.hickory_proto_names.specs.Name.{label_bytes};
 ghost use Rattle.hickory_proto_core.specs.Records.{data_of};
 ghost use Rattle.hickory_proto_wire.specs.Octets.{Gives};
+ghost use Rattle.hickory_proto_wire.specs.ReadNames.{IsFront};
 ghost use Rattle.hickory_proto_wire.specs.RecordData.{a_at, half_at, aaaa_at, cname_at, ns_at, ptr_at, mx_at, srv_at, times_at, soa_at, string_at, strings_at, txt_at, unknown_at, data_at, record_data_at};
 
+use crate::old_data::{parts_at, parts_of};
+use crate::read_names::ReadNames;
 use crate::reader::{octet_at, octets_at, u16_at, u32_at};
 use crate::wire_error::{WireError, WireFault};
 use crate::wire_name::name_at;
@@ -55,35 +58,43 @@ fn aaaa_at(bytes: &[u8], at: usize) -> Result<(RData, usize), WireError>
 }
 
 #[tactic(auto, unfolding(crate::specs::RecordData::cname_at))]
-fn cname_at(alloc: Global, bytes: &[u8], at: usize) -> Result<(RData, usize), WireError>
-    ensures { Gives (λ x. (data_of x.0, x.1)) result (cname_at bytes.now at) }
+fn cname_at(names: &mut ReadNames<'_>, bytes: &[u8], at: usize) -> Result<(RData, usize), WireError>
+    requires { IsFront bytes.now names.old }
+    ensures exact { Gives (λ x. (data_of x.0, x.1)) result (cname_at bytes.now at) }
+    ensures same { names.new ≡ names.old }
 {
-    let (target, at) = name_at(alloc, bytes, at)?;
+    let (target, at) = name_at(names, bytes, at)?;
     Ok((RData::CNAME(target), at))
 }
 
 #[tactic(auto, unfolding(crate::specs::RecordData::ns_at))]
-fn ns_at(alloc: Global, bytes: &[u8], at: usize) -> Result<(RData, usize), WireError>
-    ensures { Gives (λ x. (data_of x.0, x.1)) result (ns_at bytes.now at) }
+fn ns_at(names: &mut ReadNames<'_>, bytes: &[u8], at: usize) -> Result<(RData, usize), WireError>
+    requires { IsFront bytes.now names.old }
+    ensures exact { Gives (λ x. (data_of x.0, x.1)) result (ns_at bytes.now at) }
+    ensures same { names.new ≡ names.old }
 {
-    let (target, at) = name_at(alloc, bytes, at)?;
+    let (target, at) = name_at(names, bytes, at)?;
     Ok((RData::NS(target), at))
 }
 
 #[tactic(auto, unfolding(crate::specs::RecordData::ptr_at))]
-fn ptr_at(alloc: Global, bytes: &[u8], at: usize) -> Result<(RData, usize), WireError>
-    ensures { Gives (λ x. (data_of x.0, x.1)) result (ptr_at bytes.now at) }
+fn ptr_at(names: &mut ReadNames<'_>, bytes: &[u8], at: usize) -> Result<(RData, usize), WireError>
+    requires { IsFront bytes.now names.old }
+    ensures exact { Gives (λ x. (data_of x.0, x.1)) result (ptr_at bytes.now at) }
+    ensures same { names.new ≡ names.old }
 {
-    let (target, at) = name_at(alloc, bytes, at)?;
+    let (target, at) = name_at(names, bytes, at)?;
     Ok((RData::PTR(target), at))
 }
 
 #[tactic(auto, unfolding(crate::specs::RecordData::mx_at))]
-fn mx_at(alloc: Global, bytes: &[u8], at: usize) -> Result<(RData, usize), WireError>
-    ensures { Gives (λ x. (data_of x.0, x.1)) result (mx_at bytes.now at) }
+fn mx_at(names: &mut ReadNames<'_>, bytes: &[u8], at: usize) -> Result<(RData, usize), WireError>
+    requires { IsFront bytes.now names.old }
+    ensures exact { Gives (λ x. (data_of x.0, x.1)) result (mx_at bytes.now at) }
+    ensures same { names.new ≡ names.old }
 {
     let (preference, at) = u16_at(bytes, at)?;
-    let (exchange, at) = name_at(alloc, bytes, at)?;
+    let (exchange, at) = name_at(names, bytes, at)?;
     Ok((
         RData::MX {
             preference,
@@ -94,13 +105,15 @@ fn mx_at(alloc: Global, bytes: &[u8], at: usize) -> Result<(RData, usize), WireE
 }
 
 #[tactic(auto, unfolding(crate::specs::RecordData::srv_at))]
-fn srv_at(alloc: Global, bytes: &[u8], at: usize) -> Result<(RData, usize), WireError>
-    ensures { Gives (λ x. (data_of x.0, x.1)) result (srv_at bytes.now at) }
+fn srv_at(names: &mut ReadNames<'_>, bytes: &[u8], at: usize) -> Result<(RData, usize), WireError>
+    requires { IsFront bytes.now names.old }
+    ensures exact { Gives (λ x. (data_of x.0, x.1)) result (srv_at bytes.now at) }
+    ensures same { names.new ≡ names.old }
 {
     let (priority, at) = u16_at(bytes, at)?;
     let (weight, at) = u16_at(bytes, at)?;
     let (port, at) = u16_at(bytes, at)?;
-    let (target, at) = name_at(alloc, bytes, at)?;
+    let (target, at) = name_at(names, bytes, at)?;
     Ok((
         RData::SRV {
             priority,
@@ -134,11 +147,13 @@ fn times_at(bytes: &[u8], at: usize) -> Result<(Times, usize), WireError>
 }
 
 #[tactic(auto, unfolding(crate::specs::RecordData::soa_at))]
-fn soa_at(alloc: Global, bytes: &[u8], at: usize) -> Result<(RData, usize), WireError>
-    ensures { Gives (λ x. (data_of x.0, x.1)) result (soa_at bytes.now at) }
+fn soa_at(names: &mut ReadNames<'_>, bytes: &[u8], at: usize) -> Result<(RData, usize), WireError>
+    requires { IsFront bytes.now names.old }
+    ensures exact { Gives (λ x. (data_of x.0, x.1)) result (soa_at bytes.now at) }
+    ensures same { names.new ≡ names.old }
 {
-    let (mname, at) = name_at(alloc, bytes, at)?;
-    let (rname, at) = name_at(alloc, bytes, at)?;
+    let (mname, at) = name_at(names, bytes, at)?;
+    let (rname, at) = name_at(names, bytes, at)?;
     let (times, at) = times_at(bytes, at)?;
     Ok((
         RData::SOA {
@@ -197,43 +212,51 @@ fn unknown_at(
 ) -> Result<(RData, usize), WireError>
     ensures { Gives (λ x. (data_of x.0, x.1)) result (unknown_at code bytes.now at) }
 {
-    let (octets, at) = octets_at(bytes.len().saturating_sub(at), bytes, at)?;
-    let bytes = Vec::from_slice(alloc, octets)?;
+    let (bytes, at) = parts_at(alloc, parts_of(code), bytes, at)?;
     Ok((RData::Unknown { code, bytes }, at))
 }
 
 #[tactic(auto, unfolding(crate::specs::RecordData::data_at))]
-fn data_at(alloc: Global, code: u16, bytes: &[u8], at: usize) -> Result<(RData, usize), WireError>
-    ensures { Gives (λ x. (data_of x.0, x.1)) result (data_at code bytes.now at) }
+fn data_at(
+    names: &mut ReadNames<'_>,
+    code: u16,
+    bytes: &[u8],
+    at: usize,
+) -> Result<(RData, usize), WireError>
+    requires { IsFront bytes.now names.old }
+    ensures exact { Gives (λ x. (data_of x.0, x.1)) result (data_at code bytes.now at) }
+    ensures same { names.new ≡ names.old }
 {
     match code {
         1 => a_at(bytes, at),
-        2 => ns_at(alloc, bytes, at),
-        5 => cname_at(alloc, bytes, at),
-        6 => soa_at(alloc, bytes, at),
-        12 => ptr_at(alloc, bytes, at),
-        15 => mx_at(alloc, bytes, at),
-        16 => txt_at(alloc, bytes, at),
+        2 => ns_at(names, bytes, at),
+        5 => cname_at(names, bytes, at),
+        6 => soa_at(names, bytes, at),
+        12 => ptr_at(names, bytes, at),
+        15 => mx_at(names, bytes, at),
+        16 => txt_at(names.alloc(), bytes, at),
         28 => aaaa_at(bytes, at),
-        33 => srv_at(alloc, bytes, at),
-        _ => unknown_at(alloc, code, bytes, at),
+        33 => srv_at(names, bytes, at),
+        _ => unknown_at(names.alloc(), code, bytes, at),
     }
 }
 
 // The data between two positions.
 #[tactic(auto, unfolding(crate::specs::RecordData::record_data_at))]
 pub(crate) fn record_data_at(
-    alloc: Global,
+    names: &mut ReadNames<'_>,
     code: u16,
     bytes: &[u8],
     start: usize,
     end: usize,
 ) -> Result<RData, WireError>
-    requires { end ≤ length bytes.now }
-    ensures { Gives data_of result (record_data_at code bytes.now start end) }
+    requires front { IsFront bytes.now names.old }
+    requires within { end ≤ length bytes.now }
+    ensures exact { Gives data_of result (record_data_at code bytes.now start end) }
+    ensures same { names.new ≡ names.old }
 {
     let (front, _) = bytes.split_at(end);
-    let (rdata, behind) = data_at(alloc, code, front, start)?;
+    let (rdata, behind) = data_at(names, code, front, start)?;
     if behind != end {
         return Err(WireError::Fault(WireFault::TrailingData));
     }

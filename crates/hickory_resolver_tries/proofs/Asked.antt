@@ -1,9 +1,8 @@
 -- A message that is believed is read with the question that was asked.
-use Rattle.std.proofs.Common.{◌≡◌, ℕ, suc, ◌+◌, ◌*◌, ◌<◌, ◌≤◌, Bool, true, false, cond, not, ◌&&◌, ◌||◌, nat_eq, eqb, ltb, List, [], ◌∷◌, ◌++◌, length, get_or, map, take, drop, append_assoc, length-append, refl, ap, ap₂, sym, subst, ◌∙◌, arith, Ok, Err}
+use Rattle.std.proofs.Common.{◌≡◌, ℕ, suc, ◌+◌, ◌<◌, ◌≤◌, Bool, true, false, cond, not, ◌&&◌, ◌||◌, nat_eq, eqb, ltb, List, [], ◌∷◌, ◌++◌, length, map, take, drop, append_assoc, length-append, refl, ap, ap₂, sym, subst, ◌∙◌, arith, Ok, Err}
 use Rattle.std.specs.Prelude.{Option, None, Some, Result, IfOk, nat_le}
 use Rattle.std.specs.declared.alloc.AllocError.{AllocError}
 use Rattle.std.specs.Char.{to_ascii_lowercase}
-use Rattle.std.specs.Cmp.{IsEquivalence}
 use Rattle.std.specs.Cmp.Lexicographic.{pointwise, lists_equiv}
 use Rattle.std.specs.Cmp.{nat_eq_equiv}
 use Rattle.std.specs.List.{list_any, sum_by}
@@ -20,23 +19,22 @@ use Rattle.hickory_proto_core.specs.declared.query.Query.{Query}
 use Rattle.hickory_proto_core.specs.names.name_error.NameError.TheVariants as names
 use Rattle.hickory_proto_wire.specs.Found.{Found}
 use Rattle.hickory_proto_wire.specs.Made.{flaw_unless}
-use Rattle.hickory_proto_wire.specs.Messages.{header_at, assembled, message_of}
+use Rattle.hickory_proto_wire.specs.Messages.{header_at, assembled, spelled_message, message_of}
 use Rattle.hickory_proto_wire.specs.Octets.{◌>>=◌, octet_at, u16_at}
 use Rattle.hickory_proto_wire.specs.Records.{repeat_at, query_at, record_at, additionals_at, nothing_found}
 use Rattle.hickory_proto_wire.specs.Writing.{Stands, named_query}
 use Rattle.hickory_proto_wire.specs.Written.{name_octets, query_octets}
 use Rattle.hickory_proto_wire.specs.declared.wire_error.WireFault.{WireFault}
-use Rattle.hickory_proto_wire.specs.declared.wire_error.WireFault.TheVariants.{TrailingBytes}
 use Rattle.hickory_proto_wire.specs.declared.wire_message.WireMessage.{WireMessage}
+use Rattle.hickory_proto_wire.proofs.FewLabels.{read_spelled}
 use Rattle.hickory_proto_wire.proofs.Runs.{are_labels}
 use Rattle.hickory_proto_wire.proofs.Spelled.{query_spelled}
-use Rattle.hickory_resolver_tries.specs.declared.belief.Belief.{Belief}
 use Rattle.hickory_resolver_tries.specs.declared.belief.Belief.TheVariants.{Believed, OtherLetters, OptRefused, NotBelieved}
 use Rattle.hickory_resolver_tries.specs.declared.head.Head.{Head}
 use Rattle.hickory_resolver_tries.specs.declared.outcome.Reply.{Reply}
 use Rattle.hickory_resolver_tries.specs.declared.pool_question.PoolQuestion.{PoolQuestion}
 use Rattle.hickory_resolver_tries.specs.declared.try_message.TryForm.{TryForm}
-use Rattle.hickory_resolver_tries.specs.Belief.{asked_name, asked_codes, has_one_question, has_question, has_letters, is_believed, is_reply, name_part, codes_part, refuses_opt, belief_of}
+use Rattle.hickory_resolver_tries.specs.Belief.{asked_name, asked_codes, has_one_question, has_question, has_letters, is_reply, name_part, codes_part, refuses_opt, belief_of}
 use Rattle.hickory_resolver_tries.specs.GivenBack.{respelled, respelled_query}
 use Rattle.hickory_resolver_tries.specs.Heads.{number_at, head_of}
 use Rattle.hickory_resolver_tries.specs.Outcome.{AsksAlone, with_letters}
@@ -158,22 +156,15 @@ module _ (bytes : List ℕ) (qs : List Query) (m : WireMessage) where
       assembled (record { id = number_at bytes 0; flags = number_at bytes 2; queries = number_at bytes 4; answers = number_at bytes 6; authorities = number_at bytes 8; additionals = number_at bytes 10 }) qs answers authorities found
 
   abbrev last_of : List RecordValue → List RecordValue → Found × ℕ → Result WireMessage WireFault
-  last_of answers authorities found =
-      cond (eqb found.1 (length bytes)) (Ok (message_with answers authorities found.0)) (Err TrailingBytes)
-
-  kept_last : (answers authorities : List RecordValue) (found : Found × ℕ) (all : Bool)
-      → cond all (Ok (message_with answers authorities found.0)) (Err TrailingBytes) ≡ Ok m → m.message.queries ≡ qs
-  unfolding assembled
-  kept_last answers authorities found false e = absurd cc
-  kept_last answers authorities found true e =
-      let same : message_with answers authorities found.0 ≡ m = cc in
-      sym (ap (λ (w : WireMessage). w.message.queries) same)
+  last_of answers authorities found = Ok (message_with answers authorities found.0)
 
   kept_additionals : (answers authorities : List RecordValue) (read : Result (Found × ℕ) WireFault)
       → (read >>= λ found. last_of answers authorities found) ≡ Ok m → m.message.queries ≡ qs
+  unfolding assembled
   kept_additionals answers authorities (Err x) e = absurd cc
   kept_additionals answers authorities (Ok found) e =
-      kept_last answers authorities found (eqb found.1 (length bytes)) e
+      let same : message_with answers authorities found.0 ≡ m = cc in
+      sym (ap (λ (w : WireMessage). w.message.queries) same)
 
   kept_authorities : (answers : List RecordValue) (read : Result (List RecordValue × ℕ) WireFault)
       → (read >>= λ authorities. additionals_at (number_at bytes 10) bytes authorities.1 nothing_found >>= λ found. last_of answers authorities.0 found)
@@ -194,13 +185,17 @@ one_read : (bytes : List ℕ) (q : Query) (count next : ℕ) → count ≡ 1 →
 unfolding repeat_at
 one_read bytes q count next one e = rw (one, e) refl
 
-question_read : (bytes : List ℕ) (q : Query) (next : ℕ) (m : WireMessage) → 12 ≤ length bytes → number_at bytes 4 ≡ 1
-    → query_at bytes 12 ≡ Ok (q, next) → message_of bytes ≡ Ok m → m.message.queries ≡ q ∷ []
-unfolding message_of
-question_read bytes q next m long one e read =
+question_spelled : (bytes : List ℕ) (q : Query) (next : ℕ) (m : WireMessage) → 12 ≤ length bytes → number_at bytes 4 ≡ 1
+    → query_at bytes 12 ≡ Ok (q, next) → spelled_message bytes ≡ Ok m → m.message.queries ≡ q ∷ []
+unfolding spelled_message
+question_spelled bytes q next m long one e read =
     let queries = one_read bytes q (number_at bytes 4) next one e in
     kept_answers bytes (q ∷ []) m (repeat_at (record_at bytes) (number_at bytes 6) next)
     (rw (header_there bytes long, queries) at read)
+
+question_read : (bytes : List ℕ) (q : Query) (next : ℕ) (m : WireMessage) → 12 ≤ length bytes → number_at bytes 4 ≡ 1
+    → query_at bytes 12 ≡ Ok (q, next) → message_of bytes ≡ Ok m → m.message.queries ≡ q ∷ []
+question_read bytes q next m long one e read = question_spelled bytes q next m long one e (read_spelled bytes m read)
 
 -- ---- what belief says
 

@@ -1,5 +1,5 @@
 -- The octets of a try, part by part, are those of its message, and are read as it.
-use Rattle.std.proofs.Common.{◌≡◌, ℕ, ◌+◌, ◌<◌, Bool, true, false, cond, ◌&&◌, List, [], ◌∷◌, ◌++◌, refl, ap, ap₂, sym, ◌∙◌, append_assoc, Ok, lit<}
+use Rattle.std.proofs.Common.{◌≡◌, ℕ, ◌+◌, ◌*◌, ◌≤◌, ◌<◌, Bool, true, false, cond, ◌&&◌, List, [], ◌∷◌, ◌++◌, refl, ap, ap₂, sym, ◌∙◌, append_assoc, Ok, lit<, arith}
 use Rattle.std.specs.Prelude.{Option, None, Some}
 use Rattle.std.specs.Option.{is_some, is_none}
 use Rattle.std.specs.List.{list_any}
@@ -11,6 +11,7 @@ use Rattle.hickory_proto_wire.specs.Refused.{message_fault, first_fault}
 use Rattle.hickory_proto_wire.specs.Writing.{u16_octets, weighed, opt_count, cut}
 use Rattle.hickory_proto_wire.specs.Written.{name_octets, header_octets, opt_octets, edns_octets}
 use Rattle.hickory_proto_wire.specs.declared.wire_message.WireMessage.{WireMessage}
+use Rattle.hickory_proto_wire.proofs.FewLabels.{few_written}
 use Rattle.hickory_proto_wire.proofs.Whole.{octets_read}
 use Rattle.hickory_resolver_tries.specs.declared.pool_question.PoolQuestion.{PoolQuestion}
 use Rattle.hickory_resolver_tries.specs.declared.pool_question.SentOpt.{SentOpt}
@@ -117,9 +118,15 @@ made q form e =
     let sent = label_fault-sent form.letters q.query.name.labels ∙ e in
     ap (λ fault. first_fault (λ (u : Unit {0}). flaw_unless (is_none fault)) (tt ∷ [])) sent
 
+-- one question, and OPT or no record
+few_names : (edns : Option EdnsValue) → 127 * (1 + 3 * (0 + 0 + (0 + opt_count edns))) ≤ 16384
+few_names None = omega arith
+few_names (Some e) = omega arith
+
 pub try_read : (q : PoolQuestion) (form : TryForm) → q.query.name.fqdn ≡ true → label_fault q.query.name.labels ≡ None
     → message_of (octets_of_try q form) ≡ Ok (cut (message_of_try q form) 0)
 try_read q form absolute valid =
-    octets_read (message_of_try q form) 0
+    few_written (message_of_try q form) 0 (few_names (edns_if (sends_opt q form) q.opt))
+    ∙ octets_read (message_of_try q form) 0
     (ap (λ f. message_fault (with_parts q form f (edns_if (sends_opt q form) q.opt))) absolute ∙ right_with q form (sends_opt q form) q.opt)
     (made q form valid) refl (in_range (sends_opt q form) q.opt)

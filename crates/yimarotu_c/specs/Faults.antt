@@ -14,7 +14,7 @@ reading_number reading.PointerNotBack = 5
 reading_number reading.TrailingData = 6
 reading_number reading.OptName = 7
 reading_number reading.SecondOpt = 8
-reading_number reading.TrailingBytes = 9
+reading_number reading.TooManyLabels = 10
 
 abbrev pub writing_number : ToWireError → ℕ
 writing_number writing.OutOfMemory = 0
@@ -26,3 +26,4 @@ writing_number writing.ResponseCodeTooLarge = 21
 writing_number writing.TooManyRecords = 22
 writing_number writing.LimitTooSmall = 23
 writing_number writing.DataTooLong = 24
+writing_number writing.NotSpelledOut = 25

@@ -17,7 +17,7 @@ pub(crate) fn reading_number(fault: WireFault) -> u8
         WireFault::TrailingData => 6,
         WireFault::OptName => 7,
         WireFault::SecondOpt => 8,
-        WireFault::TrailingBytes => 9,
+        WireFault::TooManyLabels => 10,
     }
 }
 
@@ -35,5 +35,6 @@ pub(crate) fn writing_number(error: ToWireError) -> u8
         ToWireError::TooManyRecords => 22,
         ToWireError::LimitTooSmall => 23,
         ToWireError::DataTooLong => 24,
+        ToWireError::NotSpelledOut => 25,
     }
 }

@@ -23,7 +23,7 @@ pub struct YimarotuWritten {
     pub length: usize,
 }
 
-/// Reads a message, all of the bytes, and writes it at the front of the room, in so many bytes at most.
+/// Reads a message, bytes behind it passed over, and writes it at the front of the room, in so many bytes at most.
 #[unsafe(no_mangle)]
 pub extern "C" fn yimarotu_rewrite(
     alloc: Global,

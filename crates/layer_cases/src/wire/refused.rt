@@ -12,6 +12,7 @@ const WIDE: usize = 400_000;
 pub fn show_all(rt: &impl Print, alloc: Global) {
     show_names(rt, alloc);
     show_data(rt, alloc);
+    show_old_data(rt, alloc);
     show_codes(rt, alloc);
     show_counts_and_limits(rt, alloc);
     show_sizes(rt, alloc);
@@ -70,6 +71,23 @@ fn show_data(rt: &impl Print, alloc: Global) {
     let bytes = Vec::new(alloc);
     let made = with_additional(alloc, RData::Unknown { code: 41, bytes });
     show(rt, alloc, "an OPT record among the others", made, WIDE);
+}
+
+// Data of MINFO (RFC 1035, section 3.3.7), which are two names.
+fn show_old_data(rt: &impl Print, alloc: Global) {
+    let made = answering(alloc, minfo(alloc, &[1, b'a', 0, 1, b'a', 0]));
+    show(rt, alloc, "MINFO data of two whole names", made, WIDE);
+    let made = answering(alloc, minfo(alloc, &[1, b'a', 0, 192, 0]));
+    show(rt, alloc, "MINFO data with a pointer", made, WIDE);
+    let made = answering(alloc, minfo(alloc, &[1, b'a', 0]));
+    show(rt, alloc, "MINFO data of one name", made, WIDE);
+    let made = answering(alloc, minfo(alloc, &[]));
+    show(rt, alloc, "MINFO data of no octets", made, WIDE);
+}
+
+fn minfo(alloc: Global, octets: &[u8]) -> Result<RData, AllocError> {
+    let bytes = Vec::from_slice(alloc, octets)?;
+    Ok(RData::Unknown { code: 14, bytes })
 }
 
 // TXT data of one string.

@@ -2,8 +2,15 @@ use Rattle.std.proofs.Common.{◌≡◌, ◌++◌, ◌∷◌, [], ◌-◌, ap, �
 use Rattle.std.proofs.lemmas.Result.{err_from_is_err_and}
 use Rattle.std.proofs.lemmas.List.{map_push}
 use Rattle.hickory_proto_names.specs.Name.{label_bytes}
-use Rattle.hickory_proto_wire.proofs.Walks.{label_step, label_fails, pointer_fails}
+use Rattle.hickory_proto_wire.proofs.Walks.{piece_fails, label_step, label_fails, pointer_fails}
 use Rattle.hickory_proto_wire.proofs.wire_name.+labels_at.Goals as goal
+
+pub returns-in_err-piece : goal.returns-in_err-piece
+returns-in_err-piece t c =
+    let p = err_from_is_err_and c.from_residual.result c.from_residual.ensures.1 in
+    rw (p.1, p.2)
+    (piece_fails c.in_err-piece.field-0.0 c.args.steps (c.args.steps - 1) c.args.bytes.now c.args.walk
+    (label_bytes c.args.labels.now.items) (omega arith) c.in_err-piece.ensures)
 
 pub returns-in_err-label-in-Label : goal.returns-in_err-label-in-Label
 returns-in_err-label-in-Label t c =

@@ -5,5 +5,5 @@ use Rattle.hickory_proto_wire.proofs.wire_record.queries_at.Given as goal
 
 abbrev pub invariant-loop : goal.invariant-loop
 invariant-loop l =
-    with_front l.queries.items (repeat_at (query_at l.bytes) (l.count - l.counter) l.at)
-    ≡ repeat_at (query_at l.bytes) l.count l.fn.at
+    (with_front l.queries.items (repeat_at (query_at l.bytes) (l.count - l.counter) l.at)
+    ≡ repeat_at (query_at l.bytes) l.count l.fn.at) × (l.names ≡ l.fn.names)
