@@ -27,6 +27,7 @@ pub record OptionsValue : Type 0 where
   pub edns0 : Bool
   pub ip_strategy : LookupIpStrategy
   pub cache_size : ℕ
+  pub cache_octets : Option ℕ
   pub use_hosts_file : ResolveHosts
   pub positive_min_ttl : Option ℕ
   pub negative_min_ttl : Option ℕ
@@ -53,6 +54,7 @@ default_options = record {
   edns0 = true;
   ip_strategy = Ipv6AndIpv4;
   cache_size = 8192;
+  cache_octets = None;
   use_hosts_file = Auto;
   positive_min_ttl = None;
   negative_min_ttl = None;

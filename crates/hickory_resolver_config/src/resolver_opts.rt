@@ -27,6 +27,8 @@ pub struct ResolverOpts {
     pub ip_strategy: LookupIpStrategy,
     /// How many results the cache has room for.
     pub cache_size: u64,
+    /// How many octets the cache may take for what it keeps; as many as its results take where it is left out.
+    pub cache_octets: Option<u64>,
     /// Whether the system's table of hosts is asked. No effect: a table is handed in.
     pub use_hosts_file: ResolveHosts,
     /// For how many seconds a positive answer is kept at the least, and the least TTL of its records, kept or not;
@@ -78,6 +80,7 @@ impl Model for ResolverOpts {
       edns0 = o.edns0;
       ip_strategy = o.ip_strategy;
       cache_size = o.cache_size;
+      cache_octets = o.cache_octets;
       use_hosts_file = o.use_hosts_file;
       positive_min_ttl = o.positive_min_ttl;
       negative_min_ttl = o.negative_min_ttl;
@@ -110,6 +113,7 @@ impl ResolverOpts {
             edns0: true,
             ip_strategy: LookupIpStrategy::default(),
             cache_size: 8192,
+            cache_octets: None,
             use_hosts_file: ResolveHosts::default(),
             positive_min_ttl: None,
             negative_min_ttl: None,
@@ -153,6 +157,7 @@ impl Clone for ResolverOpts {
             edns0: self.edns0,
             ip_strategy: self.ip_strategy,
             cache_size: self.cache_size,
+            cache_octets: self.cache_octets,
             use_hosts_file: self.use_hosts_file,
             positive_min_ttl: self.positive_min_ttl,
             negative_min_ttl: self.negative_min_ttl,

@@ -1,8 +1,8 @@
 -- A cache as the list of its entries, the oldest first (RFC 2181, sections 5.4.1, 8 and 10.1.1; RFC 2308,
 -- section 5).
-use Rattle.std.specs.Prelude.{◌≡◌, ◌⊎◌, ℕ, ◌+◌, ◌-◌, ◌≤◌, ◌^◌, Bool, not, ◌&&◌, ◌==◌, List, [], ◌∷◌, ◌++◌, length, map, filter, find, fold, min, remove, nat_lt, nat_le, Option, None, Some, Ok, Err, if◌then◌else◌}
+use Rattle.std.specs.Prelude.{◌≡◌, ◌⊎◌, ℕ, zero, suc, ◌+◌, ◌-◌, ◌*◌, ◌≤◌, ◌^◌, Bool, true, not, ◌&&◌, ◌==◌, List, [], ◌∷◌, ◌++◌, length, map, filter, find, fold, min, remove, nat_lt, nat_le, Option, None, Some, Ok, Err, if◌then◌else◌}
 use Rattle.std.specs.Option.{option_map, option_map_or}
-use Rattle.std.specs.List.{list_any, position_or_len, AllByRecursion, IsDistinct}
+use Rattle.std.specs.List.{list_any, sum_by, position_or_len, AllByRecursion, IsDistinct}
 use Rattle.hickory_proto_core.specs.Codes.{type_code}
 use Rattle.hickory_proto_core.specs.ResponseKind.{record_type_code}
 use Rattle.hickory_proto_core.specs.Records.{RecordValue, lower_ttl}
@@ -14,6 +14,7 @@ use Rattle.hickory_proto_core.specs.declared.query.Query.{Query}
 use Rattle.hickory_proto_core.specs.declared.net_error.NetError.{NetError}
 use Rattle.hickory_proto_core.specs.declared.net_error.NetError.TheVariants.{Dns, OutOfMemory}
 use Rattle.hickory_proto_core.specs.declared.net_error.DnsError.TheVariants.{NoRecordsFound}
+use Rattle.hickory_proto_weights.specs.Weights.{saturated, weight_of}
 use Rattle.hickory_resolver_model.specs.Bounds.{ConfigValue, bounds_for, positive_bounds, greatest_ttl, clamped_message, positive_lifetime, negative_lifetime}
 
 -- an outcome that is kept for a question, when it was stored, and until when it is current (seconds)
@@ -26,6 +27,7 @@ pub record Entry : Type 0 where
 -- what a caller sees of a cache
 pub record CacheValue : Type 0 where
   pub capacity : ℕ
+  pub octets : Option ℕ
   pub config : ConfigValue
   pub entries : List Entry
 
@@ -162,6 +164,52 @@ not_after_current es now e =
 abbrev pub insert_entry : ℕ → List Entry → Entry → List Entry
 insert_entry capacity es e = if capacity == 0 then es else kept_beside capacity e.query es ++ e ∷ []
 
+-- ---- where the octets are bounded
+
+-- what an entry weighs, and what all of them weigh (octets)
+abbrev pub entry_weight : Entry → ℕ
+entry_weight e = saturated (weight_of e.query e.result)
+
+abbrev pub all_weight : List Entry → ℕ
+all_weight es = sum_by entry_weight es
+
+-- heavier than a 256th of the bound
+abbrev pub is_heavy : ℕ → Entry → Bool
+is_heavy octets e = nat_lt octets (256 * entry_weight e)
+
+-- there is one place more, and these octets are enough
+abbrev pub has_room : ℕ → ℕ → List Entry → Bool
+has_room capacity octets es = nat_lt (length es) capacity && nat_le (all_weight es) octets
+
+-- The list without the entries of the earliest deadlines, as few as leave room. There are no more than the first number.
+unfoldable pub with_room : ℕ → ℕ → ℕ → List Entry → List Entry
+with_room zero capacity octets es = es
+with_room (suc most) capacity octets es =
+    if has_room capacity octets es then es else with_room most capacity octets (without_earliest es)
+
+-- the same with an entry put in as the newest, within so many octets; a heavy one is not kept
+abbrev pub insert_weighed : ℕ → ℕ → List Entry → Entry → List Entry
+insert_weighed octets capacity es e =
+    if capacity == 0 then es else (
+    if is_heavy octets e then without e.query es else (
+    with_room (length (without e.query es)) capacity (octets - entry_weight e) (without e.query es) ++ e ∷ []))
+
+-- the same, whether the octets are bounded or not
+abbrev pub insert_within : Option ℕ → ℕ → List Entry → Entry → List Entry
+insert_within None capacity es e = insert_entry capacity es e
+insert_within (Some octets) capacity es e = insert_weighed octets capacity es e
+
+-- an entry that is not too heavy to be kept, and entries that are within the bound
+abbrev pub is_light : Option ℕ → Entry → Bool
+is_light None e = true
+is_light (Some octets) e = not (is_heavy octets e)
+
+abbrev pub AreWithin : Option ℕ → List Entry → Type 0
+AreWithin None es = Unit {0}
+AreWithin (Some octets) es = all_weight es ≤ octets
+
+-- ---- stores
+
 -- an entry that is current up to a limit at the most
 abbrev pub not_after : ℕ → Entry → Entry
 not_after limit e = record e { valid_until = min e.valid_until limit }
@@ -170,14 +218,14 @@ not_after limit e = record e { valid_until = min e.valid_until limit }
 abbrev pub store : CacheValue → Query → OutcomeValue → ℕ → CacheValue
 store c q outcome now =
     record c {
-      entries = option_map_or (insert_entry c.capacity c.entries) (entry_of c.config q outcome now) c.entries;
+      entries = option_map_or (insert_within c.octets c.capacity c.entries) (entry_of c.config q outcome now) c.entries;
     }
 
 -- the cache after a store whose entry is current up to a limit at the most
 abbrev pub store_until : CacheValue → Query → OutcomeValue → ℕ → ℕ → CacheValue
 store_until c q outcome now limit =
     record c {
-      entries = option_map_or (λ e. insert_entry c.capacity c.entries (not_after limit e))
+      entries = option_map_or (λ e. insert_within c.octets c.capacity c.entries (not_after limit e))
           (entry_of c.config q outcome now) c.entries;
     }
 
@@ -185,7 +233,7 @@ store_until c q outcome now limit =
 abbrev pub store_clamped : CacheValue → Query → OutcomeValue → ℕ → CacheValue
 store_clamped c q outcome now =
     record c {
-      entries = option_map_or (λ e. insert_entry c.capacity c.entries (not_after_current c.entries now e))
+      entries = option_map_or (λ e. insert_within c.octets c.capacity c.entries (not_after_current c.entries now e))
           (entry_of c.config q outcome now) c.entries;
     }
 

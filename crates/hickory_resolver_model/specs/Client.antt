@@ -1,5 +1,5 @@
 -- A client: a cache over a handle, and what a look-up by it does.
-use Rattle.std.specs.Prelude.{◌≡◌, ℕ, Bool, List, []}
+use Rattle.std.specs.Prelude.{◌≡◌, ℕ, Bool, List, [], None}
 use Rattle.hickory_proto_core.specs.Handles.{HandleStep, Leads}
 use Rattle.hickory_proto_core.specs.declared.query.Query.{Query}
 use Rattle.hickory_proto_core.specs.declared.dns_request.DnsRequestOptions.{DnsRequestOptions}
@@ -39,4 +39,4 @@ pub record KeepsHandle {H : Type 0} (before after : ClientValue H) : Type 0 wher
 -- a cache without entries and with the default bounds: every least is 0, and every greatest a day
 abbrev pub empty_cache : ℕ → CacheValue
 empty_cache capacity =
-    record { capacity = capacity; config = record { default = no_bounds; by_type = [] }; entries = [] }
+    record { capacity = capacity; octets = None; config = record { default = no_bounds; by_type = [] }; entries = [] }

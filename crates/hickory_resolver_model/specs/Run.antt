@@ -36,13 +36,14 @@ family_order Ipv6thenIpv4 = Fallback type.AAAA type.A
 family_order Ipv4thenIpv6 = Fallback type.A type.AAAA
 
 -- what stays the same in a run: how names are attempted, which addresses are asked for, whether intermediate
--- records are preserved, how many entries the cache has room for and the bounds on times to live, how each
+-- records are preserved, how many entries and how many octets the cache has room for and the bounds on times to live, how each
 -- question is sent, and the table of hosts
 pub record Settings : Type 0 where
   pub search : Search
   pub strategy : LookupIpStrategy
   pub preserve_intermediates : Bool
   pub capacity : ℕ
+  pub octets : Option ℕ
   pub bounds : BoundsValue
   pub request_options : DnsRequestOptions
   pub hosts : List Host
@@ -54,6 +55,7 @@ settings_of config options hosts = record {
   strategy = options.ip_strategy;
   preserve_intermediates = options.preserve_intermediates;
   capacity = options.cache_size;
+  octets = options.cache_octets;
   bounds = bounds_of options;
   request_options = request_options_of options;
   hosts = hosts;
@@ -62,7 +64,7 @@ settings_of config options hosts = record {
 -- the cache of a new resolver
 abbrev pub first_cache : Settings → CacheValue
 first_cache s =
-    record { capacity = s.capacity; config = record { default = s.bounds; by_type = [] }; entries = [] }
+    record { capacity = s.capacity; octets = s.octets; config = record { default = s.bounds; by_type = [] }; entries = [] }
 
 abbrev pub call_context_at : Settings → ℕ → CallContext
 call_context_at s now = record { now = now; preserve_intermediates = s.preserve_intermediates; hosts = s.hosts }

@@ -1,5 +1,5 @@
 -- Stores of fresh records, and of negative answers, leave fresh entries.
-use Rattle.std.proofs.Common.{◌≡◌, ◌⊎◌, ◌≤◌, ◌+◌, ℕ, ◌==◌, Bool, true, false, List, [], ◌∷◌, ◌++◌, length, min, nat_lt, Ok, Err, IfSome, not, refl, sym, subst, arith, inl, inr, if◌then◌else◌}
+use Rattle.std.proofs.Common.{◌≡◌, ◌⊎◌, ◌≤◌, ◌+◌, ◌-◌, ℕ, zero, suc, ◌==◌, Bool, true, false, List, [], ◌∷◌, ◌++◌, length, min, nat_lt, Option, None, Some, Ok, Err, IfSome, not, refl, sym, subst, arith, inl, inr, if◌then◌else◌}
 use Rattle.std.specs.List.{AllByRecursion, list_any, position_or_len}
 use Rattle.hickory_proto_core.specs.Codes.{type_code}
 use Rattle.hickory_proto_core.specs.Errors.{NoRecordsValue}
@@ -9,7 +9,7 @@ use Rattle.hickory_proto_core.specs.declared.query.Query.{Query}
 use Rattle.hickory_proto_core.specs.declared.net_error.NetError.TheVariants.{Message, Timeout, Proto, Dns, NoOutcome, Bounds, OutOfMemory}
 use Rattle.hickory_proto_core.specs.declared.net_error.DnsError.TheVariants.{ResponseCode, NoRecordsFound}
 use Rattle.hickory_resolver_model.specs.Bounds.{ConfigValue, greatest_ttl}
-use Rattle.hickory_resolver_model.specs.Cache.{CacheValue, Entry, is_for, without, without_earliest, least_deadline, kept_beside, insert_entry, positive_entry, negative_entry, not_after}
+use Rattle.hickory_resolver_model.specs.Cache.{CacheValue, Entry, is_for, without, without_earliest, least_deadline, kept_beside, insert_entry, entry_weight, is_heavy, has_room, with_room, insert_weighed, insert_within, positive_entry, negative_entry, not_after}
 use Rattle.hickory_resolver_model.specs.Hops.{LookupContext, Store, passed_of, limit_of, earlier_store, earlier_stores, entry_of_store, after_store, after_stores}
 use Rattle.hickory_resolver_model.specs.Lookup.{LookupResult}
 use Rattle.hickory_proto_core.specs.declared.recorded.Exchange.{Exchange}
@@ -32,6 +32,38 @@ insert_entry-all P capacity es e all new = by (capacity == 0)
     by true = all
     by false = all-append P (kept_beside capacity e.query es) (e ∷ []) (room (list_any (is_for e.query) es) (nat_lt (length es) capacity)) (new, tt)
 
+-- what holds of every entry holds of those that stay where some leave to make room
+room-all : (P : Entry → Type 0) (most capacity octets : ℕ) (es : List Entry) → AllByRecursion P es → AllByRecursion P (with_room most capacity octets es)
+unfolding with_room
+room-all P zero capacity octets es all = all
+room-all P (suc most) capacity octets es all =
+    by (has_room capacity octets es) (room-all P most capacity octets (without_earliest es) (all-remove P es (position_or_len (λ x. x.valid_until == least_deadline es) es) all))
+  where
+    by : (b : Bool) → AllByRecursion P (with_room most capacity octets (without_earliest es)) → AllByRecursion P (if b then es else with_room most capacity octets (without_earliest es))
+    by true later = all
+    by false later = later
+
+insert_weighed-all : (P : Entry → Type 0) (octets capacity : ℕ) (es : List Entry) (e : Entry) → AllByRecursion P es → P e → AllByRecursion P (insert_weighed octets capacity es e)
+insert_weighed-all P octets capacity es e all new = by (capacity == 0) (is_heavy octets e)
+  where
+    others : List Entry
+    others = without e.query es
+
+    stay : AllByRecursion P others
+    stay = all-filter P (λ x. not (is_for e.query x)) es all
+
+    room : List Entry
+    room = with_room (length others) capacity (octets - entry_weight e) others
+
+    by : (none heavy : Bool) → AllByRecursion P (if none then es else (if heavy then others else (room ++ e ∷ [])))
+    by true heavy = all
+    by false true = stay
+    by false false = all-append P room (e ∷ []) (room-all P (length others) capacity (octets - entry_weight e) others stay) (new, tt)
+
+pub insert_within-all : (P : Entry → Type 0) (octets : Option ℕ) (capacity : ℕ) (es : List Entry) (e : Entry) → AllByRecursion P es → P e → AllByRecursion P (insert_within octets capacity es e)
+insert_within-all P None = insert_entry-all P
+insert_within-all P (Some octets) = insert_weighed-all P octets
+
 -- the entry that a store makes, where it makes one
 abbrev pub Makes : (Entry → Type 0) → ConfigValue → Store → Type 0
 Makes P config s =
@@ -44,8 +76,8 @@ after_store-all P s cache all makes = by s.outcome makes.0 makes.1
   where
     by : (o : OutcomeValue) → ((m : MessageValue) → o ≡ Ok m → P (not_after s.limit (positive_entry cache.config s.query m s.now))) → ((n : NoRecordsValue) → o ≡ Err (Dns (NoRecordsFound n)) → P (not_after s.limit (negative_entry cache.config s.query n s.now)))
         → AllByRecursion P (after_store (record s { outcome = o }) cache).entries
-    by (Ok m) positive negative = insert_entry-all P cache.capacity cache.entries (not_after s.limit (positive_entry cache.config s.query m s.now)) all (positive m refl)
-    by (Err (Dns (NoRecordsFound n))) positive negative = insert_entry-all P cache.capacity cache.entries (not_after s.limit (negative_entry cache.config s.query n s.now)) all (negative n refl)
+    by (Ok m) positive negative = insert_within-all P cache.octets cache.capacity cache.entries (not_after s.limit (positive_entry cache.config s.query m s.now)) all (positive m refl)
+    by (Err (Dns (NoRecordsFound n))) positive negative = insert_within-all P cache.octets cache.capacity cache.entries (not_after s.limit (negative_entry cache.config s.query n s.now)) all (negative n refl)
     by (Err (Dns (ResponseCode code))) positive negative = all
     by (Err (Message text)) positive negative = all
     by (Err Timeout) positive negative = all

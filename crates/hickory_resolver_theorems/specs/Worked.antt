@@ -104,6 +104,7 @@ abbrev pub stored_for_an_hour : List Entry
 stored_for_an_hour =
     (store (record {
       capacity = 8;
+      octets = None;
       config = hour;
       entries = [];
     }) (asks_a (name (codes "a")))

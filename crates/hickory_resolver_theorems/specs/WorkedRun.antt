@@ -35,6 +35,7 @@ settings = record {
   strategy = Ipv4Only;
   preserve_intermediates = false;
   capacity = 8;
+  octets = None;
   bounds = no_bounds;
   request_options =
       record { recursion_desired = true; use_edns = true; edns_payload_len = 1232; case_randomization = false };
