@@ -15,6 +15,7 @@ use Rattle.hickory_resolver.specs.Transcripts.{IsNoRun}
 abbrev empty_cache : OptionsValue → CacheValue
 empty_cache options = record {
   capacity = options.cache_size;
+  octets = options.cache_octets;
   config = record { default = bounds_of options; by_type = [] };
   entries = [];
 }

@@ -1,5 +1,5 @@
 //! What a resolver is built from.
-ghost use Rattle.std.specs.Prelude.{◌≡◌, [], Err, Ok};
+ghost use Rattle.std.specs.Prelude.{◌≡◌, [], Err, Ok, Some};
 ghost use Rattle.std.specs.Option.{option_map_or};
 ghost use Rattle.hickory_proto_core.specs.declared.net_error.NetError.TheVariants.{Bounds};
 ghost use Rattle.hickory_resolver_config.specs.ResolverConfig.{default_options};
@@ -72,6 +72,15 @@ impl<H: DnsHandle, S: BuildHasher> ResolverBuilder<H, S> {
         &mut self.options
     }
 
+    /// The cache takes at most so many octets for what it keeps (the option `cache_octets`). An entry that is heavier
+    /// than a 256th of that is not kept.
+    pub fn with_cache_octets(mut self, octets: u64) -> ResolverBuilder<H, S>
+        ensures { result ≡ record self { options = record self.options { cache_octets = Some octets } } }
+    {
+        self.options.cache_octets = Some(octets);
+        self
+    }
+
     /// Whether servers are asked over encrypted transports where they can be. No effect: the upstream that is
     /// handed in decides how it asks.
     pub fn with_opportunistic_encryption(
@@ -140,12 +149,16 @@ pub(crate) fn first_cache<S: BuildHasher + Drop>(
     ensures { result ≡ option_map_or (λ fault. Err (Bounds fault)) (bounds_fault (bounds_of options.now))
         (Ok (record {
           capacity = options.now.cache_size;
+          octets = options.now.cache_octets;
           config = record { default = bounds_of options.now; by_type = [] };
           entries = [];
         })) }
 {
     match TtlConfig::from_opts(alloc, options) {
-        Ok(bounds) => Ok(ResponseCache::with_hasher(alloc, options.cache_size, bounds, hasher)),
+        Ok(bounds) => {
+            let (entries, octets) = (options.cache_size, options.cache_octets);
+            Ok(ResponseCache::with_limits(alloc, entries, octets, bounds, hasher))
+        }
         Err(fault) => Err(NetError::Bounds(fault)),
     }
 }

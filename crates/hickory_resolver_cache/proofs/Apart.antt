@@ -1,14 +1,15 @@
 -- What holds of every cache: its entries are for different questions, also after a store or a removal.
-use Rattle.std.proofs.Common.{◌≡◌, ℕ, suc, zero, Bool, true, false, cond, ◌==◌, ◌||◌, List, [], ◌∷◌, ◌++◌, map, filter, length, not, remove, nat_lt, refl, sym, ap, ◌∙◌, subst, arith, if◌then◌else◌}
+use Rattle.std.proofs.Common.{◌≡◌, ℕ, suc, zero, Bool, true, false, cond, ◌==◌, ◌-◌, ◌||◌, Option, None, Some, List, [], ◌∷◌, ◌++◌, map, filter, length, not, remove, nat_lt, refl, sym, ap, ◌∙◌, subst, arith, if◌then◌else◌}
 use Rattle.std.proofs.lemmas.List.{map-append}
 use Rattle.std.proofs.lemmas.Map.Keys.{IsDistinct-cons, IsDistinct-head, IsDistinct-push, IsDistinct-tail}
 use Rattle.std.specs.List.{AllByRecursion, IsDistinct, list_any, position_or_len}
 use Rattle.hickory_proto_core.specs.Query.{query_eq, query_equiv}
 use Rattle.hickory_proto_core.specs.declared.query.Query.{Query}
 use Rattle.hickory_resolver_model.specs.Bounds.{ConfigValue}
-use Rattle.hickory_resolver_model.specs.Cache.{Entry, IsCache, insert_entry, is_for, kept_beside, least_deadline, without, without_earliest}
+use Rattle.hickory_resolver_model.specs.Cache.{Entry, IsCache, insert_entry, insert_within, is_for, is_heavy, entry_weight, kept_beside, least_deadline, without, without_earliest}
 use Rattle.hickory_resolver_cache.specs.Turns.{IsSound, Order, Pair, entries_of}
-use Rattle.hickory_resolver_cache.proofs.Laws.{AreApart}
+use Rattle.hickory_resolver_cache.proofs.Laws.{AreApart, others_within, without-none_for}
+use Rattle.hickory_resolver_cache.proofs.Rooms.{with_room-keeps, with_room-none}
 use Rattle.hickory_resolver_cache.proofs.PairLists.{all-filter, all-map, all-remove, all-unmap}
 use Rattle.hickory_resolver_cache.proofs.Store.{entries-none, kept_beside-none, length-entries}
 
@@ -80,3 +81,25 @@ apart-insert_entry capacity es e d = by (capacity == 0)
     by false =
         subst (IsDistinct query_eq) (sym (map-append (λ x. x.query) room (e ∷ [])))
         (IsDistinct-push query_equiv (questions room) e.query (apart-room capacity e.query es d) (any-question e.query room ∙ kept_beside-none capacity e.query es))
+
+pub apart-insert_within : (octets : Option ℕ) (capacity : ℕ) (es : List Entry) (e : Entry) → AreApart es → AreApart (insert_within octets capacity es e)
+apart-insert_within None capacity es e d = apart-insert_entry capacity es e d
+apart-insert_within (Some octets) capacity es e d = by (capacity == 0) (is_heavy octets e)
+  where
+    room : List Entry
+    room = others_within octets capacity es e
+
+    none : list_any (is_for e.query) room ≡ false
+    none = with_room-none (is_for e.query) (length (without e.query es)) capacity (octets - entry_weight e) (without e.query es) (without-none_for e.query es)
+
+    others : AreApart room
+    others =
+        with_room-keeps AreApart (λ l h. apart-remove l (position_or_len (λ x. x.valid_until == least_deadline l) l) h) (length (without e.query es)) capacity (octets - entry_weight e) (without e.query es)
+        (apart-without e.query es d)
+
+    by : (b heavy : Bool) → AreApart (if b then es else (if heavy then without e.query es else (room ++ e ∷ [])))
+    by true heavy = d
+    by false true = apart-without e.query es d
+    by false false =
+        subst (IsDistinct query_eq) (sym (map-append (λ x. x.query) room (e ∷ [])))
+        (IsDistinct-push query_equiv (questions room) e.query others (any-question e.query room ∙ none))

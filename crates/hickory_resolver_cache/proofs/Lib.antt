@@ -1,10 +1,16 @@
 mod PairLists
+mod Rooms
 mod Listed
 mod TurnOrder
 mod Store
 mod Timely
 mod Renumbered
 mod Stored
+mod Weights
+mod Shedding
+mod PuttingIn
+mod WeighedStores
+mod Held
 mod Laws
 mod Apart
 mod KeptEntries

@@ -2,11 +2,12 @@
 use Rattle.std.proofs.Common.{◌≡◌, ℕ, ◌+◌, ◌<◌, ◌≤◌, suc, zero, false, cond, nat_eq, List, [], ◌∷◌, ◌++◌, map, length, Option, None, Some, refl, sym, ap, ap₂, ◌∙◌, subst, arith, append-nil, append_assoc, length-append, length-drop, take, drop, slice_get, ◌⊎◌, inl, inr}
 use Rattle.std.proofs.lemmas.Bool.{eq-eqb, ne_eqb, cases_lt, cases_eq, false≢true}
 use Rattle.std.proofs.lemmas.List.{drop_all, length-take-le, take_all, take_more}
-use Rattle.std.proofs.lemmas.List.Sorted.{IsNonDecreasingBy-drop, IsNonDecreasingBy-from_sort, IsPermutation-map, length_permutation}
+use Rattle.std.proofs.lemmas.List.Elements.{All-cons, All-head, All-nil, All-tail}
+use Rattle.std.proofs.lemmas.List.Sorted.{All-permutation, IsNonDecreasingBy-drop, IsNonDecreasingBy-from_sort, IsPermutation-map, length_permutation}
 use Rattle.std.proofs.lemmas.Option.{get_or_from_slice_get, same_Some, slice_get_within}
 use Rattle.std.proofs.lemmas.Map.Keys.{IsDistinct-head, IsDistinct-tail}
 use Rattle.std.specs.Cmp.{nat_eq_equiv}
-use Rattle.std.specs.List.{AllByRecursion, IsDistinct}
+use Rattle.std.specs.List.{All, AllByRecursion, IsDistinct}
 use Rattle.std.specs.List.Sorted.{IsNonDecreasingBy, IsPermutation, IsSortedByKey}
 use Rattle.std.specs.Prelude.{Result, Ok, Err, OnErr}
 use Rattle.std.specs.BTreeMap.{get, is_at}
@@ -15,7 +16,7 @@ use Rattle.std.specs.Option.{option_to_list}
 use Rattle.std.specs.Ordering.{nat_cmp}
 use Rattle.indexmap.proofs.MapLemmas.{distinct_permutation, lookup_permutation}
 use Rattle.indexmap.specs.Layout.{set_value_at}
-use Rattle.hickory_resolver_cache.specs.Turns.{Pair, Order, Turn, turn_cmp, by_number, numbered, listed, in_order, stored_entry, query_at, with_number, renumbered, IsNumbered, IsPlaced, IsKept, IsOrderOf, IsSameList, IsSound}
+use Rattle.hickory_resolver_cache.specs.Turns.{HasItsWeight, Pair, Order, Turn, turn_cmp, by_number, numbered, listed, in_order, stored_entry, query_at, with_number, renumbered, IsNumbered, IsPlaced, IsKept, IsOrderOf, IsSameList, IsSound}
 use Rattle.hickory_resolver_cache.specs.declared.kept.Kept.{Kept}
 use Rattle.hickory_proto_core.specs.declared.query.Query.{Query}
 use Rattle.hickory_resolver_model.specs.Bounds.{ConfigValue}
@@ -26,25 +27,38 @@ use Rattle.hickory_resolver_cache.proofs.Store.{kept-empty}
 use Rattle.hickory_resolver_cache.proofs.TurnOrder.{numbers-push, placed-push}
 
 -- ---- another order
+pub numbered-permuted : (ps rs : List Pair) → IsDistinct nat_eq (keys_of (by_number ps)) → IsPermutation ps rs → IsDistinct nat_eq (keys_of (by_number rs)) × ((n : ℕ) → numbered rs n ≡ numbered ps n)
+numbered-permuted ps rs distinct moves = (apart, λ n. lookup_permutation nat_eq_equiv (by_number ps) (by_number rs) tagged apart (nat_eq n) (nat_eq_equiv.congr n))
+  where
+    tagged : IsPermutation (by_number ps) (by_number rs)
+    tagged = IsPermutation-map (λ (p : Pair). (p.1.number, p)) ps rs moves
+
+    apart : IsDistinct nat_eq (keys_of (by_number rs))
+    apart = distinct_permutation nat_eq_equiv (keys_of (by_number ps)) (keys_of (by_number rs)) (IsPermutation-map (λ e. e.0) (by_number ps) (by_number rs) tagged) distinct
+
 pub same_list-permuted : (next : ℕ) (ps rs : List Pair) (order : Order) → IsNumbered next ps → IsPlaced ps order → IsPermutation ps rs → IsSameList ps next rs next order
 same_list-permuted next ps rs order h placed moves = record {
   length_is = length_permutation ps rs moves;
   numbers = record { apart = apart; below = λ n l. same n ∙ h.below n l };
   placed = λ t. placed t ∙ ap (query_at t.0) (sym (same t.1));
   entries_are = ap (map stored_entry) (listed-same (numbered rs) (numbered ps) next (λ n l. same n));
+  weights_are = λ each. All-permutation HasItsWeight ps rs moves each;
 }
   where
-    tagged : IsPermutation (by_number ps) (by_number rs)
-    tagged = IsPermutation-map (λ (p : Pair). (p.1.number, p)) ps rs moves
-
     apart : IsDistinct nat_eq (keys_of (by_number rs))
-    apart = distinct_permutation nat_eq_equiv (keys_of (by_number ps)) (keys_of (by_number rs)) (IsPermutation-map (λ e. e.0) (by_number ps) (by_number rs) tagged) h.apart
+    apart = (numbered-permuted ps rs h.apart moves).0
 
     same : (n : ℕ) → numbered rs n ≡ numbered ps n
-    same n = lookup_permutation nat_eq_equiv (by_number ps) (by_number rs) tagged apart (nat_eq n) (nat_eq_equiv.congr n)
+    same = (numbered-permuted ps rs h.apart moves).1
 
 pub same_list-refl : (next : ℕ) (ps : List Pair) (order : Order) → IsNumbered next ps → IsPlaced ps order → IsSameList ps next ps next order
-same_list-refl next ps order h placed = record { length_is = refl; numbers = h; placed = placed; entries_are = refl }
+same_list-refl next ps order h placed = record {
+  length_is = refl;
+  numbers = h;
+  placed = placed;
+  entries_are = refl;
+  weights_are = λ each. each;
+}
 
 pub same_list-trans : (ps rs qs : List Pair) (next mid after : ℕ) (old new : Order) → IsSameList ps next rs mid old → IsSameList rs mid qs after new → IsSameList ps next qs after new
 same_list-trans ps rs qs next mid after old new a b = record {
@@ -52,6 +66,7 @@ same_list-trans ps rs qs next mid after old new a b = record {
   numbers = b.numbers;
   placed = b.placed;
   entries_are = b.entries_are ∙ a.entries_are;
+  weights_are = λ each. b.weights_are (a.weights_are each);
 }
 
 -- ---- the list in order, from its front
@@ -153,6 +168,13 @@ entries-renumbered : (n : ℕ) (ps : List Pair) → map stored_entry (renumbered
 entries-renumbered n [] = refl
 entries-renumbered n (p ∷ ps) = ap (λ l. stored_entry p ∷ l) (entries-renumbered (suc n) ps)
 
+weights-renumbered : (n : ℕ) (ps : List Pair) → All HasItsWeight ps → All HasItsWeight (renumbered n ps)
+weights-renumbered n [] each = All-nil HasItsWeight
+weights-renumbered n (p ∷ ps) each =
+    All-cons HasItsWeight (with_number n p) (renumbered (suc n) ps)
+    (record { weighs = (All-head HasItsWeight p ps each).weighs })
+    (weights-renumbered (suc n) ps (All-tail HasItsWeight p ps each))
+
 renumbered-push : (n : ℕ) (ps : List Pair) (p : Pair) → renumbered n (ps ++ p ∷ []) ≡ renumbered n ps ++ with_number (n + length ps) p ∷ []
 renumbered-push n [] p = ap (λ m. with_number m p ∷ []) (let e : n ≡ n + 0 = omega arith in e)
 renumbered-push n (x ∷ ps) p =
@@ -165,6 +187,7 @@ same_list-renumbered next ps order h up fresh = record {
   placed = fresh.placed;
   entries_are = ap (map stored_entry) (ascends-in_order (length ps) (renumbered 0 ps) (ascends-renumbered 0 ps) fresh.numbers) ∙ entries-renumbered 0 ps
       ∙ sym (ap (map stored_entry) (ascends-in_order next ps (ascends-sorted 0 ps (λ p e. omega arith) (IsNonDecreasingBy-from_sort (λ (p : Pair). p.1.number) ps up) h.apart) h));
+  weights_are = weights-renumbered 0 ps;
 }
 
 -- one turn more
@@ -202,7 +225,7 @@ order-none order e = let kept = kept-empty 0 0 [] order refl e in record { numbe
 
 -- one number more
 anew-more : (n i m : ℕ) (ps : List Pair) (k : Kept) → i < length ps → m ≡ n + i → slice_get (values_of (renumbered n (take i ps) ++ drop i ps)) i ≡ Some k
-    → set_value_at (renumbered n (take i ps) ++ drop i ps) i (record { result = k.result; original_time = k.original_time; valid_until = k.valid_until; number = m }) ≡ renumbered n (take (suc i) ps) ++ drop (suc i) ps
+    → set_value_at (renumbered n (take i ps) ++ drop i ps) i (record { result = k.result; original_time = k.original_time; valid_until = k.valid_until; number = m; weight = k.weight }) ≡ renumbered n (take (suc i) ps) ++ drop (suc i) ps
 anew-more n i m [] k l is at = absurd (omega (arith, l))
 anew-more n zero m (p ∷ ps) k l is at =
     let own : p.1 ≡ k = same_Some p.1 k at in
@@ -210,9 +233,9 @@ anew-more n zero m (p ∷ ps) k l is at =
 anew-more n (suc i) m (p ∷ ps) k l is at = ap (λ r. with_number n p ∷ r) (anew-more (suc n) i m ps k (omega arith) (omega arith) at)
 
 pub anew-step : (i : ℕ) (ps es : List Pair) (k : Kept) → es ≡ renumbered 0 (take i ps) ++ drop i ps → i < length ps → slice_get (values_of es) i ≡ Some k
-    → set_value_at es i (record { result = k.result; original_time = k.original_time; valid_until = k.valid_until; number = i }) ≡ renumbered 0 (take (i + 1) ps) ++ drop (i + 1) ps
+    → set_value_at es i (record { result = k.result; original_time = k.original_time; valid_until = k.valid_until; number = i; weight = k.weight }) ≡ renumbered 0 (take (i + 1) ps) ++ drop (i + 1) ps
 anew-step i ps es k is l at =
-    ap (λ x. set_value_at x i (record { result = k.result; original_time = k.original_time; valid_until = k.valid_until; number = i })) is
+    ap (λ x. set_value_at x i (record { result = k.result; original_time = k.original_time; valid_until = k.valid_until; number = i; weight = k.weight })) is
     ∙ anew-more 0 i i ps k l (omega arith) (sym (ap (λ x. slice_get (values_of x) i) is) ∙ at)
     ∙ ap (λ j. renumbered 0 (take j ps) ++ drop j ps) (let e : suc i ≡ i + 1 = omega arith in e)
 

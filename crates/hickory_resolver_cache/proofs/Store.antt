@@ -137,6 +137,44 @@ current-entries q now (p ∷ ps) d = by (query_eq q p.0) refl (nat_le now p.1.va
     by false h b k tail =
         ap (λ a. option_map shown_entry (cond (a && nat_le now p.1.valid_until) (Some (stored_entry p)) rest)) h ∙ tail ∙ sym (ap found h)
 
+-- the list round the pair of a turn below the number next, when it is the first of those below and leaves
+module _ (next : ℕ) (ps rs : List Pair) (apart : IsDistinct nat_eq (keys_of (by_number ps))) (t : Turn) (p : Pair) (s : StandsAt ps t p) (moves : IsPermutation ps (p ∷ rs)) (below : t.1 < next) where
+  around_first : Around (numbered ps) (numbered rs) next t.1 p
+  around_first = around (numbered ps) (numbered rs) t.1 p s.number (left ps rs t p apart s moves) next below
+
+  pub without-least : ((n : ℕ) (x : Pair) → n < next → numbered ps n ≡ Some x → (t.0 ≤ x.1.valid_until) × (t.0 ≡ x.1.valid_until → t.1 ≤ n)) → entries_of rs next ≡ without_earliest (entries_of ps next)
+  without-least least =
+      ap (map stored_entry) around_first.left ∙ map-append stored_entry (listed (numbered ps) t.1) around_first.after
+      ∙ sym (without_earliest-middle (map stored_entry (listed (numbered ps) t.1)) (stored_entry p) (map stored_entry around_first.after) all above)
+      ∙ sym (ap without_earliest split)
+    where
+      split : entries_of ps next ≡ map stored_entry (listed (numbered ps) t.1) ++ stored_entry p ∷ map stored_entry around_first.after
+      split = ap (map stored_entry) around_first.whole ∙ map-append stored_entry (listed (numbered ps) t.1) (p ∷ around_first.after)
+
+      all : AllByRecursion (λ z. p.1.valid_until ≤ z.valid_until) (map stored_entry (listed (numbered ps) t.1) ++ stored_entry p ∷ map stored_entry around_first.after)
+      all = subst (AllByRecursion (λ z. p.1.valid_until ≤ z.valid_until)) split
+          (all-map (λ z. p.1.valid_until ≤ z.valid_until) stored_entry (in_order ps next)
+          (all-listed (λ x. p.1.valid_until ≤ x.1.valid_until) (numbered ps) next (λ n x l e. let k = (least n x l e).0 in let d = s.valid_until in omega (arith, k, d))))
+
+      above : AllByRecursion (λ z. p.1.valid_until < z.valid_until) (map stored_entry (listed (numbered ps) t.1))
+      above =
+          all-map (λ z. p.1.valid_until < z.valid_until) stored_entry (listed (numbered ps) t.1)
+          (all-listed (λ x. p.1.valid_until < x.1.valid_until) (numbered ps) t.1 (λ n x l e. strict n x l (least n x (let b = below in omega (arith, b, l)) e)))
+        where
+          strict : (n : ℕ) (x : Pair) → n < t.1 → (t.0 ≤ x.1.valid_until) × (t.0 ≡ x.1.valid_until → t.1 ≤ n) → p.1.valid_until < x.1.valid_until
+          strict n x l k = by (cases_eq t.0 x.1.valid_until)
+            where
+              d : p.1.valid_until ≡ t.0
+              d = s.valid_until
+
+              by : (t.0 ≡ x.1.valid_until) ⊎ (t.0 ≡ x.1.valid_until → ⊥) → p.1.valid_until < x.1.valid_until
+              by (inl e) = let m = k.1 e in absurd (omega (arith, m, l))
+              by (inr ne) = let m = k.0 in by_order (cases_lt t.0 x.1.valid_until) m
+                where
+                  by_order : (t.0 < x.1.valid_until) ⊎ (x.1.valid_until ≤ t.0) → t.0 ≤ x.1.valid_until → p.1.valid_until < x.1.valid_until
+                  by_order (inl m) n = omega (arith, m, d)
+                  by_order (inr m) n = absurd (ne (omega (arith, m, n)))
+
 module _ (next : ℕ) (ps : List Pair) (h : IsNumbered next ps) where
   pub length-entries : length (entries_of ps next) ≡ length ps
   length-entries = length-map (in_order ps next) stored_entry ∙ length_permutation ps (in_order ps next) (in_order-permutes next ps h)
@@ -184,37 +222,7 @@ module _ (next : ℕ) (ps : List Pair) (h : IsNumbered next ps) where
           ∙ sym (ap (λ l. without q (map stored_entry l)) parts.whole)
 
       pub without-first : (((n : ℕ) (x : Pair) → numbered ps n ≡ Some x → (t.0 ≤ x.1.valid_until) × (t.0 ≡ x.1.valid_until → t.1 ≤ n))) → entries_of rs next ≡ without_earliest (entries_of ps next)
-      without-first least =
-          ap (map stored_entry) parts.left ∙ map-append stored_entry (listed (numbered ps) t.1) parts.after
-          ∙ sym (without_earliest-middle (map stored_entry (listed (numbered ps) t.1)) (stored_entry p) (map stored_entry parts.after) all above)
-          ∙ sym (ap without_earliest split)
-        where
-          split : entries_of ps next ≡ map stored_entry (listed (numbered ps) t.1) ++ stored_entry p ∷ map stored_entry parts.after
-          split = ap (map stored_entry) parts.whole ∙ map-append stored_entry (listed (numbered ps) t.1) (p ∷ parts.after)
-
-          all : AllByRecursion (λ z. p.1.valid_until ≤ z.valid_until) (map stored_entry (listed (numbered ps) t.1) ++ stored_entry p ∷ map stored_entry parts.after)
-          all = subst (AllByRecursion (λ z. p.1.valid_until ≤ z.valid_until)) split
-              (all-map (λ z. p.1.valid_until ≤ z.valid_until) stored_entry (in_order ps next)
-              (all-listed (λ x. p.1.valid_until ≤ x.1.valid_until) (numbered ps) next (λ n x l e. let k = (least n x e).0 in let d = s.valid_until in omega (arith, k, d))))
-
-          above : AllByRecursion (λ z. p.1.valid_until < z.valid_until) (map stored_entry (listed (numbered ps) t.1))
-          above =
-              all-map (λ z. p.1.valid_until < z.valid_until) stored_entry (listed (numbered ps) t.1)
-              (all-listed (λ x. p.1.valid_until < x.1.valid_until) (numbered ps) t.1 (λ n x l e. strict n x l (least n x e)))
-            where
-              strict : (n : ℕ) (x : Pair) → n < t.1 → (t.0 ≤ x.1.valid_until) × (t.0 ≡ x.1.valid_until → t.1 ≤ n) → p.1.valid_until < x.1.valid_until
-              strict n x l k = by (cases_eq t.0 x.1.valid_until)
-                where
-                  d : p.1.valid_until ≡ t.0
-                  d = s.valid_until
-
-                  by : (t.0 ≡ x.1.valid_until) ⊎ (t.0 ≡ x.1.valid_until → ⊥) → p.1.valid_until < x.1.valid_until
-                  by (inl e) = let m = k.1 e in absurd (omega (arith, m, l))
-                  by (inr ne) = let m = k.0 in by_order (cases_lt t.0 x.1.valid_until) m
-                    where
-                      by_order : (t.0 < x.1.valid_until) ⊎ (x.1.valid_until ≤ t.0) → t.0 ≤ x.1.valid_until → p.1.valid_until < x.1.valid_until
-                      by_order (inl m) n = omega (arith, m, d)
-                      by_order (inr m) n = absurd (ne (omega (arith, m, n)))
+      without-first least = without-least next ps rs h.apart t p s moves below (λ n x l e. least n x e)
 
     -- ---- the turn that leaves
     pub drops : (q : Query) (o : Option Turn) → IsTurnOf q ps o → Drops next q ps o

@@ -1,5 +1,5 @@
 -- An entry outlives none of its answers of the asked type, where the least TTL of that type is 0.
-use Rattle.std.proofs.Common.{◌≡◌, ℕ, ◌+◌, ◌≤◌, Bool, true, false, cond, ◌||◌, ◌==◌, List, [], ◌∷◌, ◌++◌, map, length, filter, fold, min, Option, None, Some, Ok, Err, unwrap_or, refl, sym, ap, ◌∙◌, subst, arith, not, nat_lt, if◌then◌else◌}
+use Rattle.std.proofs.Common.{◌≡◌, ℕ, ◌+◌, ◌-◌, ◌≤◌, Bool, true, false, cond, ◌||◌, ◌==◌, List, [], ◌∷◌, ◌++◌, map, length, filter, fold, min, Option, None, Some, Ok, Err, unwrap_or, refl, sym, ap, ◌∙◌, subst, arith, not, nat_lt, if◌then◌else◌}
 use Rattle.std.proofs.lemmas.Bool.{eqb-true, eq-eqb, false≢true, or_left}
 use Rattle.std.specs.List.{AllByRecursion, list_any, position_or_len}
 use Rattle.std.specs.Option.{option_map_or}
@@ -13,7 +13,9 @@ use Rattle.hickory_proto_core.specs.declared.query.Query.{Query}
 use Rattle.hickory_proto_core.specs.declared.net_error.NetError.TheVariants.{Message, Timeout, Proto, Dns, NoOutcome, Bounds, OutOfMemory}
 use Rattle.hickory_proto_core.specs.declared.net_error.DnsError.TheVariants.{ResponseCode, NoRecordsFound}
 use Rattle.hickory_resolver_model.specs.Bounds.{ConfigValue, bounds_for, clamped_message, clamped_record, clamped_records, greatest_ttl, least_ttl, living_records, positive_bounds, reduced_bound}
-use Rattle.hickory_resolver_model.specs.Cache.{Entry, IsTimelyAnswer, OutlivesNoAnswer, current, entry_of, is_for, negative_entry, not_after, not_after_current, positive_entry, insert_entry, kept_beside, without, without_earliest, least_deadline}
+use Rattle.hickory_resolver_model.specs.Cache.{Entry, IsTimelyAnswer, OutlivesNoAnswer, current, entry_of, is_for, negative_entry, not_after, not_after_current, positive_entry, entry_weight, insert_entry, insert_within, is_heavy, kept_beside, without, without_earliest, least_deadline}
+use Rattle.hickory_resolver_cache.proofs.Laws.{others_within}
+use Rattle.hickory_resolver_cache.proofs.Rooms.{with_room-keeps}
 use Rattle.hickory_resolver_cache.proofs.PairLists.{all-append, all-filter, all-remove, all-weaker}
 
 -- ---- the least TTL of some records
@@ -155,3 +157,20 @@ timely-insert_entry config capacity es e h new = by (capacity == 0)
     by : (b : Bool) → AllByRecursion (OutlivesNoAnswer config) (if b then es else kept_beside capacity e.query es ++ e ∷ [])
     by true = h
     by false = all-append (OutlivesNoAnswer config) (kept_beside capacity e.query es) (e ∷ []) (timely-room config capacity e.query es h) (new, tt)
+
+pub timely-insert_within : (config : ConfigValue) (octets : Option ℕ) (capacity : ℕ) (es : List Entry) (e : Entry) → AllByRecursion (OutlivesNoAnswer config) es → OutlivesNoAnswer config e → AllByRecursion (OutlivesNoAnswer config) (insert_within octets capacity es e)
+timely-insert_within config None capacity es e h new = timely-insert_entry config capacity es e h new
+timely-insert_within config (Some octets) capacity es e h new = by (capacity == 0) (is_heavy octets e)
+  where
+    room : List Entry
+    room = others_within octets capacity es e
+
+    others : AllByRecursion (OutlivesNoAnswer config) room
+    others =
+        with_room-keeps (AllByRecursion (OutlivesNoAnswer config)) (λ l k. all-remove (OutlivesNoAnswer config) l (position_or_len (λ x. x.valid_until == least_deadline l) l) k)
+        (length (without e.query es)) capacity (octets - entry_weight e) (without e.query es) (timely-without config e.query es h)
+
+    by : (b heavy : Bool) → AllByRecursion (OutlivesNoAnswer config) (if b then es else (if heavy then without e.query es else (room ++ e ∷ [])))
+    by true heavy = h
+    by false true = timely-without config e.query es h
+    by false false = all-append (OutlivesNoAnswer config) room (e ∷ []) others (new, tt)

@@ -28,7 +28,7 @@ use Rattle.hickory_resolver_cache.proofs.Listed.{numbered-append, numbered-is, n
 pub at-turn : (t u : Turn) → is_at (turn_cmp t) u ≡ ((t.0 == u.0) && (t.1 == u.1))
 at-turn t u = sym (ap₂ (λ a b. a && b) (unsigned_ties t.0 u.0) (unsigned_ties t.1 u.1) ∙ tied_then (nat_cmp t.0 u.0) (nat_cmp t.1 u.1))
 
-apart-turn : (t u : Turn) → (t.1 ≡ u.1 → ⊥) → is_at (turn_cmp t) u ≡ false
+pub apart-turn : (t u : Turn) → (t.1 ≡ u.1 → ⊥) → is_at (turn_cmp t) u ≡ false
 apart-turn t u ne = at-turn t u ∙ ap (λ b. (t.0 == u.0) && b) (ne_eqb t.1 u.1 ne) ∙ by (t.0 == u.0)
   where
     by : (b : Bool) → (b && false) ≡ false

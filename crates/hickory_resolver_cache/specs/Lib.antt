@@ -1,3 +1,4 @@
+pub mod Octets
 pub mod Outcome
 pub mod Times
 pub mod Turns

@@ -1,10 +1,10 @@
 -- What a cache keeps: entries by question in any order, each with the number of its store, and the questions
 -- by deadline and number. The list of its entries is in the order of the numbers.
-use Rattle.std.specs.Prelude.{◌≡◌, ℕ, true, ◌≤◌, ◌<◌, zero, suc, ◌==◌, nat_eq, List, [], ◌∷◌, ◌++◌, map, length, Option, None, Some, if◌then◌else◌, cond}
+use Rattle.std.specs.Prelude.{◌≡◌, ℕ, true, false, ◌≤◌, ◌<◌, zero, suc, ◌==◌, nat_eq, List, [], ◌∷◌, ◌++◌, map, length, Option, None, Some, IsSome, if◌then◌else◌, cond}
 use Rattle.std.specs.declared.cmp.Ordering.{Ordering}
-use Rattle.std.specs.Ordering.{nat_cmp, ordering_then}
-use Rattle.std.specs.Option.{option_to_list}
-use Rattle.std.specs.List.{AllByRecursion, IsDistinct}
+use Rattle.std.specs.Ordering.{is_gt, nat_cmp, ordering_then}
+use Rattle.std.specs.Option.{option_map_or, option_to_list}
+use Rattle.std.specs.List.{All, AllByRecursion, IsDistinct}
 use Rattle.std.specs.List.Sorted.{IsPermutation}
 use Rattle.std.specs.Map.{lookup, keys_of}
 use Rattle.std.specs.BTreeMap.{BTreeMap, get, is_at, IsLowerBound}
@@ -13,7 +13,7 @@ use Rattle.hickory_resolver_cache.specs.declared.kept.Kept.{Kept}
 use Rattle.hickory_proto_core.specs.Handles.{OutcomeValue}
 use Rattle.hickory_proto_core.specs.Query.{query_eq}
 use Rattle.hickory_resolver_model.specs.Bounds.{ConfigValue}
-use Rattle.hickory_resolver_model.specs.Cache.{Entry, OutlivesNoAnswer}
+use Rattle.hickory_resolver_model.specs.Cache.{Entry, OutlivesNoAnswer, entry_weight}
 
 abbrev pub Pair : Type 0
 Pair = Query × Kept
@@ -34,17 +34,22 @@ stored_entry p =
       valid_until = p.1.valid_until;
     }
 
--- the pair that is kept of an entry under a number
-abbrev pub pair_of : Entry → ℕ → Pair
-pair_of e n = (
+-- the pair that is kept of an entry under a number, with a weight
+abbrev pub pair_of : Entry → ℕ → ℕ → Pair
+pair_of e n weight = (
   e.query,
   record {
     result = e.result;
     original_time = e.original_time;
     valid_until = e.valid_until;
     number = n;
+    weight = weight;
   },
 )
+
+-- the pair has the weight of its entry
+pub record HasItsWeight (p : Pair) : Type 0 where
+  pub weighs : p.1.weight ≡ entry_weight (stored_entry p)
 
 abbrev pub by_number : List Pair → List (ℕ × Pair)
 by_number ps = map (λ p. (p.1.number, p)) ps
@@ -95,12 +100,13 @@ pub record IsSound (config : ConfigValue) (capacity next : ℕ) (ps : List Pair)
   pub timely : AllByRecursion (OutlivesNoAnswer config) (entries_of ps next)
 
 -- The pairs may stand in another order and have other numbers: the list of entries is the same, and so is how
--- many there are.
+-- many there are. Where each had the weight of its entry, each has it still.
 pub record IsSameList (ps : List Pair) (next : ℕ) (rs : List Pair) (after : ℕ) (order : Order) : Type 0 where
   pub length_is : length rs ≡ length ps
   pub numbers : IsNumbered after rs
   pub placed : IsPlaced rs order
   pub entries_are : entries_of rs after ≡ entries_of ps next
+  pub weights_are : All HasItsWeight ps → All HasItsWeight rs
 
 -- the pair with the number n
 abbrev pub with_number : ℕ → Pair → Pair
@@ -111,6 +117,7 @@ with_number n p = (
     original_time = p.1.original_time;
     valid_until = p.1.valid_until;
     number = n;
+    weight = p.1.weight;
   },
 )
 
@@ -133,6 +140,11 @@ pub record StandsAt (ps : List Pair) (t : Turn) (p : Pair) : Type 0 where
 abbrev pub Gone : Option Turn → List Pair → List Pair → Type 0
 Gone None ps rs = rs ≡ ps
 Gone (Some t) ps rs = (p : Pair) × StandsAt ps t p × IsPermutation ps (p ∷ rs)
+
+-- what the pair at the turn weighs, if there is one
+abbrev pub weight_at : List Pair → Option Turn → ℕ
+weight_at ps None = 0
+weight_at ps (Some t) = option_map_or (λ p. p.1.weight) (numbered ps t.1) 0
 
 -- the turn, if there is one, is gone
 abbrev pub TurnGone : Option Turn → Order → Order → Type 0
@@ -176,6 +188,13 @@ pub record IsStored
 abbrev pub IsFirstTurn : Order → Option Turn → Type 0
 IsFirstTurn order None = (t : Turn) → get turn_cmp order t ≡ None
 IsFirstTurn order (Some t) = ((q : Query) × (get turn_cmp order t ≡ Some q)) × IsLowerBound turn_cmp order t
+
+-- the turn is the first beside that one, or there is no other
+abbrev pub IsFirstOther : Turn → Order → Option Turn → Type 0
+IsFirstOther own order None = (t : Turn) → IsSome (get turn_cmp order t) → is_at (turn_cmp own) t ≡ true
+IsFirstOther own order (Some t) =
+    IsSome (get turn_cmp order t) × (is_at (turn_cmp own) t ≡ false)
+    × ((u : Turn) → IsSome (get turn_cmp order u) → is_at (turn_cmp own) u ≡ false → is_gt (turn_cmp t u) ≡ false)
 
 -- the turn is the first where there are as many pairs as may be, and none where there are fewer
 abbrev pub IsLeaving : ℕ → List Pair → Order → Option Turn → Type 0

@@ -7,12 +7,14 @@ use crate::outcome::KeptOutcome;
 use hickory_proto_core::{Message, NetError};
 use std::alloc::Global;
 
-/// When an outcome was stored and until when it is current (seconds), the number of its store, and the outcome.
+/// When an outcome was stored and until when it is current (seconds), the number of its store, what the entry weighs
+/// (octets; 0 in a cache whose octets are not bounded), and the outcome.
 #[derive(Drop)]
 pub struct Kept {
     pub original_time: u64,
     pub valid_until: u64,
     pub number: u64,
+    pub weight: u64,
     pub result: KeptOutcome,
 }
 

@@ -5,9 +5,11 @@ mod address_answer;
 mod aging;
 mod entry;
 mod kept;
+mod octets;
 mod outcome;
 mod renumber;
 pub mod response_cache;
 mod turns;
+mod weighed;
 
 pub use response_cache::ResponseCache;

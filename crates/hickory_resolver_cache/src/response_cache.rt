@@ -1,16 +1,20 @@
 //! A bounded cache of outcomes by question.
-ghost use Rattle.std.specs.Prelude.{◌≡◌, ◌≤◌, ◌<◌, [], length, find, option_copied, IsTrue, IsOk, IsSome, IfSome, IsNone, OnOk, OnErr, IfOk, IsOkUnless, if◌then◌else◌};
-ghost use Rattle.std.specs.Option.{option_map};
-ghost use Rattle.hickory_resolver_model.specs.Cache.{CacheValue, IsCache, IsGot, IsGotUntil, IsNewest, NeverLater, OutlivesNoAnswer, current, is_for, without_query, entry_of, not_after, not_after_current, insert_entry, store, store_clamped, store_until};
+ghost use Rattle.std.specs.Prelude.{◌≡◌, ◌≤◌, ◌<◌, ◌*◌, true, false, nat_lt, None, [], length, find, option_copied, IsTrue, IsOk, IsSome, IfSome, IsNone, OnOk, OnErr, IfOk, IsOkUnless, if◌then◌else◌};
+ghost use Rattle.std.specs.Option.{option_map, option_map_or};
+ghost use Rattle.hickory_proto_weights.specs.Weights.{saturated, weight_of};
+ghost use Rattle.hickory_resolver_model.specs.Cache.{AreWithin, CacheValue, IsCache, IsGot, IsGotUntil, IsNewest, NeverLater, OutlivesNoAnswer, all_weight, current, entry_weight, insert_within, is_for, is_light, without_query, entry_of, not_after, not_after_current, store, store_clamped, store_until};
 ghost use Rattle.hickory_resolver_cache.specs.Outcome.{kept_entry};
 ghost use Rattle.hickory_resolver_cache.specs.Times.{times_of};
 ghost use Rattle.hickory_resolver_cache.specs.Turns.{shown, shown_entry};
 
 use crate::entry::{CacheEntry, entry_of};
 use crate::kept::Kept;
+use crate::octets::{Octets, lowered, most, none_held};
 use crate::renumber::next_number;
-use crate::turns::{Index, Order, store, take_out, turn_of};
+use crate::turns::{Index, Order, take_out, turn_of};
+use crate::weighed::store_within;
 use hickory_proto_core::{Message, NetError, Query};
+use hickory_proto_weights::weight_of;
 use hickory_resolver_lookup::TtlConfig;
 use indexmap::IndexMap;
 use std::alloc::Global;
@@ -20,13 +24,15 @@ use std::marker::Model;
 
 /// Outcomes by question, the oldest first: at most as many as its capacity, and one for each question. An
 /// outcome is given back while it is current, with its times to live counted down (RFC 2181, sections 5.4.1
-/// and 8; RFC 2308, section 5). A capacity of 0 keeps nothing. Moments are whole seconds.
+/// and 8; RFC 2308, section 5). A capacity of 0 keeps nothing. What its entries weigh, in octets, may be bounded
+/// too. Moments are whole seconds.
 #[derive(Drop)]
 pub struct ResponseCache<S: BuildHasher = BuildHasherDefault<FoldHasher>> {
     index: Index<S>,
     order: Order,
     next_number: u64,
     capacity: u64,
+    octets: Option<Octets>,
     ttl_config: TtlConfig,
 }
 
@@ -35,22 +41,25 @@ impl<S: BuildHasher> Model for ResponseCache<S> {
 
     ghost Value = { CacheValue };
 
+    ghost use Rattle.hickory_resolver_cache.specs.Octets.{most_of, AreWeighed};
     ghost use Rattle.hickory_resolver_cache.specs.Turns.{entries_of, IsSound};
 
     ghost view = { λ c. record {
       capacity = c.capacity;
+      octets = most_of c.octets;
       config = c.ttl_config;
       entries = entries_of c.index.entries c.next_number;
     } };
 
-    ghost invariant = { λ c. IsSound c.ttl_config c.capacity c.next_number c.index.entries c.order };
+    ghost invariant = { λ c. IsSound c.ttl_config c.capacity c.next_number c.index.entries c.order
+        × AreWeighed c.octets c.next_number c.index.entries };
 }
 
 impl ResponseCache {
-    /// An empty cache of so many entries at the most, with these bounds, and the default hasher. Takes no
-    /// memory.
+    /// An empty cache of so many entries at the most, with these bounds, and the default hasher. Its octets are not
+    /// bounded. Takes no memory.
     pub fn new(alloc: Global, capacity: u64, ttl_config: TtlConfig) -> ResponseCache
-        ensures { result ≡ record { capacity = capacity; config = ttl_config; entries = [] } }
+        ensures { result ≡ record { capacity = capacity; octets = None; config = ttl_config; entries = [] } }
     {
         ResponseCache::with_hasher(alloc, capacity, ttl_config, BuildHasherDefault::new())
     }
@@ -65,15 +74,33 @@ impl<S: BuildHasher> ResponseCache<S> {
         ttl_config: TtlConfig,
         hasher: S,
     ) -> ResponseCache<S>
-        ensures { result ≡ record { capacity = capacity; config = ttl_config; entries = [] } }
+        ensures { result ≡ record { capacity = capacity; octets = None; config = ttl_config; entries = [] } }
     {
-        ResponseCache::numbered_from(alloc, capacity, ttl_config, hasher, 0)
+        ResponseCache::with_limits(alloc, capacity, None, ttl_config, hasher)
+    }
+
+    /// As `with_hasher`, and where `octets` is given, its entries weigh no more octets than that together: each what
+    /// `hickory_proto_weights::weight_of` says, which counts the memory that it takes. Where a new entry has no room,
+    /// those of the earliest deadlines leave, the oldest of several first, as few as leave room for it. An entry that
+    /// weighs more than a 256th of the bound is not kept. Takes no memory.
+    pub fn with_limits(
+        alloc: Global,
+        capacity: u64,
+        octets: Option<u64>,
+        ttl_config: TtlConfig,
+        hasher: S,
+    ) -> ResponseCache<S>
+        ensures { result ≡ record { capacity = capacity; octets = octets; config = ttl_config; entries = [] } }
+    {
+        ResponseCache::numbered_from(alloc, capacity, octets, ttl_config, hasher, 0)
     }
 
     /// Keeps an outcome for a question from a moment on: an answer, its TTLs clamped, or a negative answer
     /// (RFC 2308, section 5). Other errors are not kept, which takes no memory. The question's entry leaves,
     /// or where it has none and the cache is full, the entry of the earliest deadline, the oldest of several.
-    /// The new entry is the newest. A refused call changes nothing.
+    /// The new entry is the newest. Where the octets are bounded, the question's entry leaves, and after it as many of
+    /// the earliest deadlines as have to, so that there is room for the new one; an entry that weighs more than a
+    /// 256th of the bound is not kept, and its question has none then. A refused call changes nothing.
     pub fn insert(
         &mut self,
         query: Query,
@@ -88,7 +115,8 @@ impl<S: BuildHasher> ResponseCache<S> {
         ensures no_capacity { self.old.capacity ≡ 0 → IsOk result }
         ensures newest { OnOk result
             (0 < self.old.capacity
-            → IfSome (entry_of self.old.config query outcome now) (λ e. IsNewest e self.new.entries)) }
+            → IfSome (entry_of self.old.config query outcome now)
+            (λ e. is_light self.old.octets e ≡ true → IsNewest e self.new.entries)) }
     {
         self.insert_until(query, outcome, now, u64::MAX)
     }
@@ -114,13 +142,14 @@ impl<S: BuildHasher> ResponseCache<S> {
         ensures newest { OnOk result
             (0 < self.old.capacity
             → IfSome (entry_of self.old.config query outcome now)
-            (λ e. IsNewest (not_after limit e) self.new.entries)) }
+            (λ e. is_light self.old.octets e ≡ true → IsNewest (not_after limit e) self.new.entries)) }
         ensures within { OnOk result
             (IsSome (entry_of self.old.config query outcome now)
             → IfSome (find (is_for query) self.new.entries) (λ e. e.valid_until ≤ limit)) }
     {
+        let weight = self.weigh(&query, &outcome);
         match self.entry_of(query, outcome, now)? {
-            Some(entry) => self.insert_entry(entry.not_after(limit)),
+            Some(entry) => self.insert_entry(entry.not_after(limit), weight),
             None => Ok(()),
         }
     }
@@ -147,14 +176,15 @@ impl<S: BuildHasher> ResponseCache<S> {
         ensures no_later { OnOk result
             (IsTrue clamp_valid_until → NeverLater query now self.old.entries self.new.entries) }
     {
+        let weight = self.weigh(&query, &outcome);
         let Some(entry) = self.entry_of(query, outcome, now)? else {
             return Ok(());
         };
         if clamp_valid_until {
             let entry = self.not_after_current(entry, now);
-            return self.insert_entry(entry);
+            return self.insert_entry(entry, weight);
         }
-        self.insert_entry(entry)
+        self.insert_entry(entry, weight)
     }
 
     /// The outcome of the question's current entry, a copy whose times to live are lower by the seconds since
@@ -190,13 +220,14 @@ impl<S: BuildHasher> ResponseCache<S> {
         Some((entry.original_time, entry.valid_until))
     }
 
-    /// Drops every entry. Takes no memory.
+    /// Drops every entry. The bounds stay. Takes no memory.
     pub fn clear(&mut self)
         ensures { self.new ≡ record self.old { entries = [] } }
     {
         self.index.clear();
         self.order.clear();
         self.next_number = 0;
+        self.octets = none_held(most(self.octets));
     }
 
     /// Drops the question's entry. Takes no memory.
@@ -204,7 +235,8 @@ impl<S: BuildHasher> ResponseCache<S> {
         ensures { self.new ≡ without_query self.old query.now }
     {
         let turn = turn_of(&self.index, query);
-        take_out(&mut self.index, &mut self.order, turn);
+        let gone = take_out(&mut self.index, &mut self.order, turn);
+        self.octets = lowered(self.octets, gone);
     }
 
     /// How many entries there are, current or not.
@@ -214,6 +246,18 @@ impl<S: BuildHasher> ResponseCache<S> {
         ensures cache { IsCache self.now.config self.now.capacity self.now.entries }
     {
         self.index.len()
+    }
+
+    /// How many octets its entries weigh, current or not, where these are bounded, and no more than the bound. None
+    /// where they are not bounded, since they are not weighed then.
+    pub fn octets(&self) -> Option<u64>
+        ensures held { result ≡ option_map (λ _. all_weight self.now.entries) self.now.octets }
+        ensures within { AreWithin self.now.octets self.now.entries }
+    {
+        match self.octets {
+            Some(octets) => Some(octets.held),
+            None => None,
+        }
     }
 
     /// The bounds that it keeps to.
@@ -234,17 +278,19 @@ impl<S: BuildHasher> ResponseCache<S> {
     fn numbered_from(
         alloc: Global,
         capacity: u64,
+        octets: Option<u64>,
         ttl_config: TtlConfig,
         hasher: S,
         next_number: u64,
     ) -> ResponseCache<S>
-        ensures { result ≡ record { capacity = capacity; config = ttl_config; entries = [] } }
+        ensures { result ≡ record { capacity = capacity; octets = octets; config = ttl_config; entries = [] } }
     {
         ResponseCache {
             index: IndexMap::with_hasher(alloc, hasher),
             order: BTreeMap::new(alloc),
             next_number,
             capacity,
+            octets: none_held(octets),
             ttl_config,
         }
     }
@@ -268,12 +314,53 @@ impl<S: BuildHasher> ResponseCache<S> {
         Ok(entry)
     }
 
-    // Puts an entry in as the newest. A refused call changes nothing.
-    fn insert_entry(&mut self, entry: CacheEntry) -> Result<(), NetError>
+    // What an outcome weighs that is kept for a question, where the octets are bounded; else it is not weighed.
+    fn weigh(&self, query: &Query, outcome: &Result<Message, NetError>) -> u64
+        ensures { IsSome self.now.octets → result ≡ saturated (weight_of query.now outcome.now) }
+    {
+        match self.octets {
+            Some(_) => weight_of(query, outcome),
+            None => 0,
+        }
+    }
+
+    // Puts an entry of this weight in as the newest. A heavy one only takes out its question's. A refused call changes
+    // nothing.
+    fn insert_entry(&mut self, entry: CacheEntry, weight: u64) -> Result<(), NetError>
         requires some { 0 < self.old.capacity }
         requires timely { OutlivesNoAnswer self.old.config entry }
+        requires weight { IsSome self.old.octets → weight ≡ entry_weight entry }
         ensures ok { OnOk result (self.new ≡ record self.old {
-          entries = insert_entry self.old.capacity self.old.entries entry;
+          entries = insert_within self.old.octets self.old.capacity self.old.entries entry;
+        }) }
+        ensures unchanged { OnErr result (self.new ≡ self.old) }
+        ensures err { IsOkUnless result NetError.OutOfMemory }
+    {
+        if self.is_heavy(weight) {
+            self.clear_query(&entry.query);
+            return Ok(());
+        }
+        self.insert_light(entry, weight)
+    }
+
+    // Whether an entry of this weight is heavy.
+    fn is_heavy(&self, weight: u64) -> bool
+        ensures { result ≡ option_map_or (λ most. nat_lt most (256 * weight)) self.now.octets false }
+    {
+        match self.octets {
+            Some(octets) => octets.is_heavy(weight),
+            None => false,
+        }
+    }
+
+    // Puts an entry that is not heavy in as the newest. A refused call changes nothing.
+    fn insert_light(&mut self, entry: CacheEntry, weight: u64) -> Result<(), NetError>
+        requires some { 0 < self.old.capacity }
+        requires timely { OutlivesNoAnswer self.old.config entry }
+        requires weight { IsSome self.old.octets → weight ≡ entry_weight entry }
+        requires light { is_light self.old.octets entry ≡ true }
+        ensures ok { OnOk result (self.new ≡ record self.old {
+          entries = insert_within self.old.octets self.old.capacity self.old.entries entry;
         }) }
         ensures unchanged { OnErr result (self.new ≡ self.old) }
         ensures err { IsOkUnless result NetError.OutOfMemory }
@@ -285,12 +372,14 @@ impl<S: BuildHasher> ResponseCache<S> {
                 return Err(NetError::from(error));
             }
         }
-        store(
+        store_within(
             &mut self.index,
             &mut self.order,
             self.capacity,
+            &mut self.octets,
             self.next_number,
             entry,
+            weight,
         )?;
         self.next_number += 1;
         Ok(())

@@ -5,5 +5,5 @@ use Rattle.hickory_resolver_cache.proofs.response_cache.ResponseCache.allocator.
 
 pub returns : goal.returns
 returns g c = record {
-  cache = subst (λ (v : CacheValue). IsCache v.config v.capacity v.entries) c.self.view_is (sound-cache c.self.invariant);
+  cache = subst (λ (v : CacheValue). IsCache v.config v.capacity v.entries) c.self.view_is (sound-cache c.self.invariant.0);
 }

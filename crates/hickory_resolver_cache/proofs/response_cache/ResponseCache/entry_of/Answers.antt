@@ -5,4 +5,4 @@ use Rattle.hickory_resolver_cache.proofs.response_cache.ResponseCache.entry_of.G
 
 pub returns-then-self-eq0-clause-cache : goal.returns-then-self-eq0-clause-cache
 returns-then-self-eq0-clause-cache g c =
-    subst (λ (v : CacheValue). IsCache v.config v.capacity v.entries) c.self.view_is (sound-cache c.self.invariant)
+    subst (λ (v : CacheValue). IsCache v.config v.capacity v.entries) c.self.view_is (sound-cache c.self.invariant.0)

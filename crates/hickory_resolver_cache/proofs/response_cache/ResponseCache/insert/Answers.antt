@@ -13,5 +13,5 @@ pub returns-clause-newest : goal.returns-clause-newest
 returns-clause-newest g c =
     let old = c.args.self.now in
     on_ok_weaker c.insert_until.result
-    (λ newest pos. newest-last old.config c.args.query c.args.outcome c.args.now c.insert_until.new.self.entries (newest pos))
+    (λ newest pos. newest-last old.octets old.config c.args.query c.args.outcome c.args.now c.insert_until.new.self.entries (newest pos))
     c.insert_until.ensures.newest

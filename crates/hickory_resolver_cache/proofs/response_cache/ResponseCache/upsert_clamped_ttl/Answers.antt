@@ -1,6 +1,7 @@
 use Rattle.std.proofs.Common.{◌∙◌, ap, subst, sym}
 use Rattle.std.proofs.lemmas.Result.{on_ok_weaker}
-use Rattle.hickory_resolver_model.specs.Cache.{OutlivesNoAnswer, insert_entry}
+use Rattle.hickory_resolver_model.specs.Cache.{OutlivesNoAnswer, entry_weight, insert_within}
+use Rattle.hickory_resolver_cache.proofs.Held.{entry_of-weight}
 use Rattle.hickory_resolver_cache.proofs.KeptEntries.{kept_entry-some}
 use Rattle.hickory_resolver_cache.proofs.Laws.{entry_of-query, never_later-same, never_later-stored}
 use Rattle.hickory_resolver_cache.proofs.Timely.{timely-entry, timely-limited}
@@ -17,6 +18,7 @@ insert_entry-requires g c =
     record {
       some = some.0;
       timely = subst (OutlivesNoAnswer old.config) (sym c.not_after_current-entry.ensures) (timely-limited old.config old.entries c.args.now c.in-Some.entry own);
+      weight = λ some_octets. c.weigh-weight.ensures some_octets ∙ sym (entry_of-weight old.config c.args.query c.args.outcome c.args.now c.in-Some.entry some.1) ∙ sym (ap entry_weight c.not_after_current-entry.ensures);
     }
 
 pub insert_entry-requires-2 : goal.insert_entry-requires-2
@@ -26,6 +28,7 @@ insert_entry-requires-2 g c =
     record {
       some = some.0;
       timely = timely-entry old.config c.args.query c.args.outcome c.args.now c.in-Some.entry some.1;
+      weight = λ some_octets. c.weigh-weight.ensures some_octets ∙ sym (entry_of-weight old.config c.args.query c.args.outcome c.args.now c.in-Some.entry some.1);
     }
 
 pub returns-then-clamp_valid_until-clause-no_later :
@@ -35,5 +38,5 @@ returns-then-clamp_valid_until-clause-no_later g c =
     let some = kept_entry-some old c.args.query c.args.outcome c.args.now c.in-Some.entry (sym c.in-Some.is ∙ c.in_ok-entry.ensures.entry) in
     let own = entry_of-query old.config c.args.query c.args.outcome c.args.now c.in-Some.entry some.1 in
     on_ok_weaker c.insert_entry.result
-    (λ stored _. never_later-stored old.capacity c.args.now c.args.query old.entries c.insert_entry.new.self.entries c.in-Some.entry c.in_ok-entry.ensures.cache.apart own (ap (λ v. v.entries) stored ∙ ap (λ e. insert_entry old.capacity old.entries e) c.not_after_current-entry.ensures))
+    (λ stored _. never_later-stored old.octets old.capacity c.args.now c.args.query old.entries c.insert_entry.new.self.entries c.in-Some.entry c.in_ok-entry.ensures.cache.apart own (ap (λ v. v.entries) stored ∙ ap (λ e. insert_within old.octets old.capacity old.entries e) c.not_after_current-entry.ensures))
     c.insert_entry.ensures.ok
