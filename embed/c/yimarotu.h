@@ -60,7 +60,7 @@ enum {
     YIMAROTU_TRAILING_DATA = 6,      /* octets behind the data of a record, within its length */
     YIMAROTU_OPT_NAME = 7,           /* an OPT record whose owner is not the root */
     YIMAROTU_SECOND_OPT = 8,         /* a second OPT record */
-    YIMAROTU_TRAILING_BYTES = 9,     /* bytes behind the message */
+    YIMAROTU_TOO_MANY_LABELS = 10,   /* names that would take more than 16,384 labels */
     YIMAROTU_RELATIVE_NAME = 17,     /* a name that is relative */
     YIMAROTU_STRING_TOO_LONG = 18,   /* a string of TXT data of more than 255 octets */
     YIMAROTU_KNOWN_TYPE = 19,        /* unknown data under the code of a type that is parsed */
@@ -68,7 +68,8 @@ enum {
     YIMAROTU_CODE_TOO_LARGE = 21,    /* a response code past 15 without OPT, or past 4095 with it */
     YIMAROTU_TOO_MANY_RECORDS = 22,  /* a section of more than 65,535 entries */
     YIMAROTU_LIMIT_TOO_SMALL = 23,   /* the limit is below what is always written */
-    YIMAROTU_DATA_TOO_LONG = 24      /* data of a record of more than 65,535 octets */
+    YIMAROTU_DATA_TOO_LONG = 24,     /* data of a record of more than 65,535 octets */
+    YIMAROTU_NOT_SPELLED_OUT = 25    /* unknown data of an old type, as MINFO, that are not read as they stand */
 };
 
 /* What a look-up came to. */
@@ -100,9 +101,9 @@ typedef struct yimarotu_written {
     size_t length; /* of the message: where it was written, and where the room is too small for it; else 0 */
 } yimarotu_written;
 
-/* Reads a DNS message, all of the bytes, and writes it at the front of the room, in at most `limit` bytes: where it is
- * longer, records are left out from the end, whole, and the message says that it is truncated. What is behind the message
- * stays, and where the status is not YIMAROTU_OK all of the room does. */
+/* Reads a DNS message, bytes behind it passed over, and writes it at the front of the room, in at most `limit` bytes:
+ * where it is longer, records are left out from the end, whole, and the message says that it is truncated. What is
+ * behind the message stays, and where the status is not YIMAROTU_OK all of the room does. */
 yimarotu_written yimarotu_rewrite(const uint8_t *message, size_t message_length, size_t limit, uint8_t *room,
                                   size_t room_length);
 
@@ -123,8 +124,9 @@ typedef struct yimarotu_opened {
     size_t line; /* of the fault of the settings, from 1; 0 where no one line has it, or a line is no setting */
 } yimarotu_opened;
 
-/* Opens a session with these settings, the lines of a script that set something (docs/SCRIPTS.md, "Configuration"), over
- * what a file of hosts says. The addresses that the hosts answer are said to be usable for a day from this moment,
+/* Opens a session with these settings, the lines of a script that set something (docs/SCRIPTS.md, "Configuration") and
+ * `option cache_octets N`, how many octets the cache may take for what it keeps, over what a file of hosts says. Set that
+ * one where answers come from strangers (docs/QUESTIONS.md). The addresses that the hosts answer are said to be usable for a day from this moment,
  * however late they are asked, and the names of an address for a day from the question. Where the status is not
  * YIMAROTU_OK the session stays as it was. */
 yimarotu_opened yimarotu_open(yimarotu_session *session, const uint8_t *settings, size_t settings_length,

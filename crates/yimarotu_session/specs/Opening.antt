@@ -7,6 +7,7 @@ use Rattle.hickory_resolver_model.specs.Hosts.{Host}
 use Rattle.hickory_resolver_model.specs.Resolver.{ResolverValue, new_resolver}
 use Rattle.replay_script.specs.Script.{IsFault, IsScript, ScriptValue, config_of}
 use Rattle.replay_script.specs.declared.fault.ScriptFault.TheVariants as script_fault
+use Rattle.yimarotu_session.specs.CacheSetting.{SplitValue, said_by, with_octets}
 use Rattle.yimarotu_session.specs.Sessions.{SessionValue}
 use Rattle.yimarotu_session.specs.declared.opening.OpenError.{OpenError}
 use Rattle.yimarotu_session.specs.declared.opening.OpenError.TheVariants.{Script, NotSettings, Hosts, OutOfMemory}
@@ -32,8 +33,18 @@ IsNoSettings settings NotSettings =
 IsNoSettings settings (Hosts error) = ⊥
 IsNoSettings settings OutOfMemory = Unit {0}
 
+abbrev pub AreLinesRead : List ℕ → Result ScriptValue OpenError → Type 0
+AreLinesRead lines result = MatchResult result (AreSettings lines) (IsNoSettings lines)
+
+-- the same where lines may say how many octets the cache may take
+pub record AreSettingsSaid (said : SplitValue) (script : ScriptValue) : Type 0 where
+  pub plain : ScriptValue
+  pub read : AreSettings said.lines plain
+  pub bounded : script ≡ with_octets said.octets plain
+
 abbrev pub IsSettingsRead : List ℕ → Result ScriptValue OpenError → Type 0
-IsSettingsRead settings result = MatchResult result (AreSettings settings) (IsNoSettings settings)
+IsSettingsRead settings result =
+    MatchResult result (AreSettingsSaid (said_by settings)) (IsNoSettings (said_by settings).lines)
 
 -- the hosts have a fault; or no memory is left
 abbrev pub IsNoHosts : List ℕ → ℕ → OpenError → Type 0

@@ -1,6 +1,7 @@
 //! Sessions: a resolver, and look-ups that wait or are done, each under a number.
 #![tactic(auto)]
 
+mod cache_setting;
 mod file_settings;
 mod going_on;
 pub mod messages;

@@ -1,13 +1,14 @@
 //! How a session is opened.
-ghost use Rattle.std.specs.Prelude.{◌≡◌, ◌≢◌, IfOk, IsOkUnless, None};
+ghost use Rattle.std.specs.Prelude.{◌≡◌, ◌≢◌, IfOk, IsOkUnless, MatchResult, None};
 ghost use Rattle.hickory_resolver_model.specs.Bounds.{bounds_fault};
 ghost use Rattle.hickory_resolver_model.specs.Options.{bounds_of};
-ghost use Rattle.yimarotu_session.specs.Opening.{IsHostsRead, IsMade, IsMadeOver, IsSettingsRead, only_sets, resolver_over};
+ghost use Rattle.yimarotu_session.specs.Opening.{AreLinesRead, AreSettingsSaid, IsHostsRead, IsMade, IsMadeOver, IsNoSettings, IsSettingsRead, only_sets, resolver_over};
 
+use crate::cache_setting::{SplitSettings, split_settings, with_octets};
 use hickory_proto_core::ScriptHandle;
 use hickory_resolver::{Hosts, HostsError, Resolver, ResolverConfig};
 use replay_script::{Script, ScriptError, ScriptFault, read_script};
-use std::alloc::Global;
+use std::alloc::{AllocError, Global};
 use thiserror::Error;
 
 /// Why a session was not opened.
@@ -58,11 +59,30 @@ pub(crate) fn read_over(
     }
 }
 
-// What the lines of a script set, where they do nothing else.
+// What the settings set: lines of a script that do nothing else, and how many octets the cache may take.
 pub(crate) fn read_settings(alloc: Global, settings: &[u8]) -> Result<Script, OpenError>
     ensures { IsSettingsRead settings.now result }
 {
-    match read_script(alloc, settings) {
+    match split_settings(alloc, settings) {
+        Ok(said) => read_said(alloc, &said),
+        Err(AllocError) => Err(OpenError::OutOfMemory),
+    }
+}
+
+fn read_said(alloc: Global, said: &SplitSettings) -> Result<Script, OpenError>
+    ensures { MatchResult result (AreSettingsSaid said.now) (IsNoSettings said.now.lines) }
+{
+    match read_lines(alloc, &said.lines) {
+        Ok(script) => Ok(with_octets(script, said.octets)),
+        Err(error) => Err(error),
+    }
+}
+
+// What the lines of a script set, where they do nothing else.
+fn read_lines(alloc: Global, lines: &[u8]) -> Result<Script, OpenError>
+    ensures { AreLinesRead lines.now result }
+{
+    match read_script(alloc, lines) {
         Ok(script) if only_sets(&script) => Ok(script),
         Ok(_) => Err(OpenError::NotSettings),
         Err(error) => Err(settings_error(error)),

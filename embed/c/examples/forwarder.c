@@ -450,7 +450,8 @@ static void close_all(struct addrinfo *at) {
 }
 
 int main(int count, char **words) {
-    static const uint8_t settings[] = "option preserve_intermediates false\n";
+    // (names come from strangers, and so do answers: the cache takes 1 GB at the most, so that the longest is kept too)
+    static const uint8_t settings[] = "option preserve_intermediates false\noption cache_octets 1073741824\n";
     struct sigaction action = {.sa_handler = end};
     if (count != 5) return fputs("usage: forwarder ADDRESS PORT SERVER PORT\n", stderr), 2;
     struct addrinfo *at = address_of(words[1], words[2]);
