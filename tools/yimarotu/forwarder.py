@@ -120,7 +120,8 @@ def read_query(wire):
     if len(wire) < 12 or wire[2] & 0x80:
         return None
     try:
-        return dns.message.from_wire(wire)
+        # Octets behind a query are passed over, as those behind a reply are.
+        return dns.message.from_wire(wire, ignore_trailing=True)
     except (dns.exception.DNSException, ValueError):
         flags = (wire[2] & 0x79 | 0x80, 0x80 | dns.rcode.FORMERR)
         return wire[:2] + bytes(flags) + bytes(8)
