@@ -1,5 +1,5 @@
 -- A look-up that was begun is kept, or lost.
-use Rattle.std.proofs.Common.{◌≡◌, ℕ, Bool, true, false, Option, None, Some, Result, Ok, Err, IfErr, IfOk, MatchOption, MatchResult}
+use Rattle.std.proofs.Common.{◌≡◌, ℕ, Bool, false, Option, None, Some, Result, Ok, Err, IfErr, IfOk, MatchOption, MatchResult}
 use Rattle.std.specs.Option.{is_some}
 use mathlib.Core.Bool.{true≢false}
 use Rattle.hickory_resolver.specs.Contexts.{progress_of}

@@ -1,6 +1,9 @@
 pub mod CacheSetting
 pub mod Calls
 pub mod FileSettings
+pub mod LookupTables
 pub mod Messages
+pub mod NetworkSessions
+pub mod NetworkSteps
 pub mod Opening
 pub mod Sessions

@@ -69,7 +69,7 @@ fn whole_queries(queries: &mut Vec<Query>)
     }
 }
 
-fn whole_query(query: &mut Query)
+pub(crate) fn whole_query(query: &mut Query)
     ensures { query.new ≡ whole_query query.old }
 {
     query.name.set_fqdn(true);

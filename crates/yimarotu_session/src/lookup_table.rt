@@ -1,0 +1,224 @@
+//! The look-ups of a session with a network, and the queues in which they stand.
+ghost use Rattle.std.specs.Prelude.{◌≡◌, ◌<◌, IfOk, OnErr, OnOk, slice_get};
+ghost use Rattle.std.specs.Bool.{OnFalse, OnTrue};
+ghost use Rattle.std.specs.Option.{option_map};
+ghost use Rattle.std.specs.VecDeque.{deque_capacity, deque_len};
+ghost use Rattle.yimarotu_session.specs.LookupTables.{HasRoomToAsk, HasRoomToStart, HasTurns, IsReordered, MakesRoom, TakesPlace, announced, asked_by, first_announced, first_asked, held_at, if_waits_for, is_unannounced, no_lookups, question_to_ask, table_of, to_announce_with, to_ask_with, waits_for, with_asker, without_asker};
+ghost use Rattle.yimarotu_session.specs.NetworkSteps.{GoesOnAt};
+ghost use Rattle.yimarotu_session.specs.Sessions.{PutsUnder};
+
+use crate::network_lookup::{
+    NetworkLookup, announce, asker_of, go_on, is_same, is_unannounced, question_to_ask, wait_for,
+};
+use crate::session_error::SessionError;
+use hickory_proto_core::{Outcome, Query, ScriptHandle};
+use hickory_resolver::Resolver;
+use hickory_resolver_pool::Asker;
+use indexmap::IndexMap;
+use std::alloc::{AllocError, Global};
+use std::collections::{HashMap, VecDeque};
+
+// Look-ups by number; the askers of the pool, each with the number of the look-up that it asks for; and the numbers of
+// those that wait to ask, and of those that are to be announced.
+#[derive(Drop)]
+pub(crate) struct LookupTable {
+    pub(crate) lookups: HashMap<u64, NetworkLookup>,
+    pub(crate) askers: IndexMap<u64, u64>,
+    pub(crate) to_ask: VecDeque<u64>,
+    pub(crate) to_announce: VecDeque<u64>,
+}
+
+impl LookupTable {
+    pub(crate) fn new(alloc: Global) -> LookupTable
+        ensures { table_of result ≡ no_lookups }
+    {
+        LookupTable {
+            lookups: HashMap::new(alloc),
+            askers: IndexMap::new(alloc),
+            to_ask: VecDeque::new(alloc),
+            to_announce: VecDeque::new(alloc),
+        }
+    }
+
+    // ---- room
+
+    // Room for one more in each queue.
+    pub(crate) fn reserve_turns(&mut self) -> Result<(), AllocError>
+        ensures same { table_of self.new ≡ table_of self.old }
+        ensures lookups { self.new.lookups ≡ self.old.lookups }
+        ensures askers { self.new.askers ≡ self.old.askers }
+        ensures room { OnOk result (HasTurns self.new) }
+    {
+        self.to_ask.reserve(1)?;
+        self.to_announce.reserve(1)
+    }
+
+    // Room for one more asker, and in each queue.
+    pub(crate) fn reserve_asker(&mut self) -> Result<(), AllocError>
+        ensures same { table_of self.new ≡ table_of self.old }
+        ensures room { OnOk result (HasRoomToAsk self.new) }
+    {
+        self.askers.reserve(1)?;
+        self.reserve_turns()
+    }
+
+    // Room for one more look-up under this number, which no other may have, and in each queue.
+    pub(crate) fn reserve_lookup(&mut self, number: u64) -> Result<(), SessionError>
+        ensures made { MakesRoom number (table_of self.old) result (table_of self.new) }
+        ensures room { OnOk result (HasRoomToStart self.new) }
+    {
+        if self.lookups.contains_key(&number) {
+            return Err(SessionError::InUse);
+        }
+        match self.reserve_to_start() {
+            Ok(()) => Ok(()),
+            Err(AllocError) => Err(SessionError::OutOfMemory),
+        }
+    }
+
+    fn reserve_to_start(&mut self) -> Result<(), AllocError>
+        ensures ok { OnOk result (IsReordered (table_of self.old) (table_of self.new)) }
+        ensures err { OnErr result (table_of self.new ≡ table_of self.old) }
+        ensures room { OnOk result (HasRoomToStart self.new) }
+    {
+        self.reserve_turns()?;
+        self.lookups.reserve(1)
+    }
+
+    // ---- look-ups
+
+    // A look-up stands under a number, and in its queue.
+    pub(crate) fn begin(&mut self, number: u64, lookup: NetworkLookup)
+        requires { HasRoomToStart self.old }
+        ensures { TakesPlace number lookup (table_of self.old) (table_of self.new) }
+    {
+        push(&mut self.to_ask, &mut self.to_announce, number, &lookup);
+        drop(self.lookups.insert(number, lookup));
+    }
+
+    // The look-up of a number, where there is one, goes on with what it is told, and stands in its queue again.
+    pub(crate) fn go_on(
+        &mut self,
+        resolver: &mut Resolver<ScriptHandle>,
+        number: u64,
+        outcome: Outcome,
+    )
+        requires { HasTurns self.old }
+        ensures { GoesOnAt outcome number resolver.old (table_of self.old) resolver.new (table_of self.new) }
+    {
+        if let Some(lookup) = self.lookups.get_mut(&number) {
+            go_on(resolver, lookup, outcome);
+            push(&mut self.to_ask, &mut self.to_announce, number, lookup);
+        }
+    }
+
+    // The question of a look-up that waits to ask it, under an absolute name.
+    pub(crate) fn question_to_ask(&self, number: u64) -> Result<Option<Query>, AllocError>
+        ensures { IfOk result (λ query. query ≡ question_to_ask (held_at number (table_of self.now))) }
+    {
+        question_to_ask(self.lookups.get(&number))
+    }
+
+    // The look-up of a number, which waits to ask, waits for what this asker is told.
+    pub(crate) fn wait_for(&mut self, number: u64, asker: Asker)
+        requires { HasRoomToAsk self.old }
+        ensures puts { PutsUnder number (option_map (asked_by asker) (held_at number (table_of self.old)))
+            self.old.lookups.entries self.new.lookups.entries }
+        ensures others { table_of self.new
+            ≡ record (with_asker asker number (table_of self.old)) { lookups = self.new.lookups.entries } }
+    {
+        if let Some(lookup) = self.lookups.get_mut(&number) {
+            wait_for(lookup, asker);
+        }
+        drop(self.askers.insert(asker.number, number));
+    }
+
+    // The number of the look-up that waits for what this asker is told, where it was not forgotten.
+    pub(crate) fn waits_for(&self, asker: &Asker) -> Option<u64>
+        ensures { result ≡ waits_for asker.now (table_of self.now) }
+    {
+        match self.askers.get(&asker.number) {
+            Some(number) => self.if_waits_for(asker, *number),
+            None => None,
+        }
+    }
+
+    fn if_waits_for(&self, asker: &Asker, number: u64) -> Option<u64>
+        ensures { result ≡ if_waits_for asker.now (table_of self.now) number }
+    {
+        if is_same(asker, asker_of(self.lookups.get(&number))) {
+            Some(number)
+        } else {
+            None
+        }
+    }
+
+    pub(crate) fn remove_asker(&mut self, asker: u64)
+        ensures same { table_of self.new ≡ without_asker asker (table_of self.old) }
+        ensures turns { HasTurns self.old → HasTurns self.new }
+    {
+        self.askers.swap_remove(&asker);
+    }
+
+    // ---- queues
+
+    pub(crate) fn first_to_ask(&self) -> Option<u64>
+        ensures { result ≡ slice_get self.now.to_ask.items 0 }
+    {
+        self.to_ask.front().copied()
+    }
+
+    pub(crate) fn pop_to_ask(&mut self)
+        ensures popped { table_of self.new ≡ first_asked (table_of self.old) }
+        ensures room { HasRoomToAsk self.old → HasRoomToAsk self.new }
+    {
+        self.to_ask.pop_front();
+    }
+
+    pub(crate) fn first_to_announce(&self) -> Option<u64>
+        ensures { result ≡ slice_get self.now.to_announce.items 0 }
+    {
+        self.to_announce.front().copied()
+    }
+
+    // The first that is to be announced leaves the queue, and is told whether it is done and was not announced.
+    pub(crate) fn announce(&mut self, number: u64) -> bool
+        ensures told { result ≡ is_unannounced (held_at number (table_of self.old)) }
+        ensures done { OnTrue result (PutsUnder number (option_map announced (held_at number (table_of self.old)))
+            self.old.lookups.entries self.new.lookups.entries) }
+        ensures passed { OnFalse result (self.new.lookups.entries ≡ self.old.lookups.entries) }
+        ensures others { table_of self.new
+            ≡ record (first_announced (table_of self.old)) { lookups = self.new.lookups.entries } }
+    {
+        self.to_announce.pop_front();
+        if !is_unannounced(self.lookups.get(&number)) {
+            return false;
+        }
+        if let Some(lookup) = self.lookups.get_mut(&number) {
+            announce(lookup);
+        }
+        true
+    }
+}
+
+// A look-up stands in its queue.
+fn push(
+    to_ask: &mut VecDeque<u64>,
+    to_announce: &mut VecDeque<u64>,
+    number: u64,
+    lookup: &NetworkLookup,
+)
+    requires to_ask { deque_len to_ask.old < deque_capacity to_ask.old }
+    requires to_announce { deque_len to_announce.old < deque_capacity to_announce.old }
+    ensures to_ask { to_ask.new.items ≡ to_ask_with number lookup.now to_ask.old.items }
+    ensures to_announce { to_announce.new.items ≡ to_announce_with number lookup.now to_announce.old.items }
+{
+    match lookup {
+        NetworkLookup::Asks(_) => to_ask.push_back_reserved(number),
+        NetworkLookup::Done {
+            announced: false,
+            ..
+        } => to_announce.push_back_reserved(number),
+        _ => {}
+    }
+}

@@ -1,0 +1,224 @@
+//! A session with a network: a resolver and its look-ups, whose questions go to a pool of name servers by themselves.
+ghost use Rattle.std.specs.Prelude.{◌≡◌, Err, IfErr, IfOk, IsOkUnless, None, Ok, OnErr, OnOk, Some};
+ghost use Rattle.hickory_resolver_pool.specs.Pool.{after_failure, after_octets, after_servers, after_tick};
+ghost use Rattle.hickory_resolver_pool.specs.Servers.{first_fixed};
+ghost use Rattle.hickory_resolver_traffic.specs.Tasks.{next_deadline};
+ghost use Rattle.yimarotu_session.specs.NetworkSessions.{BeginsHost, BeginsName, Cancels, ClearsName, cleared, found_at, new_session, question_at, with_pool};
+
+use crate::lookup_table::LookupTable;
+use crate::network_lookup::{NetworkLookup, asker_of, lookup_of};
+use crate::numbered::forget;
+use crate::session_error::SessionError;
+use crate::telling::Telling;
+use hickory_proto_core::{NetError, Query, RecordType, ScriptHandle};
+use hickory_resolver::{Lookup, Resolver};
+use hickory_resolver_pool::{
+    Failure, NameServerPool, Opening, PoolLimits, PoolServer, Sent, ServersError,
+};
+use std::alloc::{AllocError, Global};
+use std::hash::{BuildHasherDefault, FoldHasher};
+use std::marker::Model;
+
+/// What a program has to do next.
+#[derive(Drop)]
+pub enum NetworkAction {
+    /// It opens a channel.
+    Open(Opening),
+    /// It writes octets on a channel.
+    Send(Sent),
+    /// It closes a channel. Each that was opened is closed once, also one that failed.
+    Close(u64),
+    /// The look-up of this number is done.
+    Done(u64),
+    /// Nothing: something was done of which it has no part.
+    Continue,
+}
+
+// The number of the group of servers that are asked.
+pub(crate) const GROUP: u64 = 0;
+
+// The pool that questions go to.
+pub(crate) type Pool = NameServerPool<BuildHasherDefault<FoldHasher>>;
+
+/// A resolver, look-ups under numbers of the caller's, and a pool of name servers that their questions go to. Events
+/// take in what the caller wants and what came, and `next_action` does what follows of it, one step a call: after each
+/// event, and before the next, it is called until it answers `None`. Moments are milliseconds of the pool's clock. A
+/// call that is refused for want of memory changes nothing, and may be made again.
+#[derive(Drop)]
+pub struct NetworkSession {
+    pub(crate) resolver: Resolver<ScriptHandle>,
+    pub(crate) pool: Pool,
+    pub(crate) table: LookupTable,
+    pub(crate) telling: Option<Telling>,
+}
+
+impl Model for NetworkSession {
+    ghost use Rattle.yimarotu_session.specs.LookupTables.{table_of};
+    ghost use Rattle.yimarotu_session.specs.NetworkSessions.{NetworkValue};
+
+    ghost Value = { NetworkValue };
+
+    ghost view = { λ s. record {
+      resolver = s.resolver;
+      pool = s.pool;
+      table = table_of s.table;
+      telling = s.telling;
+    } };
+}
+
+impl NetworkSession {
+    /// A session over a resolver, whose own handle is never asked. The pool has the options of the resolver, these
+    /// limits, and no servers yet. The seed is 32 octets that nobody knows; a child of `fork`, or a copied machine,
+    /// begins anew with another one.
+    pub fn new(
+        alloc: Global,
+        resolver: Resolver<ScriptHandle>,
+        limits: PoolLimits,
+        seed: [u8; 32],
+    ) -> Result<NetworkSession, AllocError>
+        ensures { IfOk result (λ session. session ≡ new_session resolver limits seed) }
+    {
+        let options = Clone::clone(resolver.options())?;
+        let pool = NameServerPool::new(alloc, options, limits, seed, BuildHasherDefault::new());
+        Ok(NetworkSession {
+            resolver,
+            pool,
+            table: LookupTable::new(alloc),
+            telling: None,
+        })
+    }
+
+    // ---- events
+
+    /// Starts a look-up of records of a type for a name, at a moment, under a number that no other has. It waits to ask
+    /// its question, or is done at once.
+    pub fn start(
+        &mut self,
+        number: u64,
+        name: &str,
+        record_type: RecordType,
+        now: u64,
+    ) -> Result<(), SessionError>
+        ensures { BeginsName number name.now record_type now self.old result self.new }
+    {
+        self.table.reserve_lookup(number)?;
+        let progress = self.resolver.start_lookup(name, record_type, now / 1000);
+        self.pool.tick(now);
+        self.table.begin(number, lookup_of(progress));
+        Ok(())
+    }
+
+    /// The same of the addresses of a host.
+    pub fn start_ip(&mut self, number: u64, host: &str, now: u64) -> Result<(), SessionError>
+        ensures { BeginsHost number host.now now self.old result self.new }
+    {
+        self.table.reserve_lookup(number)?;
+        let progress = self.resolver.start_lookup_ip(host, now / 1000);
+        self.pool.tick(now);
+        self.table.begin(number, lookup_of(progress));
+        Ok(())
+    }
+
+    /// Forgets the look-up of a number, and tells whether there was one. Where nobody else asks its question, that is
+    /// not asked on.
+    pub fn cancel(&mut self, number: u64) -> Result<bool, AllocError>
+        ensures ok { IfOk result (λ was_there. Cancels number self.old was_there self.new) }
+        ensures err { OnErr result (self.new ≡ self.old) }
+    {
+        if let Some(asker) = asker_of(self.table.lookups.get(&number)) {
+            self.pool.forget(&asker)?;
+            self.table.remove_asker(asker.number);
+        }
+        Ok(forget(&mut self.table.lookups, number))
+    }
+
+    /// The servers that are asked from now on, of which nothing is known yet. What is in flight goes on with those that
+    /// it began with.
+    pub fn set_servers(&mut self, servers: &[PoolServer]) -> Result<(), ServersError>
+        ensures ok { OnOk result (self.new ≡ with_pool (after_servers 0 servers.now self.old.pool) self.old) }
+        ensures err { OnErr result (self.new ≡ self.old) }
+        ensures fixed { (place : _) → first_fixed servers.now ≡ Some place
+            → result ≡ Err (ServersError.FixedPort place) }
+        ensures free { first_fixed servers.now ≡ None → IsOkUnless result ServersError.OutOfMemory }
+    {
+        self.pool.set_servers(GROUP, servers)
+    }
+
+    /// Octets came on a channel: a datagram, or a piece of a stream, cut anywhere. On a channel that is not open they
+    /// change nothing.
+    pub fn came(&mut self, channel: u64, octets: &[u8], now: u64) -> Result<(), AllocError>
+        ensures ok { OnOk result (self.new ≡ with_pool (after_octets channel octets.now now self.old.pool) self.old) }
+        ensures err { OnErr result (self.new ≡ self.old) }
+    {
+        self.pool.came(channel, octets, now)
+    }
+
+    /// A channel failed. A datagram channel is kept open after that until an action closes it, unless it could not be
+    /// opened at all.
+    pub fn failed(&mut self, channel: u64, why: Failure, now: u64) -> Result<(), AllocError>
+        ensures ok { OnOk result (self.new
+            ≡ with_pool (after_failure (record { channel = channel; why = why }) now self.old.pool) self.old) }
+        ensures err { OnErr result (self.new ≡ self.old) }
+    {
+        self.pool.failed(channel, why, now)
+    }
+
+    /// Time passed. A moment before one that was told counts as that one.
+    pub fn tick(&mut self, now: u64)
+        ensures { self.new ≡ with_pool (after_tick now self.old.pool) self.old }
+    {
+        self.pool.tick(now);
+    }
+
+    /// The earliest moment at which time ends something, where nothing is left to be done.
+    pub fn next_deadline(&self) -> Option<u64>
+        ensures { result ≡ next_deadline self.now.pool.traffic }
+    {
+        self.pool.next_deadline()
+    }
+
+    /// Drops from the cache what it has for the names that are attempted for this one, of this type. What is no name
+    /// clears nothing. The look-ups stay.
+    pub fn clear_name(&mut self, name: &str, record_type: RecordType) -> Result<(), SessionError>
+        ensures { ClearsName name.now record_type self.old result self.new }
+    {
+        match self.resolver.clear_lookup_cache(name, record_type) {
+            Ok(()) => Ok(()),
+            Err(_) => Err(SessionError::OutOfMemory),
+        }
+    }
+
+    /// Empties the cache. The look-ups stay.
+    pub fn clear(&mut self)
+        ensures { self.new ≡ cleared self.old }
+    {
+        self.resolver.clear_cache();
+    }
+
+    // ---- look-ups
+
+    /// The question that the look-up of a number waits for.
+    pub fn question(&self, number: u64) -> Result<&Query, SessionError>
+        ensures ok { IfOk result (λ question. question_at number self.now ≡ Ok question.now) }
+        ensures err { IfErr result (λ error. question_at number self.now ≡ Err error) }
+    {
+        match self.table.lookups.get(&number) {
+            None => Err(SessionError::NoLookup),
+            Some(NetworkLookup::Asks(call)) => Ok(call.question()),
+            Some(NetworkLookup::Asked(call, _)) => Ok(call.question()),
+            Some(NetworkLookup::Done { .. }) => Err(SessionError::IsDone),
+        }
+    }
+
+    /// What the look-up of a number came to.
+    pub fn found(&self, number: u64) -> Result<&Result<Lookup, NetError>, SessionError>
+        ensures ok { IfOk result (λ found. found_at number self.now ≡ Ok found.now) }
+        ensures err { IfErr result (λ error. found_at number self.now ≡ Err error) }
+    {
+        match self.table.lookups.get(&number) {
+            None => Err(SessionError::NoLookup),
+            Some(NetworkLookup::Done { found, .. }) => Ok(found),
+            Some(_) => Err(SessionError::Waits),
+        }
+    }
+}

@@ -1,0 +1,211 @@
+//! The steps of a session with a network.
+ghost use Rattle.std.specs.Prelude.{◌≡◌, ◌<◌, IfOk, None, OnErr, OnOk, Some, length};
+ghost use Rattle.hickory_resolver_pool.specs.Over.{IsFault};
+ghost use Rattle.hickory_resolver_pool.specs.Pool.{after_asking, asking_told, list_of, settings_for};
+ghost use Rattle.hickory_resolver_theorems.specs.ResumingCalls.{WaitingCallValue};
+ghost use Rattle.hickory_resolver_tries.specs.Question.{question_of};
+ghost use Rattle.yimarotu_session.specs.LookupTables.{HasRoomToAsk, held_at, table_of};
+ghost use Rattle.yimarotu_session.specs.Messages.{whole_query};
+ghost use Rattle.yimarotu_session.specs.NetworkSessions.{TellingValue};
+ghost use Rattle.yimarotu_session.specs.NetworkSteps.{Announces, AsksFor, AsksPool, IsAnswered, SessionSteps, StepsPool, Tells, TellsAsker, TellsLookup, action_of, no_dnssec, one_more};
+ghost use Rattle.yimarotu_session.specs.declared.network_lookup.NetworkLookup.TheVariants.{Asks};
+
+use crate::lookup_table::LookupTable;
+use crate::network_session::{GROUP, NetworkAction, NetworkSession, Pool};
+use crate::telling::Telling;
+use hickory_proto_core::{DnsRequestOptions, NetError, Outcome, Query, ScriptHandle};
+use hickory_resolver::Resolver;
+use hickory_resolver_pool::over::{OVERLOADED, UNREACHABLE};
+use hickory_resolver_pool::{Action, Asked, Asker, DnssecOptions};
+use std::alloc::AllocError;
+
+// Asking tells the pool no moment: this counts as the latest that was told.
+const LATEST: u64 = 0;
+
+impl NetworkSession {
+    /// Does the next step, and answers what the program has to do for it; `None` where nothing is left to be done. Who
+    /// asked in a transaction that is over is told first; then questions are asked, and look-ups that are done are
+    /// announced, each in the order in which they came to that; and else the pool does its next step.
+    pub fn next_action(&mut self) -> Result<Option<NetworkAction>, AllocError>
+        ensures ok { IfOk result (λ action. SessionSteps self.old action self.new) }
+        ensures err { OnErr result (self.new ≡ self.old) }
+    {
+        if self.telling.is_some() {
+            self.tell()?;
+            return Ok(Some(NetworkAction::Continue));
+        }
+        if let Some(number) = self.table.first_to_ask() {
+            self.ask_for(number)?;
+            return Ok(Some(NetworkAction::Continue));
+        }
+        match self.table.first_to_announce() {
+            Some(number) => Ok(Some(self.announce(number))),
+            None => self.step_pool(),
+        }
+    }
+
+    // The next of the askers is told. Where all were, the transaction is let go.
+    fn tell(&mut self) -> Result<(), AllocError>
+        ensures ok { (t : TellingValue) → self.old.telling ≡ Some t → OnOk result (Tells self.old self.new t) }
+        ensures err { OnErr result (self.new ≡ self.old) }
+    {
+        let Some(telling) = &mut self.telling else {
+            return Ok(());
+        };
+        match telling.next_asker() {
+            Some(asker) => tell_asker(&mut self.resolver, &mut self.table, telling, &asker),
+            None => {
+                self.telling = None;
+                Ok(())
+            }
+        }
+    }
+
+    // The look-up of a number asks its question, where it waits to.
+    fn ask_for(&mut self, number: u64) -> Result<(), AllocError>
+        ensures ok { OnOk result (AsksFor self.old self.new number) }
+        ensures err { OnErr result (self.new ≡ self.old) }
+    {
+        match self.table.question_to_ask(number)? {
+            Some(query) => self.ask(number, query),
+            None => {
+                self.table.pop_to_ask();
+                Ok(())
+            }
+        }
+    }
+
+    // The look-up of a number, which waits to, asks this question.
+    fn ask(&mut self, number: u64, query: Query) -> Result<(), AllocError>
+        ensures ok { (w : WaitingCallValue) → held_at number self.old.table ≡ Some (Asks w)
+            → query ≡ whole_query w.lookup.hop.query → OnOk result (AsksPool w number self.old self.new) }
+        ensures err { OnErr result (self.new ≡ self.old) }
+    {
+        self.table.reserve_asker()?;
+        let options = self.resolver.request_options();
+        let asked = ask_pool(&mut self.pool, query, options)?;
+        answer(&mut self.resolver, &mut self.table, number, asked);
+        Ok(())
+    }
+
+    // The look-up of a number is done, unless it was cancelled.
+    fn announce(&mut self, number: u64) -> NetworkAction
+        ensures { Announces self.old (Some result) self.new number }
+    {
+        if self.table.announce(number) {
+            NetworkAction::Done(number)
+        } else {
+            NetworkAction::Continue
+        }
+    }
+
+    // The pool does its next step, where nobody is told.
+    fn step_pool(&mut self) -> Result<Option<NetworkAction>, AllocError>
+        ensures ok { self.old.telling ≡ None → IfOk result (λ action. StepsPool self.old action self.new) }
+        ensures err { OnErr result (self.new ≡ self.old) }
+    {
+        match self.pool.next_action()? {
+            Some(Action::Over(over)) => {
+                self.telling = Some(Telling::new(over));
+                Ok(Some(NetworkAction::Continue))
+            }
+            did => Ok(handed_on(did)),
+        }
+    }
+}
+
+// What the program has to do for a step of the pool.
+fn handed_on(did: Option<Action>) -> Option<NetworkAction>
+    ensures { result ≡ action_of did }
+{
+    match did {
+        None => None,
+        Some(Action::Open(opening)) => Some(NetworkAction::Open(opening)),
+        Some(Action::Send(sent)) => Some(NetworkAction::Send(sent)),
+        Some(Action::Close(channel)) => Some(NetworkAction::Close(channel)),
+        Some(Action::Over(_)) => Some(NetworkAction::Continue),
+        Some(Action::Continue) => Some(NetworkAction::Continue),
+    }
+}
+
+// An asker is told what its transaction came to, unless it was forgotten.
+fn tell_asker(
+    resolver: &mut Resolver<ScriptHandle>,
+    table: &mut LookupTable,
+    telling: &mut Telling,
+    asker: &Asker,
+) -> Result<(), AllocError>
+    requires { telling.old.told < length telling.old.over.askers }
+    ensures told { OnOk result (TellsAsker telling.old.over asker.now resolver.old (table_of table.old) resolver.new
+        (table_of table.new)) }
+    ensures counted { OnOk result (telling.new ≡ one_more telling.old) }
+    ensures resolver { OnErr result (resolver.new ≡ resolver.old) }
+    ensures table { OnErr result (table_of table.new ≡ table_of table.old) }
+    ensures telling { OnErr result (telling.new ≡ telling.old) }
+{
+    if let Some(number) = table.waits_for(asker) {
+        tell_lookup(resolver, table, telling, asker, number)?;
+    }
+    telling.count();
+    Ok(())
+}
+
+// The look-up that waits for what an asker is told goes on with what its transaction came to.
+fn tell_lookup(
+    resolver: &mut Resolver<ScriptHandle>,
+    table: &mut LookupTable,
+    telling: &Telling,
+    asker: &Asker,
+    number: u64,
+) -> Result<(), AllocError>
+    ensures told { OnOk result (TellsLookup telling.now.over asker.now resolver.old (table_of table.old) resolver.new
+        (table_of table.new) number) }
+    ensures resolver { OnErr result (resolver.new ≡ resolver.old) }
+    ensures table { OnErr result (table_of table.new ≡ table_of table.old) }
+{
+    table.reserve_turns()?;
+    let outcome = telling.outcome()?;
+    table.remove_asker(asker.number);
+    table.go_on(resolver, number, outcome);
+    Ok(())
+}
+
+// Asks a question of the pool, whose name is absolute: so memory alone is a reason to refuse it.
+fn ask_pool(pool: &mut Pool, query: Query, options: DnsRequestOptions) -> Result<Asked, AllocError>
+    ensures told { IfOk result (λ told. told
+        ≡ asking_told (list_of 0 pool.old.traffic) (question_of query options no_dnssec) pool.old) }
+    ensures ok { OnOk result (pool.new ≡ after_asking (list_of 0 pool.old.traffic)
+        (question_of query options no_dnssec) (settings_for pool.old.options options) 0 pool.old) }
+    ensures err { OnErr result (pool.new ≡ pool.old) }
+{
+    let dnssec = DnssecOptions {
+        dnssec_ok: false,
+        checking_disabled: false,
+        authentic_data: false,
+    };
+    match pool.ask(GROUP, query, options, dnssec, LATEST) {
+        Ok(asked) => Ok(asked),
+        Err(_) => Err(AllocError),
+    }
+}
+
+// The first look-up that waits to ask waits for its asker, or goes on, as the pool answered.
+fn answer(resolver: &mut Resolver<ScriptHandle>, table: &mut LookupTable, number: u64, asked: Asked)
+    requires { HasRoomToAsk table.old }
+    ensures { (w : WaitingCallValue) → held_at number (table_of table.old) ≡ Some (Asks w)
+        → IsAnswered asked w number resolver.old (table_of table.old) resolver.new (table_of table.new) }
+{
+    table.pop_to_ask();
+    match asked {
+        Asked::Asker(asker) => table.wait_for(number, asker),
+        Asked::Overloaded => table.go_on(resolver, number, failure(OVERLOADED)),
+        Asked::NoServers => table.go_on(resolver, number, failure(UNREACHABLE)),
+    }
+}
+
+// What the core is told by these words.
+fn failure(words: &'static str) -> Outcome
+    ensures { IsFault words.now result }
+{
+    Err(NetError::Message(words))
+}
