@@ -1,0 +1,283 @@
+-- What is kept by each event and each step of a session: its pool is one that was reached, what is being told was said
+-- by it, and what happened to the resolver is told as events of calls.
+use Rattle.std.proofs.Common.{◌≡◌, ◌∙◌, ℕ, Bool, true, false, cond, List, [], ◌∷◌, ◌++◌, nat_eq, refl, sym, ap, subst, inl, inr, arith}
+use Rattle.std.specs.Prelude.{Option, None, Some}
+use Rattle.std.specs.List.{AllByRecursion}
+use Rattle.std.specs.Option.{option_and_then}
+use Rattle.std.proofs.lemmas.Bool.Decides.{nat_tests}
+use Rattle.std.proofs.lemmas.List.{append_assoc}
+use Rattle.hickory_proto_core.specs.Handles.{OutcomeValue}
+use Rattle.hickory_proto_core.specs.declared.dns_request.DnsRequestOptions.{DnsRequestOptions}
+use Rattle.hickory_resolver.specs.Contexts.{progress_of}
+use Rattle.hickory_resolver.specs.Driving.{CallProgress}
+use Rattle.hickory_resolver.specs.client.waiting.Progress.TheVariants as progress
+use Rattle.hickory_resolver_askers.specs.declared.asker.Asker.{Asker}
+use Rattle.hickory_resolver_model.specs.Options.{request_options_of}
+use Rattle.hickory_resolver_model.specs.Resolver.{ResolverValue, settings}
+use Rattle.hickory_resolver_model.specs.Run.{Settings}
+use Rattle.hickory_resolver_pool.specs.Laws.{PoolEvent, after_event}
+use Rattle.hickory_resolver_pool.specs.Over.{OverValue}
+use Rattle.hickory_resolver_pool.specs.Pool.{PoolState, Steps, no_servers}
+use Rattle.hickory_resolver_pool.specs.declared.pool.Action.{Action}
+use Rattle.hickory_resolver_pool.specs.declared.limits.PoolLimits.{PoolLimits}
+use Rattle.hickory_resolver_pool_theorems.specs.Runs.{Happening, Runs, by_event, by_step, came, did}
+use Rattle.hickory_resolver_pool_theorems.specs.Runs as runs
+use Rattle.hickory_resolver_pool_theorems.proofs.Asked.{IsOwn, own-event, own-step}
+use Rattle.hickory_resolver_theorems.specs.InterleavedCalls.{CallDropped, CallEventValue, CallFed, CallStarted, CallWorldValue, CallsHappen, HostsReplaced, AllCleared, NameCleared, call_world_of}
+use Rattle.hickory_resolver_theorems.specs.ResumingCalls.{WaitingCallValue}
+use Rattle.hickory_resolver_tries.specs.Question.{question_eq}
+use Rattle.hickory_resolver_tries.specs.declared.pool_question.PoolQuestion.{PoolQuestion}
+use Rattle.yimarotu_session.specs.LookupTables.{lookup_of}
+use Rattle.yimarotu_session.specs.NetworkSessions.{NetworkValue, TellingValue, new_session}
+use Rattle.yimarotu_session.specs.Sessions.{PutsUnder, value_at}
+use Rattle.yimarotu_session.specs.declared.network_lookup.NetworkLookup.{NetworkLookup}
+use Rattle.yimarotu_session.specs.declared.network_lookup.NetworkLookup.TheVariants.{Asks, Asked, Done}
+use Rattle.yimarotu_session_theorems.specs.NetworkLaws.{IsFedFrom, IsFromPool, WasOver, question_with}
+use Rattle.yimarotu_session_theorems.proofs.Moves.{AreFlying, Flights, Moves, Puts, over, waiting_in, world}
+
+-- ---- the calls of look-ups
+
+-- the call of one that waits
+abbrev pub call_of : NetworkLookup → Option WaitingCallValue
+call_of (Asks w) = Some w
+call_of (Asked w a) = Some w
+call_of (Done found announced) = None
+
+abbrev pub call_at : List (ℕ × NetworkLookup) → ℕ → Option WaitingCallValue
+call_at lookups n = option_and_then call_of (value_at n lookups)
+
+pub call-of-lookup : (p : CallProgress) → call_of (lookup_of p) ≡ waiting_in (progress_of p)
+call-of-lookup (progress.Waiting w) = refl
+call-of-lookup (progress.Done found) = refl
+
+pub puts-calls : (n : ℕ) (held : Option NetworkLookup) (before after : List (ℕ × NetworkLookup))
+    → PutsUnder n held before after → Puts n (option_and_then call_of held) (call_at before) (call_at after)
+puts-calls n held before after puts m =
+    ap (λ (h : Option NetworkLookup). option_and_then call_of h) (puts m) ∙ by (nat_eq n m)
+  where
+    by : (b : Bool) → option_and_then call_of (cond b held (value_at m before))
+        ≡ cond b (option_and_then call_of held) (option_and_then call_of (value_at m before))
+    by true = refl
+    by false = refl
+
+-- where the same call waits under a number as before, all wait as before
+pub alike : (n : ℕ) (x : Option WaitingCallValue) (waiting later : ℕ → Option WaitingCallValue) → waiting n ≡ x
+    → Puts n x waiting later → (m : ℕ) → later m ≡ waiting m
+alike n x waiting later there puts m = puts m ∙ by (nat_eq n m) refl
+  where
+    by : (b : Bool) → nat_eq n m ≡ b → cond b x (waiting m) ≡ waiting m
+    by true e = let same : n ≡ m = grind (arith, nat_tests) in sym there ∙ ap waiting same
+    by false e = refl
+
+-- ---- lists
+
+all-append : {A : Type 0} (P : A → Type 0) (xs ys : List A) → AllByRecursion P xs → AllByRecursion P ys
+    → AllByRecursion P (xs ++ ys)
+all-append P [] ys all more = more
+all-append P (x ∷ xs) ys all more = (all.0, all-append P xs ys all.1 more)
+
+all-weaker : {A : Type 0} (P Q : A → Type 0) (xs : List A) → ((x : A) → P x → Q x) → AllByRecursion P xs
+    → AllByRecursion Q xs
+all-weaker P Q [] weaker all = tt
+all-weaker P Q (x ∷ xs) weaker all = (weaker x all.0, all-weaker P Q xs weaker all.1)
+
+pub happen-append : (s : Settings) (xs ys : List CallEventValue) (before mid after : CallWorldValue)
+    → CallsHappen s before xs mid → CallsHappen s mid ys after → CallsHappen s before (xs ++ ys) after
+happen-append s [] ys before mid after same more = subst (λ w. CallsHappen s w ys after) same more
+happen-append s (x ∷ xs) ys before mid after (next, happens, rest) more =
+    (next, happens, happen-append s xs ys next mid after rest more)
+
+-- ---- what was told stays told, whatever happens later
+
+module _ (first : PoolState) (more past : List Happening) where
+  abbrev pub over-grows : (o : OverValue) → WasOver first past o → WasOver first (more ++ past) o
+  over-grows o w = record {
+    later = more ++ w.later;
+    earlier = w.earlier;
+    before = w.before;
+    after = w.after;
+    happened = ap (λ (l : List Happening). more ++ l) w.happened ∙ sym (append_assoc more w.later _);
+    runs = w.runs;
+    ends = w.ends;
+  }
+
+  from-grows : (question : PoolQuestion) (outcome : OutcomeValue) → IsFromPool first past question outcome
+      → IsFromPool first (more ++ past) question outcome
+  from-grows question outcome (inl t) =
+      inl (record { over = t.over; was_over = over-grows t.over t.was_over; same = t.same; told = t.told; read = t.read })
+  from-grows question outcome (inr refused) = inr refused
+
+  fed-grows : (options : DnsRequestOptions) (e : CallEventValue) → IsFedFrom first options past e
+      → IsFedFrom first options (more ++ past) e
+  fed-grows options (CallFed call outcome progress) h = from-grows (question_with options call.waiting) outcome h
+  fed-grows options (CallStarted call now progress) h = tt
+  fed-grows options (CallDropped call) h = tt
+  fed-grows options AllCleared h = tt
+  fed-grows options (NameCleared t given) h = tt
+  fed-grows options (HostsReplaced hosts) h = tt
+
+  pub all-fed-grow : (options : DnsRequestOptions) (told : List CallEventValue)
+      → AllByRecursion (IsFedFrom first options past) told → AllByRecursion (IsFedFrom first options (more ++ past)) told
+  all-fed-grow options told all =
+      all-weaker (IsFedFrom first options past) (IsFedFrom first options (more ++ past)) told (fed-grows options) all
+
+-- ---- look-ups whose question is asked
+
+abbrev pub Lookups : Type 0
+Lookups = List (ℕ × NetworkLookup)
+
+-- each that is asked later was asked before, by the same asker
+abbrev pub AsksLess : Lookups → Lookups → Type 0
+AsksLess before after =
+    (n : ℕ) (w : WaitingCallValue) (a : Asker) → value_at n after ≡ Some (Asked w a) → value_at n before ≡ Some (Asked w a)
+
+abbrev pub IsNotAsked : Option NetworkLookup → Type 0
+IsNotAsked held = (w : WaitingCallValue) (a : Asker) → held ≡ Some (Asked w a) → ⊥
+
+pub asks-less : (n : ℕ) (held : Option NetworkLookup) (before after : Lookups) → IsNotAsked held
+    → PutsUnder n held before after → AsksLess before after
+asks-less n held before after none puts m w a there = by (nat_eq n m) (sym (puts m) ∙ there)
+  where
+    by : (b : Bool) → cond b held (value_at m before) ≡ Some (Asked w a) → value_at m before ≡ Some (Asked w a)
+    by true e = absurd (none w a e)
+    by false e = e
+
+pub lookup-not-asked : (p : CallProgress) → IsNotAsked (Some (lookup_of p))
+lookup-not-asked (progress.Waiting v) w a e = absurd cc
+lookup-not-asked (progress.Done found) w a e = absurd cc
+
+pub asks-same : (before after : Lookups) → after ≡ before → AsksLess before after
+asks-same before after same n w a there = ap (λ (l : Lookups). value_at n l) (sym same) ∙ there
+
+-- ---- a session
+
+module _ (resolver : ResolverValue (List OutcomeValue)) (limits : PoolLimits) (seed : List ℕ) where
+  abbrev pub first : PoolState
+  first = no_servers resolver.options limits seed
+
+  abbrev pub options : DnsRequestOptions
+  options = request_options_of resolver.options
+
+  -- the transaction of its asker asks its question, where it is there still
+  pub record IsAskedFor (pool : PoolState) (w : WaitingCallValue) (a : Asker) : Type 0 where
+    pub list : ℕ
+    pub own : IsOwn (list, question_with options w) a.transaction pool
+
+  abbrev pub AreAskedFor : PoolState → Lookups → Type 0
+  AreAskedFor pool lookups =
+      (n : ℕ) (w : WaitingCallValue) (a : Asker) → value_at n lookups ≡ Some (Asked w a) → IsAskedFor pool w a
+
+  -- look-ups of a transaction asked what is told of it
+  abbrev pub AskedEqual : OverValue → Lookups → Type 0
+  AskedEqual over lookups =
+      (n : ℕ) (w : WaitingCallValue) (a : Asker) → value_at n lookups ≡ Some (Asked w a)
+      → a.transaction ≡ over.transaction → question_eq (question_with options w) over.question ≡ true
+
+  abbrev pub IsTelling : List Happening → Lookups → Option TellingValue → Type 0
+  IsTelling past lookups None = Unit {0}
+  IsTelling past lookups (Some t) = WasOver first past t.over × AskedEqual t.over lookups
+
+  pub record Kept (s : NetworkValue) : Type 0 where
+    pub past : List Happening
+    pub runs : Runs first past s.pool
+    pub told : List CallEventValue
+    pub flights : Flights
+    pub happen : CallsHappen (settings resolver) (call_world_of resolver.client.cache resolver.hosts) told
+        (world resolver s.resolver.client.cache flights)
+    pub after_is : s.resolver ≡ over resolver s.resolver.client.cache
+    pub flying : AreFlying flights (call_at s.table.lookups)
+    pub fed : AllByRecursion (IsFedFrom first options past) told
+    pub asked : AreAskedFor s.pool s.table.lookups
+    pub telling : IsTelling past s.table.lookups s.telling
+
+  pub kept-first : Kept (new_session resolver limits seed)
+  kept-first = record {
+    past = [];
+    runs = runs.at_first;
+    told = [];
+    flights = [];
+    happen = refl;
+    after_is = refl;
+    flying = record { once = tt; wait = λ n. refl };
+    fed = tt;
+    asked = λ n w a there. let clash : None ≡ Some (Asked w a) = there in absurd cc;
+    telling = tt;
+  }
+
+  -- the pool moved, or not
+  pub record PoolMoves (past : List Happening) (before after : PoolState) : Type 0 where
+    pub later : List Happening
+    pub runs : Runs first (later ++ past) after
+    pub asked : (w : WaitingCallValue) (a : Asker) → IsAskedFor before w a → IsAskedFor after w a
+
+  telling-grows : (past more : List Happening) (before after : Lookups) (t : Option TellingValue) → AsksLess before after
+      → IsTelling past before t → IsTelling (more ++ past) after t
+  telling-grows past more before after None less h = tt
+  telling-grows past more before after (Some t) less (was_over, equal) =
+      (over-grows first more past t.over was_over, λ n w a there. equal n w a (less n w a there))
+
+  module _ (s : NetworkValue) (k : Kept s) (after : NetworkValue) where
+    abbrev pub pool-stays : after.pool ≡ s.pool → PoolMoves k.past s.pool after.pool
+    pool-stays same = record {
+      later = [];
+      runs = subst (λ (p : PoolState). Runs first k.past p) (sym same) k.runs;
+      asked = λ w a h. subst (λ (p : PoolState). IsAskedFor p w a) (sym same) h;
+    }
+
+    abbrev pub pool-takes : (e : PoolEvent) → after.pool ≡ after_event s.pool e → PoolMoves k.past s.pool after.pool
+    pool-takes e same = record {
+      later = came s.pool e ∷ [];
+      runs = subst (λ (p : PoolState). Runs first (came s.pool e ∷ k.past) p) (sym same) (by_event k.past s.pool e k.runs);
+      asked = λ w a h. subst (λ (p : PoolState). IsAskedFor p w a) (sym same)
+          (record { list = h.list; own = own-event (h.list, question_with options w) a.transaction s.pool e h.own });
+    }
+
+    abbrev pub pool-does : (r : Option Action) → Steps s.pool r after.pool → PoolMoves k.past s.pool after.pool
+    pool-does r steps = record {
+      later = did s.pool r ∷ [];
+      runs = by_step k.past s.pool after.pool r steps k.runs;
+      asked = λ w a h. record { list = h.list; own = own-step (h.list, question_with options w) a.transaction s.pool after.pool r steps h.own };
+    }
+
+    -- what is being told was said before
+    pub tells-on : (more : List Happening) → after.telling ≡ s.telling → AsksLess s.table.lookups after.table.lookups
+        → IsTelling (more ++ k.past) after.table.lookups after.telling
+    tells-on more same less =
+        subst (λ (t : Option TellingValue). IsTelling (more ++ k.past) after.table.lookups t) (sym same)
+        (telling-grows k.past more s.table.lookups after.table.lookups s.telling less k.telling)
+
+    pub asked-on : (p : PoolMoves k.past s.pool after.pool) → AsksLess s.table.lookups after.table.lookups
+        → AreAskedFor after.pool after.table.lookups
+    asked-on p less n w a there = p.asked w a (k.asked n w a (less n w a there))
+
+    -- what was done to the resolver
+    pub record Done-to (past : List Happening) : Type 0 where
+      pub told : List CallEventValue
+      pub moves : Moves resolver told s.resolver.client.cache k.flights after.resolver (call_at after.table.lookups)
+      pub fed : AllByRecursion (IsFedFrom first options past) told
+
+    pub keeps : (p : PoolMoves k.past s.pool after.pool) → Done-to (p.later ++ k.past)
+        → AreAskedFor after.pool after.table.lookups → IsTelling (p.later ++ k.past) after.table.lookups after.telling
+        → Kept after
+    keeps p d asked telling =
+        let past = p.later ++ k.past in
+        let cache = s.resolver.client.cache in
+        record {
+          past = past;
+          runs = p.runs;
+          told = k.told ++ d.told;
+          flights = d.moves.left;
+          happen = happen-append (settings resolver) k.told d.told (call_world_of resolver.client.cache resolver.hosts)
+              (world resolver cache k.flights) (world resolver after.resolver.client.cache d.moves.left) k.happen d.moves.happen;
+          after_is = d.moves.after_is;
+          flying = d.moves.flying;
+          fed = all-append (IsFedFrom first options past) k.told d.told
+              (all-fed-grow first p.later k.past options k.told k.fed) d.fed;
+          asked = asked;
+          telling = telling;
+        }
+
+    -- where no look-up is asked anew, and somebody is told as before
+    pub keeps-telling : (p : PoolMoves k.past s.pool after.pool) → Done-to (p.later ++ k.past)
+        → AsksLess s.table.lookups after.table.lookups → after.telling ≡ s.telling → Kept after
+    keeps-telling p d less same = keeps p d (asked-on p less) (tells-on p.later same less)

@@ -1,0 +1,5 @@
+pub mod Changes
+pub mod Flights
+pub mod Kept
+pub mod Moves
+pub mod Played

@@ -1,0 +1,2 @@
+pub mod NetworkLaws
+pub mod NetworkRuns

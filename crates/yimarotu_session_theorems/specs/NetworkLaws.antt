@@ -1,0 +1,90 @@
+-- What holds of a session with a network after every list of events and steps.
+use Rattle.std.specs.Prelude.{◌≡◌, ◌⊎◌, List, [], ◌∷◌, ◌++◌, ℕ, None, Ok, Some, true}
+use Rattle.std.specs.List.{AllByRecursion}
+use Rattle.hickory_proto_core.specs.Handles.{OutcomeValue}
+use Rattle.hickory_proto_core.specs.Messages.{MessageValue}
+use Rattle.hickory_proto_core.specs.declared.dns_request.DnsRequestOptions.{DnsRequestOptions}
+use Rattle.hickory_resolver.specs.Starting.{KeepsAllButCache}
+use Rattle.hickory_resolver_events.specs.Events.{HappenAsPromised}
+use Rattle.hickory_resolver_model.specs.Resolver.{ResolverValue, settings}
+use Rattle.hickory_resolver_model.specs.Options.{request_options_of}
+use Rattle.hickory_resolver_pool.specs.Over.{IsCoreOutcome, IsToldToCore, OverValue}
+use Rattle.hickory_resolver_pool.specs.Pool.{PoolState, Steps, no_servers}
+use Rattle.hickory_resolver_pool.specs.declared.limits.PoolLimits.{PoolLimits}
+use Rattle.hickory_resolver_pool.specs.declared.over.PoolOutcome.TheVariants.{Overloaded, Unreachable}
+use Rattle.hickory_resolver_pool.specs.declared.pool.Action.TheVariants.{Over}
+use Rattle.hickory_resolver_pool_theorems.specs.Handles.{IsReadOfOctets}
+use Rattle.hickory_resolver_pool_theorems.specs.Runs.{Happening, Runs, did}
+use Rattle.hickory_resolver_theorems.specs.InterleavedCalls.{CallEventValue, CallFed, CallWorldValue, CallsHappen, call_world_of}
+use Rattle.hickory_resolver_theorems.specs.ResumingCalls.{WaitingCallValue}
+use Rattle.hickory_resolver_tries.specs.Question.{question_eq, question_of}
+use Rattle.hickory_resolver_tries.specs.declared.pool_question.PoolQuestion.{PoolQuestion}
+use Rattle.yimarotu_session.specs.Messages.{whole_query}
+use Rattle.yimarotu_session.specs.NetworkSessions.{NetworkValue, new_session}
+use Rattle.yimarotu_session.specs.NetworkSteps.{no_dnssec}
+use Rattle.yimarotu_session_theorems.specs.NetworkRuns.{NetworkRuns}
+
+-- ---- what a look-up goes on with
+
+-- among what happened to a pool it said of a transaction that it is over
+pub record WasOver (first : PoolState) (past : List Happening) (over : OverValue) : Type 0 where
+  pub later : List Happening
+  pub earlier : List Happening
+  pub before : PoolState
+  pub after : PoolState
+  pub happened : past ≡ later ++ did before (Some (Over over)) ∷ earlier
+  pub runs : Runs first earlier before
+  pub ends : Steps before (Some (Over over)) after
+
+-- It is what the core is told of a transaction for an equal question, case of the name aside, that is over. A response
+-- is what octets spell that came on a channel for the question of the transaction, and were believed.
+pub record IsToldByPool (first : PoolState) (past : List Happening) (question : PoolQuestion) (outcome : OutcomeValue)
+    : Type 0 where
+  pub over : OverValue
+  pub was_over : WasOver first past over
+  pub same : question_eq question over.question ≡ true
+  pub told : IsCoreOutcome over outcome
+  pub read : (m : MessageValue) → outcome ≡ Ok m → IsReadOfOctets was_over.earlier over m
+
+-- or there was no place for the question, or no server
+abbrev pub IsFromPool : PoolState → List Happening → PoolQuestion → OutcomeValue → Type 0
+IsFromPool first past question outcome =
+    IsToldByPool first past question outcome
+    ⊎ (IsToldToCore Overloaded None outcome ⊎ IsToldToCore Unreachable None outcome)
+
+-- the question that a look-up asks of the pool, with these options
+abbrev pub question_with : DnsRequestOptions → WaitingCallValue → PoolQuestion
+question_with options w = question_of (whole_query w.lookup.hop.query) options no_dnssec
+
+-- where a call goes on, it does so with such an outcome of its question
+abbrev pub IsFedFrom : PoolState → DnsRequestOptions → List Happening → CallEventValue → Type 0
+IsFedFrom first options past (CallFed call outcome progress) =
+    IsFromPool first past (question_with options call.waiting) outcome
+IsFedFrom first options past other = Unit {0}
+
+-- ---- what happened to the resolver
+
+-- What happened to the resolver of a session is a list of events of its calls, one after another from its cache and its
+-- table of hosts on: calls start, go on with what the pool told, and are dropped, and the cache is cleared. The cache
+-- alone has changed. Where it had no entries at first, each event keeps its promises, and so does the reply of each
+-- call that is done.
+pub record IsPlayedOver
+    (resolver : ResolverValue (List OutcomeValue)) (limits : PoolLimits) (seed : List ℕ) (session : NetworkValue)
+    : Type 0 where
+  pub past : List Happening
+  pub pool_runs : Runs (no_servers resolver.options limits seed) past session.pool
+  pub told : List CallEventValue
+  pub world : CallWorldValue
+  pub happen : CallsHappen (settings resolver) (call_world_of resolver.client.cache resolver.hosts) told world
+  pub cache_is : session.resolver.client.cache ≡ world.cache
+  pub others_stay : KeepsAllButCache resolver session.resolver
+  pub fed : AllByRecursion
+      (IsFedFrom (no_servers resolver.options limits seed) (request_options_of resolver.options) past) told
+  pub promised : resolver.client.cache.entries ≡ []
+      → HappenAsPromised (settings resolver) resolver.client.cache resolver.hosts []
+      (call_world_of resolver.client.cache resolver.hosts) told world
+
+abbrev pub SessionsPlayCalls : Type 0
+SessionsPlayCalls =
+    (resolver : ResolverValue (List OutcomeValue)) (limits : PoolLimits) (seed : List ℕ) (session : NetworkValue)
+    → NetworkRuns (new_session resolver limits seed) session → IsPlayedOver resolver limits seed session
