@@ -43,7 +43,7 @@ pub(crate) type Pool = NameServerPool<BuildHasherDefault<FoldHasher>>;
 /// A resolver, look-ups under numbers of the caller's, and a pool of name servers that their questions go to. Events
 /// take in what the caller wants and what came, and `next_action` does what follows of it, one step a call: after each
 /// event, and before the next, it is called until it answers `None`. Moments are milliseconds of the pool's clock. A
-/// call that is refused for want of memory changes nothing, and may be made again.
+/// call that runs out of memory changes nothing, and may be made again.
 #[derive(Drop)]
 pub struct NetworkSession {
     pub(crate) resolver: Resolver<ScriptHandle>,

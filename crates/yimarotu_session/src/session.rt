@@ -35,8 +35,9 @@ impl Model for Session {
 }
 
 impl Session {
-    /// A session of these settings, as the lines of a script that set something, over what a file of hosts says, read at
-    /// this moment (seconds).
+    /// A session of these settings, over what a file of hosts says, read at this moment (seconds). They are the lines of
+    /// a script that set something, and lines `option cache_octets N`, of which the last counts: how many octets the
+    /// cache may take for what it keeps.
     pub fn open(
         alloc: Global,
         settings: &[u8],
