@@ -10,9 +10,9 @@ ghost use Rattle.yimarotu_session.specs.Sessions.{PutsUnder};
 use crate::network_lookup::{
     NetworkLookup, announce, asker_of, go_on, is_same, is_unannounced, question_to_ask, wait_for,
 };
+use crate::network_session::NetworkResolver;
 use crate::session_error::SessionError;
-use hickory_proto_core::{Outcome, Query, ScriptHandle};
-use hickory_resolver::Resolver;
+use hickory_proto_core::{Outcome, Query};
 use hickory_resolver_pool::Asker;
 use indexmap::IndexMap;
 use std::alloc::{AllocError, Global};
@@ -99,7 +99,7 @@ impl LookupTable {
     // The look-up of a number, where there is one, goes on with what it is told, and stands in its queue again.
     pub(crate) fn go_on(
         &mut self,
-        resolver: &mut Resolver<ScriptHandle>,
+        resolver: &mut NetworkResolver,
         number: u64,
         outcome: Outcome,
     )

@@ -6,8 +6,9 @@ ghost use Rattle.yimarotu_session.specs.Messages.{whole_query};
 ghost use Rattle.yimarotu_session.specs.NetworkSteps.{GoesOn};
 
 use crate::messages::whole_query;
-use hickory_proto_core::{NetError, Outcome, Query, ScriptHandle};
-use hickory_resolver::{CallProgress, Lookup, Resolver, WaitingCall};
+use crate::network_session::NetworkResolver;
+use hickory_proto_core::{NetError, Outcome, Query};
+use hickory_resolver::{CallProgress, Lookup, WaitingCall};
 use hickory_resolver_pool::Asker;
 use std::alloc::AllocError;
 use std::mem;
@@ -43,7 +44,7 @@ pub(crate) fn lookup_of(progress: CallProgress) -> NetworkLookup
 
 // Goes on with a look-up that waits by what it is told. One that is done stays.
 pub(crate) fn go_on(
-    resolver: &mut Resolver<ScriptHandle>,
+    resolver: &mut NetworkResolver,
     lookup: &mut NetworkLookup,
     outcome: Outcome,
 )
@@ -57,7 +58,7 @@ pub(crate) fn go_on(
 }
 
 fn gone_on(
-    resolver: &mut Resolver<ScriptHandle>,
+    resolver: &mut NetworkResolver,
     lookup: NetworkLookup,
     outcome: Outcome,
 ) -> NetworkLookup

@@ -16,7 +16,7 @@ use hickory_resolver_pool::{
     Failure, NameServerPool, Opening, PoolLimits, PoolServer, Sent, ServersError,
 };
 use std::alloc::{AllocError, Global};
-use std::hash::{BuildHasherDefault, FoldHasher};
+use std::hash::RandomState;
 use std::marker::Model;
 
 /// What a program has to do next.
@@ -38,7 +38,10 @@ pub enum NetworkAction {
 pub(crate) const GROUP: u64 = 0;
 
 // The pool that questions go to.
-pub(crate) type Pool = NameServerPool<BuildHasherDefault<FoldHasher>>;
+pub(crate) type Pool = NameServerPool<RandomState>;
+
+// Names come from strangers, so that cache, hosts and the pool hash them by a secret.
+pub(crate) type NetworkResolver = Resolver<ScriptHandle, RandomState>;
 
 /// A resolver, look-ups under numbers of the caller's, and a pool of name servers that their questions go to. Events
 /// take in what the caller wants and what came, and `next_action` does what follows of it, one step a call: after each
@@ -46,7 +49,7 @@ pub(crate) type Pool = NameServerPool<BuildHasherDefault<FoldHasher>>;
 /// call that runs out of memory changes nothing, and may be made again.
 #[derive(Drop)]
 pub struct NetworkSession {
-    pub(crate) resolver: Resolver<ScriptHandle>,
+    pub(crate) resolver: NetworkResolver,
     pub(crate) pool: Pool,
     pub(crate) table: LookupTable,
     pub(crate) telling: Option<Telling>,
@@ -69,17 +72,18 @@ impl Model for NetworkSession {
 impl NetworkSession {
     /// A session over a resolver, whose own handle is never asked. The pool has the options of the resolver, these
     /// limits, and no servers yet. The seed is 32 octets that nobody knows; a child of `fork`, or a copied machine,
-    /// begins anew with another one.
+    /// begins anew with another one. The hasher is for names of questions, which come from strangers.
     pub fn new(
         alloc: Global,
-        resolver: Resolver<ScriptHandle>,
+        resolver: Resolver<ScriptHandle, RandomState>,
         limits: PoolLimits,
         seed: [u8; 32],
+        hasher: RandomState,
     ) -> Result<NetworkSession, AllocError>
         ensures { IfOk result (λ session. session ≡ new_session resolver limits seed) }
     {
         let options = Clone::clone(resolver.options())?;
-        let pool = NameServerPool::new(alloc, options, limits, seed, BuildHasherDefault::new());
+        let pool = NameServerPool::new(alloc, options, limits, seed, hasher);
         Ok(NetworkSession {
             resolver,
             pool,

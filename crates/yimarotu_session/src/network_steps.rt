@@ -11,10 +11,9 @@ ghost use Rattle.yimarotu_session.specs.NetworkSteps.{Announces, AsksFor, AsksPo
 ghost use Rattle.yimarotu_session.specs.declared.network_lookup.NetworkLookup.TheVariants.{Asks};
 
 use crate::lookup_table::LookupTable;
-use crate::network_session::{GROUP, NetworkAction, NetworkSession, Pool};
+use crate::network_session::{GROUP, NetworkAction, NetworkResolver, NetworkSession, Pool};
 use crate::telling::Telling;
-use hickory_proto_core::{DnsRequestOptions, NetError, Outcome, Query, ScriptHandle};
-use hickory_resolver::Resolver;
+use hickory_proto_core::{DnsRequestOptions, NetError, Outcome, Query};
 use hickory_resolver_pool::over::{OVERLOADED, UNREACHABLE};
 use hickory_resolver_pool::{Action, Asked, Asker, DnssecOptions};
 use std::alloc::AllocError;
@@ -130,7 +129,7 @@ fn handed_on(did: Option<Action>) -> Option<NetworkAction>
 
 // An asker is told what its transaction came to, unless it was forgotten.
 fn tell_asker(
-    resolver: &mut Resolver<ScriptHandle>,
+    resolver: &mut NetworkResolver,
     table: &mut LookupTable,
     telling: &mut Telling,
     asker: &Asker,
@@ -152,7 +151,7 @@ fn tell_asker(
 
 // The look-up that waits for what an asker is told goes on with what its transaction came to.
 fn tell_lookup(
-    resolver: &mut Resolver<ScriptHandle>,
+    resolver: &mut NetworkResolver,
     table: &mut LookupTable,
     telling: &Telling,
     asker: &Asker,
@@ -190,7 +189,7 @@ fn ask_pool(pool: &mut Pool, query: Query, options: DnsRequestOptions) -> Result
 }
 
 // The first look-up that waits to ask waits for its asker, or goes on, as the pool answered.
-fn answer(resolver: &mut Resolver<ScriptHandle>, table: &mut LookupTable, number: u64, asked: Asked)
+fn answer(resolver: &mut NetworkResolver, table: &mut LookupTable, number: u64, asked: Asked)
     requires { HasRoomToAsk table.old }
     ensures { (w : WaitingCallValue) → held_at number (table_of table.old) ≡ Some (Asks w)
         → IsAnswered asked w number resolver.old (table_of table.old) resolver.new (table_of table.new) }
