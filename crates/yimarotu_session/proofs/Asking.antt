@@ -1,4 +1,4 @@
--- A look-up that waits to asks its question of the pool.
+-- A look-up that waits to asks its question of the pool, and one ahead.
 use Rattle.std.proofs.Common.{◌≡◌, ◌∙◌, ℕ, Some, ap, subst}
 use Rattle.hickory_proto_core.specs.declared.dns_request.DnsRequestOptions.{DnsRequestOptions}
 use Rattle.hickory_proto_core.specs.declared.query.Query.{Query}
@@ -10,7 +10,7 @@ use Rattle.hickory_resolver_tries.specs.Question.{question_of}
 use Rattle.yimarotu_session.specs.LookupTables.{TableValue, held_at}
 use Rattle.yimarotu_session.specs.Messages.{whole_query}
 use Rattle.yimarotu_session.specs.NetworkSessions.{NetworkValue}
-use Rattle.yimarotu_session.specs.NetworkSteps.{AsksPool, IsAnswered, no_dnssec}
+use Rattle.yimarotu_session.specs.NetworkSteps.{AsksAhead, AsksPool, IsAnswered, IsAskedAhead, no_dnssec}
 use Rattle.yimarotu_session.specs.declared.network_lookup.NetworkLookup.TheVariants.{Asks}
 
 -- what the pool says to a question with these options, and the pool after it
@@ -40,4 +40,21 @@ module _ (w : WaitingCallValue) (number : ℕ) (before after : NetworkValue) (ta
             (told ∙ ap (λ (q : Query). said_to q options s) asks
             ∙ ap (λ (o : DnsRequestOptions). said_to (whole_query w.lookup.hop.query) o s) with) own;
         telling_stays = telling;
+      }
+
+module _ (number : ℕ) (before after : NetworkValue) (table : TableValue) (query copy : Query) (options : DnsRequestOptions)
+    (said : Asked) where
+  pub asks-ahead : copy ≡ query → options ≡ request_options_of before.resolver.options → table ≡ before.table
+      → said ≡ said_to copy options before.pool → after.pool ≡ after_question copy options before.pool
+      → IsAskedAhead said query number table after.table
+      → after ≡ record before { pool = after.pool; table = after.table } → AsksAhead number before after query
+  asks-ahead copied with same told pool asked others =
+      let s = before.pool in
+      record {
+        pool_is = pool ∙ ap (λ (q : Query). after_question q options s) copied
+            ∙ ap (λ (o : DnsRequestOptions). after_question query o s) with;
+        asked = subst (λ (a : Asked). IsAskedAhead a query number before.table after.table)
+            (told ∙ ap (λ (q : Query). said_to q options s) copied ∙ ap (λ (o : DnsRequestOptions). said_to query o s) with)
+            (subst (λ (t : TableValue). IsAskedAhead said query number t after.table) same asked);
+        others_stay = others;
       }

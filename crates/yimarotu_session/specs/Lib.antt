@@ -1,3 +1,4 @@
+pub mod Ahead
 pub mod CacheSetting
 pub mod Calls
 pub mod FileSettings

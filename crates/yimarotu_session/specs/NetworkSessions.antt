@@ -18,8 +18,9 @@ use Rattle.hickory_resolver_pool.specs.Over.{OverValue}
 use Rattle.hickory_resolver_pool.specs.Pool.{PoolState, after_forgetting, after_tick, no_servers}
 use Rattle.hickory_resolver_pool.specs.declared.limits.PoolLimits.{PoolLimits}
 use Rattle.yimarotu_session.specs.Calls.{Does}
-use Rattle.yimarotu_session.specs.LookupTables.{TableValue, TakesPlace, asker_of, held_at, lookup_of, no_lookups, without_asker}
-use Rattle.yimarotu_session.specs.Sessions.{PutsUnder}
+use Rattle.yimarotu_session.specs.LookupTables.{IsForgotten, TableValue, BeginsAt, asker_of, held_at, lookup_of, no_lookups}
+use Rattle.yimarotu_session.specs.declared.ahead.Ahead.{Ahead}
+use Rattle.yimarotu_session.specs.declared.ahead.Ahead.TheVariants.{Nothing}
 use Rattle.yimarotu_session.specs.declared.network_lookup.NetworkLookup.{NetworkLookup}
 use Rattle.yimarotu_session.specs.declared.network_lookup.NetworkLookup.TheVariants.{Asks, Asked, Done}
 use Rattle.yimarotu_session.specs.declared.session_error.SessionError.{SessionError}
@@ -56,48 +57,45 @@ abbrev pub seconds_of : ℕ → ℕ
 seconds_of moment = moment / 1000
 
 -- it waits to ask its question, or is done, behind those that came to that before
-pub record Begins (Comes : Does) (number now : ℕ) (before after : NetworkValue) : Type 0 where
+pub record Begins (Comes : Does) (ahead : Option Ahead) (number now : ℕ) (before after : NetworkValue) : Type 0 where
   pub progress : CallProgress
   pub comes : Comes before.resolver (progress_of progress) after.resolver
-  pub takes_place : TakesPlace number (lookup_of progress) before.table after.table
+  pub begins : BeginsAt number (lookup_of progress) ahead before.table after.table
   pub pool_is : after.pool ≡ after_tick now before.pool
   pub telling_stays : after.telling ≡ before.telling
 
 -- under a number that no other has; where there is no memory to keep it nothing is begun
-abbrev pub BeginsLookup : Does → ℕ → ℕ → NetworkValue → Result (Unit {0}) SessionError → NetworkValue → Type 0
-BeginsLookup Comes number now before result after =
+abbrev pub BeginsLookup : Does → Option Ahead → ℕ → ℕ → NetworkValue → Result (Unit {0}) SessionError → NetworkValue
+    → Type 0
+BeginsLookup Comes ahead number now before result after =
     MatchOption (held_at number before.table)
-    (MatchResult result (λ u. Begins Comes number now before after) (λ error. (error ≡ OutOfMemory) × (after ≡ before)))
+    (MatchResult result (λ u. Begins Comes ahead number now before after)
+    (λ error. (error ≡ OutOfMemory) × (after ≡ before)))
     (λ held. (result ≡ Err InUse) × (after ≡ before))
 
--- a look-up of records of a type for a name, and of the addresses of a host
+-- A look-up of records of a type for a name, and of the addresses of a host. Ahead of one of addresses a question may
+-- be asked.
 abbrev pub BeginsName : ℕ → List ℕ → RecordType → ℕ → NetworkValue → Result (Unit {0}) SessionError → NetworkValue
     → Type 0
-BeginsName number name t now = BeginsLookup (StartsName (IsReadName name) t (seconds_of now)) number now
+BeginsName number name t now = BeginsLookup (StartsName (IsReadName name) t (seconds_of now)) None number now
 
 abbrev pub BeginsHost : ℕ → List ℕ → ℕ → NetworkValue → Result (Unit {0}) SessionError → NetworkValue → Type 0
 BeginsHost number host now =
-    BeginsLookup (StartsHost (IsReadAddress host) (IsReadName host) (seconds_of now)) number now
+    BeginsLookup (StartsHost (IsReadAddress host) (IsReadName host) (seconds_of now)) (Some Nothing) number now
 
 -- ---- a look-up is forgotten
 
 abbrev pub forgotten_by_pool : PoolState → Asker → PoolState
 forgotten_by_pool pool asker = after_forgetting asker pool
 
-abbrev pub without_its_asker : TableValue → Asker → TableValue
-without_its_asker table asker = without_asker asker.number table
-
--- where there is one of this number; and the pool forgets its asker, where it has one
+-- Where there is one of this number; and the pool forgets its asker, where it has one. The asker of what was asked
+-- ahead of it is forgotten next.
 pub record Cancels (number : ℕ) (before : NetworkValue) (was_there : Bool) (after : NetworkValue) : Type 0 where
   pub told : was_there ≡ is_some (held_at number before.table)
   pub resolver_stays : after.resolver ≡ before.resolver
   pub pool_is : after.pool
       ≡ option_map_or (forgotten_by_pool before.pool) (asker_of (held_at number before.table)) before.pool
-  pub puts : PutsUnder number None before.table.lookups after.table.lookups
-  pub table_is : after.table
-      ≡ record (option_map_or (without_its_asker before.table) (asker_of (held_at number before.table)) before.table) {
-        lookups = after.table.lookups;
-      }
+  pub is_forgotten : IsForgotten number before.table after.table
   pub telling_stays : after.telling ≡ before.telling
 
 -- ---- what is known of a look-up

@@ -1,16 +1,15 @@
--- The steps of a session with a network: who is told of a transaction that is over, whose question is asked, who is
--- done, and else what the pool does next.
-use Rattle.std.specs.Prelude.{◌≡◌, ◌+◌, ℕ, false, true, List, MatchOption, Option, None, Some, slice_get}
+-- The steps of a session with a network: who is told of a transaction that is over, who is forgotten, whose question is
+-- asked, who is done, and else what the pool does next.
+use Rattle.std.specs.Prelude.{◌≡◌, ◌+◌, ℕ, false, MatchOption, Option, None, Some, slice_get}
 use Rattle.hickory_proto_core.specs.Handles.{OutcomeValue}
+use Rattle.hickory_proto_core.specs.declared.query.Query.{Query}
 use Rattle.hickory_resolver.specs.Contexts.{progress_of}
 use Rattle.hickory_resolver.specs.Driving.{CallProgress}
 use Rattle.hickory_resolver.specs.Starting.{ResumesAt}
 use Rattle.hickory_resolver_askers.specs.declared.asker.Asker.{Asker}
-use Rattle.hickory_resolver_model.specs.Lookup.{LookupResult}
 use Rattle.hickory_resolver_model.specs.Options.{request_options_of}
-use Rattle.hickory_resolver_model.specs.Resolver.{ResolverValue}
 use Rattle.hickory_resolver_pool.specs.Over.{IsCoreOutcome, IsToldToCore, OverValue}
-use Rattle.hickory_resolver_pool.specs.Pool.{PoolState, Steps, after_asking, asking_told, list_of, settings_for}
+use Rattle.hickory_resolver_pool.specs.Pool.{PoolState, Steps, after_asking, after_forgetting, asking_told, list_of, settings_for}
 use Rattle.hickory_resolver_pool.specs.declared.over.PoolOutcome.{PoolOutcome}
 use Rattle.hickory_resolver_pool.specs.declared.over.PoolOutcome.TheVariants.{Overloaded, Unreachable}
 use Rattle.hickory_resolver_pool.specs.declared.pool.Action.{Action}
@@ -21,17 +20,17 @@ use Rattle.hickory_resolver_theorems.specs.ResumingCalls.{WaitingCallValue}
 use Rattle.hickory_resolver_tries.specs.Question.{question_of}
 use Rattle.hickory_resolver_tries.specs.declared.pool_question.DnssecOptions.{DnssecOptions}
 use Rattle.hickory_resolver_tries.specs.declared.pool_question.PoolQuestion.{PoolQuestion}
-use Rattle.yimarotu_session.specs.LookupTables.{TableValue, TakesPlace, first_announced, first_asked, held_at, lookup_of, waits_for, with_asker, without_asker}
+use Rattle.yimarotu_session.specs.Ahead.{Resolver, ahead_of, told_ahead}
+use Rattle.yimarotu_session.specs.LookupTables.{ChangesAhead, IsAnnounced, TableValue, TakesPlace, ahead_at, emptied, first_announced, first_asked, first_forgotten, held_at, lookup_of, question_ahead, waits_ahead, waits_for, with_asker, without_asker}
 use Rattle.yimarotu_session.specs.Messages.{whole_query}
 use Rattle.yimarotu_session.specs.NetworkSessions.{NetworkValue, TellingValue}
 use Rattle.yimarotu_session.specs.Sessions.{PutsUnder}
+use Rattle.yimarotu_session.specs.declared.ahead.Ahead.{Ahead}
+use Rattle.yimarotu_session.specs.declared.ahead.Ahead.TheVariants as ahead
 use Rattle.yimarotu_session.specs.declared.network_lookup.NetworkLookup.{NetworkLookup}
 use Rattle.yimarotu_session.specs.declared.network_lookup.NetworkLookup.TheVariants.{Asks, Asked, Done}
 use Rattle.yimarotu_session.specs.declared.network_session.NetworkAction.{NetworkAction}
 use Rattle.yimarotu_session.specs.declared.network_session.NetworkAction.TheVariants as act
-
-abbrev pub Resolver : Type 0
-Resolver = ResolverValue (List OutcomeValue)
 
 -- ---- a look-up goes on
 
@@ -79,10 +78,20 @@ pub record TellsLookup
   pub told : IsCoreOutcome over outcome
   pub goes_on : GoesOnAt outcome number resolver (without_asker asker.number before) resolver' after
 
+-- what was asked ahead by this asker is kept with what the core is told, until the look-up comes to it
+pub record TellsAhead (over : OverValue) (asker : Asker) (before after : TableValue) (number : ℕ) : Type 0 where
+  pub outcome : OutcomeValue
+  pub told : IsCoreOutcome over outcome
+  pub changes : ChangesAhead number (told_ahead outcome) (without_asker asker.number before) after
+
 -- an asker that was forgotten is passed over
+abbrev pub TellsOther : OverValue → Asker → TableValue → TableValue → Type 0
+TellsOther over asker before after =
+    MatchOption (waits_ahead asker before) (after ≡ before) (TellsAhead over asker before after)
+
 abbrev pub TellsAsker : OverValue → Asker → Resolver → TableValue → Resolver → TableValue → Type 0
 TellsAsker over asker resolver before resolver' after =
-    MatchOption (waits_for asker before) ((resolver' ≡ resolver) × (after ≡ before))
+    MatchOption (waits_for asker before) ((resolver' ≡ resolver) × TellsOther over asker before after)
     (TellsLookup over asker resolver before resolver' after)
 
 -- an asker of the transaction that is over
@@ -99,28 +108,30 @@ abbrev pub Tells : NetworkValue → NetworkValue → TellingValue → Type 0
 Tells before after t =
     MatchOption (slice_get t.over.askers t.told) (after ≡ record before { telling = None }) (TellsNext t before after)
 
--- ---- a look-up asks its question
+-- ---- a question is asked of the pool
 
 abbrev pub no_dnssec : DnssecOptions
 no_dnssec = record { dnssec_ok = false; checking_disabled = false; authentic_data = false }
 
-abbrev pub pool_question : WaitingCallValue → NetworkValue → PoolQuestion
-pool_question w s = question_of (whole_query w.lookup.hop.query) (request_options_of s.resolver.options) no_dnssec
+abbrev pub pool_question : Query → NetworkValue → PoolQuestion
+pool_question q s = question_of q (request_options_of s.resolver.options) no_dnssec
 
 -- what the pool says to that
-abbrev pub pool_says : WaitingCallValue → NetworkValue → pool_asked.Asked
-pool_says w s = asking_told (list_of 0 s.pool.traffic) (pool_question w s) s.pool
+abbrev pub pool_says : Query → NetworkValue → pool_asked.Asked
+pool_says q s = asking_told (list_of 0 s.pool.traffic) (pool_question q s) s.pool
 
 -- no moment is told with it: it is the latest that was told
-abbrev pub pool_after : WaitingCallValue → NetworkValue → PoolState
-pool_after w s =
-    after_asking (list_of 0 s.pool.traffic) (pool_question w s)
+abbrev pub pool_after : Query → NetworkValue → PoolState
+pool_after q s =
+    after_asking (list_of 0 s.pool.traffic) (pool_question q s)
     (settings_for s.pool.options (request_options_of s.resolver.options)) 0 s.pool
+
+-- ---- a look-up asks its question
 
 -- it waits for what its asker is told
 pub record WaitsFor (w : WaitingCallValue) (asker : Asker) (number : ℕ) (before after : TableValue) : Type 0 where
   pub puts : PutsUnder number (Some (Asked w asker)) before.lookups after.lookups
-  pub others_are : after ≡ record (with_asker asker number (first_asked before)) { lookups = after.lookups }
+  pub others_are : after ≡ record (with_asker asker number before) { lookups = after.lookups }
 
 -- it is not asked, and goes on with what the core is told of that
 pub record IsRefused
@@ -139,37 +150,91 @@ IsAnswered asked.Overloaded w number resolver before resolver' after =
 IsAnswered asked.NoServers w number resolver before resolver' after =
     IsRefused Unreachable number resolver before resolver' after
 
+-- its turn is not over where it waits now: a question may be asked ahead of it
 pub record AsksPool (w : WaitingCallValue) (number : ℕ) (before after : NetworkValue) : Type 0 where
-  pub pool_is : after.pool ≡ pool_after w before
-  pub answered : IsAnswered (pool_says w before) w number before.resolver before.table after.resolver after.table
+  pub pool_is : after.pool ≡ pool_after (whole_query w.lookup.hop.query) before
+  pub answered : IsAnswered (pool_says (whole_query w.lookup.hop.query) before) w number before.resolver before.table
+      after.resolver after.table
   pub telling_stays : after.telling ≡ before.telling
 
--- one that was cancelled is passed over
+-- ---- its question was asked ahead, and nothing is asked ahead of it any more
+
+-- it waits for what the asker of that is told
+pub record TakesOver (w : WaitingCallValue) (asker : Asker) (number : ℕ) (before after : NetworkValue) : Type 0 where
+  pub mid : TableValue
+  pub empties : ChangesAhead number emptied before.table mid
+  pub waits : WaitsFor w asker number (first_asked mid) after.table
+  pub others_stay : after ≡ record before { table = after.table }
+
+-- it goes on with what that asker was told
+pub record UsesTold (outcome : OutcomeValue) (number : ℕ) (before after : NetworkValue) : Type 0 where
+  pub mid : TableValue
+  pub empties : ChangesAhead number emptied before.table mid
+  pub goes_on : GoesOnAt outcome number before.resolver (first_asked mid) after.resolver after.table
+  pub others_stay : after ≡ record before { resolver = after.resolver; table = after.table }
+
+abbrev pub AsksBy : Ahead → WaitingCallValue → ℕ → NetworkValue → NetworkValue → Type 0
+AsksBy ahead.Nothing w number before after = AsksPool w number before after
+AsksBy (ahead.Waits q a) w number before after = TakesOver w a number before after
+AsksBy (ahead.Told q outcome) w number before after = UsesTold outcome number before after
+
+abbrev pub AsksOwn : WaitingCallValue → ℕ → NetworkValue → NetworkValue → Type 0
+AsksOwn w number before after =
+    AsksBy (ahead_of (whole_query w.lookup.hop.query) (ahead_at number before.table)) w number before after
+
+-- ---- a question is asked ahead of a look-up
+
+-- where there is no place for it, nothing is asked ahead
+abbrev pub IsAskedAhead : pool_asked.Asked → Query → ℕ → TableValue → TableValue → Type 0
+IsAskedAhead (asked.Asker a) q number before after =
+    ChangesAhead number (λ nothing. ahead.Waits q a) (with_asker a number (first_asked before)) after
+IsAskedAhead other q number before after = after ≡ first_asked before
+
+pub record AsksAhead (number : ℕ) (before after : NetworkValue) (q : Query) : Type 0 where
+  pub pool_is : after.pool ≡ pool_after q before
+  pub asked : IsAskedAhead (pool_says q before) q number before.table after.table
+  pub others_stay : after ≡ record before { pool = after.pool; table = after.table }
+
+-- ---- the turn of a look-up
+
+-- One whose question is asked may ask another ahead. One that was cancelled is passed over.
+abbrev pub AsksOther : Option NetworkLookup → ℕ → NetworkValue → NetworkValue → Type 0
+AsksOther held number before after =
+    MatchOption (question_ahead before.resolver held (ahead_at number before.table))
+    (after ≡ record before { table = first_asked before.table })
+    (AsksAhead number before after)
+
 abbrev pub AsksAs : Option NetworkLookup → ℕ → NetworkValue → NetworkValue → Type 0
-AsksAs (Some (Asks w)) number before after = AsksPool w number before after
-AsksAs other number before after = after ≡ record before { table = first_asked before.table }
+AsksAs (Some (Asks w)) number before after = AsksOwn w number before after
+AsksAs other number before after = AsksOther other number before after
 
 abbrev pub AsksFor : NetworkValue → NetworkValue → ℕ → Type 0
 AsksFor before after number = AsksAs (held_at number before.table) number before after
 
 -- ---- a look-up is done
 
-pub record IsAnnounced
-    (found : LookupResult) (number : ℕ) (before : NetworkValue) (action : Option NetworkAction) (after : NetworkValue)
+pub record AnnouncesIt (number : ℕ) (before : NetworkValue) (action : Option NetworkAction) (after : NetworkValue)
     : Type 0 where
   pub action_is : action ≡ Some (act.Done number)
-  pub puts : PutsUnder number (Some (Done found true)) before.table.lookups after.table.lookups
-  pub others_stay : after
-      ≡ record before { table = record (first_announced before.table) { lookups = after.table.lookups } }
+  pub is_announced : IsAnnounced number before.table after.table
+  pub others_stay : after ≡ record before { table = after.table }
 
 -- one that was cancelled is passed over
 abbrev pub AnnouncesAs : Option NetworkLookup → ℕ → NetworkValue → Option NetworkAction → NetworkValue → Type 0
-AnnouncesAs (Some (Done found false)) number before action after = IsAnnounced found number before action after
+AnnouncesAs (Some (Done found false)) number before action after = AnnouncesIt number before action after
 AnnouncesAs other number before action after =
     (action ≡ Some act.Continue) × (after ≡ record before { table = first_announced before.table })
 
 abbrev pub Announces : NetworkValue → Option NetworkAction → NetworkValue → ℕ → Type 0
 Announces before action after number = AnnouncesAs (held_at number before.table) number before action after
+
+-- ---- an asker is forgotten, to whom nobody listens any more
+
+abbrev pub forgotten : NetworkValue → Asker → NetworkValue
+forgotten s a = record s {
+  pool = after_forgetting a s.pool;
+  table = first_forgotten (without_asker a.number s.table);
+}
 
 -- ---- the pool's step
 
@@ -200,15 +265,21 @@ abbrev pub AnnouncesFirst : NetworkValue → Option NetworkAction → NetworkVal
 AnnouncesFirst before action after =
     MatchOption (slice_get before.table.to_announce 0) (StepsPool before action after) (Announces before action after)
 
--- whose question is asked, in the order in which they came to that
+-- whose turn it is to ask, in the order in which they came to that
 abbrev pub AsksFirst : NetworkValue → Option NetworkAction → NetworkValue → Type 0
 AsksFirst before action after =
     MatchOption (slice_get before.table.to_ask 0) (AnnouncesFirst before action after)
     (λ number. (action ≡ Some act.Continue) × AsksFor before after number)
 
+-- who is forgotten
+abbrev pub ForgetsFirst : NetworkValue → Option NetworkAction → NetworkValue → Type 0
+ForgetsFirst before action after =
+    MatchOption (slice_get before.table.to_forget 0) (AsksFirst before action after)
+    (λ a. (action ≡ Some act.Continue) × (after ≡ forgotten before a))
+
 -- A step: what the program has to do for it, nothing where nothing was left to be done, and the session after it. Who
 -- asked is told first.
 abbrev pub SessionSteps : NetworkValue → Option NetworkAction → NetworkValue → Type 0
 SessionSteps before action after =
-    MatchOption before.telling (AsksFirst before action after)
+    MatchOption before.telling (ForgetsFirst before action after)
     (λ t. (action ≡ Some act.Continue) × Tells before after t)

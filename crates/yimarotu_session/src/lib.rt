@@ -2,6 +2,7 @@
 //! asks a pool of name servers by itself.
 #![tactic(auto)]
 
+pub mod ahead;
 mod cache_setting;
 mod file_settings;
 mod going_on;

@@ -1,10 +1,11 @@
 //! A look-up of a session with a network.
 ghost use Rattle.std.specs.Prelude.{◌≡◌, IfOk};
 ghost use Rattle.std.specs.Option.{option_copied};
-ghost use Rattle.yimarotu_session.specs.LookupTables.{announced, asked_by, asker_of, is_same, is_unannounced, lookup_of, question_to_ask};
+ghost use Rattle.yimarotu_session.specs.LookupTables.{announced, asked_by, asker_of, is_same, is_unannounced, lookup_of, question_ahead, question_to_ask};
 ghost use Rattle.yimarotu_session.specs.Messages.{whole_query};
 ghost use Rattle.yimarotu_session.specs.NetworkSteps.{GoesOn};
 
+use crate::ahead::{Ahead, second_question};
 use crate::messages::whole_query;
 use crate::network_session::NetworkResolver;
 use hickory_proto_core::{NetError, Outcome, Query};
@@ -43,11 +44,7 @@ pub(crate) fn lookup_of(progress: CallProgress) -> NetworkLookup
 }
 
 // Goes on with a look-up that waits by what it is told. One that is done stays.
-pub(crate) fn go_on(
-    resolver: &mut NetworkResolver,
-    lookup: &mut NetworkLookup,
-    outcome: Outcome,
-)
+pub(crate) fn go_on(resolver: &mut NetworkResolver, lookup: &mut NetworkLookup, outcome: Outcome)
     ensures { GoesOn outcome resolver.old lookup.old resolver.new lookup.new }
 {
     let gone = NetworkLookup::Done {
@@ -57,11 +54,7 @@ pub(crate) fn go_on(
     *lookup = gone_on(resolver, mem::replace(lookup, gone), outcome);
 }
 
-fn gone_on(
-    resolver: &mut NetworkResolver,
-    lookup: NetworkLookup,
-    outcome: Outcome,
-) -> NetworkLookup
+fn gone_on(resolver: &mut NetworkResolver, lookup: NetworkLookup, outcome: Outcome) -> NetworkLookup
     ensures { GoesOn outcome resolver.old lookup resolver.new result }
 {
     match lookup {
@@ -87,6 +80,25 @@ fn whole_copy(query: &Query) -> Result<Query, AllocError>
     let mut copy = Clone::clone(query)?;
     whole_query(&mut copy);
     Ok(copy)
+}
+
+// The question that is to be asked ahead of a look-up whose question is asked, where there is a place for it and
+// nothing was asked yet.
+pub(crate) fn question_ahead(
+    resolver: &NetworkResolver,
+    lookup: Option<&NetworkLookup>,
+    ahead: Option<&Ahead>,
+) -> Result<Option<Query>, AllocError>
+    ensures { IfOk result (λ query. query
+        ≡ question_ahead resolver.now (option_copied lookup.entry) (option_copied ahead.entry)) }
+{
+    match lookup {
+        Some(NetworkLookup::Asked(call, _)) => match ahead {
+            Some(Ahead::Nothing) => second_question(resolver, call),
+            _ => Ok(None),
+        },
+        _ => Ok(None),
+    }
 }
 
 // Who asks for a look-up.

@@ -5,9 +5,10 @@ ghost use Rattle.hickory_resolver_pool.specs.Servers.{first_fixed};
 ghost use Rattle.hickory_resolver_traffic.specs.Tasks.{next_deadline};
 ghost use Rattle.yimarotu_session.specs.NetworkSessions.{BeginsHost, BeginsName, Cancels, ClearsName, cleared, found_at, new_session, question_at, with_pool};
 
+use crate::ahead::Ahead;
 use crate::lookup_table::LookupTable;
 use crate::network_lookup::{NetworkLookup, asker_of, lookup_of};
-use crate::numbered::forget;
+use crate::network_steps::forget_asker;
 use crate::session_error::SessionError;
 use crate::telling::Telling;
 use hickory_proto_core::{NetError, Query, RecordType, ScriptHandle};
@@ -108,18 +109,20 @@ impl NetworkSession {
         self.table.reserve_lookup(number)?;
         let progress = self.resolver.start_lookup(name, record_type, now / 1000);
         self.pool.tick(now);
-        self.table.begin(number, lookup_of(progress));
+        self.table.begin(number, lookup_of(progress), None);
         Ok(())
     }
 
-    /// The same of the addresses of a host.
+    /// The same of the addresses of a host. Where both families are wanted, the question of the second is asked beside
+    /// that of the first.
     pub fn start_ip(&mut self, number: u64, host: &str, now: u64) -> Result<(), SessionError>
         ensures { BeginsHost number host.now now self.old result self.new }
     {
         self.table.reserve_lookup(number)?;
         let progress = self.resolver.start_lookup_ip(host, now / 1000);
         self.pool.tick(now);
-        self.table.begin(number, lookup_of(progress));
+        self.table
+            .begin(number, lookup_of(progress), Some(Ahead::Nothing));
         Ok(())
     }
 
@@ -129,11 +132,9 @@ impl NetworkSession {
         ensures ok { IfOk result (λ was_there. Cancels number self.old was_there self.new) }
         ensures err { OnErr result (self.new ≡ self.old) }
     {
-        if let Some(asker) = asker_of(self.table.lookups.get(&number)) {
-            self.pool.forget(&asker)?;
-            self.table.remove_asker(asker.number);
-        }
-        Ok(forget(&mut self.table.lookups, number))
+        self.table.reserve_forgetting()?;
+        forget_asker(&mut self.pool, asker_of(self.table.lookups.get(&number)))?;
+        Ok(self.table.forget(number))
     }
 
     /// The servers that are asked from now on, of which nothing is known yet. What is in flight goes on with those that

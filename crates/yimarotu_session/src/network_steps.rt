@@ -1,15 +1,17 @@
 //! The steps of a session with a network.
 ghost use Rattle.std.specs.Prelude.{◌≡◌, ◌<◌, IfOk, None, OnErr, OnOk, Some, length};
+ghost use Rattle.std.specs.Option.{option_map_or};
 ghost use Rattle.hickory_resolver_pool.specs.Over.{IsFault};
 ghost use Rattle.hickory_resolver_pool.specs.Pool.{after_asking, asking_told, list_of, settings_for};
 ghost use Rattle.hickory_resolver_theorems.specs.ResumingCalls.{WaitingCallValue};
 ghost use Rattle.hickory_resolver_tries.specs.Question.{question_of};
 ghost use Rattle.yimarotu_session.specs.LookupTables.{HasRoomToAsk, held_at, table_of};
 ghost use Rattle.yimarotu_session.specs.Messages.{whole_query};
-ghost use Rattle.yimarotu_session.specs.NetworkSessions.{TellingValue};
-ghost use Rattle.yimarotu_session.specs.NetworkSteps.{Announces, AsksFor, AsksPool, IsAnswered, SessionSteps, StepsPool, Tells, TellsAsker, TellsLookup, action_of, no_dnssec, one_more};
+ghost use Rattle.yimarotu_session.specs.NetworkSessions.{TellingValue, forgotten_by_pool};
+ghost use Rattle.yimarotu_session.specs.NetworkSteps.{Announces, AsksAhead, AsksFor, AsksOther, AsksOwn, AsksPool, IsAnswered, IsAskedAhead, SessionSteps, StepsPool, Tells, TellsAsker, TellsLookup, TellsOther, action_of, forgotten, no_dnssec, one_more};
 ghost use Rattle.yimarotu_session.specs.declared.network_lookup.NetworkLookup.TheVariants.{Asks};
 
+use crate::ahead::Ahead;
 use crate::lookup_table::LookupTable;
 use crate::network_session::{GROUP, NetworkAction, NetworkResolver, NetworkSession, Pool};
 use crate::telling::Telling;
@@ -23,8 +25,9 @@ const LATEST: u64 = 0;
 
 impl NetworkSession {
     /// Does the next step, and answers what the program has to do for it; `None` where nothing is left to be done. Who
-    /// asked in a transaction that is over is told first; then questions are asked, and look-ups that are done are
-    /// announced, each in the order in which they came to that; and else the pool does its next step.
+    /// asked in a transaction that is over is told first; then who asked ahead of a look-up that is no more is
+    /// forgotten, questions are asked, and look-ups that are done are announced, each in the order in which they came
+    /// to that; and else the pool does its next step.
     pub fn next_action(&mut self) -> Result<Option<NetworkAction>, AllocError>
         ensures ok { IfOk result (λ action. SessionSteps self.old action self.new) }
         ensures err { OnErr result (self.new ≡ self.old) }
@@ -33,12 +36,16 @@ impl NetworkSession {
             self.tell()?;
             return Ok(Some(NetworkAction::Continue));
         }
+        if let Some(asker) = self.table.first_to_forget() {
+            self.forget(&asker)?;
+            return Ok(Some(NetworkAction::Continue));
+        }
         if let Some(number) = self.table.first_to_ask() {
             self.ask_for(number)?;
             return Ok(Some(NetworkAction::Continue));
         }
         match self.table.first_to_announce() {
-            Some(number) => Ok(Some(self.announce(number))),
+            Some(number) => Ok(Some(self.announce(number)?)),
             None => self.step_pool(),
         }
     }
@@ -60,21 +67,50 @@ impl NetworkSession {
         }
     }
 
-    // The look-up of a number asks its question, where it waits to.
+    // An asker to whom nobody listens any more, the first of those, is forgotten.
+    fn forget(&mut self, asker: &Asker) -> Result<(), AllocError>
+        ensures ok { OnOk result (self.new ≡ forgotten self.old asker.now) }
+        ensures err { OnErr result (self.new ≡ self.old) }
+    {
+        self.pool.forget(asker)?;
+        self.table.pop_to_forget(asker.number);
+        Ok(())
+    }
+
+    // The look-up of a number asks its question, where it waits to, and else one ahead.
     fn ask_for(&mut self, number: u64) -> Result<(), AllocError>
         ensures ok { OnOk result (AsksFor self.old self.new number) }
         ensures err { OnErr result (self.new ≡ self.old) }
     {
         match self.table.question_to_ask(number)? {
-            Some(query) => self.ask(number, query),
-            None => {
+            Some(query) => self.ask_own(number, query),
+            None => self.ask_other(number),
+        }
+    }
+
+    // The look-up of a number, which waits to, asks this question, unless it was asked ahead.
+    fn ask_own(&mut self, number: u64, query: Query) -> Result<(), AllocError>
+        ensures ok { (w : WaitingCallValue) → held_at number self.old.table ≡ Some (Asks w)
+            → query ≡ whole_query w.lookup.hop.query → OnOk result (AsksOwn w number self.old self.new) }
+        ensures err { OnErr result (self.new ≡ self.old) }
+    {
+        self.table.reserve_asker()?;
+        match self.table.take_ahead(number, &query) {
+            Ahead::Nothing => self.ask(number, query),
+            Ahead::Waits(_, asker) => {
                 self.table.pop_to_ask();
+                self.table.wait_for(number, asker);
+                Ok(())
+            }
+            Ahead::Told(_, outcome) => {
+                self.table.pop_to_ask();
+                self.table.go_on(&mut self.resolver, number, outcome);
                 Ok(())
             }
         }
     }
 
-    // The look-up of a number, which waits to, asks this question.
+    // The look-up of a number, which waits to, asks this question of the pool.
     fn ask(&mut self, number: u64, query: Query) -> Result<(), AllocError>
         ensures ok { (w : WaitingCallValue) → held_at number self.old.table ≡ Some (Asks w)
             → query ≡ whole_query w.lookup.hop.query → OnOk result (AsksPool w number self.old self.new) }
@@ -87,14 +123,43 @@ impl NetworkSession {
         Ok(())
     }
 
-    // The look-up of a number is done, unless it was cancelled.
-    fn announce(&mut self, number: u64) -> NetworkAction
-        ensures { Announces self.old (Some result) self.new number }
+    // Ahead of the look-up of a number, whose turn ends, a question is asked, where there is one.
+    fn ask_other(&mut self, number: u64) -> Result<(), AllocError>
+        ensures ok { OnOk result (AsksOther (held_at number self.old.table) number self.old self.new) }
+        ensures err { OnErr result (self.new ≡ self.old) }
     {
+        match self.table.question_ahead(&self.resolver, number)? {
+            Some(query) => self.ask_ahead(number, query),
+            None => {
+                self.table.pop_to_ask();
+                Ok(())
+            }
+        }
+    }
+
+    // This question is asked ahead of the look-up of a number.
+    fn ask_ahead(&mut self, number: u64, query: Query) -> Result<(), AllocError>
+        ensures ok { OnOk result (AsksAhead number self.old self.new query) }
+        ensures err { OnErr result (self.new ≡ self.old) }
+    {
+        self.table.reserve_asker()?;
+        let options = self.resolver.request_options();
+        let copy = Clone::clone(&query)?;
+        let asked = ask_pool(&mut self.pool, copy, options)?;
+        answer_ahead(&mut self.table, number, query, asked);
+        Ok(())
+    }
+
+    // The look-up of a number is done, unless it was cancelled.
+    fn announce(&mut self, number: u64) -> Result<NetworkAction, AllocError>
+        ensures ok { IfOk result (λ action. Announces self.old (Some action) self.new number) }
+        ensures err { OnErr result (self.new ≡ self.old) }
+    {
+        self.table.reserve_forgetting()?;
         if self.table.announce(number) {
-            NetworkAction::Done(number)
+            Ok(NetworkAction::Done(number))
         } else {
-            NetworkAction::Continue
+            Ok(NetworkAction::Continue)
         }
     }
 
@@ -142,8 +207,9 @@ fn tell_asker(
     ensures table { OnErr result (table_of table.new ≡ table_of table.old) }
     ensures telling { OnErr result (telling.new ≡ telling.old) }
 {
-    if let Some(number) = table.waits_for(asker) {
-        tell_lookup(resolver, table, telling, asker, number)?;
+    match table.waits_for(asker) {
+        Some(number) => tell_lookup(resolver, table, telling, asker, number)?,
+        None => tell_other(table, telling, asker)?,
     }
     telling.count();
     Ok(())
@@ -169,6 +235,29 @@ fn tell_lookup(
     Ok(())
 }
 
+// What was asked ahead by an asker is kept with what its transaction came to.
+fn tell_other(table: &mut LookupTable, telling: &Telling, asker: &Asker) -> Result<(), AllocError>
+    ensures told { OnOk result (TellsOther telling.now.over asker.now (table_of table.old) (table_of table.new)) }
+    ensures table { OnErr result (table_of table.new ≡ table_of table.old) }
+{
+    if let Some(number) = table.waits_ahead(asker) {
+        let outcome = telling.outcome()?;
+        table.tell_ahead(asker.number, number, outcome);
+    }
+    Ok(())
+}
+
+// The pool forgets who asks for a look-up, where somebody does.
+pub(crate) fn forget_asker(pool: &mut Pool, asker: Option<Asker>) -> Result<(), AllocError>
+    ensures ok { OnOk result (pool.new ≡ option_map_or (forgotten_by_pool pool.old) asker pool.old) }
+    ensures err { OnErr result (pool.new ≡ pool.old) }
+{
+    if let Some(asker) = asker {
+        pool.forget(&asker)?;
+    }
+    Ok(())
+}
+
 // Asks a question of the pool, whose name is absolute: so memory alone is a reason to refuse it.
 fn ask_pool(pool: &mut Pool, query: Query, options: DnsRequestOptions) -> Result<Asked, AllocError>
     ensures told { IfOk result (λ told. told
@@ -188,17 +277,34 @@ fn ask_pool(pool: &mut Pool, query: Query, options: DnsRequestOptions) -> Result
     }
 }
 
-// The first look-up that waits to ask waits for its asker, or goes on, as the pool answered.
+// The first look-up that waits to ask waits for its asker, and its turn is not over; or it goes on, as the pool
+// answered.
 fn answer(resolver: &mut NetworkResolver, table: &mut LookupTable, number: u64, asked: Asked)
     requires { HasRoomToAsk table.old }
     ensures { (w : WaitingCallValue) → held_at number (table_of table.old) ≡ Some (Asks w)
         → IsAnswered asked w number resolver.old (table_of table.old) resolver.new (table_of table.new) }
 {
-    table.pop_to_ask();
     match asked {
         Asked::Asker(asker) => table.wait_for(number, asker),
-        Asked::Overloaded => table.go_on(resolver, number, failure(OVERLOADED)),
-        Asked::NoServers => table.go_on(resolver, number, failure(UNREACHABLE)),
+        Asked::Overloaded => {
+            table.pop_to_ask();
+            table.go_on(resolver, number, failure(OVERLOADED));
+        }
+        Asked::NoServers => {
+            table.pop_to_ask();
+            table.go_on(resolver, number, failure(UNREACHABLE));
+        }
+    }
+}
+
+// What is asked ahead of a look-up waits for its asker, as the pool answered. Its turn is over.
+fn answer_ahead(table: &mut LookupTable, number: u64, query: Query, asked: Asked)
+    requires { HasRoomToAsk table.old }
+    ensures { IsAskedAhead asked query number (table_of table.old) (table_of table.new) }
+{
+    table.pop_to_ask();
+    if let Asked::Asker(asker) = asked {
+        table.wait_ahead(number, query, asker);
     }
 }
 

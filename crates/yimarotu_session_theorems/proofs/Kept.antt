@@ -1,6 +1,7 @@
 -- What is kept by each event and each step of a session: its pool is one that was reached, what is being told was said
--- by it, and what happened to the resolver is told as events of calls.
-use Rattle.std.proofs.Common.{◌≡◌, ◌∙◌, ℕ, Bool, true, false, cond, List, [], ◌∷◌, ◌++◌, nat_eq, refl, sym, ap, subst, inl, inr, arith}
+-- by it, what was asked ahead of a look-up and told is from it, and what happened to the resolver is told as events of
+-- calls.
+use Rattle.std.proofs.Common.{◌≡◌, ◌∙◌, ℕ, Bool, true, false, cond, List, [], ◌∷◌, ◌++◌, nat_eq, refl, sym, ap, subst, ◌⊎◌, inl, inr, arith}
 use Rattle.std.specs.Prelude.{Option, None, Some}
 use Rattle.std.specs.List.{AllByRecursion}
 use Rattle.std.specs.Option.{option_and_then}
@@ -8,6 +9,7 @@ use Rattle.std.proofs.lemmas.Bool.Decides.{nat_tests}
 use Rattle.std.proofs.lemmas.List.{append_assoc}
 use Rattle.hickory_proto_core.specs.Handles.{OutcomeValue}
 use Rattle.hickory_proto_core.specs.declared.dns_request.DnsRequestOptions.{DnsRequestOptions}
+use Rattle.hickory_proto_core.specs.declared.query.Query.{Query}
 use Rattle.hickory_resolver.specs.Contexts.{progress_of}
 use Rattle.hickory_resolver.specs.Driving.{CallProgress}
 use Rattle.hickory_resolver.specs.client.waiting.Progress.TheVariants as progress
@@ -25,11 +27,14 @@ use Rattle.hickory_resolver_pool_theorems.specs.Runs as runs
 use Rattle.hickory_resolver_pool_theorems.proofs.Asked.{IsOwn, own-event, own-step}
 use Rattle.hickory_resolver_theorems.specs.InterleavedCalls.{CallDropped, CallEventValue, CallFed, CallStarted, CallWorldValue, CallsHappen, HostsReplaced, AllCleared, NameCleared, call_world_of}
 use Rattle.hickory_resolver_theorems.specs.ResumingCalls.{WaitingCallValue}
-use Rattle.hickory_resolver_tries.specs.Question.{question_eq}
+use Rattle.hickory_resolver_tries.specs.Question.{question_eq, question_of}
 use Rattle.hickory_resolver_tries.specs.declared.pool_question.PoolQuestion.{PoolQuestion}
-use Rattle.yimarotu_session.specs.LookupTables.{lookup_of}
+use Rattle.yimarotu_session.specs.LookupTables.{TableValue, lookup_of}
 use Rattle.yimarotu_session.specs.NetworkSessions.{NetworkValue, TellingValue, new_session}
+use Rattle.yimarotu_session.specs.NetworkSteps.{no_dnssec}
 use Rattle.yimarotu_session.specs.Sessions.{PutsUnder, value_at}
+use Rattle.yimarotu_session.specs.declared.ahead.Ahead.{Ahead}
+use Rattle.yimarotu_session.specs.declared.ahead.Ahead.TheVariants.{Nothing, Told, Waits}
 use Rattle.yimarotu_session.specs.declared.network_lookup.NetworkLookup.{NetworkLookup}
 use Rattle.yimarotu_session.specs.declared.network_lookup.NetworkLookup.TheVariants.{Asks, Asked, Done}
 use Rattle.yimarotu_session_theorems.specs.NetworkLaws.{IsFedFrom, IsFromPool, WasOver, question_with}
@@ -101,7 +106,7 @@ module _ (first : PoolState) (more past : List Happening) where
     ends = w.ends;
   }
 
-  from-grows : (question : PoolQuestion) (outcome : OutcomeValue) → IsFromPool first past question outcome
+  pub from-grows : (question : PoolQuestion) (outcome : OutcomeValue) → IsFromPool first past question outcome
       → IsFromPool first (more ++ past) question outcome
   from-grows question outcome (inl t) =
       inl (record { over = t.over; was_over = over-grows t.over t.was_over; same = t.same; told = t.told; read = t.read })
@@ -121,22 +126,25 @@ module _ (first : PoolState) (more past : List Happening) where
   all-fed-grow options told all =
       all-weaker (IsFedFrom first options past) (IsFedFrom first options (more ++ past)) told (fed-grows options) all
 
--- ---- look-ups whose question is asked
+-- ---- look-ups whose question is asked, and what is asked ahead of them
 
 abbrev pub Lookups : Type 0
 Lookups = List (ℕ × NetworkLookup)
 
+abbrev pub Places : Type 0
+Places = List (ℕ × Ahead)
+
 -- each that is asked later was asked before, by the same asker
-abbrev pub AsksLess : Lookups → Lookups → Type 0
-AsksLess before after =
+abbrev pub LookupsLess : Lookups → Lookups → Type 0
+LookupsLess before after =
     (n : ℕ) (w : WaitingCallValue) (a : Asker) → value_at n after ≡ Some (Asked w a) → value_at n before ≡ Some (Asked w a)
 
 abbrev pub IsNotAsked : Option NetworkLookup → Type 0
 IsNotAsked held = (w : WaitingCallValue) (a : Asker) → held ≡ Some (Asked w a) → ⊥
 
-pub asks-less : (n : ℕ) (held : Option NetworkLookup) (before after : Lookups) → IsNotAsked held
-    → PutsUnder n held before after → AsksLess before after
-asks-less n held before after none puts m w a there = by (nat_eq n m) (sym (puts m) ∙ there)
+pub lookups-less : (n : ℕ) (held : Option NetworkLookup) (before after : Lookups) → IsNotAsked held
+    → PutsUnder n held before after → LookupsLess before after
+lookups-less n held before after none puts m w a there = by (nat_eq n m) (sym (puts m) ∙ there)
   where
     by : (b : Bool) → cond b held (value_at m before) ≡ Some (Asked w a) → value_at m before ≡ Some (Asked w a)
     by true e = absurd (none w a e)
@@ -146,8 +154,8 @@ pub lookup-not-asked : (p : CallProgress) → IsNotAsked (Some (lookup_of p))
 lookup-not-asked (progress.Waiting v) w a e = absurd cc
 lookup-not-asked (progress.Done found) w a e = absurd cc
 
-pub asks-same : (before after : Lookups) → after ≡ before → AsksLess before after
-asks-same before after same n w a there = ap (λ (l : Lookups). value_at n l) (sym same) ∙ there
+pub lookups-same : (before after : Lookups) → after ≡ before → LookupsLess before after
+lookups-same before after same n w a there = ap (λ (l : Lookups). value_at n l) (sym same) ∙ there
 
 -- ---- a session
 
@@ -158,24 +166,93 @@ module _ (resolver : ResolverValue (List OutcomeValue)) (limits : PoolLimits) (s
   abbrev pub options : DnsRequestOptions
   options = request_options_of resolver.options
 
-  -- the transaction of its asker asks its question, where it is there still
-  pub record IsAskedFor (pool : PoolState) (w : WaitingCallValue) (a : Asker) : Type 0 where
+  -- a question that is asked ahead
+  abbrev pub question_for : Query → PoolQuestion
+  question_for q = question_of q options no_dnssec
+
+  -- ---- what is asked ahead
+
+  -- what needs no asker: nothing is asked, or the pool told it
+  abbrev pub IsSettled : List Happening → Ahead → Type 0
+  IsSettled past Nothing = Unit {0}
+  IsSettled past (Waits q a) = ⊥
+  IsSettled past (Told q outcome) = IsFromPool first past (question_for q) outcome
+
+  -- each that waits later waited before, for the same asker
+  abbrev pub PlacesLess : List Happening → Places → Places → Type 0
+  PlacesLess past before after =
+      (n : ℕ) (x : Ahead) → value_at n after ≡ Some x → (value_at n before ≡ Some x) ⊎ IsSettled past x
+
+  abbrev pub IsSettledAt : List Happening → Option Ahead → Type 0
+  IsSettledAt past None = Unit {0}
+  IsSettledAt past (Some x) = IsSettled past x
+
+  pub places-less : (past : List Happening) (n : ℕ) (place : Option Ahead) (before after : Places) → IsSettledAt past place
+      → PutsUnder n place before after → PlacesLess past before after
+  places-less past n place before after settled puts m x there = by (nat_eq n m) (sym (puts m) ∙ there)
+    where
+      settled-one : (y : Option Ahead) → IsSettledAt past y → y ≡ Some x → IsSettled past x
+      settled-one None h e = let clash : None ≡ Some x = e in absurd cc
+      settled-one (Some y) h e = let same : y ≡ x = cc in subst (λ (z : Ahead). IsSettled past z) same h
+
+      by : (b : Bool) → cond b place (value_at m before) ≡ Some x → (value_at m before ≡ Some x) ⊎ IsSettled past x
+      by true e = inr (settled-one place settled e)
+      by false e = inl e
+
+  pub places-same : (past : List Happening) (before after : Places) → after ≡ before → PlacesLess past before after
+  places-same past before after same n x there = inl (ap (λ (l : Places). value_at n l) (sym same) ∙ there)
+
+  pub record AsksLess (past : List Happening) (before after : TableValue) : Type 0 where
+    pub lookups : LookupsLess before.lookups after.lookups
+    pub places : PlacesLess past before.ahead after.ahead
+
+  pub asks-same : (past : List Happening) (before after : TableValue) → after ≡ before → AsksLess past before after
+  asks-same past before after same = record {
+    lookups = lookups-same before.lookups after.lookups (ap (λ (t : TableValue). t.lookups) same);
+    places = places-same past before.ahead after.ahead (ap (λ (t : TableValue). t.ahead) same);
+  }
+
+  -- ---- who asks
+
+  -- the transaction of an asker asks an equal question, where it is there still
+  pub record IsAskedFor (pool : PoolState) (question : PoolQuestion) (a : Asker) : Type 0 where
     pub list : ℕ
-    pub own : IsOwn (list, question_with options w) a.transaction pool
+    pub asked : PoolQuestion
+    pub same : question_eq question asked ≡ true
+    pub own : IsOwn (list, asked) a.transaction pool
 
   abbrev pub AreAskedFor : PoolState → Lookups → Type 0
   AreAskedFor pool lookups =
-      (n : ℕ) (w : WaitingCallValue) (a : Asker) → value_at n lookups ≡ Some (Asked w a) → IsAskedFor pool w a
+      (n : ℕ) (w : WaitingCallValue) (a : Asker) → value_at n lookups ≡ Some (Asked w a)
+      → IsAskedFor pool (question_with options w) a
 
-  -- look-ups of a transaction asked what is told of it
+  abbrev pub IsAhead : List Happening → PoolState → Ahead → Type 0
+  IsAhead past pool Nothing = Unit {0}
+  IsAhead past pool (Waits q a) = IsAskedFor pool (question_for q) a
+  IsAhead past pool (Told q outcome) = IsFromPool first past (question_for q) outcome
+
+  abbrev pub AreAhead : List Happening → PoolState → Places → Type 0
+  AreAhead past pool places = (n : ℕ) (x : Ahead) → value_at n places ≡ Some x → IsAhead past pool x
+
+  -- look-ups of a transaction, and what is asked ahead of them, asked what is told of it
   abbrev pub AskedEqual : OverValue → Lookups → Type 0
   AskedEqual over lookups =
       (n : ℕ) (w : WaitingCallValue) (a : Asker) → value_at n lookups ≡ Some (Asked w a)
       → a.transaction ≡ over.transaction → question_eq (question_with options w) over.question ≡ true
 
-  abbrev pub IsTelling : List Happening → Lookups → Option TellingValue → Type 0
-  IsTelling past lookups None = Unit {0}
-  IsTelling past lookups (Some t) = WasOver first past t.over × AskedEqual t.over lookups
+  abbrev pub AheadEqual : OverValue → Places → Type 0
+  AheadEqual over places =
+      (n : ℕ) (q : Query) (a : Asker) → value_at n places ≡ Some (Waits q a)
+      → a.transaction ≡ over.transaction → question_eq (question_for q) over.question ≡ true
+
+  pub record IsToldOf (past : List Happening) (table : TableValue) (over : OverValue) : Type 0 where
+    pub was_over : WasOver first past over
+    pub asked : AskedEqual over table.lookups
+    pub ahead : AheadEqual over table.ahead
+
+  abbrev pub IsTelling : List Happening → TableValue → Option TellingValue → Type 0
+  IsTelling past table None = Unit {0}
+  IsTelling past table (Some t) = IsToldOf past table t.over
 
   pub record Kept (s : NetworkValue) : Type 0 where
     pub past : List Happening
@@ -188,7 +265,8 @@ module _ (resolver : ResolverValue (List OutcomeValue)) (limits : PoolLimits) (s
     pub flying : AreFlying flights (call_at s.table.lookups)
     pub fed : AllByRecursion (IsFedFrom first options past) told
     pub asked : AreAskedFor s.pool s.table.lookups
-    pub telling : IsTelling past s.table.lookups s.telling
+    pub ahead : AreAhead past s.pool s.table.ahead
+    pub telling : IsTelling past s.table s.telling
 
   pub kept-first : Kept (new_session resolver limits seed)
   kept-first = record {
@@ -201,6 +279,7 @@ module _ (resolver : ResolverValue (List OutcomeValue)) (limits : PoolLimits) (s
     flying = record { once = tt; wait = λ n. refl };
     fed = tt;
     asked = λ n w a there. let clash : None ≡ Some (Asked w a) = there in absurd cc;
+    ahead = λ n x there. let clash : None ≡ Some x = there in absurd cc;
     telling = tt;
   }
 
@@ -208,47 +287,80 @@ module _ (resolver : ResolverValue (List OutcomeValue)) (limits : PoolLimits) (s
   pub record PoolMoves (past : List Happening) (before after : PoolState) : Type 0 where
     pub later : List Happening
     pub runs : Runs first (later ++ past) after
-    pub asked : (w : WaitingCallValue) (a : Asker) → IsAskedFor before w a → IsAskedFor after w a
+    pub asked : (question : PoolQuestion) (a : Asker) → IsAskedFor before question a → IsAskedFor after question a
 
-  telling-grows : (past more : List Happening) (before after : Lookups) (t : Option TellingValue) → AsksLess before after
-      → IsTelling past before t → IsTelling (more ++ past) after t
+  pub told-grows : (past more : List Happening) (before after : TableValue) (over : OverValue)
+      → AsksLess (more ++ past) before after → IsToldOf past before over → IsToldOf (more ++ past) after over
+  told-grows past more before after over less h = record {
+    was_over = over-grows first more past over h.was_over;
+    asked = λ n w a there. h.asked n w a (less.lookups n w a there);
+    ahead = λ n q a there. by n q a (less.places n (Waits q a) there);
+  }
+    where
+      by : (n : ℕ) (q : Query) (a : Asker) → (value_at n before.ahead ≡ Some (Waits q a)) ⊎ ⊥
+          → a.transaction ≡ over.transaction → question_eq (question_for q) over.question ≡ true
+      by n q a (inl there) same = h.ahead n q a there same
+      by n q a (inr never) same = absurd never
+
+  pub telling-grows : (past more : List Happening) (before after : TableValue) (t : Option TellingValue)
+      → AsksLess (more ++ past) before after → IsTelling past before t → IsTelling (more ++ past) after t
   telling-grows past more before after None less h = tt
-  telling-grows past more before after (Some t) less (was_over, equal) =
-      (over-grows first more past t.over was_over, λ n w a there. equal n w a (less n w a there))
+  telling-grows past more before after (Some t) less h = told-grows past more before after t.over less h
 
   module _ (s : NetworkValue) (k : Kept s) (after : NetworkValue) where
     abbrev pub pool-stays : after.pool ≡ s.pool → PoolMoves k.past s.pool after.pool
     pool-stays same = record {
       later = [];
       runs = subst (λ (p : PoolState). Runs first k.past p) (sym same) k.runs;
-      asked = λ w a h. subst (λ (p : PoolState). IsAskedFor p w a) (sym same) h;
+      asked = λ q a h. subst (λ (p : PoolState). IsAskedFor p q a) (sym same) h;
     }
 
     abbrev pub pool-takes : (e : PoolEvent) → after.pool ≡ after_event s.pool e → PoolMoves k.past s.pool after.pool
     pool-takes e same = record {
       later = came s.pool e ∷ [];
       runs = subst (λ (p : PoolState). Runs first (came s.pool e ∷ k.past) p) (sym same) (by_event k.past s.pool e k.runs);
-      asked = λ w a h. subst (λ (p : PoolState). IsAskedFor p w a) (sym same)
-          (record { list = h.list; own = own-event (h.list, question_with options w) a.transaction s.pool e h.own });
+      asked = λ q a h. subst (λ (p : PoolState). IsAskedFor p q a) (sym same)
+          (record { list = h.list; asked = h.asked; same = h.same; own = own-event (h.list, h.asked) a.transaction s.pool e h.own });
     }
 
     abbrev pub pool-does : (r : Option Action) → Steps s.pool r after.pool → PoolMoves k.past s.pool after.pool
     pool-does r steps = record {
       later = did s.pool r ∷ [];
       runs = by_step k.past s.pool after.pool r steps k.runs;
-      asked = λ w a h. record { list = h.list; own = own-step (h.list, question_with options w) a.transaction s.pool after.pool r steps h.own };
+      asked = λ q a h. record { list = h.list; asked = h.asked; same = h.same; own = own-step (h.list, h.asked) a.transaction s.pool after.pool r steps h.own };
     }
 
     -- what is being told was said before
-    pub tells-on : (more : List Happening) → after.telling ≡ s.telling → AsksLess s.table.lookups after.table.lookups
-        → IsTelling (more ++ k.past) after.table.lookups after.telling
+    pub tells-on : (more : List Happening) → after.telling ≡ s.telling → AsksLess (more ++ k.past) s.table after.table
+        → IsTelling (more ++ k.past) after.table after.telling
     tells-on more same less =
-        subst (λ (t : Option TellingValue). IsTelling (more ++ k.past) after.table.lookups t) (sym same)
-        (telling-grows k.past more s.table.lookups after.table.lookups s.telling less k.telling)
+        subst (λ (t : Option TellingValue). IsTelling (more ++ k.past) after.table t) (sym same)
+        (telling-grows k.past more s.table after.table s.telling less k.telling)
 
-    pub asked-on : (p : PoolMoves k.past s.pool after.pool) → AsksLess s.table.lookups after.table.lookups
+    pub asked-on : (p : PoolMoves k.past s.pool after.pool) → LookupsLess s.table.lookups after.table.lookups
         → AreAskedFor after.pool after.table.lookups
-    asked-on p less n w a there = p.asked w a (k.asked n w a (less n w a there))
+    asked-on p less n w a there = p.asked (question_with options w) a (k.asked n w a (less n w a there))
+
+    -- what was asked ahead before is so after it
+    pub ahead-grows : (p : PoolMoves k.past s.pool after.pool) (x : Ahead) → IsAhead k.past s.pool x
+        → IsAhead (p.later ++ k.past) after.pool x
+    ahead-grows p Nothing h = tt
+    ahead-grows p (Waits q a) h = p.asked (question_for q) a h
+    ahead-grows p (Told q outcome) h = from-grows first p.later k.past (question_for q) outcome h
+
+    pub ahead-on : (p : PoolMoves k.past s.pool after.pool) → PlacesLess (p.later ++ k.past) s.table.ahead after.table.ahead
+        → AreAhead (p.later ++ k.past) after.pool after.table.ahead
+    ahead-on p less n x there = by (less n x there)
+      where
+        settled : (y : Ahead) → IsSettled (p.later ++ k.past) y → IsAhead (p.later ++ k.past) after.pool y
+        settled Nothing h = tt
+        settled (Waits q a) h = absurd h
+        settled (Told q outcome) h = h
+
+        by : (value_at n s.table.ahead ≡ Some x) ⊎ IsSettled (p.later ++ k.past) x
+            → IsAhead (p.later ++ k.past) after.pool x
+        by (inl old) = ahead-grows p x (k.ahead n x old)
+        by (inr h) = settled x h
 
     -- what was done to the resolver
     pub record Done-to (past : List Happening) : Type 0 where
@@ -257,9 +369,9 @@ module _ (resolver : ResolverValue (List OutcomeValue)) (limits : PoolLimits) (s
       pub fed : AllByRecursion (IsFedFrom first options past) told
 
     pub keeps : (p : PoolMoves k.past s.pool after.pool) → Done-to (p.later ++ k.past)
-        → AreAskedFor after.pool after.table.lookups → IsTelling (p.later ++ k.past) after.table.lookups after.telling
-        → Kept after
-    keeps p d asked telling =
+        → AreAskedFor after.pool after.table.lookups → AreAhead (p.later ++ k.past) after.pool after.table.ahead
+        → IsTelling (p.later ++ k.past) after.table after.telling → Kept after
+    keeps p d asked ahead telling =
         let past = p.later ++ k.past in
         let cache = s.resolver.client.cache in
         record {
@@ -274,10 +386,12 @@ module _ (resolver : ResolverValue (List OutcomeValue)) (limits : PoolLimits) (s
           fed = all-append (IsFedFrom first options past) k.told d.told
               (all-fed-grow first p.later k.past options k.told k.fed) d.fed;
           asked = asked;
+          ahead = ahead;
           telling = telling;
         }
 
     -- where no look-up is asked anew, and somebody is told as before
     pub keeps-telling : (p : PoolMoves k.past s.pool after.pool) → Done-to (p.later ++ k.past)
-        → AsksLess s.table.lookups after.table.lookups → after.telling ≡ s.telling → Kept after
-    keeps-telling p d less same = keeps p d (asked-on p less) (tells-on p.later same less)
+        → AsksLess (p.later ++ k.past) s.table after.table → after.telling ≡ s.telling → Kept after
+    keeps-telling p d less same =
+        keeps p d (asked-on p less.lookups) (ahead-on p less.places) (tells-on p.later same less)

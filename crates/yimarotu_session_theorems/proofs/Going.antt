@@ -1,0 +1,183 @@
+-- What a step does to the resolver: nothing, or a look-up begins, goes on, or is dropped.
+use Rattle.std.proofs.Common.{◌≡◌, ◌∙◌, ℕ, List, [], ◌∷◌, refl, sym, ap, subst}
+use Rattle.std.specs.Prelude.{MatchOption, Option, None, Some}
+use Rattle.std.specs.Option.{option_and_then}
+use Rattle.hickory_proto_core.specs.Handles.{OutcomeValue}
+use Rattle.hickory_resolver.specs.Contexts.{progress_of}
+use Rattle.hickory_resolver.specs.Starting.{ResumesAt, StartsAt}
+use Rattle.hickory_resolver_model.specs.Cache.{CacheValue}
+use Rattle.hickory_resolver_model.specs.Resolver.{ResolverValue}
+use Rattle.hickory_resolver_model.specs.Run.{Call}
+use Rattle.hickory_resolver_pool.specs.declared.limits.PoolLimits.{PoolLimits}
+use Rattle.hickory_resolver_pool_theorems.specs.Runs.{Happening}
+use Rattle.hickory_resolver_theorems.specs.InterleavedCalls.{CallDropped, CallFed, CallStarted}
+use Rattle.hickory_resolver_theorems.specs.ResumingCalls.{CallProgressValue, WaitingCallValue}
+use Rattle.yimarotu_session.specs.LookupTables.{TableValue, held_at}
+use Rattle.yimarotu_session.specs.NetworkSessions.{NetworkValue}
+use Rattle.yimarotu_session.specs.NetworkSteps.{GoesOn, GoesOnAt, GoesOnWith, Resumes}
+use Rattle.yimarotu_session.specs.Sessions.{PutsUnder, value_at}
+use Rattle.yimarotu_session.specs.declared.network_lookup.NetworkLookup.{NetworkLookup}
+use Rattle.yimarotu_session.specs.declared.network_lookup.NetworkLookup.TheVariants.{Asks, Asked, Done}
+use Rattle.yimarotu_session_theorems.specs.NetworkLaws.{IsFromPool, question_with}
+use Rattle.yimarotu_session_theorems.proofs.Kept.{AsksLess, Done-to, Kept, Lookups, LookupsLess, Places, PlacesLess, alike, asks-same, call-of-lookup, call_at, call_of, first, keeps-telling, lookup-not-asked, lookups-less, lookups-same, options, places-same, pool-stays, puts-calls}
+use Rattle.yimarotu_session_theorems.proofs.Moves.{Puts, begins, drops, feeds, stays, waiting_in}
+
+module _ (resolver : ResolverValue (List OutcomeValue)) (limits : PoolLimits) (seed : List ℕ) where
+  abbrev pub Resolver : Type 0
+  Resolver = ResolverValue (List OutcomeValue)
+
+  module _ (s : NetworkValue) (k : Kept resolver limits seed s) (after : NetworkValue) where
+    abbrev cache : CacheValue
+    cache = s.resolver.client.cache
+
+    abbrev pub waiting : ℕ → Option WaitingCallValue
+    waiting = call_at s.table.lookups
+
+    abbrev pub later : ℕ → Option WaitingCallValue
+    later = call_at after.table.lookups
+
+    abbrev pub Played : List Happening → Type 0
+    Played past = Done-to resolver limits seed s k after past
+
+    -- this outcome is from the pool, to the question of a call
+    abbrev pub From : List Happening → WaitingCallValue → OutcomeValue → Type 0
+    From past w outcome = IsFromPool (first resolver limits seed) past (question_with (options resolver limits seed) w) outcome
+
+    abbrev pub Less : List Happening → Type 0
+    Less past = AsksLess resolver limits seed past s.table after.table
+
+    -- ---- what was done to the resolver
+
+    pub none-done : (past : List Happening) → after.resolver ≡ s.resolver → ((n : ℕ) → later n ≡ waiting n) → Played past
+    none-done past same waits = record {
+      told = [];
+      moves = stays resolver cache k.flights waiting k.flying after.resolver later (same ∙ k.after_is) waits;
+      fed = tt;
+    }
+
+    pub started : (past : List Happening) (n : ℕ) (call : Call) (now : ℕ) (progress : CallProgressValue) → waiting n ≡ None
+        → StartsAt now call s.resolver progress after.resolver → Puts n (waiting_in progress) waiting later → Played past
+    started past n call now progress free starts puts = record {
+      told = CallStarted call now progress ∷ [];
+      moves = begins resolver cache k.flights waiting k.flying after.resolver later n call now progress free
+          (subst (λ (r : Resolver). StartsAt now call r progress after.resolver) k.after_is starts) puts;
+      fed = (tt, tt);
+    }
+
+    pub fed : (past : List Happening) (n : ℕ) (w : WaitingCallValue) (outcome : OutcomeValue) (progress : CallProgressValue)
+        → waiting n ≡ Some w → ResumesAt w outcome s.resolver progress after.resolver
+        → Puts n (waiting_in progress) waiting later → From past w outcome → Played past
+    fed past n w outcome progress there resumes puts from =
+        let f = feeds resolver cache k.flights waiting k.flying after.resolver later n w outcome progress there
+        (subst (λ (r : Resolver). ResumesAt w outcome r progress after.resolver) k.after_is resumes) puts in
+        let own = subst (λ (v : WaitingCallValue). From past v outcome) (sym f.waits) from in
+        record { told = CallFed f.call outcome f.progress ∷ []; moves = f.moves; fed = (own, tt) }
+
+    pub dropped : (past : List Happening) (n : ℕ) (w : WaitingCallValue) → waiting n ≡ Some w → after.resolver ≡ s.resolver
+        → Puts n None waiting later → Played past
+    dropped past n w there same puts =
+        let d = drops resolver cache k.flights waiting k.flying after.resolver later n w there (same ∙ k.after_is) puts in
+        record { told = CallDropped d.call ∷ []; moves = d.moves; fed = (tt, tt) }
+
+    -- ---- a look-up goes on
+
+    pub puts-lookup : (n : ℕ) (held : NetworkLookup) (x : Option WaitingCallValue) → call_of held ≡ x
+        → PutsUnder n (Some held) s.table.lookups after.table.lookups → Puts n x waiting later
+    puts-lookup n held x is puts =
+        subst (λ (y : Option WaitingCallValue). Puts n y waiting later) is
+        (puts-calls n (Some held) s.table.lookups after.table.lookups puts)
+
+    -- a look-up goes on
+    pub resumed : (past : List Happening) (n : ℕ) (w : WaitingCallValue) (outcome : OutcomeValue) (held : NetworkLookup)
+        → waiting n ≡ Some w → PutsUnder n (Some held) s.table.lookups after.table.lookups
+        → From past w outcome → Resumes w outcome s.resolver after.resolver held → Played past
+    resumed past n w outcome held there puts from r =
+        fed past n w outcome (progress_of r.progress) there r.resumes
+        (puts-lookup n held (waiting_in (progress_of r.progress)) (ap call_of r.held_is ∙ call-of-lookup r.progress) puts) from
+
+    pub resumed-less : (n : ℕ) (w : WaitingCallValue) (outcome : OutcomeValue) (held : NetworkLookup)
+        → PutsUnder n (Some held) s.table.lookups after.table.lookups → Resumes w outcome s.resolver after.resolver held
+        → LookupsLess s.table.lookups after.table.lookups
+    resumed-less n w outcome held puts r =
+        lookups-less n (Some held) s.table.lookups after.table.lookups
+        (λ v a e. lookup-not-asked r.progress v a (ap (λ (h : NetworkLookup). Some h) (sym r.held_is) ∙ e)) puts
+
+    pub record Went (past : List Happening) : Type 0 where
+      pub played : Played past
+      pub less : Less past
+
+    pub gone-on : (past : List Happening) (n : ℕ) (outcome : OutcomeValue) (old new : NetworkLookup)
+        → value_at n s.table.lookups ≡ Some old → PutsUnder n (Some new) s.table.lookups after.table.lookups
+        → ((w : WaitingCallValue) → call_of old ≡ Some w → From past w outcome)
+        → PlacesLess resolver limits seed past s.table.ahead after.table.ahead
+        → GoesOn outcome s.resolver old after.resolver new → Went past
+    gone-on past n outcome (Asks w) new there puts from places r = record {
+      played = resumed past n w outcome new (ap (λ (h : Option NetworkLookup). option_and_then call_of h) there) puts (from w refl) r;
+      less = record { lookups = resumed-less n w outcome new puts r; places = places };
+    }
+    gone-on past n outcome (Asked w a) new there puts from places r = record {
+      played = resumed past n w outcome new (ap (λ (h : Option NetworkLookup). option_and_then call_of h) there) puts (from w refl) r;
+      less = record { lookups = resumed-less n w outcome new puts r; places = places };
+    }
+    gone-on past n outcome (Done found b) new there puts from places (is, same) = record {
+      played = none-done past same
+          (alike n None waiting later (ap (λ (h : Option NetworkLookup). option_and_then call_of h) there)
+          (puts-lookup n new None (ap call_of is) puts));
+      less = record {
+        lookups = lookups-less n (Some new) s.table.lookups after.table.lookups
+            (λ v a e. let clash : Some (Done found b) ≡ Some (Asked v a) = ap (λ (h : NetworkLookup). Some h) (sym is) ∙ e in absurd cc) puts;
+        places = places;
+      };
+    }
+
+    -- from a table in which nothing more is asked ahead
+    pub gone-on-at : (past : List Happening) (n : ℕ) (outcome : OutcomeValue) (table : TableValue)
+        → table.lookups ≡ s.table.lookups → PlacesLess resolver limits seed past s.table.ahead table.ahead
+        → ((w : WaitingCallValue) → waiting n ≡ Some w → From past w outcome)
+        → GoesOnAt outcome n s.resolver table after.resolver after.table → Went past
+    gone-on-at past n outcome table same places from h = by (held_at n table) refl h
+      where
+        places-by : after.table.ahead ≡ table.ahead → PlacesLess resolver limits seed past s.table.ahead after.table.ahead
+        places-by e = subst (λ (l : Places). PlacesLess resolver limits seed past s.table.ahead l) (sym e) places
+
+        by : (held : Option NetworkLookup) → held_at n table ≡ held
+            → MatchOption held ((after.resolver ≡ s.resolver) × (after.table ≡ table)) (GoesOnWith outcome n s.resolver table after.resolver after.table)
+            → Went past
+        by None none (resolver_stays, table_stays) =
+            let lookups_stay : after.table.lookups ≡ s.table.lookups = ap (λ (t : TableValue). t.lookups) table_stays ∙ same in
+            record {
+              played = none-done past resolver_stays (λ m. ap (λ (l : Lookups). call_at l m) lookups_stay);
+              less = record {
+                lookups = lookups-same s.table.lookups after.table.lookups lookups_stay;
+                places = places-by (ap (λ (t : TableValue). t.ahead) table_stays);
+              };
+            }
+        by (Some held) there g =
+            let here : value_at n s.table.lookups ≡ Some held = ap (λ (l : Lookups). value_at n l) (sym same) ∙ there in
+            gone-on past n outcome held g.held' here
+            (subst (λ (l : Lookups). PutsUnder n (Some g.held') l after.table.lookups) same g.takes_place.puts)
+            (λ w is. from w (ap (λ (x : Option NetworkLookup). option_and_then call_of x) here ∙ is))
+            (places-by (ap (λ (t : TableValue). t.ahead) g.takes_place.others_stay)) g.goes_on
+
+    pub own-places : (past : List Happening) → PlacesLess resolver limits seed past s.table.ahead s.table.ahead
+    own-places past = places-same resolver limits seed past s.table.ahead s.table.ahead refl
+
+    -- nothing but a queue has changed
+    pub passed : (table : TableValue) → table.lookups ≡ s.table.lookups → table.ahead ≡ s.table.ahead
+        → after ≡ record s { table = table } → Kept resolver limits seed after
+    passed table same same_ahead is =
+        let lookups : after.table.lookups ≡ s.table.lookups = ap (λ (x : NetworkValue). x.table.lookups) is ∙ same in
+        let places : after.table.ahead ≡ s.table.ahead = ap (λ (x : NetworkValue). x.table.ahead) is ∙ same_ahead in
+        keeps-telling resolver limits seed s k after (pool-stays resolver limits seed s k after (ap (λ (x : NetworkValue). x.pool) is))
+        (none-done k.past (ap (λ (x : NetworkValue). x.resolver) is) (λ m. ap (λ (l : Lookups). call_at l m) lookups))
+        (record {
+          lookups = lookups-same s.table.lookups after.table.lookups lookups;
+          places = places-same resolver limits seed k.past s.table.ahead after.table.ahead places;
+        })
+        (ap (λ (x : NetworkValue). x.telling) is)
+
+    pub table-stays : (past : List Happening) → after.resolver ≡ s.resolver → after.table ≡ s.table → Went past
+    table-stays past resolver_stays stays = record {
+      played = none-done past resolver_stays (λ m. ap (λ (t : TableValue). call_at t.lookups m) stays);
+      less = asks-same resolver limits seed past s.table after.table stays;
+    }
