@@ -4,5 +4,6 @@ pub mod Changes
 pub mod Flights
 pub mod Going
 pub mod Kept
+pub mod LeftAhead
 pub mod Moves
 pub mod Played

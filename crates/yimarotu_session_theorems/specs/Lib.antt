@@ -1,2 +1,3 @@
 pub mod NetworkLaws
+pub mod NetworkPlaces
 pub mod NetworkRuns

@@ -1,8 +1,14 @@
 //! What holds of a session with a network after every list of events and steps.
 ghost use Rattle.yimarotu_session_theorems.specs.NetworkLaws.{SessionsPlayCalls};
+ghost use Rattle.yimarotu_session_theorems.specs.NetworkPlaces.{NothingIsLeftAhead};
 
 /// What happened to the resolver of a session is a list of events of its calls, as promised of them: calls start, are
 /// dropped, and go on with what the pool told, whose responses are what octets spell that came and were believed.
 pub fn sessions_play_calls()
     ensures { SessionsPlayCalls }
+{}
+
+/// Nothing is asked ahead of a look-up that was announced, or is not there, nor is anything kept of it.
+pub fn nothing_is_left_ahead()
+    ensures { NothingIsLeftAhead }
 {}
