@@ -22,7 +22,7 @@ static double nanoseconds(void) {
 /* A look-up that is answered at once, and its answer. */
 static int hit(yimarotu_session *session) {
     uint8_t room[512];
-    yimarotu_came came = yimarotu_start(session, 2, (const uint8_t *)name, sizeof name - 1, 1, 1);
+    yimarotu_progress came = yimarotu_start(session, 2, (const uint8_t *)name, sizeof name - 1, 1, 1000);
     if (came.status != YIMAROTU_OK || came.waits) return 0;
     yimarotu_answered answered = yimarotu_answer(session, 2, sizeof room, room, sizeof room);
     return yimarotu_cancel(session, 2) == YIMAROTU_OK && answered.status == YIMAROTU_OK && answered.length == sizeof reply - 1;
@@ -31,8 +31,8 @@ static int hit(yimarotu_session *session) {
 static int by_yimarotu(double seconds) {
     yimarotu_session session = YIMAROTU_SESSION;
     double began, done = 0;
-    if (yimarotu_open(&session, reply, 0, reply, 0, 1).status != YIMAROTU_OK) return 1;
-    if (!yimarotu_start(&session, 1, (const uint8_t *)name, sizeof name - 1, 1, 1).waits) return 1;
+    if (yimarotu_open_fed(&session, reply, 0, reply, 0, 1000).status != YIMAROTU_OK) return 1;
+    if (!yimarotu_start(&session, 1, (const uint8_t *)name, sizeof name - 1, 1, 1000).waits) return 1;
     if (yimarotu_feed(&session, 1, reply, sizeof reply - 1).status != YIMAROTU_OK) return 1;
     for (began = nanoseconds(); nanoseconds() - began < seconds * 1e9; done++)
         if (!hit(&session)) return 1;

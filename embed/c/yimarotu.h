@@ -1,24 +1,24 @@
-/* Yimarotu, a stub resolver's core, for C.
+/* Yimarotu, a stub resolver, for C.
  *
- * The library does no input or output and knows no clock. A program opens a session, starts look-ups in it, sends their
- * questions and feeds what comes back, and reads the answers. Questions, outcomes and answers are DNS messages (RFC 1035,
- * section 4.1).
+ * The library does no input or output and knows no clock. A program opens a session, starts look-ups in it, hands in what
+ * happens, and does what yimarotu_next says until it says nothing: it opens a channel to a name server, sends octets, closes
+ * a channel, or reads an answer. Who is asked, which reply is believed and when it is asked again is decided inside. A
+ * program with a transport of its own feeds a session by hand instead: "sessions that are fed by hand" below.
  *
  * Bytes cross as a pointer and a length; the library reads or writes so many bytes there, keeps no pointer to them, and
  * frees none. No pointer may be null, not even where its length is 0. A length is at most PTRDIFF_MAX. A room overlaps
- * nothing else that the call is given. A moment is in seconds, from whatever start the program takes; it should never go
- * back, or answers are used for longer than they were received for.
+ * nothing else that the call is given. A moment is in milliseconds, from whatever start the program takes, of a clock that
+ * does not go back and counts while the machine sleeps (CLOCK_BOOTTIME): else answers are used for longer than they were
+ * received for. Answers count whole seconds.
  *
  * Each call is proved to be safe and to return, as long as the program keeps to this page; where memory runs out it says
  * so. The library takes memory by the malloc and realloc of the program, and gives it back by its free. What a session
  * holds is given back when it is closed; all other memory when the call returns. What is said of memory and of threads is
  * tested: no clause speaks of it.
  *
- * Names of the cache and of the hosts are hashed without a secret: a stranger who may ask for any name can make a session
- * slow by names of one hash.
- *
  * Calls may be made from several threads at once, but of one session only one at a time. None may come from a signal
- * handler, or from a child of fork() in a program with threads.
+ * handler, or from a child of fork() in a program with threads. A child of fork, and a machine that was copied, opens
+ * sessions anew, with another seed: from one seed all numbers, letters and keys follow.
  */
 #ifndef YIMAROTU_H
 #define YIMAROTU_H
@@ -47,7 +47,10 @@ enum {
     YIMAROTU_WAITS = 12,     /* the look-up waits for an outcome, and has no answer yet */
     YIMAROTU_DONE = 13,      /* the look-up is done, and has no question any more */
     YIMAROTU_TEXT = 14,      /* the name is not UTF-8 */
-    YIMAROTU_KIND = 15       /* no failure has this number */
+    YIMAROTU_KIND = 15,      /* no failure has this number */
+    YIMAROTU_ASKS_ITSELF = 16, /* the session asks by itself: it is not fed */
+    YIMAROTU_IS_FED = 17,    /* the session is fed by hand: it asks nothing */
+    YIMAROTU_SEED = 18       /* the seed has not 32 octets */
 };
 
 /* Why bytes are no message, or a message cannot be written: a fault; 0 where there is none. */
@@ -85,13 +88,40 @@ enum {
     YIMAROTU_RAN_OUT = 8        /* no memory was left within the look-up */
 };
 
-/* How a question fails. */
+/* How a question of a session that is fed by hand fails. */
 enum {
     YIMAROTU_FAIL_TIMEOUT = 1,  /* nothing came back in time */
     YIMAROTU_FAIL_REFUSED = 2,  /* the upstream cannot be reached */
     YIMAROTU_FAIL_UPSTREAM = 3, /* the upstream failed otherwise */
     YIMAROTU_FAIL_MEMORY = 4    /* no memory was left for what came back */
 };
+
+/* How a channel fails. */
+enum {
+    YIMAROTU_CHANNEL_REFUSED = 1,     /* nobody listens there */
+    YIMAROTU_CHANNEL_UNREACHABLE = 2, /* the server cannot be reached */
+    YIMAROTU_CHANNEL_CLOSED = 3,      /* the stream was closed */
+    YIMAROTU_CHANNEL_LOCAL = 4        /* it could not be opened here: no descriptor or no port was left */
+};
+
+/* What a program has to do next. */
+enum {
+    YIMAROTU_NOTHING = 0,  /* nothing, until something happens */
+    YIMAROTU_CONTINUE = 1, /* nothing of its own: it calls yimarotu_next again */
+    YIMAROTU_OPEN = 2,     /* it opens a channel: a socket of its own, connected to this server */
+    YIMAROTU_SEND = 3,     /* it sends octets on a channel */
+    YIMAROTU_CLOSE = 4,    /* it closes a channel */
+    YIMAROTU_LOOKED_UP = 5 /* it may read the answer of a look-up, which is done */
+};
+
+/* What goes over a channel. */
+enum {
+    YIMAROTU_DATAGRAM = 1, /* datagrams (UDP) */
+    YIMAROTU_STREAM = 2    /* a stream (TCP): messages are in it with their lengths, which the library reads and writes */
+};
+
+/* The version of the library: 65536 times its first number, 256 times its second, and its third. */
+uint32_t yimarotu_version(void);
 
 /* ---- messages */
 
@@ -109,9 +139,10 @@ yimarotu_written yimarotu_rewrite(const uint8_t *message, size_t message_length,
 
 /* ---- sessions */
 
-/* A session: a resolver with its table of hosts and its cache, and the look-ups in flight and done, each under a number
- * that the program chose. The fields are the library's: a program neither reads nor changes them, and makes no copy of an
- * open session. Before it is opened it is closed: `yimarotu_session session = YIMAROTU_SESSION;`. */
+/* A session: a resolver with its table of hosts and its cache, the look-ups in flight and done, each under a number that
+ * the program chose, and a pool of name servers, unless it is fed by hand. The fields are the library's: a program neither
+ * reads nor changes them. An open session may be moved, but makes no copy: of two only one may be used on. Before it is
+ * opened it is closed: `yimarotu_session session = YIMAROTU_SESSION;`. */
 typedef struct yimarotu_session {
     bool is_open;
     void *inside;
@@ -121,55 +152,173 @@ typedef struct yimarotu_session {
 
 typedef struct yimarotu_opened {
     uint8_t status;
-    size_t line; /* of the fault of the settings, from 1; 0 where no one line has it, or a line is no setting */
+    size_t line; /* of the fault of the settings, from 1; 0 where no one line has it */
 } yimarotu_opened;
 
-/* Opens a session with these settings, the lines of a script that set something (docs/SCRIPTS.md, "Configuration") and
- * `option cache_octets N`, how many octets the cache may take for what it keeps, over what a file of hosts says. Set that
- * one where answers come from strangers (docs/QUESTIONS.md). The addresses that the hosts answer are said to be usable for a day from this moment,
- * however late they are asked, and the names of an address for a day from the question. Where the status is not
- * YIMAROTU_OK the session stays as it was. */
-yimarotu_opened yimarotu_open(yimarotu_session *session, const uint8_t *settings, size_t settings_length,
-                              const uint8_t *hosts, size_t hosts_length, uint64_t moment);
+/* Opens a session that asks by itself: as a file resolv.conf says on a host of this name (whom it asks and how, which names
+ * it tries), over what a file of hosts says. A file of no octets says as much as one without lines; no resolv.conf is
+ * refused. The settings are lines (docs/EMBED.md, "Settings"): what they set counts in place of what resolv.conf says, and
+ * the servers of lines `server` are asked in place of its. Set `option cache_octets N` where answers come from strangers.
+ * The seed is 32 octets that nobody knows (getrandom): ids of messages, letters and the keys by which names are hashed come
+ * from it, so that a stranger can neither guess a message nor make a session slow. The addresses that the hosts answer are
+ * said to be usable for a day from this moment, however late they are asked, and the names of an address for a day from the
+ * question. Where the status is not YIMAROTU_OK the session stays as it was. */
+yimarotu_opened yimarotu_open(yimarotu_session *session, const uint8_t *conf, size_t conf_length,
+                              const uint8_t *hostname, size_t hostname_length, const uint8_t *settings,
+                              size_t settings_length, const uint8_t *hosts, size_t hosts_length, const uint8_t *seed,
+                              size_t seed_length, uint64_t moment);
 
-/* The same, and behind the settings, in place of which it counts, what a file resolv.conf says on a host of this name: its
- * search list behind theirs, `ndots`, `no-aaaa`, and whether questions have an EDNS record: not without `edns0`. Whom to
- * ask, and how, is the program's affair. A file of no octets says as much as one without lines; none is refused. */
-yimarotu_opened yimarotu_open_with(yimarotu_session *session, const uint8_t *conf, size_t conf_length,
-                                   const uint8_t *hostname, size_t hostname_length, const uint8_t *settings,
-                                   size_t settings_length, const uint8_t *hosts, size_t hosts_length, uint64_t moment);
-
-typedef struct yimarotu_servers {
-    uint8_t status;
-    size_t length; /* of the text: where it was written, and where the room is too small for it; else 0 */
-} yimarotu_servers;
-
-/* Writes the servers that a file resolv.conf names at the front of the room, each address on a line of its own, with `%`
- * and its scope behind it where it is link-local and has one; 127.0.0.1 where no line names one. What is behind the text
- * stays, and where the status is not YIMAROTU_OK all of the room does. */
-yimarotu_servers yimarotu_read_servers(const uint8_t *conf, size_t conf_length, uint8_t *room, size_t room_length);
-
-/* Closes the session, with all its look-ups, and gives its memory back. Of a session that is closed nothing changes. */
+/* Closes the session, with all its look-ups, and gives its memory back. Channels that are open are the program's to close.
+ * Of a session that is closed nothing changes. */
 void yimarotu_close(yimarotu_session *session);
+
+/* ---- what happens, and what is to be done */
+
+typedef struct yimarotu_action {
+    uint8_t status;
+    uint8_t kind;     /* what is to be done */
+    uint8_t protocol; /* of a channel that is to be opened: YIMAROTU_DATAGRAM or YIMAROTU_STREAM; else 0 */
+    uint8_t family;   /* of a channel that is to be opened: 4 or 6, as the address of its server is; else 0 */
+    uint16_t port;    /* of a channel that is to be opened: the port of its server; else 0 */
+    uint64_t channel; /* the number of the channel, never used twice; 0 where there is none */
+    uint64_t number;  /* the number of the look-up that is done; else 0 */
+    size_t length;    /* of the octets: those that were put in the room, and those that are wanted there; else 0 */
+} yimarotu_action;
+
+/* Tells what the program has to do next, and puts its octets at the front of the room: those that are to be sent; of a
+ * channel that is to be opened the address of its server, 4 or 16 octets, and behind them the scope of a link-local address,
+ * the name of an interface or its number. It is called after each other call that changes a session, again and again until
+ * it says YIMAROTU_NOTHING. Where the room is too small (YIMAROTU_ROOM) nothing was done, and it says the same again in a
+ * larger one; a room of 600 octets holds a question by either transport, and a scope of 500.
+ *
+ * A datagram channel is a socket of its own, at a port that nobody can guess, connected to its server, and is kept after an
+ * ICMP error. One that cannot be opened has failed (YIMAROTU_CHANNEL_LOCAL). Octets for a stream that is not connected yet,
+ * or is full, wait with the program. Each channel that was opened is closed once, also one that failed. */
+yimarotu_action yimarotu_next(yimarotu_session *session, uint8_t *room, size_t room_length);
+
+/* Octets came on a channel: a datagram, or a piece of a stream, cut anywhere. On a channel that is not open they change
+ * nothing. Where the status is YIMAROTU_NO_MEMORY nothing changed, and they may be handed in again. Gives a status. */
+uint8_t yimarotu_came(yimarotu_session *session, uint64_t channel, const uint8_t *octets, size_t octets_length,
+                      uint64_t moment);
+
+/* A channel failed, in a way that has this number. Gives a status. */
+uint8_t yimarotu_failed(yimarotu_session *session, uint64_t channel, uint8_t failure, uint64_t moment);
+
+/* Time passed. A moment before one that was told counts as that one. Gives a status. */
+uint8_t yimarotu_tick(yimarotu_session *session, uint64_t moment);
+
+typedef struct yimarotu_waits {
+    uint8_t status;
+    bool has_deadline;     /* whether time ends something at all */
+    uint64_t milliseconds; /* for how long it ends nothing; 0 where there is no such time */
+} yimarotu_waits;
+
+/* Tells for how many milliseconds from a moment on a program may wait for its channels, where nothing is left to be done;
+ * behind them it calls yimarotu_tick. */
+yimarotu_waits yimarotu_wait(yimarotu_session *session, uint64_t moment);
+
+/* Asks the servers that a file resolv.conf names from now on, of which nothing is known yet; what is in flight goes on with
+ * those that it began with. Only the servers of the file count here. The cache is emptied or stays, as the flag says.
+ * Gives a status. */
+uint8_t yimarotu_servers(yimarotu_session *session, const uint8_t *conf, size_t conf_length, bool clears);
+
+typedef struct yimarotu_statistics_told {
+    uint8_t status;
+    bool is_bounded;       /* whether the octets of the cache are bounded, and so counted */
+    uint64_t started;      /* look-ups that were started */
+    uint64_t done_at_once; /* of them those that were done at once: from the cache, the hosts, or without a question */
+    uint64_t sent;         /* messages that were to be sent */
+    uint64_t timed_out;    /* look-ups that came to a timeout */
+    uint64_t entries;      /* results in the cache, current or not */
+    uint64_t octets;       /* how much they weigh; 0 where that is not bounded */
+} yimarotu_statistics_told;
+
+/* Tells what a session that asks by itself did and holds. */
+yimarotu_statistics_told yimarotu_statistics(yimarotu_session *session);
 
 /* ---- look-ups */
 
-typedef struct yimarotu_came {
+typedef struct yimarotu_progress {
     uint8_t status;
     uint8_t fault;
-    bool waits; /* where the status is YIMAROTU_OK: there is a question to send; else there is an answer */
-} yimarotu_came;
+    bool waits; /* where the status is YIMAROTU_OK: it waits for what comes back to a question; else there is an answer */
+} yimarotu_progress;
 
 /* Starts a look-up of records of a type (RFC 1035, section 3.2.2) for a name, UTF-8, at this moment, under a number that
  * no other look-up of the session has. Where the status is not YIMAROTU_OK none was started. */
-yimarotu_came yimarotu_start(yimarotu_session *session, uint64_t number, const uint8_t *name, size_t name_length,
-                             uint16_t record_type, uint64_t moment);
+yimarotu_progress yimarotu_start(yimarotu_session *session, uint64_t number, const uint8_t *name, size_t name_length,
+                                 uint16_t record_type, uint64_t moment);
 
 /* The same of the addresses of a host, in the families that the settings say. A text that is an address is its own
  * answer: a record under the text as an absolute name, or under the root where it is no name, as with IPv6. But with
  * `ndots` above 4 a text that is an IPv4 address is first looked up as a name, and is the answer where that has none. */
-yimarotu_came yimarotu_start_ip(yimarotu_session *session, uint64_t number, const uint8_t *host, size_t host_length,
-                                uint64_t moment);
+yimarotu_progress yimarotu_start_ip(yimarotu_session *session, uint64_t number, const uint8_t *host, size_t host_length,
+                                    uint64_t moment);
+
+typedef struct yimarotu_answered {
+    uint8_t status;
+    uint8_t error;  /* what the look-up came to; 0 where the status is none of OK, ROOM, UNWRITABLE and NO_MEMORY */
+    uint8_t fault;
+    bool has_ttl;   /* of a negative answer: whether it may be kept for a time that is known */
+    uint16_t code;  /* the response code; 0 where there is none */
+    uint32_t ttl;   /* of a negative answer: for how many seconds it may be kept; else 0 */
+    uint64_t until; /* of records: the last second at which they may be used, a moment divided by 1000; else 0 */
+    size_t length;  /* of the message: where it was written, and where the room is too small for it; else 0 */
+} yimarotu_answered;
+
+/* Writes what a look-up came to at the front of the room, as a DNS message of at most `limit` bytes, truncated as
+ * yimarotu_rewrite does it. Records and negative answers have one, other errors none: then the length is 0. Its id is for
+ * the program to set. What is behind it stays, and where the status is not YIMAROTU_OK all of the room does. The look-up
+ * stays until it is cancelled: it may be read again. */
+yimarotu_answered yimarotu_answer(yimarotu_session *session, uint64_t number, size_t limit, uint8_t *room,
+                                  size_t room_length);
+
+/* An address: 4 and four octets, behind which twelve are 0, or 6 and sixteen octets. */
+typedef struct yimarotu_address {
+    uint8_t family;
+    uint8_t octets[16];
+} yimarotu_address;
+
+typedef struct yimarotu_found {
+    uint8_t status;
+    uint8_t error; /* what the look-up came to; 0 where there are records, or the status is not YIMAROTU_OK */
+    uint16_t code; /* the response code; 0 where there is none */
+    uint64_t ttl;  /* for how many seconds from the moment on the addresses may be used */
+    size_t count;  /* how many there are: where they were written, and where the room is too small for them; else 0 */
+} yimarotu_found;
+
+/* Writes the addresses of what a look-up came to at the front of the room, whose length is in bytes, in the order of the
+ * answer. What is behind them stays, and where the status is not YIMAROTU_OK all of the room does. */
+yimarotu_found yimarotu_addresses(yimarotu_session *session, uint64_t number, uint64_t moment, yimarotu_address *room,
+                                  size_t room_length);
+
+/* Forgets the look-up of a number, whether it waits or is done, and the number is free. What was kept of its questions
+ * stays in the cache. Where nobody else asks its question, that is not asked on. Gives a status. */
+uint8_t yimarotu_cancel(yimarotu_session *session, uint64_t number);
+
+/* Drops from the cache what it has for the names that a look-up of this name, UTF-8, would attempt, of a type; the
+ * look-ups stay. What is no name clears nothing. Where the status is not YIMAROTU_OK nothing changes. Gives a status. */
+uint8_t yimarotu_clear_name(yimarotu_session *session, const uint8_t *name, size_t name_length, uint16_t record_type);
+
+/* Empties the cache; the look-ups stay. Gives a status. */
+uint8_t yimarotu_clear(yimarotu_session *session);
+
+/* ---- sessions that are fed by hand */
+
+/* Opens a session that is fed by hand, for a program with a transport of its own: yimarotu_question tells what each look-up
+ * waits for. The settings are the lines of a script that set something (docs/SCRIPTS.md, "Configuration") and `option
+ * cache_octets N`, how many octets the cache may take for what it keeps, over what a file of hosts says. The hashers of such
+ * a session have no secret. Where the status is not YIMAROTU_OK the session stays as it was. */
+yimarotu_opened yimarotu_open_fed(yimarotu_session *session, const uint8_t *settings, size_t settings_length,
+                                  const uint8_t *hosts, size_t hosts_length, uint64_t moment);
+
+/* The same, and behind the settings, in place of which it counts, what a file resolv.conf says on a host of this name: its
+ * search list behind theirs, `ndots`, `no-aaaa`, and whether questions have an EDNS record: not without `edns0`. Whom to
+ * ask, and how, is the program's affair. A file of no octets says as much as one without lines; none is refused. */
+yimarotu_opened yimarotu_open_fed_with(yimarotu_session *session, const uint8_t *conf, size_t conf_length,
+                                       const uint8_t *hostname, size_t hostname_length, const uint8_t *settings,
+                                       size_t settings_length, const uint8_t *hosts, size_t hosts_length,
+                                       uint64_t moment);
 
 typedef struct yimarotu_asked {
     uint8_t status;
@@ -187,39 +336,20 @@ yimarotu_asked yimarotu_question(yimarotu_session *session, uint64_t number, uin
 /* Goes on with the look-up by a DNS message that came back to its question. The program sees to it that this is the
  * response: by its QR bit, its id, its question and whom it comes from; and that it is not truncated. The message is read
  * first, whether or not there is such a look-up. Where the status is not YIMAROTU_OK nothing changes. */
-yimarotu_came yimarotu_feed(yimarotu_session *session, uint64_t number, const uint8_t *message, size_t message_length);
+yimarotu_progress yimarotu_feed(yimarotu_session *session, uint64_t number, const uint8_t *message, size_t message_length);
 
 /* Goes on with the look-up by a failure of its question, by number. */
-yimarotu_came yimarotu_fail(yimarotu_session *session, uint64_t number, uint8_t failure);
+yimarotu_progress yimarotu_fail(yimarotu_session *session, uint64_t number, uint8_t failure);
 
-typedef struct yimarotu_answered {
+typedef struct yimarotu_servers_read {
     uint8_t status;
-    uint8_t error;  /* what the look-up came to; 0 where the status is none of OK, ROOM, UNWRITABLE and NO_MEMORY */
-    uint8_t fault;
-    bool has_ttl;   /* of a negative answer: whether it may be kept for a time that is known */
-    uint16_t code;  /* the response code; 0 where there is none */
-    uint32_t ttl;   /* of a negative answer: for how many seconds it may be kept; else 0 */
-    uint64_t until; /* of records: the last moment at which they may be used; else 0 */
-    size_t length;  /* of the message: where it was written, and where the room is too small for it; else 0 */
-} yimarotu_answered;
+    size_t length; /* of the text: where it was written, and where the room is too small for it; else 0 */
+} yimarotu_servers_read;
 
-/* Writes what a look-up came to at the front of the room, as a DNS message of at most `limit` bytes, truncated as
- * yimarotu_rewrite does it. Records and negative answers have one, other errors none: then the length is 0. Its id is for
- * the program to set. What is behind it stays, and where the status is not YIMAROTU_OK all of the room does. The look-up
- * stays until it is cancelled: it may be read again. */
-yimarotu_answered yimarotu_answer(yimarotu_session *session, uint64_t number, size_t limit, uint8_t *room,
-                                  size_t room_length);
-
-/* Forgets the look-up of a number, whether it waits or is done, and the number is free. What was kept of its questions
- * stays in the cache. Gives a status. */
-uint8_t yimarotu_cancel(yimarotu_session *session, uint64_t number);
-
-/* Drops from the cache what it has for the names that a look-up of this name, UTF-8, would attempt, of a type; the
- * look-ups stay. What is no name clears nothing. Where the status is not YIMAROTU_OK nothing changes. Gives a status. */
-uint8_t yimarotu_clear_name(yimarotu_session *session, const uint8_t *name, size_t name_length, uint16_t record_type);
-
-/* Empties the cache; the look-ups stay. Gives a status. */
-uint8_t yimarotu_clear(yimarotu_session *session);
+/* Writes the servers that a file resolv.conf names at the front of the room, each address on a line of its own, with `%`
+ * and its scope behind it where it is link-local and has one; 127.0.0.1 where no line names one. What is behind the text
+ * stays, and where the status is not YIMAROTU_OK all of the room does. */
+yimarotu_servers_read yimarotu_read_servers(const uint8_t *conf, size_t conf_length, uint8_t *room, size_t room_length);
 
 /* ---- replays */
 

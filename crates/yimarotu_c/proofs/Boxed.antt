@@ -9,20 +9,20 @@ use Rattle.std.proofs.BoxSteps.Form.{Bx}
 use Rattle.std.specs.contracts.alloc.Global as heap
 use Rattle.std.specs.contracts.impls.GlobalAllocator.TheImpl.{ghosts, dict}
 use Rattle.std.proofs.alloc.Global.TheLaws as heap_laws
-use Rattle.yimarotu_session.specs.contracts.session.Session as session
-use Rattle.yimarotu_session.proofs.session.Session.TheLaws as session_laws
+use Rattle.yimarotu_embedded.specs.contracts.held.Held as held
+use Rattle.yimarotu_embedded.proofs.held.Held.TheLaws as held_laws
 use Rattle.yimarotu_c.specs.contracts.parts.Parts as parts
 use Rattle.yimarotu_c.specs.contracts.inside.Inside as inside
 
 abbrev pub E : Bx
 E = record {
-  row = session.the_row;
-  laws = session_laws.the_row_laws;
+  row = held.the_row;
+  laws = held_laws.the_row_laws;
   al = record { row = heap.the_row; laws = heap_laws.the_row_laws; g = ghosts; d = dict; drops = impl [] tnil dnil };
 }
 
 abbrev pub PartsHere : Slot 0
-PartsHere = plain (λ _. parts.the_row session.the_row heap.the_row ghosts)
+PartsHere = plain (λ _. parts.the_row held.the_row heap.the_row ghosts)
 
 abbrev pub InsideHere : Slot 0
 InsideHere = plain (λ _. inside.the_row)

@@ -15,9 +15,9 @@ use Rattle.yimarotu_c.specs.declared.answering.Told.{Told}
 use Rattle.yimarotu_c.specs.declared.answering.YimarotuAnswered.{YimarotuAnswered}
 use Rattle.yimarotu_c.specs.declared.rewriting.YimarotuWritten.{YimarotuWritten}
 use Rattle.yimarotu_c.specs.declared.status.Status.{Status}
-use Rattle.yimarotu_session.specs.Calls.{found_at}
+use Rattle.yimarotu_embedded.specs.Held.{found_in}
+use Rattle.yimarotu_embedded.specs.declared.held.Held.{Held}
 use Rattle.yimarotu_session.specs.Messages.{negative_message, response_message}
-use Rattle.yimarotu_session.specs.Sessions.{SessionValue}
 
 -- an error and a response code
 abbrev pub told_code : ℕ → ℕ → Told
@@ -97,7 +97,7 @@ pub record IsFoundPut (found : LookupResult) (limit : ℕ) (before after : List 
   pub told : ended ≡ answered_of (told_of found) written
 
 -- of a look-up that is not done the room stays
-abbrev pub IsAnswered : ℕ → ℕ → SessionValue → List ℕ → List ℕ → YimarotuAnswered → Type 0
-IsAnswered number limit session before after ended =
-    MatchResult (found_at number session) (λ found. IsFoundPut found limit before after ended)
+abbrev pub IsAnswered : ℕ → ℕ → Held → List ℕ → List ℕ → YimarotuAnswered → Type 0
+IsAnswered number limit held before after ended =
+    MatchResult (found_in number held) (λ found. IsFoundPut found limit before after ended)
     (λ error. (after ≡ before) × (ended ≡ answered_end (status_of error)))

@@ -7,7 +7,7 @@ use Rattle.std.specs.Coded.{coded_option}
 use Rattle.std.specs.Box.Ownership.{box_owns}
 use Rattle.std.specs.Global.{Global}
 use Rattle.std.specs.contracts.impls.GlobalAllocator.TheImpl.{ghosts}
-use Rattle.yimarotu_session.specs.contracts.session.Session.{the_row}
+use Rattle.yimarotu_embedded.specs.contracts.held.Held.{the_row}
 
 abbrev pub Kept : Type 0
 Kept = the_row.Denot

@@ -1,8 +1,12 @@
+pub mod Addresses
 pub mod Answering
 pub mod Asking
+pub mod Doing
 pub mod Failures
 pub mod Faults
+pub mod Happening
 pub mod Insides
+pub mod Knowing
 pub mod LookingUp
 pub mod Messages
 pub mod Openings

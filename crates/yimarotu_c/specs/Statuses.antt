@@ -19,3 +19,6 @@ number_of status.Waits = 12
 number_of status.Done = 13
 number_of status.Text = 14
 number_of status.Kind = 15
+number_of status.AsksItself = 16
+number_of status.IsFed = 17
+number_of status.Seed = 18

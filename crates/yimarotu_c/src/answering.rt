@@ -15,7 +15,7 @@ use hickory_proto_core::{DnsError, NetError, NoRecords};
 use hickory_proto_wire::ToWireError;
 use hickory_resolver::Lookup;
 use std::alloc::Global;
-use yimarotu_session::Session;
+use yimarotu_embedded::Held;
 use yimarotu_session::messages::{negative_message, response_message};
 
 /// What a look-up came to.
@@ -72,14 +72,14 @@ pub extern "C" fn yimarotu_answer(
 
 fn answer(
     alloc: Global,
-    session: &Session,
+    held: &Held,
     number: u64,
     limit: usize,
     room: &mut [u8],
 ) -> YimarotuAnswered
-    ensures { IsAnswered number limit session.now room.old room.new result }
+    ensures { IsAnswered number limit held.now room.old room.new result }
 {
-    match session.found(number) {
+    match held.found(number) {
         Ok(found) => put_found(alloc, found, limit, room),
         Err(error) => ended(status_of(error)),
     }
@@ -151,7 +151,7 @@ fn write_negative(alloc: Global, none: &NoRecords, limit: usize, room: &mut [u8]
 }
 
 // What is told of a look-up beside its message.
-fn told_of(found: &Result<Lookup, NetError>) -> Told
+pub(crate) fn told_of(found: &Result<Lookup, NetError>) -> Told
     ensures { result ≡ told_of found.now }
 {
     match found {

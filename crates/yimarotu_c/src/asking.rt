@@ -1,6 +1,6 @@
 //! The questions that look-ups of a session wait for.
 ghost use Rattle.std.specs.Prelude.{◌≡◌};
-ghost use Rattle.yimarotu_c.specs.Asking.{IsAsked, IsQuestionPut, Reads, asked_end, asked_of};
+ghost use Rattle.yimarotu_c.specs.Asking.{IsAsked, IsAskedIn, IsQuestionPut, Reads, asked_end, asked_of};
 ghost use Rattle.yimarotu_c.specs.Messages.{IsMessagePut};
 ghost use Rattle.yimarotu_c.specs.declared.rewriting.YimarotuWritten.{YimarotuWritten};
 ghost use Rattle.yimarotu_c.specs.declared.status.Status.TheVariants as status;
@@ -13,6 +13,7 @@ use crate::status::Status;
 use hickory_proto_core::{DnsRequestOptions, Query};
 use hickory_proto_wire::ToWireError;
 use std::alloc::Global;
+use yimarotu_embedded::Held;
 use yimarotu_session::Session;
 use yimarotu_session::messages::question_message;
 
@@ -38,15 +39,24 @@ pub extern "C" fn yimarotu_question(
     number: u64,
     room: &mut [u8],
 ) -> YimarotuAsked
-    ensures { Reads (IsAsked number) (asked_end status.Closed) session.old.inside.value room.old result
+    ensures { Reads (IsAskedIn number) (asked_end status.Closed) session.old.inside.value room.old result
         session.new.inside.value room.new }
 {
     let Some(inside) = take(alloc, session) else {
         return ended(Status::Closed);
     };
-    let asked = question(alloc, &inside, number, room);
+    let asked = question_in(alloc, &inside, number, room);
     put(session, inside);
     asked
+}
+
+fn question_in(alloc: Global, held: &Held, number: u64, room: &mut [u8]) -> YimarotuAsked
+    ensures { IsAskedIn number held.now room.old room.new result }
+{
+    match held {
+        Held::Fed(session) => question(alloc, session, number, room),
+        Held::Driven(_) => ended(Status::AsksItself),
+    }
 }
 
 fn question(alloc: Global, session: &Session, number: u64, room: &mut [u8]) -> YimarotuAsked

@@ -6,7 +6,7 @@ use crate::parts::Parts;
 use std::alloc::Global;
 use std::marker::Model;
 use std::ptr;
-use yimarotu_session::Session;
+use yimarotu_embedded::Held;
 
 /// The pointer of a box of a session, or null where there is none.
 #[repr(C)]
@@ -25,7 +25,7 @@ impl Model for Inside {
 
 impl Inside {
     // The session of these parts.
-    pub(crate) fn of(parts: Parts<Session, Global>) -> Inside
+    pub(crate) fn of(parts: Parts<Held, Global>) -> Inside
         ensures { result.value ≡ Some parts.value }
     {
         let Parts { at, alloc } = parts;
@@ -46,13 +46,13 @@ impl Inside {
     }
 
     // The parts of the session that is there.
-    pub(crate) fn into_parts(self) -> Parts<Session, Global>
+    pub(crate) fn into_parts(self) -> Parts<Held, Global>
         requires { IsSome self.value }
         ensures { Some result.value ≡ self.value }
     {
         let Inside { at, alloc } = self;
         Parts {
-            at: at as *mut Session,
+            at: at as *mut Held,
             alloc,
         }
     }

@@ -1,24 +1,25 @@
-//! Look-ups of a session: they are started, fed and forgotten.
+//! Look-ups of a session: they are started, fed by hand, and forgotten.
 ghost use Rattle.std.specs.Prelude.{◌≡◌, None, Some};
 ghost use Rattle.yimarotu_c.specs.Failures.{IsFailure};
-ghost use Rattle.yimarotu_c.specs.LookingUp.{Cancelled, ClearedName, Fails, Fed, OnOpen, Started, StartedHost, came_end, came_of, came_unread, cancel_status, clear_status, status_of};
+ghost use Rattle.yimarotu_c.specs.LookingUp.{Cancelled, ClearedAll, ClearedName, Fails, Fed, OnOpen, Started, StartedHost, came_end, came_of, came_unread, cancel_status, clear_status, status_of};
 ghost use Rattle.yimarotu_c.specs.Statuses.{number_of};
 ghost use Rattle.yimarotu_c.specs.declared.status.Status.TheVariants as status;
-ghost use Rattle.yimarotu_session.specs.Calls.{cleared};
+ghost use Rattle.yimarotu_embedded.specs.Held.{OnFed};
 
 use crate::faults::reading_number;
 use crate::sessions::{YimarotuSession, put, take};
 use crate::status::Status;
 use hickory_proto_core::{DnsResponse, NetError, RecordType};
 use hickory_proto_wire::{WireError, WireMessage};
-use std::alloc::Global;
+use std::alloc::{AllocError, Global};
 use std::str;
+use yimarotu_embedded::Held;
 use yimarotu_session::{Session, SessionError};
 
 /// How far a look-up came.
 #[repr(C)]
 #[derive(Drop)]
-pub struct YimarotuCame {
+pub struct YimarotuProgress {
     /// The number of a status.
     pub status: u8,
     /// The number of a fault; else 0.
@@ -27,7 +28,7 @@ pub struct YimarotuCame {
     pub waits: bool,
 }
 
-/// Starts a look-up of records of a type for a name, at a moment (seconds), under a number.
+/// Starts a look-up of records of a type for a name, at a moment (milliseconds), under a number.
 #[unsafe(no_mangle)]
 pub extern "C" fn yimarotu_start(
     alloc: Global,
@@ -36,7 +37,7 @@ pub extern "C" fn yimarotu_start(
     name: &[u8],
     record_type: u16,
     moment: u64,
-) -> YimarotuCame
+) -> YimarotuProgress
     ensures { OnOpen (Started number name.now record_type moment) (came_end status.Closed) session.old.inside.value
         result session.new.inside.value }
 {
@@ -49,21 +50,21 @@ pub extern "C" fn yimarotu_start(
 }
 
 fn start(
-    session: &mut Session,
+    held: &mut Held,
     number: u64,
     name: &[u8],
     record_type: u16,
     moment: u64,
-) -> YimarotuCame
-    ensures { Started number name.now record_type moment session.old result session.new }
+) -> YimarotuProgress
+    ensures { Started number name.now record_type moment held.old result held.new }
 {
     match str::from_utf8(name) {
-        Ok(name) => told(session.start(number, name, RecordType::from_code(record_type), moment)),
+        Ok(name) => told(held.start(number, name, RecordType::from_code(record_type), moment)),
         Err(_) => ended(Status::Text),
     }
 }
 
-/// Starts a look-up of the addresses of a host, at a moment (seconds), under a number.
+/// Starts a look-up of the addresses of a host, at a moment (milliseconds), under a number.
 #[unsafe(no_mangle)]
 pub extern "C" fn yimarotu_start_ip(
     alloc: Global,
@@ -71,7 +72,7 @@ pub extern "C" fn yimarotu_start_ip(
     number: u64,
     host: &[u8],
     moment: u64,
-) -> YimarotuCame
+) -> YimarotuProgress
     ensures { OnOpen (StartedHost number host.now moment) (came_end status.Closed) session.old.inside.value result
         session.new.inside.value }
 {
@@ -83,11 +84,11 @@ pub extern "C" fn yimarotu_start_ip(
     came
 }
 
-fn start_ip(session: &mut Session, number: u64, host: &[u8], moment: u64) -> YimarotuCame
-    ensures { StartedHost number host.now moment session.old result session.new }
+fn start_ip(held: &mut Held, number: u64, host: &[u8], moment: u64) -> YimarotuProgress
+    ensures { StartedHost number host.now moment held.old result held.new }
 {
     match str::from_utf8(host) {
-        Ok(host) => told(session.start_ip(number, host, moment)),
+        Ok(host) => told(held.start_ip(number, host, moment)),
         Err(_) => ended(Status::Text),
     }
 }
@@ -99,19 +100,28 @@ pub extern "C" fn yimarotu_feed(
     session: &mut YimarotuSession,
     number: u64,
     message: &[u8],
-) -> YimarotuCame
-    ensures { OnOpen (Fed number message.now) (came_end status.Closed) session.old.inside.value result
-        session.new.inside.value }
+) -> YimarotuProgress
+    ensures { OnOpen (OnFed (Fed number message.now) (came_end status.AsksItself)) (came_end status.Closed)
+        session.old.inside.value result session.new.inside.value }
 {
     let Some(mut inside) = take(alloc, session) else {
         return ended(Status::Closed);
     };
-    let came = feed(alloc, &mut inside, number, message);
+    let came = feed_held(alloc, &mut inside, number, message);
     put(session, inside);
     came
 }
 
-fn feed(alloc: Global, session: &mut Session, number: u64, message: &[u8]) -> YimarotuCame
+fn feed_held(alloc: Global, held: &mut Held, number: u64, message: &[u8]) -> YimarotuProgress
+    ensures { OnFed (Fed number message.now) (came_end status.AsksItself) held.old result held.new }
+{
+    match held {
+        Held::Fed(session) => feed(alloc, session, number, message),
+        Held::Driven(_) => ended(Status::AsksItself),
+    }
+}
+
+fn feed(alloc: Global, session: &mut Session, number: u64, message: &[u8]) -> YimarotuProgress
     ensures { Fed number message.now session.old result session.new }
 {
     match WireMessage::from_wire(alloc, message) {
@@ -130,19 +140,28 @@ pub extern "C" fn yimarotu_fail(
     session: &mut YimarotuSession,
     number: u64,
     failure: u8,
-) -> YimarotuCame
-    ensures { OnOpen (Fails number failure) (came_end status.Closed) session.old.inside.value result
-        session.new.inside.value }
+) -> YimarotuProgress
+    ensures { OnOpen (OnFed (Fails number failure) (came_end status.AsksItself)) (came_end status.Closed)
+        session.old.inside.value result session.new.inside.value }
 {
     let Some(mut inside) = take(alloc, session) else {
         return ended(Status::Closed);
     };
-    let came = fail(&mut inside, number, failure);
+    let came = fail_held(&mut inside, number, failure);
     put(session, inside);
     came
 }
 
-fn fail(session: &mut Session, number: u64, failure: u8) -> YimarotuCame
+fn fail_held(held: &mut Held, number: u64, failure: u8) -> YimarotuProgress
+    ensures { OnFed (Fails number failure) (came_end status.AsksItself) held.old result held.new }
+{
+    match held {
+        Held::Fed(session) => fail(session, number, failure),
+        Held::Driven(_) => ended(Status::AsksItself),
+    }
+}
+
+fn fail(session: &mut Session, number: u64, failure: u8) -> YimarotuProgress
     ensures { Fails number failure session.old result session.new }
 {
     match failure_of(failure) {
@@ -173,18 +192,24 @@ pub extern "C" fn yimarotu_cancel(alloc: Global, session: &mut YimarotuSession, 
     let Some(mut inside) = take(alloc, session) else {
         return Status::Closed.number();
     };
-    let was_there = inside.cancel(number);
+    let ended = cancel(&mut inside, number);
     put(session, inside);
-    cancel_status(was_there).number()
+    ended
 }
 
-fn cancel_status(was_there: bool) -> Status
-    ensures { result ≡ cancel_status was_there }
+fn cancel(held: &mut Held, number: u64) -> u8
+    ensures { Cancelled number held.old result held.new }
 {
-    if was_there {
-        Status::Ok
-    } else {
-        Status::NoLookup
+    cancel_status(held.cancel(number)).number()
+}
+
+fn cancel_status(ended: Result<bool, AllocError>) -> Status
+    ensures { result ≡ cancel_status ended }
+{
+    match ended {
+        Ok(true) => Status::Ok,
+        Ok(false) => Status::NoLookup,
+        Err(AllocError) => Status::NoMemory,
     }
 }
 
@@ -207,12 +232,12 @@ pub extern "C" fn yimarotu_clear_name(
     ended
 }
 
-fn clear_name(session: &mut Session, name: &[u8], record_type: u16) -> u8
-    ensures { ClearedName name.now record_type session.old result session.new }
+fn clear_name(held: &mut Held, name: &[u8], record_type: u16) -> u8
+    ensures { ClearedName name.now record_type held.old result held.new }
 {
     match str::from_utf8(name) {
         Ok(name) => {
-            let ended = session.clear_name(name, RecordType::from_code(record_type));
+            let ended = held.clear_name(name, RecordType::from_code(record_type));
             clear_status(ended).number()
         }
         Err(_) => Status::Text.number(),
@@ -231,23 +256,29 @@ fn clear_status(ended: Result<(), SessionError>) -> Status
 /// Empties the cache. The look-ups stay.
 #[unsafe(no_mangle)]
 pub extern "C" fn yimarotu_clear(alloc: Global, session: &mut YimarotuSession) -> u8
-    ensures { OnOpen (λ before ended after. (ended ≡ number_of status.Ok) × (after ≡ cleared before))
-        (number_of status.Closed) session.old.inside.value result session.new.inside.value }
+    ensures { OnOpen ClearedAll (number_of status.Closed) session.old.inside.value result session.new.inside.value }
 {
     let Some(mut inside) = take(alloc, session) else {
         return Status::Closed.number();
     };
-    inside.clear();
+    let ended = clear(&mut inside);
     put(session, inside);
+    ended
+}
+
+fn clear(held: &mut Held) -> u8
+    ensures { ClearedAll held.old result held.new }
+{
+    held.clear();
     Status::Ok.number()
 }
 
 // What a call of a session told.
-fn told(came: Result<bool, SessionError>) -> YimarotuCame
+fn told(came: Result<bool, SessionError>) -> YimarotuProgress
     ensures { result ≡ came_of came }
 {
     match came {
-        Ok(waits) => YimarotuCame {
+        Ok(waits) => YimarotuProgress {
             status: Status::Ok.number(),
             fault: 0,
             waits,
@@ -270,12 +301,12 @@ pub(crate) fn status_of(error: SessionError) -> Status
 }
 
 // Bytes were no message, or memory ran out.
-fn unread(error: WireError) -> YimarotuCame
+fn unread(error: WireError) -> YimarotuProgress
     ensures { result ≡ came_unread error }
 {
     match error {
         WireError::OutOfMemory => ended(Status::NoMemory),
-        WireError::Fault(fault) => YimarotuCame {
+        WireError::Fault(fault) => YimarotuProgress {
             status: Status::Message.number(),
             fault: reading_number(fault),
             waits: false,
@@ -283,10 +314,10 @@ fn unread(error: WireError) -> YimarotuCame
     }
 }
 
-fn ended(status: Status) -> YimarotuCame
+fn ended(status: Status) -> YimarotuProgress
     ensures { result ≡ came_end status }
 {
-    YimarotuCame {
+    YimarotuProgress {
         status: status.number(),
         fault: 0,
         waits: false,

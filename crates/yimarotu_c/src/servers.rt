@@ -12,7 +12,7 @@ use std::alloc::{AllocError, Global};
 /// How the reading of servers ended.
 #[repr(C)]
 #[derive(Drop)]
-pub struct YimarotuServers {
+pub struct YimarotuServersRead {
     /// The number of a status.
     pub status: u8,
     /// How long the text is, in bytes: where it was written, and where the room is too small for it; else 0.
@@ -26,7 +26,7 @@ pub extern "C" fn yimarotu_read_servers(
     alloc: Global,
     conf: &[u8],
     room: &mut [u8],
-) -> YimarotuServers
+) -> YimarotuServersRead
     ensures { IsServersEnd conf.now room.old room.new result }
 {
     match read_servers(alloc, conf) {
@@ -45,17 +45,17 @@ fn read_servers(alloc: Global, conf: &[u8]) -> Result<Vec<u8>, AllocError>
     }
 }
 
-fn put_servers(text: &[u8], room: &mut [u8]) -> YimarotuServers
+fn put_servers(text: &[u8], room: &mut [u8]) -> YimarotuServersRead
     ensures { AreServersPut text.now room.old room.new result }
 {
     let status = put(text, room);
     ended(status, text.len())
 }
 
-fn ended(status: Status, length: usize) -> YimarotuServers
+fn ended(status: Status, length: usize) -> YimarotuServersRead
     ensures { result ≡ servers_end status length }
 {
-    YimarotuServers {
+    YimarotuServersRead {
         status: status.number(),
         length,
     }

@@ -35,6 +35,12 @@ pub enum Status {
     Text,
     /// No failure has this number.
     Kind,
+    /// The session asks by itself: it is not fed.
+    AsksItself,
+    /// The session is fed by hand: it asks nothing.
+    IsFed,
+    /// The seed has not 32 octets.
+    Seed,
 }
 
 impl Status {
@@ -58,6 +64,9 @@ impl Status {
             Status::Done => 13,
             Status::Text => 14,
             Status::Kind => 15,
+            Status::AsksItself => 16,
+            Status::IsFed => 17,
+            Status::Seed => 18,
         }
     }
 }

@@ -12,7 +12,7 @@ use crate::network_steps::forget_asker;
 use crate::session_error::SessionError;
 use crate::telling::Telling;
 use hickory_proto_core::{NetError, Query, RecordType, ScriptHandle};
-use hickory_resolver::{Lookup, Resolver};
+use hickory_resolver::{Lookup, Resolver, ResponseCache};
 use hickory_resolver_pool::{
     Failure, NameServerPool, Opening, PoolLimits, PoolServer, Sent, ServersError,
 };
@@ -200,7 +200,14 @@ impl NetworkSession {
         self.resolver.clear_cache();
     }
 
-    // ---- look-ups
+    // ---- what is known
+
+    /// The cache.
+    pub fn cache(&self) -> &ResponseCache<RandomState>
+        ensures { result.now ≡ self.now.resolver.client.cache }
+    {
+        self.resolver.client().cache()
+    }
 
     /// The question that the look-up of a number waits for.
     pub fn question(&self, number: u64) -> Result<&Query, SessionError>

@@ -205,7 +205,7 @@ static int ask(struct lookup *lookup) {
 }
 
 /* Goes on until the look-up waits for a reply, or is done. */
-static void go_on(struct lookup *lookup, yimarotu_came came) {
+static void go_on(struct lookup *lookup, yimarotu_progress came) {
     while (came.status == YIMAROTU_OK && came.waits) {
         if (ask(lookup)) return;
         came = yimarotu_fail(&session, lookup->number, YIMAROTU_FAIL_REFUSED);
@@ -220,7 +220,7 @@ static void fail(struct lookup *lookup, uint8_t failure) {
 
 /* Goes on with a reply, if it is a message. */
 static int feed(struct lookup *lookup, const uint8_t *reply, size_t length) {
-    yimarotu_came came = yimarotu_feed(&session, lookup->number, reply, length);
+    yimarotu_progress came = yimarotu_feed(&session, lookup->number, reply, length);
     if (came.status == YIMAROTU_MESSAGE) return 0;
     close_upstream(lookup);
     go_on(lookup, came);
@@ -295,7 +295,7 @@ static void start(const struct waiter *client) {
     }
     size_t length = name_text(query->bytes + HEADER, text);
     unsigned type = number_at(query->bytes + query->length - 4);
-    yimarotu_came came = yimarotu_start(&session, ++number, (uint8_t *)text, length, type, milliseconds() / 1000);
+    yimarotu_progress came = yimarotu_start(&session, ++number, (uint8_t *)text, length, type, milliseconds());
     int waits = came.status == YIMAROTU_OK && came.waits;
     if (waits && (lookup = new_lookup(number, client)) != NULL) return go_on(lookup, came);
     if (waits) refuse(client, SERVFAIL);
@@ -460,8 +460,8 @@ int main(int count, char **words) {
     open_many(), sigaction(SIGINT, &action, NULL), sigaction(SIGTERM, &action, NULL);
     for (int place = 0; place < CONNECTIONS; place++) connections[place].fd = -1;
     for (int place = 0; place < LOOKUPS; place++) lookups[place].fd = -1;
-    uint64_t now = milliseconds() / 1000;
-    if (yimarotu_open(&session, settings, sizeof settings - 1, settings, 0, now).status != YIMAROTU_OK)
+    uint64_t now = milliseconds();
+    if (yimarotu_open_fed(&session, settings, sizeof settings - 1, settings, 0, now).status != YIMAROTU_OK)
         return fputs("the session was not opened\n", stderr), 3;
     if (!listen_at(at)) return perror("cannot listen"), 4;
     fprintf(stderr, "forwarding on %s:%s\n", words[1], words[2]);

@@ -1,148 +1,166 @@
 /* Looks the addresses of a host up, as getaddrinfo does: lookup HOST [SERVER [PORT]], or lookup HOST -f RESOLV_CONF.
- * SERVER is an address; without one, those of /etc/resolv.conf or of the file are asked in their order, and all else that
- * it says of names counts. Each question goes by UDP, and by TCP where the reply is truncated. */
+ * SERVER is an address; without one, /etc/resolv.conf or the file says whom to ask, and how. It opens a socket for each
+ * channel, moves octets and tells the time; the library decides all else. */
 #define _GNU_SOURCE
 #include <arpa/inet.h>
 #include <errno.h>
-#include <netdb.h>
+#include <net/if.h>
+#include <poll.h>
 #include <stdio.h>
+#include <stdlib.h>
+#include <string.h>
 #include <sys/random.h>
 #include <sys/socket.h>
-#include <sys/time.h>
 #include <time.h>
 #include <unistd.h>
 
-#include "messages.h"
 #include "yimarotu.h"
 
-enum { SECONDS = 2, TRIES = 2, DATAGRAMS = 50, NUMBER = 1, SERVERS = 8, FILE_ROOM = 1 << 16 };
+enum { NUMBER = 1, CHANNELS = 64, FILE_ROOM = 1 << 20, ROOM = 1 << 16, OUT = 4096, ADDRESSES = 256 };
 
-static struct addrinfo *servers[SERVERS + 1]; /* up to a null */
+/* A channel: its socket in `polled`, and of a stream what waits to be sent. */
+static struct channel {
+    uint64_t number;
+    bool is_stream;
+    size_t length;
+    uint8_t out[OUT];
+} channels[CHANNELS];
+static struct pollfd polled[CHANNELS];
+static nfds_t count;
+static yimarotu_session session = YIMAROTU_SESSION;
 
-static int open_socket(const struct addrinfo *server, int kind) {
-    struct timeval limit = {.tv_sec = SECONDS};
-    int fd = socket(server->ai_family, kind | SOCK_CLOEXEC, 0);
+/* The moment, by a clock that does not go back, and that counts while the machine sleeps. */
+static uint64_t now(void) {
+    struct timespec time;
+    clock_gettime(CLOCK_BOOTTIME, &time);
+    return (uint64_t)time.tv_sec * 1000 + (uint64_t)time.tv_nsec / 1000000;
+}
+
+static void fail(uint64_t channel, int error) {
+    bool is_local = error == EMFILE || error == ENFILE || error == ENOBUFS || error == ENOMEM || error == EADDRNOTAVAIL;
+    uint8_t why = is_local                 ? YIMAROTU_CHANNEL_LOCAL
+                  : error == 0             ? YIMAROTU_CHANNEL_CLOSED
+                  : error == ECONNREFUSED  ? YIMAROTU_CHANNEL_REFUSED
+                                           : YIMAROTU_CHANNEL_UNREACHABLE;
+    yimarotu_failed(&session, channel, why, now());
+}
+
+/* A socket that is connected to the server of a channel, or -1. */
+static int connect_to(const yimarotu_action *open, const uint8_t *octets) {
+    struct sockaddr_in v4 = {.sin_family = AF_INET, .sin_port = htons(open->port)};
+    struct sockaddr_in6 v6 = {.sin6_family = AF_INET6, .sin6_port = htons(open->port)};
+    char scope[IF_NAMESIZE + 1] = "";
+    int kind = open->protocol == YIMAROTU_STREAM ? SOCK_STREAM : SOCK_DGRAM;
+    int fd = socket(open->family == 4 ? AF_INET : AF_INET6, kind | SOCK_CLOEXEC | SOCK_NONBLOCK, 0);
     if (fd < 0) return -1;
-    if (setsockopt(fd, SOL_SOCKET, SO_RCVTIMEO, &limit, sizeof limit) == 0
-        && setsockopt(fd, SOL_SOCKET, SO_SNDTIMEO, &limit, sizeof limit) == 0
-        && connect(fd, server->ai_addr, server->ai_addrlen) == 0)
-        return fd;
+    if (open->family == 6 && open->length > 16 && open->length - 16 < sizeof scope) {
+        memcpy(scope, octets + 16, open->length - 16);
+        v6.sin6_scope_id = if_nametoindex(scope) ? if_nametoindex(scope) : (uint32_t)atoi(scope);
+    }
+    memcpy(open->family == 4 ? (void *)&v4.sin_addr : (void *)&v6.sin6_addr, octets, open->family == 4 ? 4 : 16);
+    int ended = open->family == 4 ? connect(fd, (struct sockaddr *)&v4, sizeof v4)
+                                  : connect(fd, (struct sockaddr *)&v6, sizeof v6);
+    if (ended == 0 || errno == EINPROGRESS) return fd;
+    int error = errno;
     close(fd);
+    errno = error;
     return -1;
 }
 
-static int is_message(const uint8_t *bytes, size_t length) {
-    static uint8_t room[MESSAGE];
-    return yimarotu_rewrite(bytes, length, MESSAGE, room, sizeof room).status != YIMAROTU_MESSAGE;
+/* The place of an open channel, or `count`. */
+static nfds_t place_of(uint64_t channel) {
+    nfds_t place = 0;
+    while (place < count && channels[place].number != channel) place++;
+    return place;
 }
 
-/* The length of the reply to one datagram, or -1. What is no reply to it is passed over. */
-static ssize_t ask_once(int fd, const uint8_t *question, size_t length, uint8_t *reply) {
-    if (send(fd, question, length, 0) != (ssize_t)length) return -1;
-    for (int number = 0; number < DATAGRAMS; number++) {
-        ssize_t got = recv(fd, reply, MESSAGE, 0);
-        if (got < 0 || (is_reply(question, reply, (size_t)got) && is_message(reply, (size_t)got))) return got;
-    }
-    errno = EAGAIN;
-    return -1;
+static void open_channel(const yimarotu_action *open, const uint8_t *octets) {
+    errno = EMFILE;
+    int fd = count == CHANNELS ? -1 : connect_to(open, octets);
+    if (fd < 0) return fail(open->channel, errno);
+    channels[count] = (struct channel){.number = open->channel, .is_stream = open->protocol == YIMAROTU_STREAM};
+    polled[count++] = (struct pollfd){.fd = fd, .events = POLLIN};
 }
 
-static ssize_t ask_by_udp(const struct addrinfo *server, const uint8_t *question, size_t length, uint8_t *reply) {
-    ssize_t got = -1;
-    for (int number = 0; got < 0 && number < TRIES; number++) {
-        /* A socket of its own, so that each try has another port. */
-        int fd = open_socket(server, SOCK_DGRAM);
-        if (fd < 0) return -1;
-        got = ask_once(fd, question, length, reply);
-        int error = errno;
-        close(fd);
-        errno = error;
-    }
-    return got;
+/* Sends what waits on a channel, as far as it goes. */
+static void flush(nfds_t place) {
+    struct channel *channel = &channels[place];
+    ssize_t sent = send(polled[place].fd, channel->out, channel->length, MSG_NOSIGNAL);
+    if (sent < 0 && errno != EAGAIN && errno != ENOTCONN && errno != EINTR) fail(channel->number, errno);
+    if (sent > 0) memmove(channel->out, channel->out + sent, channel->length -= (size_t)sent);
+    if (!channel->is_stream) channel->length = 0;
+    polled[place].events = POLLIN | (channel->length > 0 ? POLLOUT : 0);
 }
 
-static ssize_t ask_by_tcp(const struct addrinfo *server, const uint8_t *question, size_t length, uint8_t *reply) {
-    uint8_t sent[2 + QUESTION] = {length >> 8, length & 255}, size[2];
-    ssize_t got = -1;
-    int fd = open_socket(server, SOCK_STREAM);
-    if (fd < 0) return -1;
-    memcpy(sent + 2, question, length);
-    if (send(fd, sent, length + 2, MSG_NOSIGNAL) == (ssize_t)length + 2 && recv(fd, size, 2, MSG_WAITALL) == 2)
-        got = recv(fd, reply, number_at(size), MSG_WAITALL);
-    close(fd);
-    if (got >= 0 && (unsigned)got == number_at(size) && is_reply(question, reply, (size_t)got)) return got;
-    errno = EAGAIN;
-    return -1;
+static void send_on(uint64_t number, const uint8_t *octets, size_t length) {
+    nfds_t place = place_of(number);
+    if (place == count) return;
+    if (channels[place].length + length > OUT) return fail(number, ENOBUFS);
+    memcpy(channels[place].out + channels[place].length, octets, length);
+    channels[place].length += length;
+    flush(place);
 }
 
-/* Asks one server after the other, until one answers. */
-static ssize_t ask(const uint8_t *question, size_t length, uint8_t *reply) {
-    ssize_t got = -1;
-    for (struct addrinfo **server = servers; got < 0 && *server != NULL; server++) {
-        got = ask_by_udp(*server, question, length, reply);
-        if (got >= 0 && is_truncated(reply)) got = ask_by_tcp(*server, question, length, reply);
-    }
-    return got;
+static void close_channel(uint64_t number) {
+    nfds_t place = place_of(number);
+    if (place == count) return;
+    close(polled[place].fd);
+    channels[place] = channels[--count];
+    polled[place] = polled[count];
 }
 
-/* Gives the question an id that nobody can guess, and where that is wanted its name letters of random case. */
-static int disguise(uint8_t *question, int mixed) {
-    uint8_t chance[QUESTION];
-    if (getrandom(chance, sizeof chance, 0) != sizeof chance) return 0;
-    memcpy(question, chance, 2);
-    for (size_t at = HEADER, end = behind_questions(question) - 4; mixed && at < end; at++)
-        if ((question[at] | 32) >= 'a' && (question[at] | 32) <= 'z') question[at] ^= chance[at] & 32;
-    return 1;
-}
-
-/* Sends the question of the look-up, and feeds what comes back. */
-static yimarotu_came go_on(yimarotu_session *session) {
-    static uint8_t question[QUESTION], reply[MESSAGE];
-    yimarotu_asked asked = yimarotu_question(session, NUMBER, question, sizeof question);
-    if (asked.status != YIMAROTU_OK) return (yimarotu_came){.status = asked.status};
-    if (!disguise(question, asked.mixed)) return yimarotu_fail(session, NUMBER, YIMAROTU_FAIL_UPSTREAM);
-    ssize_t length = ask(question, asked.length, reply);
-    if (length < 0)
-        return yimarotu_fail(session, NUMBER, errno == EAGAIN ? YIMAROTU_FAIL_TIMEOUT : YIMAROTU_FAIL_REFUSED);
-    yimarotu_came came = yimarotu_feed(session, NUMBER, reply, length);
-    return came.status == YIMAROTU_MESSAGE ? yimarotu_fail(session, NUMBER, YIMAROTU_FAIL_UPSTREAM) : came;
-}
-
-/* Prints each address among the answers, a line each. */
-static void print_addresses(const uint8_t *message) {
-    char text[INET6_ADDRSTRLEN];
-    size_t at = behind_questions(message);
-    for (unsigned left = number_at(message + 6); left > 0; left--) {
-        const uint8_t *type = record_at(message, at, &at);
-        if (number_at(type) == 1) puts(inet_ntop(AF_INET, type + 10, text, sizeof text));
-        if (number_at(type) == 28) puts(inet_ntop(AF_INET6, type + 10, text, sizeof text));
+/* Does what is to be done; gives whether the look-up is done, or the session cannot go on. */
+static bool act(uint8_t *status) {
+    static uint8_t room[ROOM];
+    for (;;) {
+        yimarotu_action next = yimarotu_next(&session, room, sizeof room);
+        *status = next.status;
+        if (next.status != YIMAROTU_OK || next.kind == YIMAROTU_LOOKED_UP) return true;
+        if (next.kind == YIMAROTU_NOTHING) return false;
+        if (next.kind == YIMAROTU_OPEN) open_channel(&next, room);
+        if (next.kind == YIMAROTU_SEND) send_on(next.channel, room, next.length);
+        if (next.kind == YIMAROTU_CLOSE) close_channel(next.channel);
     }
 }
 
-/* The moment, by a clock that does not go back. */
-static uint64_t seconds(void) {
-    struct timespec now;
-    clock_gettime(CLOCK_MONOTONIC, &now);
-    return (uint64_t)now.tv_sec;
+/* Hands in what came on a channel, or that it failed. */
+static void receive(nfds_t place) {
+    static uint8_t room[ROOM];
+    ssize_t got = recv(polled[place].fd, room, sizeof room, 0);
+    if (got > 0 || (got == 0 && !channels[place].is_stream))
+        yimarotu_came(&session, channels[place].number, room, (size_t)got, now());
+    else if (got == 0 || (errno != EAGAIN && errno != EINTR))
+        fail(channels[place].number, got == 0 ? 0 : errno);
+}
+
+/* Goes on until the look-up is done; gives a status. */
+static uint8_t run(void) {
+    uint8_t status;
+    while (!act(&status)) {
+        yimarotu_waits waits = yimarotu_wait(&session, now());
+        int ready = poll(polled, count, waits.has_deadline && waits.milliseconds < 60000 ? (int)waits.milliseconds + 1 : 60000);
+        for (nfds_t place = 0; ready > 0 && place < count; place++) {
+            if (polled[place].revents & POLLOUT) flush(place);
+            if (polled[place].revents & (POLLIN | POLLERR | POLLHUP)) receive(place);
+        }
+        yimarotu_tick(&session, now());
+    }
+    return status;
 }
 
 /* Looks the host up, prints its addresses, and gives 0; or 1 where it has none, 3 where that could not be learnt. */
-static int look_up(yimarotu_session *session, const char *host) {
-    static uint8_t message[MESSAGE];
-    yimarotu_came came = yimarotu_start_ip(session, NUMBER, (const uint8_t *)host, strlen(host), seconds());
-    while (came.status == YIMAROTU_OK && came.waits) came = go_on(session);
-    if (came.status != YIMAROTU_OK) return fprintf(stderr, "%s: status %d\n", host, came.status), 3;
-    yimarotu_answered answered = yimarotu_answer(session, NUMBER, sizeof message, message, sizeof message);
-    if (answered.status != YIMAROTU_OK) return fprintf(stderr, "%s: status %d\n", host, answered.status), 3;
-    if (answered.error == YIMAROTU_FOUND) return print_addresses(message), 0;
-    fprintf(stderr, "%s: error %d, code %d\n", host, answered.error, answered.code);
-    return answered.error == YIMAROTU_NO_RECORDS ? 1 : 3;
-}
-
-static bool add_server(const char *address, const char *port) {
-    struct addrinfo wanted = {.ai_flags = AI_NUMERICHOST | AI_NUMERICSERV, .ai_socktype = SOCK_DGRAM}, **next = servers;
-    while (*next != NULL) next++;
-    return next == servers + SERVERS || getaddrinfo(address, port, &wanted, next) == 0;
+static int look_up(const char *host) {
+    static yimarotu_address addresses[ADDRESSES];
+    char text[INET6_ADDRSTRLEN];
+    uint8_t status = yimarotu_start_ip(&session, NUMBER, (const uint8_t *)host, strlen(host), now()).status;
+    if (status == YIMAROTU_OK) status = run();
+    if (status != YIMAROTU_OK) return fprintf(stderr, "%s: status %d\n", host, status), 3;
+    yimarotu_found found = yimarotu_addresses(&session, NUMBER, now(), addresses, sizeof addresses);
+    if (found.status != YIMAROTU_OK) return fprintf(stderr, "%s: status %d\n", host, found.status), 3;
+    for (size_t at = 0; at < found.count; at++)
+        puts(inet_ntop(addresses[at].family == 4 ? AF_INET : AF_INET6, addresses[at].octets, text, sizeof text));
+    if (found.error != YIMAROTU_FOUND) fprintf(stderr, "%s: error %d, code %d\n", host, found.error, found.code);
+    return found.error == YIMAROTU_FOUND ? 0 : found.error == YIMAROTU_NO_RECORDS ? 1 : 3;
 }
 
 /* The octets of a file; none where it cannot be read, as the C library has it. */
@@ -153,30 +171,23 @@ static size_t read_file(const char *path, uint8_t *room) {
     return length;
 }
 
-/* Opens the session as a file resolv.conf says, and takes its servers. */
-static uint8_t open_by(yimarotu_session *session, const char *path) {
-    static uint8_t conf[FILE_ROOM], room[FILE_ROOM + 1];
-    char name[256] = "";
-    size_t length = read_file(path, conf);
-    yimarotu_servers named = yimarotu_read_servers(conf, length, room, FILE_ROOM);
-    if (named.status != YIMAROTU_OK) return named.status;
-    for (char *line = strtok((char *)room, "\n"); line != NULL; line = strtok(NULL, "\n")) add_server(line, "53");
+int main(int arguments, char **words) {
+    static uint8_t conf[FILE_ROOM], hosts[FILE_ROOM];
+    uint8_t seed[32];
+    char name[256] = "", settings[512] = "";
+    bool has_file = arguments == 4 && strcmp(words[2], "-f") == 0, has_server = arguments > 2 && !has_file;
+    if (arguments < 2 || arguments > 4) return fputs("usage: lookup HOST [SERVER [PORT] | -f RESOLV_CONF]\n", stderr), 2;
+    if (has_server) snprintf(settings, sizeof settings, "server %s %s\n", words[2], arguments == 4 ? words[3] : "53");
+    size_t conf_length = has_server ? 0 : read_file(has_file ? words[3] : "/etc/resolv.conf", conf);
+    size_t hosts_length = has_server || has_file ? 0 : read_file("/etc/hosts", hosts);
     if (gethostname(name, sizeof name - 1) != 0) name[0] = 0;
-    const uint8_t *host = (const uint8_t *)name, *none = conf;
-    return yimarotu_open_with(session, conf, length, host, strlen(name), none, 0, none, 0, seconds()).status;
-}
-
-int main(int count, char **arguments) {
-    static const uint8_t settings[] = "option ndots 1\n";
-    yimarotu_session session = YIMAROTU_SESSION;
-    bool has_file = count == 4 && strcmp(arguments[2], "-f") == 0, has_server = count > 2 && !has_file;
-    if (count < 2 || count > 4) return fputs("usage: lookup HOST [SERVER [PORT] | -f RESOLV_CONF]\n", stderr), 2;
-    if (has_server && !add_server(arguments[2], count == 4 ? arguments[3] : "53"))
-        return fputs("the server is no address, or the port no number\n", stderr), 2;
-    uint8_t opened = has_server ? yimarotu_open(&session, settings, sizeof settings - 1, settings, 0, seconds()).status
-                                : open_by(&session, has_file ? arguments[3] : "/etc/resolv.conf");
-    int status = opened == YIMAROTU_OK ? look_up(&session, arguments[1]) : 3;
+    if (getrandom(seed, sizeof seed, 0) != sizeof seed) return perror("getrandom"), 3;
+    yimarotu_opened opened =
+        yimarotu_open(&session, conf, conf_length, (const uint8_t *)name, has_server ? 0 : strlen(name), (const uint8_t *)settings,
+                      strlen(settings), hosts, hosts_length, seed, sizeof seed, now());
+    if (has_server && opened.status == YIMAROTU_SCRIPT) return fputs("the server is no address, or the port no number\n", stderr), 2;
+    int ended = opened.status == YIMAROTU_OK ? look_up(words[1]) : 3;
     yimarotu_close(&session);
-    for (struct addrinfo **server = servers; *server != NULL; server++) freeaddrinfo(*server);
-    return status;
+    while (count > 0) close(polled[--count].fd);
+    return ended;
 }

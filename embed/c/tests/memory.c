@@ -85,7 +85,7 @@ static end written(uint8_t status, size_t length, const void *bytes, size_t want
 }
 
 /* A look-up that came to this; one that is done may have run out of memory. */
-static end came(yimarotu_came came, uint64_t number, bool waits) {
+static end came(yimarotu_progress came, uint64_t number, bool waits) {
     long at = refuse_at;
     yimarotu_answered answered;
     if (came.status == YIMAROTU_NO_MEMORY) return came.waits || came.fault ? WRONG : NO_MEMORY;
@@ -109,25 +109,25 @@ static end answer(uint64_t number, uint8_t error, uint64_t until, const char *by
 
 static end open_it(void) {
     yimarotu_opened opened =
-        yimarotu_open(&session, BYTES("option ip_strategy Ipv4Only\n"), BYTES("192.0.2.9 printer.\n"), 100);
+        yimarotu_open_fed(&session, BYTES("option ip_strategy Ipv4Only\n"), BYTES("192.0.2.9 printer.\n"), 100000);
     if (opened.status == YIMAROTU_NO_MEMORY) return session.is_open || opened.line ? WRONG : NO_MEMORY;
     return opened.status == YIMAROTU_OK && session.is_open ? WHOLE : WRONG;
 }
 
 static end open_with(void) {
-    yimarotu_opened opened = yimarotu_open_with(&session, BYTES("search a.example b.example\noptions ndots:2 no-aaaa\n"),
-                                                BYTES("host.example.com"), BYTES("option cache_size 9\n"), BYTES(""), 100);
+    yimarotu_opened opened = yimarotu_open_fed_with(&session, BYTES("search a.example b.example\noptions ndots:2 no-aaaa\n"),
+                                                BYTES("host.example.com"), BYTES("option cache_size 9\n"), BYTES(""), 100000);
     if (opened.status == YIMAROTU_NO_MEMORY) return session.is_open || opened.line ? WRONG : NO_MEMORY;
     return opened.status == YIMAROTU_OK && session.is_open ? WHOLE : WRONG;
 }
 
 static end read_servers(void) {
     static const char servers[] = "192.0.2.53\nfe80::1%eth0\n";
-    yimarotu_servers s = yimarotu_read_servers(BYTES("nameserver 192.0.2.53\nnameserver fe80::1%eth0\n"), room, ROOM);
+    yimarotu_servers_read s = yimarotu_read_servers(BYTES("nameserver 192.0.2.53\nnameserver fe80::1%eth0\n"), room, ROOM);
     return written(s.status, s.length, servers, sizeof servers - 1, 0);
 }
 
-static end start_1(void) { return came(yimarotu_start(&session, 1, BYTES("www.example.com."), A, 100), 1, true); }
+static end start_1(void) { return came(yimarotu_start(&session, 1, BYTES("www.example.com."), A, 100000), 1, true); }
 
 static end question_1(void) {
     yimarotu_asked asked = yimarotu_question(&session, 1, room, ROOM);
@@ -136,12 +136,12 @@ static end question_1(void) {
 
 static end feed_1(void) { return came(yimarotu_feed(&session, 1, BYTES(FOUND)), 1, false); }
 static end answer_1(void) { return answer(1, YIMAROTU_FOUND, 160, FOUND, sizeof FOUND - 1); }
-static end start_2(void) { return came(yimarotu_start(&session, 2, BYTES("WWW.example.com."), A, 130), 2, false); }
-static end start_3(void) { return came(yimarotu_start_ip(&session, 3, BYTES("printer."), 100), 3, false); }
-static end start_4(void) { return came(yimarotu_start(&session, 4, BYTES("late.example.com."), A, 100), 4, true); }
+static end start_2(void) { return came(yimarotu_start(&session, 2, BYTES("WWW.example.com."), A, 130000), 2, false); }
+static end start_3(void) { return came(yimarotu_start_ip(&session, 3, BYTES("printer."), 100000), 3, false); }
+static end start_4(void) { return came(yimarotu_start(&session, 4, BYTES("late.example.com."), A, 100000), 4, true); }
 static end fail_4(void) { return came(yimarotu_fail(&session, 4, TIMEOUT), 4, false); }
 static end answer_4(void) { return answer(4, YIMAROTU_TIMED_OUT, 0, "", 0); }
-static end start_5(void) { return came(yimarotu_start(&session, 5, BYTES("missing.example.com."), A, 100), 5, true); }
+static end start_5(void) { return came(yimarotu_start(&session, 5, BYTES("missing.example.com."), A, 100000), 5, true); }
 static end feed_5(void) { return came(yimarotu_feed(&session, 5, BYTES(NO_NAME)), 5, false); }
 
 static end answer_2(void) {
@@ -167,7 +167,7 @@ static end replay(void) {
     return r.line ? WRONG : written(r.status, r.length, TEXT, sizeof TEXT - 1, 0);
 }
 
-static end start_6(void) { return came(yimarotu_start_ip(&session, 6, BYTES("192.0.2.1"), 100), 6, false); }
+static end start_6(void) { return came(yimarotu_start_ip(&session, 6, BYTES("192.0.2.1"), 100000), 6, false); }
 static end answer_6(void) { return answer(6, YIMAROTU_FOUND, 86500, LITERAL, sizeof LITERAL - 1); }
 
 static end clear_name(void) {
@@ -192,7 +192,7 @@ typedef struct call {
 } call;
 
 static const call CALLS[] = {
-    {"yimarotu_open", open_it, 0, NULL, false},
+    {"yimarotu_open_fed", open_it, 0, NULL, false},
     {"yimarotu_start, a miss", start_1, 1, NULL, false},
     {"yimarotu_question", question_1, 0, NULL, false},
     {"yimarotu_feed, an answer", feed_1, 1, start_1, false},
@@ -214,7 +214,7 @@ static const call CALLS[] = {
     {"yimarotu_cancel", cancel_5, 0, NULL, true},
     {"yimarotu_clear", clear, 0, NULL, true},
     {"yimarotu_close", close_it, 0, NULL, true},
-    {"yimarotu_open_with", open_with, 0, NULL, false},
+    {"yimarotu_open_fed_with", open_with, 0, NULL, false},
     {"yimarotu_close, by a resolv.conf", close_it, 0, NULL, true},
     {"yimarotu_read_servers", read_servers, 0, NULL, false},
 };

@@ -18,7 +18,7 @@ static bool turn(yimarotu_session *session, uint8_t last) {
     uint8_t reply[sizeof REPLY], room[ROOM];
     memcpy(reply, REPLY, sizeof REPLY);
     reply[sizeof REPLY - 1] = last;
-    if (!yimarotu_start(session, 1, BYTES("www.example.com."), 1, 100).waits) return false;
+    if (!yimarotu_start(session, 1, BYTES("www.example.com."), 1, 100000).waits) return false;
     if (yimarotu_feed(session, 1, reply, sizeof reply).waits) return false;
     yimarotu_answered answered = yimarotu_answer(session, 1, ROOM, room, ROOM);
     if (answered.length != sizeof reply || memcmp(room + 2, reply + 2, sizeof reply - 2) != 0) return false;
@@ -28,7 +28,7 @@ static bool turn(yimarotu_session *session, uint8_t last) {
 static void *run(void *given) {
     uint8_t *last = given;
     yimarotu_session session = YIMAROTU_SESSION;
-    bool is_right = yimarotu_open(&session, BYTES(""), BYTES("192.0.2.9 printer.\n"), 100).status == YIMAROTU_OK;
+    bool is_right = yimarotu_open_fed(&session, BYTES(""), BYTES("192.0.2.9 printer.\n"), 100000).status == YIMAROTU_OK;
     for (int turns = 0; is_right && turns < TURNS; turns++) is_right = turn(&session, *last);
     yimarotu_close(&session);
     return is_right ? given : NULL;

@@ -51,7 +51,7 @@ _Replayed = _struct("_Replayed", ("status", _U8), ("length", _SIZE), ("line", _S
 _AT = [ctypes.POINTER(_Session)]
 _CALLS = {
     "rewrite": (_Written, [*_BYTES, _SIZE, *_BYTES]),
-    "open": (_Opened, [*_AT, *_BYTES, *_BYTES, _U64]),
+    "open_fed": (_Opened, [*_AT, *_BYTES, *_BYTES, _U64]),
     "close": (None, _AT),
     "start": (_Came, [*_AT, _U64, *_BYTES, _U16, _U64]),
     "start_ip": (_Came, [*_AT, _U64, *_BYTES, _U64]),
@@ -124,7 +124,7 @@ class Session:
     def __init__(self, settings=b"", hosts=b"", moment=0):
         self._session = _Session(False, None)
         settings, hosts = _octets(settings), _octets(hosts)
-        _told(self._call("open", settings, len(settings), hosts, len(hosts), moment))
+        _told(self._call("open_fed", settings, len(settings), hosts, len(hosts), 1000 * moment))
 
     def _call(self, name, *words):
         return _call(name, ctypes.byref(self._session), *words)
@@ -132,12 +132,12 @@ class Session:
     def start(self, number, name, record_type, moment):
         """Starts a look-up of records of a type, under a number that is free. Tells whether it waits."""
         name = _octets(name)
-        return _told(self._call("start", number, name, len(name), record_type, moment)).waits
+        return _told(self._call("start", number, name, len(name), record_type, 1000 * moment)).waits
 
     def start_ip(self, number, host, moment):
         """The same of the addresses of a host."""
         host = _octets(host)
-        return _told(self._call("start_ip", number, host, len(host), moment)).waits
+        return _told(self._call("start_ip", number, host, len(host), 1000 * moment)).waits
 
     def question(self, number):
         """The question that a look-up waits for."""

@@ -134,8 +134,8 @@ struct Replayed {
 #[rustfmt::skip]
 extern "C" {
     fn yimarotu_rewrite(message: *const u8, message_length: usize, limit: usize, room: *mut u8, room_length: usize) -> Written;
-    fn yimarotu_open(session: *mut RawSession, settings: *const u8, settings_length: usize, hosts: *const u8,
-                     hosts_length: usize, moment: u64) -> Opened;
+    fn yimarotu_open_fed(session: *mut RawSession, settings: *const u8, settings_length: usize, hosts: *const u8,
+                         hosts_length: usize, moment: u64) -> Opened;
     fn yimarotu_close(session: *mut RawSession);
     fn yimarotu_start(session: *mut RawSession, number: u64, name: *const u8, name_length: usize, record_type: u16,
                       moment: u64) -> Came;
@@ -187,6 +187,11 @@ fn in_room<T>(size: usize, call: impl Fn(&mut Vec<u8>) -> (u8, usize, T)) -> (u8
     }
 }
 
+/// A moment of this crate's, in seconds, as the library counts.
+fn milliseconds(moment: u64) -> u64 {
+    moment.saturating_mul(1000)
+}
+
 /// A message that is read and written again, in at most so many bytes.
 pub fn rewrite(message: &[u8], limit: usize) -> Result<Vec<u8>, Status> {
     let (number, octets, fault) = in_room(512, |room| {
@@ -221,19 +226,19 @@ impl Session {
         let session = Session { raw: raw.into() };
         let settings = (settings.as_ptr(), settings.len());
         let told = unsafe {
-            yimarotu_open(session.raw.get(), settings.0, settings.1, hosts.as_ptr(), hosts.len(), moment)
+            yimarotu_open_fed(session.raw.get(), settings.0, settings.1, hosts.as_ptr(), hosts.len(), milliseconds(moment))
         };
         status(told.status, told.line, 0).map(|()| session)
     }
 
     /// Starts a look-up of records of a type under a number that is free. Tells whether it waits.
     pub fn start(&mut self, number: u64, name: &str, record_type: u16, moment: u64) -> Result<bool, Status> {
-        came(unsafe { yimarotu_start(self.raw.get(), number, name.as_ptr(), name.len(), record_type, moment) })
+        came(unsafe { yimarotu_start(self.raw.get(), number, name.as_ptr(), name.len(), record_type, milliseconds(moment)) })
     }
 
     /// The same of the addresses of a host.
     pub fn start_ip(&mut self, number: u64, host: &str, moment: u64) -> Result<bool, Status> {
-        came(unsafe { yimarotu_start_ip(self.raw.get(), number, host.as_ptr(), host.len(), moment) })
+        came(unsafe { yimarotu_start_ip(self.raw.get(), number, host.as_ptr(), host.len(), milliseconds(moment)) })
     }
 
     /// The question that a look-up waits for.

@@ -1,0 +1,5 @@
+pub mod Counts
+pub mod Driven
+pub mod Held
+pub mod NetworkOpening
+pub mod Seeds

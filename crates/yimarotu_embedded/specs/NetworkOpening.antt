@@ -1,0 +1,64 @@
+-- How a session with a network is opened.
+use Rattle.std.specs.Prelude.{◌≡◌, ◌≢◌, ◌⊎◌, ℕ, List, [], Option, None, Some, Result, Ok, Err, MatchOption, MatchResult}
+use Rattle.hickory_proto_core.specs.Handles.{OutcomeValue}
+use Rattle.hickory_resolver.specs.Reading.{IsBytesRead}
+use Rattle.hickory_resolver.specs.hosts.hosts_error.HostsError.TheVariants as hosts_error
+use Rattle.hickory_resolver_config.specs.ResolverConfig.{ResolverConfigValue}
+use Rattle.hickory_resolver_model.specs.Hosts.{Host}
+use Rattle.hickory_resolver_model.specs.Resolver.{ResolverValue, new_resolver}
+use Rattle.hickory_resolver_pool.specs.Pool.{after_servers, default_limits}
+use Rattle.hickory_resolver_pool.specs.Servers.{PoolServerValue, first_fixed}
+use Rattle.hickory_resolver_pool.specs.declared.servers.ServersError.TheVariants.{FixedPort}
+use Rattle.session_settings.specs.Settings.{IsSettingsRead, SettingsValue}
+use Rattle.session_settings.specs.declared.settings_error.SettingsError.{SettingsError}
+use Rattle.yimarotu_embedded.specs.Seeds.{pool_seed}
+use Rattle.yimarotu_embedded.specs.declared.network_opening.NetworkOpenError.{NetworkOpenError}
+use Rattle.yimarotu_embedded.specs.declared.network_opening.NetworkOpenError.TheVariants.{Settings, Hosts, Servers, OutOfMemory}
+use Rattle.yimarotu_session.specs.NetworkSessions.{NetworkValue, new_session, seconds_of, with_pool}
+
+-- the resolver of these settings over this table of hosts, with an empty cache
+abbrev pub config_of : SettingsValue → ResolverConfigValue
+config_of settings = record { domain = settings.domain; search = settings.search; name_servers = [] }
+
+abbrev pub resolver_over : SettingsValue → List Host → ResolverValue (List OutcomeValue)
+resolver_over settings table =
+    record (new_resolver (config_of settings) settings.options []) { hosts = table }
+
+-- the hosts have a fault; or no memory is left
+abbrev pub IsNoHosts : List ℕ → ℕ → NetworkOpenError → Type 0
+IsNoHosts hosts now (Hosts error) =
+    (error ≢ hosts_error.OutOfMemory) × ((table : List Host) × IsBytesRead now hosts [] (Err error) table)
+IsNoHosts hosts now OutOfMemory = Unit {0}
+IsNoHosts hosts now other = ⊥
+
+abbrev pub AreHostsRead : List ℕ → ℕ → Result (List Host) NetworkOpenError → Type 0
+AreHostsRead hosts now result = MatchResult result (λ table. IsBytesRead now hosts [] (Ok tt) table) (IsNoHosts hosts now)
+
+-- the session asks these servers, unless one is to be asked from a given port, or memory runs out
+abbrev pub with_servers : List PoolServerValue → NetworkValue → NetworkValue
+with_servers servers session = with_pool (after_servers 0 servers session.pool) session
+
+abbrev pub HasServers : List PoolServerValue → NetworkValue → Result NetworkValue NetworkOpenError → Type 0
+HasServers servers session result =
+    MatchOption (first_fixed servers)
+    ((result ≡ Ok (with_servers servers session)) ⊎ (result ≡ Err OutOfMemory))
+    (λ place. result ≡ Err (Servers (FixedPort place)))
+
+-- the session of these settings over these hosts, unless memory runs out
+abbrev pub IsServed : SettingsValue → List Host → List ℕ → Result NetworkValue NetworkOpenError → Type 0
+IsServed settings table seed result =
+    HasServers settings.servers (new_session (resolver_over settings table) default_limits seed) result
+    ⊎ (result ≡ Err OutOfMemory)
+
+-- the hosts are read, and then the session is made
+abbrev pub IsOpenedOver : SettingsValue → List ℕ → List ℕ → ℕ → Result NetworkValue NetworkOpenError → Type 0
+IsOpenedOver settings hosts seed now result =
+    ((table : Result (List Host) NetworkOpenError) × AreHostsRead hosts (seconds_of now) table
+    × MatchResult table (λ table. IsServed settings table (pool_seed seed) result) (λ error. result ≡ Err error))
+    ⊎ (result ≡ Err OutOfMemory)
+
+-- the file and the settings are read, and then the hosts; the first fault is told
+abbrev pub IsOpened : List ℕ → List ℕ → List ℕ → List ℕ → List ℕ → ℕ → Result NetworkValue NetworkOpenError → Type 0
+IsOpened conf hostname settings hosts seed now result =
+    (read : Result SettingsValue SettingsError) × IsSettingsRead conf hostname settings read
+    × MatchResult read (λ settings. IsOpenedOver settings hosts seed now result) (λ error. result ≡ Err (Settings error))
