@@ -17,5 +17,5 @@ mod text;
 pub use configuration::{ResolvConf, read_resolv_conf};
 pub use passed_over::{PassedOver, Reason};
 pub use script::script_lines;
-pub use server::Scope;
+pub use server::{Scope, Server, read_server};
 pub use server_text::server_lines;

@@ -1,0 +1,5 @@
+pub mod Reading
+pub mod ServerLine
+pub mod SessionLine
+pub mod SessionOption
+pub mod Settings
