@@ -10,5 +10,5 @@ mod session_option;
 mod settings;
 mod settings_error;
 
-pub use settings::{SessionSettings, read_session_settings};
+pub use settings::{SessionSettings, read_servers, read_session_settings};
 pub use settings_error::SettingsError;

@@ -1,6 +1,8 @@
 //! What a session with a network is opened with.
-ghost use Rattle.std.specs.Prelude.{◌≡◌};
+ghost use Rattle.std.specs.Prelude.{◌≡◌, [], IfOk};
 ghost use Rattle.std.specs.Str.Lines.{lines};
+ghost use Rattle.resolv_conf.specs.ResolvConf.{resolv_conf};
+ghost use Rattle.session_settings.specs.ServerLine.{file_servers};
 ghost use Rattle.session_settings.specs.Settings.{AreSettingsBehind, AreSettingsOver, IsFinished, IsSettingsRead, servers_or, settings_with};
 
 use crate::reading::Reading;
@@ -66,6 +68,16 @@ pub fn read_session_settings(
     match read_resolv_conf(alloc, conf, hostname) {
         Ok(conf) => read_over(alloc, conf, settings),
         Err(AllocError) => Err(SettingsError::OutOfMemory),
+    }
+}
+
+/// The servers of a file `resolv.conf`.
+pub fn read_servers(alloc: Global, conf: &[u8]) -> Result<Vec<PoolServer>, AllocError>
+    ensures { IfOk result (λ servers. servers.items ≡ file_servers (resolv_conf conf.now [])) }
+{
+    match read_resolv_conf(alloc, conf, &[]) {
+        Ok(conf) => file_servers(alloc, &conf),
+        Err(AllocError) => Err(AllocError),
     }
 }
 
