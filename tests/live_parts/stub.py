@@ -4,6 +4,7 @@ import selectors
 import socket
 import struct
 import threading
+import time
 from contextlib import contextmanager
 
 import dns.flags
@@ -37,6 +38,8 @@ class Stub:
             rrset = dns.rrset.from_text(name, int(ttl), rdclass, rdtype, data)
             self._records[rrset.name, rrset.rdtype].append(rrset)
             self._names.add(rrset.name)
+        # How many forged replies come before the true one to a question for addresses, over a second.
+        self.floods = 0
         # Each question that came, with its id, the port that it came from, and whether it was by TCP.
         self.asked = []
         self.port = free_port()
@@ -95,6 +98,8 @@ class Stub:
             for lie in self.lies(query):
                 sock.sendto(lie, peer)
             self.lie_from_elsewhere(query, peer)
+        if self.floods:
+            self.flood(sock, query, peer)
         response = self.reply(query)
         wire = response.to_wire(max_size=65535)
         if len(wire) > (query.payload or 512):
@@ -102,6 +107,22 @@ class Stub:
             response.flags |= dns.flags.TC
             wire = response.to_wire()
         sock.sendto(wire, peer)
+
+    def flood(self, sock, query, peer):
+        """Sends what is forged for a second: from another port, from another address, and from here under other ids."""
+        response = dns.message.make_response(query)
+        response.answer = [dns.rrset.from_text(query.question[0].name, 60, "IN", "A", LIE)]
+        wire, start = response.to_wire(), time.monotonic()
+        with socket.socket(socket.AF_INET, socket.SOCK_DGRAM) as port, socket.socket(socket.AF_INET, socket.SOCK_DGRAM) as other:
+            port.bind((ADDRESS, 0))
+            other.bind((OTHER_ADDRESS, self.port))
+            for number in range(self.floods):
+                port.sendto(wire, peer)
+                other.sendto(wire, peer)
+                forged = (query.id + 1 + number) % 65536
+                if forged != query.id:
+                    sock.sendto(struct.pack(">H", forged) + wire[2:], peer)
+                time.sleep(max(0, start + number / self.floods - time.monotonic()))
 
     def lie_from_elsewhere(self, query, peer):
         """The same reply with a false address, from another port and from another address of this machine."""

@@ -1,6 +1,6 @@
-/* Looks the addresses of a host up, as getaddrinfo does: lookup HOST [SERVER [PORT]], or lookup HOST -f RESOLV_CONF.
- * SERVER is an address; without one, /etc/resolv.conf or the file says whom to ask, and how. It opens a socket for each
- * channel, moves octets and tells the time; the library decides all else. */
+/* Looks the addresses of a host up, as getaddrinfo does: lookup HOST [-f RESOLV_CONF] [SETTING ..]. Whom to ask, and how,
+ * says /etc/resolv.conf or the file, and in place of it each SETTING, a line as "server 192.0.2.53". It opens a socket for
+ * each channel, moves octets and tells the time; the library decides all else. */
 #define _GNU_SOURCE
 #include <arpa/inet.h>
 #include <errno.h>
@@ -16,7 +16,10 @@
 
 #include "yimarotu.h"
 
-enum { NUMBER = 1, CHANNELS = 64, FILE_ROOM = 1 << 20, ROOM = 1 << 16, OUT = 4096, ADDRESSES = 256 };
+#ifndef CHANNELS
+#define CHANNELS 64
+#endif
+enum { NUMBER = 1, FILE_ROOM = 1 << 20, SETTINGS = 4096, ROOM = 1 << 16, OUT = 4096, ADDRESSES = 256 };
 
 /* A channel: its socket in `polled`, and of a stream what waits to be sent. */
 static struct channel {
@@ -38,10 +41,10 @@ static uint64_t now(void) {
 
 static void fail(uint64_t channel, int error) {
     bool is_local = error == EMFILE || error == ENFILE || error == ENOBUFS || error == ENOMEM || error == EADDRNOTAVAIL;
-    uint8_t why = is_local                 ? YIMAROTU_CHANNEL_LOCAL
-                  : error == 0             ? YIMAROTU_CHANNEL_CLOSED
-                  : error == ECONNREFUSED  ? YIMAROTU_CHANNEL_REFUSED
-                                           : YIMAROTU_CHANNEL_UNREACHABLE;
+    uint8_t why = is_local                ? YIMAROTU_CHANNEL_LOCAL
+                  : error == 0            ? YIMAROTU_CHANNEL_CLOSED
+                  : error == ECONNREFUSED ? YIMAROTU_CHANNEL_REFUSED
+                                          : YIMAROTU_CHANNEL_UNREACHABLE;
     yimarotu_failed(&session, channel, why, now());
 }
 
@@ -133,19 +136,16 @@ static void receive(nfds_t place) {
         fail(channels[place].number, got == 0 ? 0 : errno);
 }
 
-/* Goes on until the look-up is done; gives a status. */
-static uint8_t run(void) {
-    uint8_t status;
-    while (!act(&status)) {
-        yimarotu_waits waits = yimarotu_wait(&session, now());
-        int ready = poll(polled, count, waits.has_deadline && waits.milliseconds < 60000 ? (int)waits.milliseconds + 1 : 60000);
-        for (nfds_t place = 0; ready > 0 && place < count; place++) {
-            if (polled[place].revents & POLLOUT) flush(place);
-            if (polled[place].revents & (POLLIN | POLLERR | POLLHUP)) receive(place);
-        }
-        yimarotu_tick(&session, now());
+/* Waits until something happens, and hands it in. */
+static void wait_for_channels(void) {
+    yimarotu_waits waits = yimarotu_wait(&session, now());
+    int timeout = waits.has_deadline && waits.milliseconds < 60000 ? (int)waits.milliseconds + 1 : 60000;
+    int ready = poll(polled, count, timeout);
+    for (nfds_t place = 0; ready > 0 && place < count; place++) {
+        if (polled[place].revents & POLLOUT) flush(place);
+        if (polled[place].revents & (POLLIN | POLLERR | POLLHUP)) receive(place);
     }
-    return status;
+    yimarotu_tick(&session, now());
 }
 
 /* Looks the host up, prints its addresses, and gives 0; or 1 where it has none, 3 where that could not be learnt. */
@@ -153,7 +153,8 @@ static int look_up(const char *host) {
     static yimarotu_address addresses[ADDRESSES];
     char text[INET6_ADDRSTRLEN];
     uint8_t status = yimarotu_start_ip(&session, NUMBER, (const uint8_t *)host, strlen(host), now()).status;
-    if (status == YIMAROTU_OK) status = run();
+    if (status == YIMAROTU_OK)
+        while (!act(&status)) wait_for_channels();
     if (status != YIMAROTU_OK) return fprintf(stderr, "%s: status %d\n", host, status), 3;
     yimarotu_found found = yimarotu_addresses(&session, NUMBER, now(), addresses, sizeof addresses);
     if (found.status != YIMAROTU_OK) return fprintf(stderr, "%s: status %d\n", host, found.status), 3;
@@ -174,18 +175,19 @@ static size_t read_file(const char *path, uint8_t *room) {
 int main(int arguments, char **words) {
     static uint8_t conf[FILE_ROOM], hosts[FILE_ROOM];
     uint8_t seed[32];
-    char name[256] = "", settings[512] = "";
-    bool has_file = arguments == 4 && strcmp(words[2], "-f") == 0, has_server = arguments > 2 && !has_file;
-    if (arguments < 2 || arguments > 4) return fputs("usage: lookup HOST [SERVER [PORT] | -f RESOLV_CONF]\n", stderr), 2;
-    if (has_server) snprintf(settings, sizeof settings, "server %s %s\n", words[2], arguments == 4 ? words[3] : "53");
-    size_t conf_length = has_server ? 0 : read_file(has_file ? words[3] : "/etc/resolv.conf", conf);
-    size_t hosts_length = has_server || has_file ? 0 : read_file("/etc/hosts", hosts);
+    char name[256] = "", settings[SETTINGS] = "";
+    bool has_file = arguments > 3 && strcmp(words[2], "-f") == 0;
+    if (arguments < 2) return fputs("usage: lookup HOST [-f RESOLV_CONF] [SETTING ..]\n", stderr), 2;
+    for (int at = has_file ? 4 : 2; at < arguments; at++) {
+        size_t length = strlen(settings);
+        snprintf(settings + length, sizeof settings - length, "%s\n", words[at]);
+    }
+    size_t conf_length = read_file(has_file ? words[3] : "/etc/resolv.conf", conf), hosts_length = read_file("/etc/hosts", hosts);
     if (gethostname(name, sizeof name - 1) != 0) name[0] = 0;
     if (getrandom(seed, sizeof seed, 0) != sizeof seed) return perror("getrandom"), 3;
-    yimarotu_opened opened =
-        yimarotu_open(&session, conf, conf_length, (const uint8_t *)name, has_server ? 0 : strlen(name), (const uint8_t *)settings,
-                      strlen(settings), hosts, hosts_length, seed, sizeof seed, now());
-    if (has_server && opened.status == YIMAROTU_SCRIPT) return fputs("the server is no address, or the port no number\n", stderr), 2;
+    yimarotu_opened opened = yimarotu_open(&session, conf, conf_length, (const uint8_t *)name, strlen(name),
+                                           (const uint8_t *)settings, strlen(settings), hosts, hosts_length, seed, sizeof seed, now());
+    if (opened.status == YIMAROTU_SCRIPT) return fprintf(stderr, "setting %zu is none\n", opened.line), 2;
     int ended = opened.status == YIMAROTU_OK ? look_up(words[1]) : 3;
     yimarotu_close(&session);
     while (count > 0) close(polled[--count].fd);
