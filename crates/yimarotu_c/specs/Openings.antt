@@ -34,7 +34,7 @@ settings_error settings.OutOfMemory = open_end status.NoMemory 0
 abbrev pub network_error : NetworkOpenError → YimarotuOpened
 network_error (network.Settings error) = settings_error error
 network_error (network.Hosts error) = open_end status.Hosts 0
-network_error (network.Servers error) = open_end status.Script 0
+network_error (network.FixedPort place) = open_end status.Script 0
 network_error network.OutOfMemory = open_end status.NoMemory 0
 
 -- a session is kept, unless no memory is left for it

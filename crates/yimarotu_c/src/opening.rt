@@ -134,7 +134,7 @@ fn refused_network(error: NetworkOpenError) -> YimarotuOpened
     match error {
         NetworkOpenError::Settings(error) => refused_settings(error),
         NetworkOpenError::Hosts(_) => ended(Status::Hosts, 0),
-        NetworkOpenError::Servers(_) => ended(Status::Script, 0),
+        NetworkOpenError::FixedPort(_) => ended(Status::Script, 0),
         NetworkOpenError::OutOfMemory => ended(Status::NoMemory, 0),
     }
 }

@@ -1,5 +1,5 @@
 -- How a session with a network is opened.
-use Rattle.std.specs.Prelude.{◌≡◌, ◌≢◌, ◌⊎◌, ℕ, List, [], Option, None, Some, Result, Ok, Err, MatchOption, MatchResult}
+use Rattle.std.specs.Prelude.{◌≡◌, ◌≢◌, ◌⊎◌, ℕ, List, [], Option, None, Some, Result, Ok, Err, MatchResult}
 use Rattle.hickory_proto_core.specs.Handles.{OutcomeValue}
 use Rattle.hickory_resolver.specs.Reading.{IsBytesRead}
 use Rattle.hickory_resolver.specs.hosts.hosts_error.HostsError.TheVariants as hosts_error
@@ -8,12 +8,11 @@ use Rattle.hickory_resolver_model.specs.Hosts.{Host}
 use Rattle.hickory_resolver_model.specs.Resolver.{ResolverValue, new_resolver}
 use Rattle.hickory_resolver_pool.specs.Pool.{after_servers, default_limits}
 use Rattle.hickory_resolver_pool.specs.Servers.{PoolServerValue, first_fixed}
-use Rattle.hickory_resolver_pool.specs.declared.servers.ServersError.TheVariants.{FixedPort}
 use Rattle.session_settings.specs.Settings.{IsSettingsRead, SettingsValue}
 use Rattle.session_settings.specs.declared.settings_error.SettingsError.{SettingsError}
 use Rattle.yimarotu_embedded.specs.Seeds.{pool_seed}
 use Rattle.yimarotu_embedded.specs.declared.network_opening.NetworkOpenError.{NetworkOpenError}
-use Rattle.yimarotu_embedded.specs.declared.network_opening.NetworkOpenError.TheVariants.{Settings, Hosts, Servers, OutOfMemory}
+use Rattle.yimarotu_embedded.specs.declared.network_opening.NetworkOpenError.TheVariants.{Settings, Hosts, FixedPort, OutOfMemory}
 use Rattle.yimarotu_session.specs.NetworkSessions.{NetworkValue, new_session, seconds_of, with_pool}
 
 -- the resolver of these settings over this table of hosts, with an empty cache
@@ -34,15 +33,25 @@ IsNoHosts hosts now other = ⊥
 abbrev pub AreHostsRead : List ℕ → ℕ → Result (List Host) NetworkOpenError → Type 0
 AreHostsRead hosts now result = MatchResult result (λ table. IsBytesRead now hosts [] (Ok tt) table) (IsNoHosts hosts now)
 
--- the session asks these servers, unless one is to be asked from a given port, or memory runs out
+-- the session asks these servers from now on, unless one is to be asked from a given port, or memory runs out
 abbrev pub with_servers : List PoolServerValue → NetworkValue → NetworkValue
 with_servers servers session = with_pool (after_servers 0 servers session.pool) session
 
+abbrev pub AsksServers : List PoolServerValue → NetworkValue → Result (Unit {0}) NetworkOpenError → NetworkValue → Type 0
+AsksServers servers before (Ok done) after =
+    (first_fixed servers ≡ None) × (after ≡ with_servers servers before)
+AsksServers servers before (Err (FixedPort place)) after = first_fixed servers ≡ Some place
+AsksServers servers before (Err OutOfMemory) after = Unit {0}
+AsksServers servers before (Err other) after = ⊥
+
+abbrev pub session_or : NetworkValue → Result (Unit {0}) NetworkOpenError → Result NetworkValue NetworkOpenError
+session_or session (Ok done) = Ok session
+session_or session (Err error) = Err error
+
 abbrev pub HasServers : List PoolServerValue → NetworkValue → Result NetworkValue NetworkOpenError → Type 0
-HasServers servers session result =
-    MatchOption (first_fixed servers)
-    ((result ≡ Ok (with_servers servers session)) ⊎ (result ≡ Err OutOfMemory))
-    (λ place. result ≡ Err (Servers (FixedPort place)))
+HasServers servers before result =
+    (ended : Result (Unit {0}) NetworkOpenError) × (after : NetworkValue)
+    × AsksServers servers before ended after × (result ≡ session_or after ended)
 
 -- the session of these settings over these hosts, unless memory runs out
 abbrev pub IsServed : SettingsValue → List Host → List ℕ → Result NetworkValue NetworkOpenError → Type 0

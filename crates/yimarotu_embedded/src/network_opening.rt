@@ -2,7 +2,7 @@
 ghost use Rattle.std.specs.Prelude.{◌≡◌, IfOk, IsOkUnless, None};
 ghost use Rattle.hickory_resolver_model.specs.Bounds.{bounds_fault};
 ghost use Rattle.hickory_resolver_model.specs.Options.{bounds_of};
-ghost use Rattle.yimarotu_embedded.specs.NetworkOpening.{AreHostsRead, HasServers, IsOpened, IsOpenedOver, IsServed};
+ghost use Rattle.yimarotu_embedded.specs.NetworkOpening.{AreHostsRead, AsksServers, HasServers, IsOpened, IsOpenedOver, IsServed, session_or};
 ghost use Rattle.hickory_resolver_pool.specs.Pool.{default_limits};
 ghost use Rattle.yimarotu_session.specs.NetworkSessions.{new_session};
 
@@ -25,9 +25,9 @@ pub enum NetworkOpenError {
     /// The hosts have a fault.
     #[error("hosts: {0}")]
     Hosts(HostsError),
-    /// The servers are refused.
-    #[error("{0}")]
-    Servers(ServersError),
+    /// The server of this place, counted from 0, is to be asked over UDP from a port that is given, which no line says.
+    #[error("server {0} has a UDP source port")]
+    FixedPort(usize),
     /// No memory was left.
     #[error("out of memory")]
     OutOfMemory,
@@ -140,9 +140,32 @@ fn with_servers(
     ensures { HasServers servers.now session result }
 {
     let mut session = session;
+    let asked = ask_servers(&mut session, servers);
+    session_or(session, asked)
+}
+
+// The session asks these servers from now on.
+fn ask_servers(
+    session: &mut NetworkSession,
+    servers: &[PoolServer],
+) -> Result<(), NetworkOpenError>
+    ensures { AsksServers servers.now session.old result session.new }
+{
     match session.set_servers(servers) {
-        Ok(()) => Ok(session),
+        Ok(()) => Ok(()),
+        Err(ServersError::FixedPort(place)) => Err(NetworkOpenError::FixedPort(place)),
         Err(ServersError::OutOfMemory) => Err(NetworkOpenError::OutOfMemory),
-        Err(error) => Err(NetworkOpenError::Servers(error)),
+    }
+}
+
+fn session_or(
+    session: NetworkSession,
+    ended: Result<(), NetworkOpenError>,
+) -> Result<NetworkSession, NetworkOpenError>
+    ensures { result ≡ session_or session ended }
+{
+    match ended {
+        Ok(()) => Ok(session),
+        Err(error) => Err(error),
     }
 }
