@@ -1,5 +1,5 @@
 -- What a line of the settings says: a setting of a script, an option that no script has, or a server.
-use Rattle.std.specs.Prelude.{◌≡◌, ℕ, Bool, false, List, [], ◌∷◌, codes, Option, None, Some, Result, Ok, Err, if◌then◌else◌, MatchBool, MatchOption}
+use Rattle.std.specs.Prelude.{◌≡◌, ℕ, false, List, [], ◌∷◌, codes, Result, Ok, Err, if◌then◌else◌, MatchBool, MatchOption}
 use Rattle.std.specs.List.{list_all}
 use Rattle.hickory_proto_core.specs.Codes.{is_text}
 use Rattle.replay_script.specs.Faults.{LineFaultValue, wrong_line}

@@ -1,5 +1,5 @@
 -- A line that sets an option that no script has: `option` KEY VALUE. A key is the name of a field of the options.
-use Rattle.std.specs.Prelude.{ℕ, Bool, List, [], ◌∷◌, codes, Option, None, Some, option_map, Result, Ok, Err, if◌then◌else◌}
+use Rattle.std.specs.Prelude.{ℕ, List, [], ◌∷◌, codes, Option, None, Some, option_map, Result, Ok, Err, if◌then◌else◌}
 use Rattle.hickory_proto_core.specs.Codes.{is_text}
 use Rattle.hickory_resolver_config.specs.ResolverConfig.{OptionsValue}
 use Rattle.hickory_resolver_config.specs.declared.strategies.ServerOrderingStrategy.{ServerOrderingStrategy}
