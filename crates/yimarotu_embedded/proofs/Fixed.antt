@@ -12,10 +12,13 @@ pub none_fixed : (o : Option ℕ) (ended : Ended) → ended ≡ Ok tt
 none_fixed None ended well fixed = refl
 none_fixed (Some place) ended well fixed = let contrary : ended ≡ Err (FixedPort place) = fixed place refl in cc
 
+abbrev pub refused : ServersError → Ended
+refused error = Err error
+
 -- the place that is told is the first one
-pub first_told : (o : Option ℕ) (told : ℕ) (ended : Ended) → ended ≡ Err (FixedPort told)
-    → ((place : ℕ) → o ≡ Some place → ended ≡ Err (FixedPort place))
-    → (o ≡ None → FixedPort told ≡ OutOfMemory) → o ≡ Some told
-first_told None told ended is fixed free = let contrary : FixedPort told ≡ OutOfMemory = free refl in cc
-first_told (Some place) told ended is fixed free =
-    let same : ended ≡ Err (FixedPort place) = fixed place refl in cc
+pub first_told : (o : Option ℕ) (told : ℕ) (error : ServersError) → error ≡ FixedPort told
+    → ((place : ℕ) → o ≡ Some place → refused error ≡ refused (FixedPort place))
+    → (o ≡ None → error ≡ OutOfMemory) → o ≡ Some told
+first_told None told error is fixed free = let contrary : error ≡ OutOfMemory = free refl in cc
+first_told (Some place) told error is fixed free =
+    let same : refused error ≡ refused (FixedPort place) = fixed place refl in cc

@@ -3,7 +3,7 @@ use Rattle.std.specs.Prelude.{◌≡◌, ◌≢◌, ◌⊎◌, ℕ, List, [], Op
 use Rattle.hickory_proto_core.specs.Handles.{OutcomeValue}
 use Rattle.hickory_resolver.specs.Reading.{IsBytesRead}
 use Rattle.hickory_resolver.specs.hosts.hosts_error.HostsError.TheVariants as hosts_error
-use Rattle.hickory_resolver_config.specs.ResolverConfig.{ResolverConfigValue}
+use Rattle.hickory_resolver_config.specs.ResolverConfig.{OptionsValue, ResolverConfigValue}
 use Rattle.hickory_resolver_model.specs.Hosts.{Host}
 use Rattle.hickory_resolver_model.specs.Resolver.{ResolverValue, new_resolver}
 use Rattle.hickory_resolver_pool.specs.Pool.{after_servers, default_limits}
@@ -15,13 +15,16 @@ use Rattle.yimarotu_embedded.specs.declared.network_opening.NetworkOpenError.{Ne
 use Rattle.yimarotu_embedded.specs.declared.network_opening.NetworkOpenError.TheVariants.{Settings, Hosts, FixedPort, OutOfMemory}
 use Rattle.yimarotu_session.specs.NetworkSessions.{NetworkValue, new_session, seconds_of, with_pool}
 
--- the resolver of these settings over this table of hosts, with an empty cache
+-- a resolver over this table of hosts, with an empty cache
+abbrev pub resolver_with : ResolverConfigValue → OptionsValue → List Host → ResolverValue (List OutcomeValue)
+resolver_with config options table = record (new_resolver config options []) { hosts = table }
+
+-- that of these settings
 abbrev pub config_of : SettingsValue → ResolverConfigValue
 config_of settings = record { domain = settings.domain; search = settings.search; name_servers = [] }
 
 abbrev pub resolver_over : SettingsValue → List Host → ResolverValue (List OutcomeValue)
-resolver_over settings table =
-    record (new_resolver (config_of settings) settings.options []) { hosts = table }
+resolver_over settings table = resolver_with (config_of settings) settings.options table
 
 -- the hosts have a fault; or no memory is left
 abbrev pub IsNoHosts : List ℕ → ℕ → NetworkOpenError → Type 0
@@ -53,11 +56,15 @@ HasServers servers before result =
     (ended : Result (Unit {0}) NetworkOpenError) × (after : NetworkValue)
     × AsksServers servers before ended after × (result ≡ session_or after ended)
 
--- the session of these settings over these hosts, unless memory runs out
+-- a session over this resolver, unless memory runs out
+abbrev pub IsBegun : List PoolServerValue → ResolverValue (List OutcomeValue) → List ℕ
+    → Result NetworkValue NetworkOpenError → Type 0
+IsBegun servers resolver seed result =
+    HasServers servers (new_session resolver default_limits seed) result ⊎ (result ≡ Err OutOfMemory)
+
+-- that of these settings over these hosts
 abbrev pub IsServed : SettingsValue → List Host → List ℕ → Result NetworkValue NetworkOpenError → Type 0
-IsServed settings table seed result =
-    HasServers settings.servers (new_session (resolver_over settings table) default_limits seed) result
-    ⊎ (result ≡ Err OutOfMemory)
+IsServed settings table seed result = IsBegun settings.servers (resolver_over settings table) seed result
 
 -- the hosts are read, and then the session is made
 abbrev pub IsOpenedOver : SettingsValue → List ℕ → List ℕ → ℕ → Result NetworkValue NetworkOpenError → Type 0

@@ -1,14 +1,12 @@
 //! How a session with a network is opened.
-ghost use Rattle.std.specs.Prelude.{◌≡◌, IfOk, IsOkUnless, None};
+ghost use Rattle.std.specs.Prelude.{◌≡◌, IfOk, None};
 ghost use Rattle.hickory_resolver_model.specs.Bounds.{bounds_fault};
 ghost use Rattle.hickory_resolver_model.specs.Options.{bounds_of};
-ghost use Rattle.yimarotu_embedded.specs.NetworkOpening.{AreHostsRead, AsksServers, HasServers, IsOpened, IsOpenedOver, IsServed, session_or};
-ghost use Rattle.hickory_resolver_pool.specs.Pool.{default_limits};
-ghost use Rattle.yimarotu_session.specs.NetworkSessions.{new_session};
+ghost use Rattle.yimarotu_embedded.specs.NetworkOpening.{AreHostsRead, AsksServers, HasServers, IsBegun, IsOpened, IsOpenedOver, IsServed, resolver_with, session_or};
 
 use crate::seeds::{Seeds, seeds_of};
 use hickory_proto_core::ScriptHandle;
-use hickory_resolver::{Hosts, HostsError, Resolver, ResolverConfig};
+use hickory_resolver::{Hosts, HostsError, Resolver, ResolverConfig, ResolverOpts};
 use hickory_resolver_pool::{PoolLimits, PoolServer, ServersError};
 use session_settings::{SessionSettings, SettingsError, read_session_settings};
 use std::alloc::{AllocError, Global};
@@ -108,29 +106,48 @@ fn serve(
         servers,
     } = settings;
     let config = ResolverConfig::from_parts(domain, search, Vec::new(alloc));
+    match resolver_of(alloc, config, options, hosts, &seeds) {
+        Ok(resolver) => begin(alloc, resolver, seeds, &servers),
+        Err(AllocError) => Err(NetworkOpenError::OutOfMemory),
+    }
+}
+
+// A resolver with these options, whose bounds are in order, over these hosts. Its own handle is never asked.
+fn resolver_of(
+    alloc: Global,
+    config: ResolverConfig,
+    options: ResolverOpts,
+    hosts: Hosts<RandomState>,
+    seeds: &Seeds,
+) -> Result<Resolver<ScriptHandle, RandomState>, AllocError>
+    requires { bounds_fault (bounds_of options) ≡ None }
+    ensures { IfOk result (λ resolver. resolver ≡ resolver_with config options hosts) }
+{
     let handle = ScriptHandle::new(Vec::new(alloc));
     let builder = Resolver::builder_with_config(config, handle)
         .with_options(options)
         .with_hasher(seeds.cache, seeds.hosts);
     let Ok(mut resolver) = builder.build() else {
-        return Err(NetworkOpenError::OutOfMemory);
+        return Err(AllocError);
     };
     resolver.set_hosts(hosts);
-    match begin(alloc, resolver, seeds) {
-        Ok(session) => with_servers(session, &servers),
-        Err(AllocError) => Err(NetworkOpenError::OutOfMemory),
-    }
+    Ok(resolver)
 }
 
+// A session over this resolver, with these servers.
 fn begin(
     alloc: Global,
     resolver: Resolver<ScriptHandle, RandomState>,
     seeds: Seeds,
-) -> Result<NetworkSession, AllocError>
-    ensures { IfOk result (λ session. session ≡ new_session resolver default_limits seeds.pool) }
+    servers: &[PoolServer],
+) -> Result<NetworkSession, NetworkOpenError>
+    ensures { IsBegun servers.now resolver seeds.pool result }
 {
     let limits = PoolLimits::default();
-    NetworkSession::new(alloc, resolver, limits, seeds.pool, seeds.questions)
+    match NetworkSession::new(alloc, resolver, limits, seeds.pool, seeds.questions) {
+        Ok(session) => with_servers(session, servers),
+        Err(AllocError) => Err(NetworkOpenError::OutOfMemory),
+    }
 }
 
 fn with_servers(
