@@ -1,6 +1,6 @@
 //! What happens around a session that asks by itself.
 ghost use Rattle.std.specs.Prelude.{◌≡◌, ◌⊎◌, IfOk, Option};
-ghost use Rattle.yimarotu_c.specs.Happening.{Comes, FailsAt, IsChannelFailure, Passes, TakesServers, servers_status, taken_in};
+ghost use Rattle.yimarotu_c.specs.Happening.{Comes, FailsAt, IsChannelFailure, Passes, TakesServers, cleared_if, servers_status, taken_in};
 ghost use Rattle.yimarotu_c.specs.LookingUp.{OnOpen};
 ghost use Rattle.yimarotu_c.specs.Statuses.{number_of};
 ghost use Rattle.yimarotu_c.specs.declared.status.Status.TheVariants as status;
