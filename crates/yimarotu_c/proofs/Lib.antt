@@ -1,3 +1,4 @@
 pub mod Boxed
+pub mod FileServers
 pub mod Memory
 pub mod Opened

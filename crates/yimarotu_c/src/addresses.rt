@@ -119,10 +119,17 @@ fn address_entries(alloc: Global, records: &[Record]) -> Result<Vec<u8>, AllocEr
     ensures { IfOk result (λ entries. entries.items ≡ flat_map record_entry records.now) }
 {
     let mut entries = Vec::new(alloc);
-    for entry in records {
-        push_record(&mut entries, entry)?;
-    }
+    push_records(&mut entries, records)?;
     Ok(entries)
+}
+
+fn push_records(entries: &mut Vec<u8>, records: &[Record]) -> Result<(), AllocError>
+    ensures { OnOk result (entries.new.items ≡ entries.old.items ++ flat_map record_entry records.now) }
+{
+    for entry in records {
+        push_record(entries, entry)?;
+    }
+    Ok(())
 }
 
 fn push_record(entries: &mut Vec<u8>, entry: &Record) -> Result<(), AllocError>

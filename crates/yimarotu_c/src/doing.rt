@@ -195,8 +195,8 @@ fn length_of(address: IpAddr) -> usize
     ensures few { result ≤ 16 }
 {
     match address {
-        IpAddr::V4(_) => 4,
-        IpAddr::V6(_) => 16,
+        IpAddr::V4(address) => address.octets().len(),
+        IpAddr::V6(address) => address.octets().len(),
     }
 }
 
