@@ -54,13 +54,7 @@ pub extern "C" fn yimarotu_addresses(
     addresses
 }
 
-fn addresses(
-    alloc: Global,
-    held: &Held,
-    number: u64,
-    moment: u64,
-    room: &mut [u8],
-) -> YimarotuFound
+fn addresses(alloc: Global, held: &Held, number: u64, moment: u64, room: &mut [u8]) -> YimarotuFound
     ensures { AreAddressesPut number moment held.now room.old room.new result }
 {
     match held.found(number) {
@@ -83,12 +77,7 @@ fn put_found(
     }
 }
 
-fn put_addresses(
-    alloc: Global,
-    lookup: &Lookup,
-    moment: u64,
-    room: &mut [u8],
-) -> YimarotuFound
+fn put_addresses(alloc: Global, lookup: &Lookup, moment: u64, room: &mut [u8]) -> YimarotuFound
     ensures { ArePut lookup.now moment room.old room.new result }
 {
     match address_entries(alloc, lookup.answers()) {
@@ -97,12 +86,7 @@ fn put_addresses(
     }
 }
 
-fn put_entries(
-    entries: &[u8],
-    lookup: &Lookup,
-    moment: u64,
-    room: &mut [u8],
-) -> YimarotuFound
+fn put_entries(entries: &[u8], lookup: &Lookup, moment: u64, room: &mut [u8]) -> YimarotuFound
     ensures { AreEntriesPut entries.now lookup.now moment room.old room.new result }
 {
     let status = put_octets(entries, room);

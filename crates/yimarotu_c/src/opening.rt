@@ -33,7 +33,9 @@ pub extern "C" fn yimarotu_open(
         return ended(Status::IsOpen, 0);
     }
     match <[u8; 32]>::try_from(seed) {
-        Ok(seed) => open_seeded(alloc, session, conf, hostname, settings, hosts, seed, moment),
+        Ok(seed) => open_seeded(
+            alloc, session, conf, hostname, settings, hosts, seed, moment,
+        ),
         Err(_) => ended(Status::Seed, 0),
     }
 }

@@ -27,11 +27,13 @@ OnDriven Does refused = OnEither (λ s result left. (result ≡ refused) × (lef
 
 abbrev pub StartsNameIn : ℕ → List ℕ → RecordType → ℕ → Held → Result Bool SessionError → Held → Type 0
 StartsNameIn number name t now =
-    OnEither (fed.BeginsName number name t (network.seconds_of now)) (StartsIn (network.BeginsName number name t now) number)
+    OnEither (fed.BeginsName number name t (network.seconds_of now))
+    (StartsIn (network.BeginsName number name t now) number)
 
 abbrev pub StartsHostIn : ℕ → List ℕ → ℕ → Held → Result Bool SessionError → Held → Type 0
 StartsHostIn number host now =
-    OnEither (fed.BeginsHost number host (network.seconds_of now)) (StartsIn (network.BeginsHost number host now) number)
+    OnEither (fed.BeginsHost number host (network.seconds_of now))
+    (StartsIn (network.BeginsHost number host now) number)
 
 -- the session with a network changes, and nothing beside it
 abbrev pub InNetwork : {A : Type 0} → (network.NetworkValue → A → network.NetworkValue → Type 0) → DrivenValue → A

@@ -162,10 +162,7 @@ fn with_servers(
 }
 
 // The session asks these servers from now on.
-fn ask_servers(
-    session: &mut NetworkSession,
-    servers: &[PoolServer],
-) -> Result<(), NetworkOpenError>
+fn ask_servers(session: &mut NetworkSession, servers: &[PoolServer]) -> Result<(), NetworkOpenError>
     ensures { AsksServers servers.now session.old result session.new }
 {
     match session.set_servers(servers) {

@@ -13,6 +13,6 @@ pub returns : goal.returns
 returns c =
     let lent : file_servers (resolv_conf c.args.conf.now []) ≡ c.deref.result.now = search rules in
     let none : first_fixed c.deref.result.now ≡ None =
-        subst (λ (servers : List PoolServerValue). first_fixed servers ≡ None) lent (none_fixed c.args.conf.now []) in
+    subst (λ (servers : List PoolServerValue). first_fixed servers ≡ None) lent (none_fixed c.args.conf.now []) in
     let memory : c.in-Err.error ≡ OutOfMemory = c.in-Err.ensures.free none in
     inr (ap number_of (c.servers_status.ensures ∙ ap servers_status memory), c.in-Err.ensures.err)
