@@ -120,6 +120,8 @@ enum {
     YIMAROTU_STREAM = 2    /* a stream (TCP): messages are in it with their lengths, which the library reads and writes */
 };
 
+/* ---- the version */
+
 /* The version of the library: 65536 times its first number, 256 times its second, and its third. */
 uint32_t yimarotu_version(void);
 
@@ -189,7 +191,8 @@ typedef struct yimarotu_action {
  * channel that is to be opened the address of its server, 4 or 16 octets, and behind them the scope of a link-local address,
  * the name of an interface or its number. It is called after each other call that changes a session, again and again until
  * it says YIMAROTU_NOTHING. Where the room is too small (YIMAROTU_ROOM) nothing was done, and it says the same again in a
- * larger one; a room of 600 octets holds a question by either transport, and a scope of 500.
+ * larger one. No clause bounds the length: a header, the longest name and OPT (RFC 1035, sections 4.1 and 2.3.4; RFC 6891,
+ * section 6.1.2) are 282 octets, two more stand before them on a stream, and a scope is as long as resolv.conf has it.
  *
  * A datagram channel is a socket of its own, at a port that nobody can guess, connected to its server, and is kept after an
  * ICMP error. One that cannot be opened has failed (YIMAROTU_CHANNEL_LOCAL). Octets for a stream that is not connected yet,

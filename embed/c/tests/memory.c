@@ -183,6 +183,66 @@ static end close_it(void) {
     return session.is_open ? WRONG : WHOLE;
 }
 
+/* ---- a session that asks by itself */
+
+static end open_network(void) {
+    uint8_t seed[32] = {7};
+    yimarotu_opened opened = yimarotu_open(&session, BYTES("search a.example\n"), BYTES("host.example.com"),
+                                           BYTES("server 192.0.2.53\noption ip_strategy Ipv4Only\n"),
+                                           BYTES("192.0.2.9 printer.\n"), seed, sizeof seed, 100000);
+    if (opened.status == YIMAROTU_NO_MEMORY) return session.is_open || opened.line ? WRONG : NO_MEMORY;
+    return opened.status == YIMAROTU_OK && session.is_open ? WHOLE : WRONG;
+}
+
+/* Does what is to be done, up to an action of this kind, whose channel is noted. */
+static uint64_t channel;
+static end act_up_to(uint8_t kind) {
+    for (;;) {
+        yimarotu_action next = yimarotu_next(&session, room, ROOM);
+        if (next.status == YIMAROTU_NO_MEMORY) return NO_MEMORY;
+        if (next.status != YIMAROTU_OK) return WRONG;
+        if (next.kind == kind) return channel = next.channel, WHOLE;
+        if (next.kind == YIMAROTU_NOTHING) return WRONG;
+    }
+}
+
+/* A whole look-up: what an earlier one left is forgotten first. */
+static end look_up(void) {
+    static uint8_t reply[sizeof FOUND - 1];
+    yimarotu_address address;
+    yimarotu_cancel(&session, 1);
+    end end = act_up_to(YIMAROTU_NOTHING);
+    if (end != WHOLE) return end;
+    yimarotu_clear(&session);
+    yimarotu_progress progress = yimarotu_start(&session, 1, BYTES("www.example.com."), A, 100000);
+    if (progress.status == YIMAROTU_NO_MEMORY) return NO_MEMORY;
+    if (progress.status != YIMAROTU_OK) return WRONG;
+    if (progress.waits) {
+        end = act_up_to(YIMAROTU_SEND);
+        if (end == NO_MEMORY) return end;
+        memcpy(reply, FOUND, sizeof reply);
+        memcpy(reply, room, 2);
+        uint8_t status = end == WHOLE ? yimarotu_came(&session, channel, reply, sizeof reply, 100000) : YIMAROTU_OK;
+        if (status == YIMAROTU_NO_MEMORY) return NO_MEMORY;
+    }
+    end = act_up_to(YIMAROTU_LOOKED_UP);
+    if (end == NO_MEMORY) return end;
+    memset(room, '#', ROOM);
+    yimarotu_found found = yimarotu_addresses(&session, 1, 100000, &address, sizeof address);
+    if (found.status == YIMAROTU_NO_MEMORY) return NO_MEMORY;
+    if (found.status == YIMAROTU_OK && found.error == YIMAROTU_RAN_OUT) return RAN_OUT;
+    return found.status == YIMAROTU_OK && found.count == 1 && found.ttl == 60 && address.octets[3] == 1 ? WHOLE : WRONG;
+}
+
+static end other_servers(void) {
+    uint8_t status = yimarotu_servers(&session, BYTES("nameserver 192.0.2.54\nnameserver fe80::1%eth0\n"), true);
+    return status == YIMAROTU_OK ? WHOLE : status == YIMAROTU_NO_MEMORY ? NO_MEMORY : WRONG;
+}
+
+static end statistics(void) { return yimarotu_statistics(&session).status == YIMAROTU_OK ? WHOLE : WRONG; }
+static end waits(void) { return yimarotu_wait(&session, 100000).status == YIMAROTU_OK ? WHOLE : WRONG; }
+static end tick(void) { return yimarotu_tick(&session, 100000) == YIMAROTU_OK ? WHOLE : WRONG; }
+
 typedef struct call {
     const char *name;
     end (*make)(void);
@@ -217,6 +277,13 @@ static const call CALLS[] = {
     {"yimarotu_open_fed_with", open_with, 0, NULL, false},
     {"yimarotu_close, by a resolv.conf", close_it, 0, NULL, true},
     {"yimarotu_read_servers", read_servers, 0, NULL, false},
+    {"yimarotu_open", open_network, 0, NULL, false},
+    {"a whole look-up by yimarotu_next and yimarotu_came", look_up, 1, NULL, false},
+    {"yimarotu_servers", other_servers, 0, NULL, false},
+    {"yimarotu_statistics", statistics, 0, NULL, true},
+    {"yimarotu_wait", waits, 0, NULL, true},
+    {"yimarotu_tick", tick, 0, NULL, true},
+    {"yimarotu_close, of one that asks by itself", close_it, 0, NULL, true},
 };
 enum { COUNT = sizeof CALLS / sizeof CALLS[0] };
 

@@ -63,7 +63,7 @@ static sent queue[QUEUE];
 static size_t first, behind;
 static uint64_t streams[64], told; /* channels that are streams; a sum over all that was to be done */
 static size_t stream_count, done_count;
-static uint64_t last_done;
+static uint64_t latest; /* the latest moment that was told */
 
 static bool is_stream(uint64_t channel) {
     for (size_t at = 0; at < stream_count && at < 64; at++)
@@ -84,7 +84,7 @@ static bool act(void) {
         add_to_sum(&next.kind, 1), add_to_sum(&next.channel, 8), add_to_sum(&next.number, 8), add_to_sum(room, next.length);
         if (next.kind == YIMAROTU_NOTHING) return true;
         if (next.kind == YIMAROTU_OPEN && next.protocol == YIMAROTU_STREAM) streams[stream_count++ % 64] = next.channel;
-        if (next.kind == YIMAROTU_LOOKED_UP) done_count++, last_done = next.number;
+        if (next.kind == YIMAROTU_LOOKED_UP) done_count++;
         if (next.kind != YIMAROTU_SEND) continue;
         sent *new = &queue[behind++ % QUEUE];
         new->channel = next.channel, new->length = next.length;
@@ -107,10 +107,12 @@ static const char ONE[] = "server 192.0.2.53\noption ip_strategy Ipv4Only\n";
 static bool start(uint64_t number, uint64_t moment) {
     char name[64];
     int length = snprintf(name, sizeof name, "w%llu.example.", (unsigned long long)number);
+    latest = moment;
     return yimarotu_start_ip(&session, number, (const uint8_t *)name, (size_t)length, moment).status == YIMAROTU_OK && act();
 }
 
 static bool came(uint64_t channel, const uint8_t *octets, size_t length, uint64_t moment) {
+    latest = moment;
     return yimarotu_came(&session, channel, octets, length, moment) == YIMAROTU_OK && act();
 }
 
@@ -123,7 +125,7 @@ static bool has_address(uint64_t number) {
     question[HEADER] = (uint8_t)length;
     memcpy(question + HEADER + 1, name, (size_t)length);
     memcpy(question + HEADER + 1 + length, "\7example", 9);
-    yimarotu_found found = yimarotu_addresses(&session, number, 1000, room, sizeof room);
+    yimarotu_found found = yimarotu_addresses(&session, number, latest, room, sizeof room);
     return found.status == YIMAROTU_OK && found.error == YIMAROTU_FOUND && found.count == 1 && found.ttl <= 60
         && room[0].family == 4 && memcmp(room[0].octets, "\300\0\2", 3) == 0 && room[0].octets[3] == sum_of_name(question);
 }
@@ -248,7 +250,7 @@ static void cut_streams(void) {
         is_right = is_right && (cut == whole || error_of(number) == 255);
         is_right = is_right && came(question->channel, reply + cut, whole - cut, moment) && has_address(number);
     }
-    tell("a stream that is cut anywhere", is_right && number > 80);
+    tell("a stream that is cut anywhere", is_right && number > 40);
     yimarotu_close(&session);
 }
 
