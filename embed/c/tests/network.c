@@ -254,6 +254,22 @@ static void cut_streams(void) {
     yimarotu_close(&session);
 }
 
+/* A stream that is closed before its reply has come whole: the question is sent anew, on a stream of its own. */
+static void closed_streams(void) {
+    uint8_t reply[ROOM];
+    bool is_right = open_with(10, ONE) && start(1, 1000);
+    is_right = is_right && came(queue[0].channel, reply, reply_to(queue[0].octets, true, reply), 1000) && behind == 2;
+    size_t length = reply_to(queue[1].octets + 2, false, reply + 2);
+    reply[0] = (uint8_t)(length >> 8), reply[1] = (uint8_t)length;
+    is_right = is_right && came(queue[1].channel, reply, length, 1000) && error_of(1) == 255;
+    is_right = is_right && yimarotu_failed(&session, queue[1].channel, YIMAROTU_CHANNEL_CLOSED, 1000) == YIMAROTU_OK && act();
+    is_right = is_right && behind == 3 && queue[2].channel != queue[1].channel && queue[2].protocol == YIMAROTU_STREAM;
+    is_right = is_right && came(queue[1].channel, reply, length + 2, 1000) && error_of(1) == 255;
+    length = reply_to(queue[2].octets + 2, false, reply + 2);
+    tell("a stream that is closed", is_right && came(queue[2].channel, reply, length + 2, 1000) && has_address(1));
+    yimarotu_close(&session);
+}
+
 /* Nobody answers: time alone ends a look-up, at the moments that the session tells. */
 static void silence(void) {
     uint64_t moment = 1000, waited = 0;
@@ -268,6 +284,35 @@ static void silence(void) {
     tell("silent servers", is_right && error_of(1) == YIMAROTU_TIMED_OUT && waited == 8000);
     tell("and that is counted", yimarotu_statistics(&session).timed_out == 1);
     yimarotu_close(&session);
+}
+
+/* The length of a reply that says that there is no such record, with an SOA record of its own zone. */
+static size_t nothing_to(const uint8_t *question, uint8_t *reply) {
+    static const uint8_t soa[] = "\xc0\x0c\0\6\0\1\0\0\0\x3c\0\x18\xc0\x0c\xc0\x0c\0\0\0\0\0\0\0\0\0\0\0\0\0\0\0\0\0\0\0\x3c";
+    size_t length = end_of_name(question) + 4;
+    memset(reply, 0, HEADER);
+    memcpy(reply, question, length);
+    reply[2] = 0x81, reply[3] = 0x80, reply[7] = 0, reply[9] = 1, reply[11] = 0;
+    memcpy(reply + length, soa, sizeof soa - 1);
+    return length + sizeof soa - 1;
+}
+
+static unsigned type_of(const sent *question) { return number_at(question->octets + end_of_name(question->octets)); }
+
+/* Both families are asked at once, whichever reply comes first; and each question once. */
+static void families(void) {
+    uint8_t reply[ROOM];
+    for (int turn = 0; turn < 2; turn++) {
+        bool is_right = open_with(11, "server 192.0.2.53\noption ip_strategy Ipv4AndIpv6\n") && start(1, 1000) && behind == 2;
+        is_right = is_right && type_of(&queue[0]) + type_of(&queue[1]) == 1 + 28;
+        for (int at = 0; is_right && at < 2; at++) {
+            sent *question = &queue[turn == 0 ? at : 1 - at];
+            size_t length = type_of(question) == 1 ? reply_to(question->octets, false, reply) : nothing_to(question->octets, reply);
+            is_right = done_count == 0 && came(question->channel, reply, length, 1000);
+        }
+        tell("both families at once", is_right && behind == 2 && done_count == 1 && has_address(1));
+        yimarotu_close(&session);
+    }
 }
 
 /* Channels that fail: the next server is asked; where none is left that is told. */
@@ -374,7 +419,9 @@ int main(void) {
     changes();
     forgeries();
     cut_streams();
+    closed_streams();
     silence();
+    families();
     failures();
     other_servers();
     what_does_not_fit();
