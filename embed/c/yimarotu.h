@@ -159,8 +159,8 @@ typedef struct yimarotu_opened {
 
 /* Opens a session that asks by itself: as a file resolv.conf says on a host of this name (whom it asks and how, which names
  * it tries), over what a file of hosts says. A file of no octets says as much as one without lines; no resolv.conf is
- * refused. The settings are lines (docs/EMBED.md, "Settings"): what they set counts in place of what resolv.conf says, and
- * the servers of lines `server` are asked in place of its. Set `option cache_octets N` where answers come from strangers.
+ * refused. The settings are lines (docs/EMBED.md, "Settings"): what they set counts in place of what resolv.conf says, but
+ * domains of lines `search` come behind its. Set `option cache_octets N` where answers come from strangers.
  * The seed is 32 octets that nobody knows (getrandom): ids of messages, letters and the keys by which names are hashed come
  * from it, so that a stranger can neither guess a message nor make a session slow. The addresses that the hosts answer are
  * said to be usable for a day from this moment, however late they are asked, and the names of an address for a day from the
@@ -188,15 +188,17 @@ typedef struct yimarotu_action {
 } yimarotu_action;
 
 /* Tells what the program has to do next, and puts its octets at the front of the room: those that are to be sent; of a
- * channel that is to be opened the address of its server, 4 or 16 octets, and behind them the scope of a link-local address,
- * the name of an interface or its number. It is called after each other call that changes a session, again and again until
- * it says YIMAROTU_NOTHING. Where the room is too small (YIMAROTU_ROOM) nothing was done, and it says the same again in a
- * larger one. No clause bounds the length: a header, the longest name and OPT (RFC 1035, sections 4.1 and 2.3.4; RFC 6891,
- * section 6.1.2) are 282 octets, two more stand before them on a stream, and a scope is as long as resolv.conf has it.
+ * channel that is to be opened the address of its server, 4 or 16 octets, and behind them the scope of a link-local
+ * address, the name of an interface or its number. It is called after each other call that changes a session, again and
+ * again until it says YIMAROTU_NOTHING. Where the room is too small (YIMAROTU_ROOM) nothing was done, and it says the same
+ * again in a larger one. Where memory runs out nothing was done either, it says the same when it is called again, and no
+ * other field tells anything. No clause bounds the length: a header, the longest name and OPT (RFC 1035, sections 4.1 and
+ * 2.3.4; RFC 6891, section 6.1.2) are 282 octets, two more stand before them on a stream, and a scope is as long as
+ * resolv.conf has it.
  *
- * A datagram channel is a socket of its own, at a port that nobody can guess, connected to its server, and is kept after an
- * ICMP error. One that cannot be opened has failed (YIMAROTU_CHANNEL_LOCAL). Octets for a stream that is not connected yet,
- * or is full, wait with the program. Each channel that was opened is closed once, also one that failed. */
+ * A datagram channel is a socket of its own, at a port that nobody can guess, connected to its server, and is kept after
+ * an ICMP error. One that cannot be opened has failed (YIMAROTU_CHANNEL_LOCAL). Octets for a stream that is not connected
+ * yet, or is full, wait with the program. Each channel that was opened is closed once, also one that failed. */
 yimarotu_action yimarotu_next(yimarotu_session *session, uint8_t *room, size_t room_length);
 
 /* Octets came on a channel: a datagram, or a piece of a stream, cut anywhere. On a channel that is not open they change
@@ -220,9 +222,10 @@ typedef struct yimarotu_waits {
  * behind them it calls yimarotu_tick. */
 yimarotu_waits yimarotu_wait(yimarotu_session *session, uint64_t moment);
 
-/* Asks the servers that a file resolv.conf names from now on, of which nothing is known yet; what is in flight goes on with
- * those that it began with. Only the servers of the file count here. The cache is emptied or stays, as the flag says.
- * Gives a status. */
+/* Asks the servers that a file resolv.conf names from now on, of which nothing is known yet, and no others: 127.0.0.1
+ * where it names none, and those of lines `server` no more. Nothing else of the file counts here but its `use-vc`. What is
+ * in flight goes on with the servers that it began with. The cache is emptied or stays, as the flag says; what these still
+ * reply is kept like any other. Gives a status. */
 uint8_t yimarotu_servers(yimarotu_session *session, const uint8_t *conf, size_t conf_length, bool clears);
 
 typedef struct yimarotu_statistics_told {
@@ -248,13 +251,17 @@ typedef struct yimarotu_progress {
 } yimarotu_progress;
 
 /* Starts a look-up of records of a type (RFC 1035, section 3.2.2) for a name, UTF-8, at this moment, under a number that
- * no other look-up of the session has. Where the status is not YIMAROTU_OK none was started. */
+ * no other look-up of the session has. Where the status is not YIMAROTU_OK none was started. Of the questions of a session
+ * 4,096 are in flight at most, and as many wait for a place: a question past them fails at once (YIMAROTU_UPSTREAM). */
 yimarotu_progress yimarotu_start(yimarotu_session *session, uint64_t number, const uint8_t *name, size_t name_length,
                                  uint16_t record_type, uint64_t moment);
 
-/* The same of the addresses of a host, in the families that the settings say. A text that is an address is its own
- * answer: a record under the text as an absolute name, or under the root where it is no name, as with IPv6. But with
- * `ndots` above 4 a text that is an IPv4 address is first looked up as a name, and is the answer where that has none. */
+/* The same of the addresses of a host, whose questions are of the families that the settings say. A reply counts with all
+ * its answers: a server may have put addresses of the other family there, or of other names. What is told where one of two
+ * families fails is in docs/QUESTIONS.md, "Addresses": a negative answer may stand beside a failure. A text that is an
+ * address is its own answer: a record under the text as an absolute name, or under the root where it is no name, as with
+ * IPv6. But with `ndots` above 4 a text that is an IPv4 address is first looked up as a name, and is the answer where that
+ * has none. */
 yimarotu_progress yimarotu_start_ip(yimarotu_session *session, uint64_t number, const uint8_t *host, size_t host_length,
                                     uint64_t moment);
 
@@ -264,7 +271,7 @@ typedef struct yimarotu_answered {
     uint8_t fault;
     bool has_ttl;   /* of a negative answer: whether it may be kept for a time that is known */
     uint16_t code;  /* the response code; 0 where there is none */
-    uint32_t ttl;   /* of a negative answer: for how many seconds it may be kept; else 0 */
+    uint32_t ttl;   /* of a negative answer: for how many seconds its SOA lets it be kept, bounded by no setting; else 0 */
     uint64_t until; /* of records: the last second at which they may be used, a moment divided by 1000; else 0 */
     size_t length;  /* of the message: where it was written, and where the room is too small for it; else 0 */
 } yimarotu_answered;
@@ -296,14 +303,16 @@ yimarotu_found yimarotu_addresses(yimarotu_session *session, uint64_t number, ui
                                   size_t room_length);
 
 /* Forgets the look-up of a number, whether it waits or is done, and the number is free. What was kept of its questions
- * stays in the cache. Where nobody else asks its question, that is not asked on. Gives a status. */
+ * stays in the cache. Where nobody else asks its question, that is not asked on, and the place that it had is taken at the
+ * latest moment that was told: where time has passed since, yimarotu_tick goes before. Gives a status. */
 uint8_t yimarotu_cancel(yimarotu_session *session, uint64_t number);
 
 /* Drops from the cache what it has for the names that a look-up of this name, UTF-8, would attempt, of a type; the
  * look-ups stay. What is no name clears nothing. Where the status is not YIMAROTU_OK nothing changes. Gives a status. */
 uint8_t yimarotu_clear_name(yimarotu_session *session, const uint8_t *name, size_t name_length, uint16_t record_type);
 
-/* Empties the cache; the look-ups stay. Gives a status. */
+/* Empties the cache; the look-ups stay. What has come for the second family of a look-up that still waits for the first is
+ * not in the cache yet, here and in yimarotu_clear_name: it is kept when the look-up comes to it. Gives a status. */
 uint8_t yimarotu_clear(yimarotu_session *session);
 
 /* ---- sessions that are fed by hand */
@@ -316,8 +325,9 @@ yimarotu_opened yimarotu_open_fed(yimarotu_session *session, const uint8_t *sett
                                   const uint8_t *hosts, size_t hosts_length, uint64_t moment);
 
 /* The same, and behind the settings, in place of which it counts, what a file resolv.conf says on a host of this name: its
- * search list behind theirs, `ndots`, `no-aaaa`, and whether questions have an EDNS record: not without `edns0`. Whom to
- * ask, and how, is the program's affair. A file of no octets says as much as one without lines; none is refused. */
+ * search list behind theirs, `ndots`, which is 1 where it says none, `no-aaaa`, and whether questions have an EDNS record:
+ * not without `edns0`. Whom to ask, and how, is the program's affair. A file of no octets says as much as one without
+ * lines; none is refused. */
 yimarotu_opened yimarotu_open_fed_with(yimarotu_session *session, const uint8_t *conf, size_t conf_length,
                                        const uint8_t *hostname, size_t hostname_length, const uint8_t *settings,
                                        size_t settings_length, const uint8_t *hosts, size_t hosts_length,
