@@ -257,11 +257,11 @@ yimarotu_progress yimarotu_start(yimarotu_session *session, uint64_t number, con
                                  uint16_t record_type, uint64_t moment);
 
 /* The same of the addresses of a host, whose questions are of the families that the settings say. A reply counts with all
- * its answers: a server may have put addresses of the other family there, or of other names. What is told where one of two
- * families fails is in docs/QUESTIONS.md, "Addresses": a negative answer may stand beside a failure. A text that is an
- * address is its own answer: a record under the text as an absolute name, or under the root where it is no name, as with
- * IPv6. But with `ndots` above 4 a text that is an IPv4 address is first looked up as a name, and is the answer where that
- * has none. */
+ * its answers: a server may have put addresses of the other family there, or of other names. Where both families fail the
+ * error of one is told, so that a negative answer can hide a timeout (docs/QUESTIONS.md, "Which error is a timeout?"). A
+ * text that is an address is its own answer: a record under the text as an absolute name, or under the root where it is no
+ * name, as with IPv6. But with `ndots` above 4 a text that is an IPv4 address is first looked up as a name, and is the
+ * answer where that has none. */
 yimarotu_progress yimarotu_start_ip(yimarotu_session *session, uint64_t number, const uint8_t *host, size_t host_length,
                                     uint64_t moment);
 
