@@ -58,7 +58,8 @@ ClearsNameIn name t = OnEither (fed.ClearsName name t) (InNetwork (network.Clear
 
 abbrev pub ClearsIn : Held → Held → Type 0
 ClearsIn before after =
-    OnEither {A = Unit {0}} (λ s done left. left ≡ fed.cleared s) (λ d done left. left ≡ over_network network.cleared d) before tt after
+    OnEither {A = Unit {0}} (λ s done left. left ≡ fed.cleared s) (λ d done left. left ≡ over_network network.cleared d)
+    before tt after
 
 -- what the look-up of a number came to
 abbrev pub found_in : ℕ → Held → Result LookupResult SessionError
