@@ -25,7 +25,7 @@ static int hit(yimarotu_session *session) {
     yimarotu_progress came = yimarotu_start(session, 2, (const uint8_t *)name, sizeof name - 1, 1, 1000);
     if (came.status != YIMAROTU_OK || came.waits) return 0;
     yimarotu_answered answered = yimarotu_answer(session, 2, sizeof room, room, sizeof room);
-    return yimarotu_cancel(session, 2) == YIMAROTU_OK && answered.status == YIMAROTU_OK && answered.length == sizeof reply - 1;
+    return yimarotu_cancel(session, 2, 1000) == YIMAROTU_OK && answered.status == YIMAROTU_OK && answered.length == sizeof reply - 1;
 }
 
 static int by_yimarotu(double seconds) {

@@ -55,7 +55,7 @@ static void start(uint64_t number, uint64_t moment) {
 static void read_answer(uint64_t number) {
     yimarotu_answered answered = yimarotu_answer(&session, number, ROOM, room, ROOM);
     if (answered.status != YIMAROTU_OK || answered.error != YIMAROTU_FOUND) exit(1);
-    yimarotu_cancel(&session, number);
+    yimarotu_cancel(&session, number, 1000);
 }
 
 static void by_hand(uint64_t number) {

@@ -224,8 +224,8 @@ yimarotu_waits yimarotu_wait(yimarotu_session *session, uint64_t moment);
 
 /* Asks the servers that a file resolv.conf names from now on, of which nothing is known yet, and no others: 127.0.0.1
  * where it names none, and those of lines `server` no more. Nothing else of the file counts here but its `use-vc`. What is
- * in flight goes on with the servers that it began with. The cache is emptied or stays, as the flag says; what these still
- * reply is kept like any other. Gives a status. */
+ * in flight goes on with the servers that it began with. Where the flag says so, all is cleared, as by yimarotu_clear;
+ * what these still reply is kept like any other. Gives a status. */
 uint8_t yimarotu_servers(yimarotu_session *session, const uint8_t *conf, size_t conf_length, bool clears);
 
 typedef struct yimarotu_statistics_told {
@@ -303,16 +303,17 @@ yimarotu_found yimarotu_addresses(yimarotu_session *session, uint64_t number, ui
                                   size_t room_length);
 
 /* Forgets the look-up of a number, whether it waits or is done, and the number is free. What was kept of its questions
- * stays in the cache. Where nobody else asks its question, that is not asked on, and the place that it had is taken at the
- * latest moment that was told: where time has passed since, yimarotu_tick goes before. Gives a status. */
-uint8_t yimarotu_cancel(yimarotu_session *session, uint64_t number);
+ * stays in the cache. Where nobody else asks its question, that is not asked on, and the place that it had is taken at
+ * this moment; a session that is fed by hand has no places, and looks at no moment here. Gives a status. */
+uint8_t yimarotu_cancel(yimarotu_session *session, uint64_t number, uint64_t moment);
 
-/* Drops from the cache what it has for the names that a look-up of this name, UTF-8, would attempt, of a type; the
- * look-ups stay. What is no name clears nothing. Where the status is not YIMAROTU_OK nothing changes. Gives a status. */
+/* Drops from the cache what it has for the names that a look-up of this name, UTF-8, would attempt, of a type, and what
+ * came for them ahead of a look-up; the look-ups stay. What is no name clears nothing. Where the status is not
+ * YIMAROTU_OK nothing changes. Gives a status. */
 uint8_t yimarotu_clear_name(yimarotu_session *session, const uint8_t *name, size_t name_length, uint16_t record_type);
 
-/* Empties the cache; the look-ups stay. What has come for the second family of a look-up that still waits for the first is
- * not in the cache yet, here and in yimarotu_clear_name: it is kept when the look-up comes to it. Gives a status. */
+/* Empties the cache, and lets go of what came ahead of a look-up: for its second family, while it waits for the first.
+ * The look-ups stay. What is in flight, here and in yimarotu_clear_name, is kept when it comes. Gives a status. */
 uint8_t yimarotu_clear(yimarotu_session *session);
 
 /* ---- sessions that are fed by hand */

@@ -109,9 +109,9 @@ ClearedName name code before ended after =
     × (ended ≡ number_of (clear_status result)))
     ⊎ (¬ (IsUtf8 name) × (ended ≡ number_of status.Text) × (after ≡ before))
 
-abbrev pub Cancelled : ℕ → Held → ℕ → Held → Type 0
-Cancelled number before ended after =
-    (result : Result Bool AllocError) × CancelsIn number before result after
+abbrev pub Cancelled : ℕ → ℕ → Held → ℕ → Held → Type 0
+Cancelled number moment before ended after =
+    (result : Result Bool AllocError) × CancelsIn number moment before result after
     × (ended ≡ number_of (cancel_status result))
 
 abbrev pub ClearedAll : Held → ℕ → Held → Type 0

@@ -183,24 +183,29 @@ fn failure_of(number: u8) -> Option<NetError>
     }
 }
 
-/// Forgets the look-up of a number.
+/// Forgets the look-up of a number, at a moment.
 #[unsafe(no_mangle)]
-pub extern "C" fn yimarotu_cancel(alloc: Global, session: &mut YimarotuSession, number: u64) -> u8
-    ensures { OnOpen (Cancelled number) (number_of status.Closed) session.old.inside.value result
+pub extern "C" fn yimarotu_cancel(
+    alloc: Global,
+    session: &mut YimarotuSession,
+    number: u64,
+    moment: u64,
+) -> u8
+    ensures { OnOpen (Cancelled number moment) (number_of status.Closed) session.old.inside.value result
         session.new.inside.value }
 {
     let Some(mut inside) = take(alloc, session) else {
         return Status::Closed.number();
     };
-    let ended = cancel(&mut inside, number);
+    let ended = cancel(&mut inside, number, moment);
     put(session, inside);
     ended
 }
 
-fn cancel(held: &mut Held, number: u64) -> u8
-    ensures { Cancelled number held.old result held.new }
+fn cancel(held: &mut Held, number: u64, moment: u64) -> u8
+    ensures { Cancelled number moment held.old result held.new }
 {
-    cancel_status(held.cancel(number)).number()
+    cancel_status(held.cancel(number, moment)).number()
 }
 
 fn cancel_status(ended: Result<bool, AllocError>) -> Status
@@ -213,7 +218,8 @@ fn cancel_status(ended: Result<bool, AllocError>) -> Status
     }
 }
 
-/// Drops from the cache what it has for the names that a look-up of this one would attempt, of a type. The look-ups stay.
+/// Drops from the cache what it has for the names that a look-up of this one would attempt, of a type, and what came for
+/// them ahead of a look-up. The look-ups stay.
 #[unsafe(no_mangle)]
 pub extern "C" fn yimarotu_clear_name(
     alloc: Global,
@@ -253,7 +259,7 @@ fn clear_status(ended: Result<(), SessionError>) -> Status
     }
 }
 
-/// Empties the cache. The look-ups stay.
+/// Empties the cache, and lets go of what came ahead of a look-up. The look-ups stay.
 #[unsafe(no_mangle)]
 pub extern "C" fn yimarotu_clear(alloc: Global, session: &mut YimarotuSession) -> u8
     ensures { OnOpen ClearedAll (number_of status.Closed) session.old.inside.value result session.new.inside.value }

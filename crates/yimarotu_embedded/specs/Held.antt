@@ -41,17 +41,18 @@ abbrev pub InNetwork : {A : Type 0} → (network.NetworkValue → A → network.
 InNetwork Does before result after =
     Does before.session result after.session × (after ≡ record before { session = after.session })
 
--- a look-up is forgotten; or, where the pool is to forget its asker, no memory is left, and nothing changes
+-- A look-up is forgotten; or, where the pool is to forget its asker, no memory is left, and nothing changes. A session
+-- that is fed by hand has no places that come free, and looks at no moment.
 abbrev pub CancelsFed : ℕ → SessionValue → Result Bool AllocError → SessionValue → Type 0
 CancelsFed number before (Ok was_there) after = fed.Cancels number before was_there after
 CancelsFed number before (Err error) after = ⊥
 
-abbrev pub CancelsNetwork : ℕ → network.NetworkValue → Result Bool AllocError → network.NetworkValue → Type 0
-CancelsNetwork number before (Ok was_there) after = network.Cancels number before was_there after
-CancelsNetwork number before (Err error) after = after ≡ before
+abbrev pub CancelsNetwork : ℕ → ℕ → network.NetworkValue → Result Bool AllocError → network.NetworkValue → Type 0
+CancelsNetwork number now before (Ok was_there) after = network.Cancels number now before was_there after
+CancelsNetwork number now before (Err error) after = after ≡ before
 
-abbrev pub CancelsIn : ℕ → Held → Result Bool AllocError → Held → Type 0
-CancelsIn number = OnEither (CancelsFed number) (InNetwork (CancelsNetwork number))
+abbrev pub CancelsIn : ℕ → ℕ → Held → Result Bool AllocError → Held → Type 0
+CancelsIn number now = OnEither (CancelsFed number) (InNetwork (CancelsNetwork number now))
 
 abbrev pub ClearsNameIn : List ℕ → RecordType → Held → Result (Unit {0}) SessionError → Held → Type 0
 ClearsNameIn name t = OnEither (fed.ClearsName name t) (InNetwork (network.ClearsName name t))

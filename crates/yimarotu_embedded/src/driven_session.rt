@@ -116,13 +116,13 @@ impl DrivenSession {
         self.session.tick(now);
     }
 
-    /// Forgets the look-up of a number, and tells whether there was one.
-    pub fn cancel(&mut self, number: u64) -> Result<bool, AllocError>
-        ensures ok { IfOk result (λ was_there. Cancels number self.old.session was_there self.new.session) }
+    /// Forgets the look-up of a number, at a moment, and tells whether there was one.
+    pub fn cancel(&mut self, number: u64, now: u64) -> Result<bool, AllocError>
+        ensures ok { IfOk result (λ was_there. Cancels number now self.old.session was_there self.new.session) }
         ensures stays { self.new ≡ record self.old { session = self.new.session } }
         ensures err { OnErr result (self.new ≡ self.old) }
     {
-        self.session.cancel(number)
+        self.session.cancel(number, now)
     }
 
     /// The servers that are asked from now on.
@@ -137,7 +137,8 @@ impl DrivenSession {
         self.session.set_servers(servers)
     }
 
-    /// Drops from the cache what it has for the names that are attempted for this one, of this type.
+    /// Drops from the cache what it has for the names that are attempted for this one, of this type, and what came for
+    /// them ahead of a look-up.
     pub fn clear_name(&mut self, name: &str, record_type: RecordType) -> Result<(), SessionError>
         ensures clears { ClearsName name.now record_type self.old.session result self.new.session }
         ensures stays { self.new ≡ record self.old { session = self.new.session } }
@@ -145,7 +146,7 @@ impl DrivenSession {
         self.session.clear_name(name, record_type)
     }
 
-    /// Empties the cache.
+    /// Empties the cache, and lets go of what came ahead of a look-up.
     pub fn clear(&mut self)
         ensures { self.new ≡ over_network cleared self.old }
     {

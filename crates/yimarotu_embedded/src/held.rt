@@ -45,13 +45,14 @@ impl Held {
         }
     }
 
-    /// Forgets the look-up of a number, and tells whether there was one. Where memory is refused nothing changes.
-    pub fn cancel(&mut self, number: u64) -> Result<bool, AllocError>
-        ensures { CancelsIn number self.old result self.new }
+    /// Forgets the look-up of a number, at a moment, and tells whether there was one. Where memory is refused nothing
+    /// changes.
+    pub fn cancel(&mut self, number: u64, now: u64) -> Result<bool, AllocError>
+        ensures { CancelsIn number now self.old result self.new }
     {
         match self {
             Held::Fed(session) => Ok(session.cancel(number)),
-            Held::Driven(session) => session.cancel(number),
+            Held::Driven(session) => session.cancel(number, now),
         }
     }
 

@@ -11,6 +11,7 @@ use Rattle.yimarotu_session.specs.LookupTables.{TableValue, held_at}
 use Rattle.yimarotu_session.specs.Messages.{whole_query}
 use Rattle.yimarotu_session.specs.NetworkSessions.{NetworkValue}
 use Rattle.yimarotu_session.specs.NetworkSteps.{AsksAhead, AsksPool, IsAnswered, IsAskedAhead, no_dnssec}
+use Rattle.yimarotu_session.specs.declared.ahead.SecondQuestion.{SecondQuestion}
 use Rattle.yimarotu_session.specs.declared.network_lookup.NetworkLookup.TheVariants.{Asks}
 
 -- what the pool says to a question with these options, and the pool after it
@@ -42,19 +43,20 @@ module _ (w : WaitingCallValue) (number : ℕ) (before after : NetworkValue) (ta
         telling_stays = telling;
       }
 
-module _ (number : ℕ) (before after : NetworkValue) (table : TableValue) (query copy : Query) (options : DnsRequestOptions)
-    (said : Asked) where
-  pub asks-ahead : copy ≡ query → options ≡ request_options_of before.resolver.options → table ≡ before.table
+module _ (number : ℕ) (before after : NetworkValue) (table : TableValue) (second : SecondQuestion) (copy : Query)
+    (options : DnsRequestOptions) (said : Asked) where
+  pub asks-ahead : copy ≡ second.query → options ≡ request_options_of before.resolver.options → table ≡ before.table
       → said ≡ said_to copy options before.pool → after.pool ≡ after_question copy options before.pool
-      → IsAskedAhead said query number table after.table
-      → after ≡ record before { pool = after.pool; table = after.table } → AsksAhead number before after query
+      → IsAskedAhead said second number table after.table
+      → after ≡ record before { pool = after.pool; table = after.table } → AsksAhead number second before after
   asks-ahead copied with same told pool asked others =
       let s = before.pool in
       record {
         pool_is = pool ∙ ap (λ (q : Query). after_question q options s) copied
-            ∙ ap (λ (o : DnsRequestOptions). after_question query o s) with;
-        asked = subst (λ (a : Asked). IsAskedAhead a query number before.table after.table)
-            (told ∙ ap (λ (q : Query). said_to q options s) copied ∙ ap (λ (o : DnsRequestOptions). said_to query o s) with)
-            (subst (λ (t : TableValue). IsAskedAhead said query number t after.table) same asked);
+            ∙ ap (λ (o : DnsRequestOptions). after_question second.query o s) with;
+        asked = subst (λ (a : Asked). IsAskedAhead a second number before.table after.table)
+            (told ∙ ap (λ (q : Query). said_to q options s) copied
+            ∙ ap (λ (o : DnsRequestOptions). said_to second.query o s) with)
+            (subst (λ (t : TableValue). IsAskedAhead said second number t after.table) same asked);
         others_stay = others;
       }

@@ -1,3 +1,5 @@
+mod Alone
 mod Asking
+mod Attempted
 mod Beginnings
 mod NetworkBeginnings

@@ -1,7 +1,7 @@
 -- Look-ups of a session with a network, each under its number, and the queues in which they stand.
-use Rattle.std.specs.Prelude.{◌≡◌, ◌==◌, ◌&&◌, ℕ, ◌<◌, Bool, false, true, List, [], ◌∷◌, ◌++◌, drop, nat_eq, Option, None, Some}
+use Rattle.std.specs.Prelude.{◌≡◌, ◌==◌, ◌&&◌, ℕ, ◌<◌, Bool, false, true, List, [], ◌∷◌, ◌++◌, drop, map, nat_eq, Option, None, Some}
 use Rattle.std.specs.Prelude.{Result, Err, MatchOption, MatchResult, if◌then◌else◌}
-use Rattle.std.specs.HashMap as map
+use Rattle.std.specs.HashMap as hash
 use Rattle.std.specs.Option.{option_and_then, option_map}
 use Rattle.std.specs.VecDeque.{deque_capacity, deque_len}
 use Rattle.indexmap.specs.IndexMap.{insert_entry, swap_remove_entry}
@@ -10,11 +10,12 @@ use Rattle.hickory_proto_core.specs.declared.query.Query.{Query}
 use Rattle.hickory_resolver.specs.Driving.{CallProgress}
 use Rattle.hickory_resolver.specs.client.waiting.Progress.TheVariants as progress
 use Rattle.hickory_resolver_askers.specs.declared.asker.Asker.{Asker}
-use Rattle.yimarotu_session.specs.Ahead.{Resolver, asker_ahead, second_question}
+use Rattle.yimarotu_session.specs.Ahead.{Resolver, asker_ahead, second_question, untold}
 use Rattle.yimarotu_session.specs.Messages.{whole_query}
 use Rattle.yimarotu_session.specs.Sessions.{PutsUnder, value_at}
 use Rattle.yimarotu_session.specs.declared.ahead.Ahead.{Ahead}
 use Rattle.yimarotu_session.specs.declared.ahead.Ahead.TheVariants.{Nothing}
+use Rattle.yimarotu_session.specs.declared.ahead.SecondQuestion.{SecondQuestion}
 use Rattle.yimarotu_session.specs.declared.lookup_table.LookupTable.{LookupTable}
 use Rattle.yimarotu_session.specs.declared.network_lookup.NetworkLookup.{NetworkLookup}
 use Rattle.yimarotu_session.specs.declared.network_lookup.NetworkLookup.TheVariants.{Asks, Asked, Done}
@@ -123,6 +124,10 @@ pub record DropsAhead (number : ℕ) (before after : TableValue) : Type 0 where
   pub puts : PutsUnder number None before.ahead after.ahead
   pub others_stay : after ≡ record before { ahead = after.ahead; to_forget = to_forget_after number before }
 
+-- of all look-ups: what was told of questions that pass is let go
+abbrev pub without_told : (Query → Bool) → TableValue → TableValue
+without_told passes table = record table { ahead = map (λ e. (e.0, untold passes e.1)) table.ahead }
+
 -- what was taken of that leaves its place empty
 abbrev pub LeavesAhead : Ahead → ℕ → TableValue → TableValue → Type 0
 LeavesAhead Nothing number before after = after ≡ before
@@ -137,7 +142,7 @@ pub record HasTurns (table : LookupTable) : Type 0 where
 
 -- and for one more look-up
 pub record HasRoomToStart (table : LookupTable) : Type 0 where
-  pub lookups : 0 < map.spare table.lookups
+  pub lookups : 0 < hash.spare table.lookups
   pub ahead : 0 < index.spare table.ahead
   pub turns : HasTurns table
 
@@ -198,9 +203,9 @@ abbrev pub question_to_ask : Option NetworkLookup → Option Query
 question_to_ask (Some (Asks w)) = Some (whole_query w.lookup.hop.query)
 question_to_ask other = None
 
--- The question that is to be asked ahead of one whose question is asked, where there is a place for it and nothing was
--- asked yet.
-abbrev pub question_ahead : Resolver → Option NetworkLookup → Option Ahead → Option Query
+-- The question of the second family of one whose question is asked, where there is a place for it and nothing was asked
+-- yet.
+abbrev pub question_ahead : Resolver → Option NetworkLookup → Option Ahead → Option SecondQuestion
 question_ahead resolver (Some (Asked w a)) (Some Nothing) = second_question resolver w
 question_ahead resolver held ahead = None
 

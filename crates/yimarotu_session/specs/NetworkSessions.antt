@@ -1,9 +1,11 @@
 -- A session with a network, and what each event does with it. The pool has one group of servers, of number 0.
-use Rattle.std.specs.Prelude.{◌≡◌, ◌≢◌, ◌/◌, ℕ, Bool, List, [], Option, None, Some, Result, Ok, Err, MatchOption, MatchResult, IsOkUnless, OnErr, OnOk}
+use Rattle.std.specs.Prelude.{◌≡◌, ◌≢◌, ◌/◌, ℕ, Bool, true, false, List, [], Option, None, Some, Result, Ok, Err, MatchOption, MatchResult, IsOkUnless, OnErr, OnOk}
+use Rattle.std.specs.List.{list_any}
 use Rattle.std.specs.Option.{is_some, option_map_or}
 use Rattle.hickory_proto_core.specs.Handles.{OutcomeValue}
 use Rattle.hickory_proto_core.specs.Name.{NameValue}
 use Rattle.hickory_proto_core.specs.NameGiven.{IsReadAddress, IsReadName}
+use Rattle.hickory_proto_core.specs.Query.{query_eq}
 use Rattle.hickory_proto_core.specs.codes.record_type.RecordType.{RecordType}
 use Rattle.hickory_proto_core.specs.declared.query.Query.{Query}
 use Rattle.hickory_proto_core.specs.names.name_error.NameError.{NameError}
@@ -12,13 +14,15 @@ use Rattle.hickory_resolver.specs.Contexts.{progress_of}
 use Rattle.hickory_resolver.specs.Driving.{CallProgress}
 use Rattle.hickory_resolver.specs.Starting.{StartsHost, StartsName}
 use Rattle.hickory_resolver_askers.specs.declared.asker.Asker.{Asker}
-use Rattle.hickory_resolver_model.specs.Lookup.{LookupResult}
-use Rattle.hickory_resolver_model.specs.Resolver.{ResolverValue, after_clear_lookup}
+use Rattle.hickory_resolver_model.specs.Attempts.{attempts}
+use Rattle.hickory_resolver_model.specs.Lookup.{LookupResult, question_of}
+use Rattle.hickory_resolver_model.specs.Resolver.{ResolverValue, after_clear_lookup, settings}
+use Rattle.hickory_resolver_model.specs.Run.{Settings}
 use Rattle.hickory_resolver_pool.specs.Over.{OverValue}
 use Rattle.hickory_resolver_pool.specs.Pool.{PoolState, after_forgetting, after_tick, no_servers}
 use Rattle.hickory_resolver_pool.specs.declared.limits.PoolLimits.{PoolLimits}
 use Rattle.yimarotu_session.specs.Calls.{Does}
-use Rattle.yimarotu_session.specs.LookupTables.{IsForgotten, TableValue, BeginsAt, asker_of, held_at, lookup_of, no_lookups}
+use Rattle.yimarotu_session.specs.LookupTables.{IsForgotten, TableValue, BeginsAt, asker_of, held_at, lookup_of, no_lookups, without_told}
 use Rattle.yimarotu_session.specs.declared.ahead.Ahead.{Ahead}
 use Rattle.yimarotu_session.specs.declared.ahead.Ahead.TheVariants.{Nothing}
 use Rattle.yimarotu_session.specs.declared.network_lookup.NetworkLookup.{NetworkLookup}
@@ -89,12 +93,12 @@ abbrev pub forgotten_by_pool : PoolState → Asker → PoolState
 forgotten_by_pool pool asker = after_forgetting asker pool
 
 -- Where there is one of this number; and the pool forgets its asker, where it has one. The asker of what was asked
--- ahead of it is forgotten next.
-pub record Cancels (number : ℕ) (before : NetworkValue) (was_there : Bool) (after : NetworkValue) : Type 0 where
+-- ahead of it is forgotten next. A place that comes free is taken at this moment, or a later one that was told.
+pub record Cancels (number now : ℕ) (before : NetworkValue) (was_there : Bool) (after : NetworkValue) : Type 0 where
   pub told : was_there ≡ is_some (held_at number before.table)
   pub resolver_stays : after.resolver ≡ before.resolver
-  pub pool_is : after.pool
-      ≡ option_map_or (forgotten_by_pool before.pool) (asker_of (held_at number before.table)) before.pool
+  pub pool_is : after.pool ≡ after_tick now
+      (option_map_or (forgotten_by_pool before.pool) (asker_of (held_at number before.table)) before.pool)
   pub is_forgotten : IsForgotten number before.table after.table
   pub telling_stays : after.telling ≡ before.telling
 
@@ -120,20 +124,32 @@ question_in (Some (Done found announced)) = Err IsDone
 abbrev pub question_at : ℕ → NetworkValue → Result Query SessionError
 question_at number session = question_in (held_at number session.table)
 
--- ---- the cache
+-- ---- the cache, and what was told ahead, which the cache may not have
 
--- The cache has nothing for the attempts at a name, of a type, and all else stays: what is no name clears nothing. Or
--- no memory is left, and nothing changes.
+-- whether a look-up of this type, for what is given for a name, would attempt this question
+abbrev pub is_attempted : Settings → RecordType → Result NameValue NameError → Query → Bool
+is_attempted s t (Ok name) q = list_any (λ n. query_eq (question_of n t) q) (attempts s.search name)
+is_attempted s t (Err fault) q = false
+
+abbrev pub name_cleared : RecordType → Result NameValue NameError → NetworkValue → NetworkValue
+name_cleared t given session = record session {
+  resolver = after_clear_lookup t given session.resolver;
+  table = without_told (is_attempted (settings session.resolver) t given) session.table;
+}
+
+-- The cache has nothing for the attempts at a name, of a type, what was told of them ahead is let go, and all else stays:
+-- what is no name clears nothing. Or no memory is left, and nothing changes.
 abbrev pub ClearsName : List ℕ → RecordType → NetworkValue → Result (Unit {0}) SessionError → NetworkValue → Type 0
 ClearsName name t before result after =
     OnOk result ((given : Result NameValue NameError) × IsReadName name given × (given ≢ Err name_fault.OutOfMemory)
-    × (after ≡ record before { resolver = after_clear_lookup t given before.resolver }))
+    × (after ≡ name_cleared t given before))
     × OnErr result (after ≡ before) × IsOkUnless result OutOfMemory
 
--- the cache has no entries, and all else stays
+-- the cache has no entries, all that was told ahead is let go, and all else stays
 abbrev pub cleared : NetworkValue → NetworkValue
 cleared session = record session {
   resolver = record session.resolver {
     client = record session.resolver.client { cache = record session.resolver.client.cache { entries = [] } };
   };
+  table = without_told (λ q. true) session.table;
 }

@@ -1,6 +1,6 @@
 -- The steps of a session with a network: who is told of a transaction that is over, who is forgotten, whose question is
 -- asked, who is done, and else what the pool does next.
-use Rattle.std.specs.Prelude.{◌≡◌, ◌+◌, ℕ, false, MatchOption, Option, None, Some, slice_get}
+use Rattle.std.specs.Prelude.{◌≡◌, ◌+◌, ℕ, Bool, true, false, MatchOption, Option, None, Some, slice_get}
 use Rattle.hickory_proto_core.specs.Handles.{OutcomeValue}
 use Rattle.hickory_proto_core.specs.declared.query.Query.{Query}
 use Rattle.hickory_resolver.specs.Contexts.{progress_of}
@@ -20,13 +20,14 @@ use Rattle.hickory_resolver_theorems.specs.ResumingCalls.{WaitingCallValue}
 use Rattle.hickory_resolver_tries.specs.Question.{question_of}
 use Rattle.hickory_resolver_tries.specs.declared.pool_question.DnssecOptions.{DnssecOptions}
 use Rattle.hickory_resolver_tries.specs.declared.pool_question.PoolQuestion.{PoolQuestion}
-use Rattle.yimarotu_session.specs.Ahead.{Resolver, ahead_of, told_ahead}
+use Rattle.yimarotu_session.specs.Ahead.{AsksAlone, HearsAhead, Resolver, ahead_of, told_ahead}
 use Rattle.yimarotu_session.specs.LookupTables.{ChangesAhead, IsAnnounced, TableValue, TakesPlace, ahead_at, emptied, first_announced, first_asked, first_forgotten, held_at, lookup_of, question_ahead, waits_ahead, waits_for, with_asker, without_asker}
 use Rattle.yimarotu_session.specs.Messages.{whole_query}
 use Rattle.yimarotu_session.specs.NetworkSessions.{NetworkValue, TellingValue}
 use Rattle.yimarotu_session.specs.Sessions.{PutsUnder}
 use Rattle.yimarotu_session.specs.declared.ahead.Ahead.{Ahead}
 use Rattle.yimarotu_session.specs.declared.ahead.Ahead.TheVariants as ahead
+use Rattle.yimarotu_session.specs.declared.ahead.SecondQuestion.{SecondQuestion}
 use Rattle.yimarotu_session.specs.declared.network_lookup.NetworkLookup.{NetworkLookup}
 use Rattle.yimarotu_session.specs.declared.network_lookup.NetworkLookup.TheVariants.{Asks, Asked, Done}
 use Rattle.yimarotu_session.specs.declared.network_session.NetworkAction.{NetworkAction}
@@ -78,20 +79,26 @@ pub record TellsLookup
   pub told : IsCoreOutcome over outcome
   pub goes_on : GoesOnAt outcome number resolver (without_asker asker.number before) resolver' after
 
--- what was asked ahead by this asker is kept with what the core is told, until the look-up comes to it
-pub record TellsAhead (over : OverValue) (asker : Asker) (before after : TableValue) (number : ℕ) : Type 0 where
+-- What was asked ahead by this asker: the resolver hears what the core is told, and it stays there until the look-up
+-- comes to it.
+pub record TellsAhead
+    (over : OverValue) (asker : Asker) (resolver : Resolver) (before : TableValue) (resolver' : Resolver)
+    (after : TableValue) (number : ℕ)
+    : Type 0 where
   pub outcome : OutcomeValue
   pub told : IsCoreOutcome over outcome
+  pub heard : HearsAhead outcome (ahead_at number before) resolver resolver'
   pub changes : ChangesAhead number (told_ahead outcome) (without_asker asker.number before) after
 
 -- an asker that was forgotten is passed over
-abbrev pub TellsOther : OverValue → Asker → TableValue → TableValue → Type 0
-TellsOther over asker before after =
-    MatchOption (waits_ahead asker before) (after ≡ before) (TellsAhead over asker before after)
+abbrev pub TellsOther : OverValue → Asker → Resolver → TableValue → Resolver → TableValue → Type 0
+TellsOther over asker resolver before resolver' after =
+    MatchOption (waits_ahead asker before) ((resolver' ≡ resolver) × (after ≡ before))
+    (TellsAhead over asker resolver before resolver' after)
 
 abbrev pub TellsAsker : OverValue → Asker → Resolver → TableValue → Resolver → TableValue → Type 0
 TellsAsker over asker resolver before resolver' after =
-    MatchOption (waits_for asker before) ((resolver' ≡ resolver) × TellsOther over asker before after)
+    MatchOption (waits_for asker before) (TellsOther over asker resolver before resolver' after)
     (TellsLookup over asker resolver before resolver' after)
 
 -- an asker of the transaction that is over
@@ -185,15 +192,25 @@ AsksOwn w number before after =
 -- ---- a question is asked ahead of a look-up
 
 -- where there is no place for it, nothing is asked ahead
-abbrev pub IsAskedAhead : pool_asked.Asked → Query → ℕ → TableValue → TableValue → Type 0
+abbrev pub IsAskedAhead : pool_asked.Asked → SecondQuestion → ℕ → TableValue → TableValue → Type 0
 IsAskedAhead (asked.Asker a) q number before after =
     ChangesAhead number (λ nothing. ahead.Waits q a) (with_asker a number (first_asked before)) after
 IsAskedAhead other q number before after = after ≡ first_asked before
 
-pub record AsksAhead (number : ℕ) (before after : NetworkValue) (q : Query) : Type 0 where
-  pub pool_is : after.pool ≡ pool_after q before
-  pub asked : IsAskedAhead (pool_says q before) q number before.table after.table
+pub record AsksAhead (number : ℕ) (q : SecondQuestion) (before after : NetworkValue) : Type 0 where
+  pub pool_is : after.pool ≡ pool_after q.query before
+  pub asked : IsAskedAhead (pool_says q.query before) q number before.table after.table
   pub others_stay : after ≡ record before { pool = after.pool; table = after.table }
+
+abbrev pub AsksIf : Bool → ℕ → SecondQuestion → NetworkValue → NetworkValue → Type 0
+AsksIf true number q before after = AsksAhead number q before after
+AsksIf false number q before after = after ≡ record before { table = first_asked before.table }
+
+-- nor where a look-up of the question alone would not ask it
+pub record AsksSecond (number : ℕ) (before after : NetworkValue) (q : SecondQuestion) : Type 0 where
+  pub asks : Bool
+  pub alone : AsksAlone q before.resolver asks
+  pub goes_on : AsksIf asks number q before after
 
 -- ---- the turn of a look-up
 
@@ -202,7 +219,7 @@ abbrev pub AsksOther : Option NetworkLookup → ℕ → NetworkValue → Network
 AsksOther held number before after =
     MatchOption (question_ahead before.resolver held (ahead_at number before.table))
     (after ≡ record before { table = first_asked before.table })
-    (AsksAhead number before after)
+    (AsksSecond number before after)
 
 abbrev pub AsksAs : Option NetworkLookup → ℕ → NetworkValue → NetworkValue → Type 0
 AsksAs (Some (Asks w)) number before after = AsksOwn w number before after

@@ -1,15 +1,17 @@
 //! The look-ups of a session with a network, and the queues in which they stand.
-ghost use Rattle.std.specs.Prelude.{◌≡◌, ◌<◌, IfOk, OnErr, OnOk, slice_get};
+ghost use Rattle.std.specs.Prelude.{◌≡◌, ◌<◌, IfOk, OnErr, OnOk, slice_get, true};
 ghost use Rattle.indexmap.specs.IndexMap.{spare};
 ghost use Rattle.std.specs.Bool.{OnFalse, OnTrue};
+ghost use Rattle.std.specs.List.{list_any};
 ghost use Rattle.std.specs.Option.{is_some, option_map};
 ghost use Rattle.std.specs.VecDeque.{deque_capacity, deque_len};
+ghost use Rattle.hickory_proto_core.specs.Query.{query_eq};
 ghost use Rattle.yimarotu_session.specs.Ahead.{ahead_of, told_ahead};
-ghost use Rattle.yimarotu_session.specs.LookupTables.{BeginsAt, ChangesAhead, DropsAhead, HasRoomToAsk, HasRoomToForget, HasRoomToStart, HasTurns, IsAnnounced, IsForgotten, IsReordered, LeavesAhead, MakesRoom, ahead_at, announced, asked_by, asker_of, askers_without, first_announced, first_asked, first_forgotten, held_at, if_waits_ahead, if_waits_for, is_unannounced, no_lookups, question_ahead, question_to_ask, table_of, to_announce_with, to_ask_with, waits_ahead, waits_for, with_asker, without_asker};
+ghost use Rattle.yimarotu_session.specs.LookupTables.{BeginsAt, ChangesAhead, DropsAhead, HasRoomToAsk, HasRoomToForget, HasRoomToStart, HasTurns, IsAnnounced, IsForgotten, IsReordered, LeavesAhead, MakesRoom, ahead_at, announced, asked_by, asker_of, askers_without, first_announced, first_asked, first_forgotten, held_at, if_waits_ahead, if_waits_for, is_unannounced, no_lookups, question_ahead, question_to_ask, table_of, to_announce_with, to_ask_with, waits_ahead, waits_for, with_asker, without_asker, without_told};
 ghost use Rattle.yimarotu_session.specs.NetworkSteps.{GoesOnAt};
 ghost use Rattle.yimarotu_session.specs.Sessions.{PutsUnder};
 
-use crate::ahead::{Ahead, asker_ahead, is_ahead, take, tell};
+use crate::ahead::{Ahead, SecondQuestion, asker_ahead, is_ahead, let_go, let_go_of, take, tell};
 use crate::network_lookup::{
     NetworkLookup, announce, asker_of, go_on, is_same, is_unannounced, question_ahead,
     question_to_ask, wait_for,
@@ -18,6 +20,7 @@ use crate::network_session::NetworkResolver;
 use crate::numbered::forget;
 use crate::session_error::SessionError;
 use hickory_proto_core::{Outcome, Query};
+use hickory_resolver::Attempted;
 use hickory_resolver_pool::Asker;
 use indexmap::IndexMap;
 use std::alloc::{AllocError, Global};
@@ -136,12 +139,12 @@ impl LookupTable {
         question_to_ask(self.lookups.get(&number))
     }
 
-    // The question that is to be asked ahead of the look-up of a number.
+    // The question of the second family of the look-up of a number, where nothing was asked ahead yet.
     pub(crate) fn question_ahead(
         &self,
         resolver: &NetworkResolver,
         number: u64,
-    ) -> Result<Option<Query>, AllocError>
+    ) -> Result<Option<SecondQuestion>, AllocError>
         ensures { IfOk result (λ query. query
             ≡ question_ahead resolver.now (held_at number (table_of self.now)) (ahead_at number (table_of self.now))) }
     {
@@ -237,13 +240,13 @@ impl LookupTable {
     }
 
     // This question is asked ahead of the look-up of a number, by this asker.
-    pub(crate) fn wait_ahead(&mut self, number: u64, query: Query, asker: Asker)
+    pub(crate) fn wait_ahead(&mut self, number: u64, second: SecondQuestion, asker: Asker)
         requires { HasRoomToAsk self.old }
-        ensures { ChangesAhead number (λ nothing. Ahead.Waits query asker)
+        ensures { ChangesAhead number (λ nothing. Ahead.Waits second asker)
             (with_asker asker number (table_of self.old)) (table_of self.new) }
     {
         if let Some(ahead) = self.ahead.get_mut(&number) {
-            *ahead = Ahead::Waits(query, asker);
+            *ahead = Ahead::Waits(second, asker);
         }
         self.insert_asker(asker, number);
     }
@@ -256,6 +259,27 @@ impl LookupTable {
         if let Some(ahead) = self.ahead.get_mut(&number) {
             tell(ahead, outcome);
         }
+    }
+
+    // All that was told ahead is let go.
+    pub(crate) fn let_go(&mut self)
+        ensures { table_of self.new ≡ without_told (λ q. true) (table_of self.old) }
+    {
+        self.ahead.retain(|_, ahead| {
+            let_go(ahead);
+            true
+        });
+    }
+
+    // What was told ahead of these questions is let go.
+    pub(crate) fn let_go_of(&mut self, attempted: &[Attempted])
+        ensures { table_of self.new
+            ≡ without_told (λ q. list_any (λ a. query_eq a.question q) attempted.now) (table_of self.old) }
+    {
+        self.ahead.retain(|_, ahead| {
+            let_go_of(ahead, attempted);
+            true
+        });
     }
 
     // Nothing is asked ahead of the look-up of a number any more. Who asks is to be forgotten.

@@ -5,7 +5,7 @@ ghost use Rattle.yimarotu_session.specs.LookupTables.{announced, asked_by, asker
 ghost use Rattle.yimarotu_session.specs.Messages.{whole_query};
 ghost use Rattle.yimarotu_session.specs.NetworkSteps.{GoesOn};
 
-use crate::ahead::{Ahead, second_question};
+use crate::ahead::{Ahead, SecondQuestion, second_question};
 use crate::messages::whole_query;
 use crate::network_session::NetworkResolver;
 use hickory_proto_core::{NetError, Outcome, Query};
@@ -82,13 +82,13 @@ fn whole_copy(query: &Query) -> Result<Query, AllocError>
     Ok(copy)
 }
 
-// The question that is to be asked ahead of a look-up whose question is asked, where there is a place for it and
-// nothing was asked yet.
+// The question of the second family of a look-up whose question is asked, where there is a place for it and nothing was
+// asked yet.
 pub(crate) fn question_ahead(
     resolver: &NetworkResolver,
     lookup: Option<&NetworkLookup>,
     ahead: Option<&Ahead>,
-) -> Result<Option<Query>, AllocError>
+) -> Result<Option<SecondQuestion>, AllocError>
     ensures { IfOk result (λ query. query
         ≡ question_ahead resolver.now (option_copied lookup.entry) (option_copied ahead.entry)) }
 {

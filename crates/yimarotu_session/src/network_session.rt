@@ -1,5 +1,8 @@
 //! A session with a network: a resolver and its look-ups, whose questions go to a pool of name servers by themselves.
 ghost use Rattle.std.specs.Prelude.{◌≡◌, Err, IfErr, IfOk, IsOkUnless, None, Ok, OnErr, OnOk, Some};
+ghost use Rattle.hickory_resolver.specs.Explaining.{Explains};
+ghost use Rattle.hickory_resolver_model.specs.Resolver.{settings};
+ghost use Rattle.hickory_resolver_model.specs.Run as run;
 ghost use Rattle.hickory_resolver_pool.specs.Pool.{after_failure, after_octets, after_servers, after_tick};
 ghost use Rattle.hickory_resolver_pool.specs.Servers.{first_fixed};
 ghost use Rattle.hickory_resolver_traffic.specs.Tasks.{next_deadline};
@@ -12,7 +15,7 @@ use crate::network_steps::forget_asker;
 use crate::session_error::SessionError;
 use crate::telling::Telling;
 use hickory_proto_core::{NetError, Query, RecordType, ScriptHandle};
-use hickory_resolver::{Lookup, Resolver, ResponseCache};
+use hickory_resolver::{Attempted, Lookup, Request, Resolver, ResponseCache};
 use hickory_resolver_pool::{
     Failure, NameServerPool, Opening, PoolLimits, PoolServer, Sent, ServersError,
 };
@@ -126,14 +129,15 @@ impl NetworkSession {
         Ok(())
     }
 
-    /// Forgets the look-up of a number, and tells whether there was one. Where nobody else asks its question, that is
-    /// not asked on.
-    pub fn cancel(&mut self, number: u64) -> Result<bool, AllocError>
-        ensures ok { IfOk result (λ was_there. Cancels number self.old was_there self.new) }
+    /// Forgets the look-up of a number, at a moment, and tells whether there was one. Where nobody else asks its
+    /// question, that is not asked on, and the place that it had is taken at this moment.
+    pub fn cancel(&mut self, number: u64, now: u64) -> Result<bool, AllocError>
+        ensures ok { IfOk result (λ was_there. Cancels number now self.old was_there self.new) }
         ensures err { OnErr result (self.new ≡ self.old) }
     {
         self.table.reserve_forgetting()?;
         forget_asker(&mut self.pool, asker_of(self.table.lookups.get(&number)))?;
+        self.pool.tick(now);
         Ok(self.table.forget(number))
     }
 
@@ -182,22 +186,29 @@ impl NetworkSession {
         self.pool.next_deadline()
     }
 
-    /// Drops from the cache what it has for the names that are attempted for this one, of this type. What is no name
-    /// clears nothing. The look-ups stay.
+    /// Drops from the cache what it has for the names that are attempted for this one, of this type, and what came for
+    /// them ahead of a look-up. What is no name clears nothing. The look-ups stay, and what is in flight goes on.
     pub fn clear_name(&mut self, name: &str, record_type: RecordType) -> Result<(), SessionError>
         ensures { ClearsName name.now record_type self.old result self.new }
     {
+        let Ok(attempted) = attempted_for(&self.resolver, name, record_type) else {
+            return Err(SessionError::OutOfMemory);
+        };
         match self.resolver.clear_lookup_cache(name, record_type) {
-            Ok(()) => Ok(()),
+            Ok(()) => {
+                self.table.let_go_of(&attempted);
+                Ok(())
+            }
             Err(_) => Err(SessionError::OutOfMemory),
         }
     }
 
-    /// Empties the cache. The look-ups stay.
+    /// Empties the cache, and lets go of what came ahead of a look-up. The look-ups stay, and what is in flight goes on.
     pub fn clear(&mut self)
         ensures { self.new ≡ cleared self.old }
     {
         self.resolver.clear_cache();
+        self.table.let_go();
     }
 
     // ---- what is known
@@ -233,4 +244,22 @@ impl NetworkSession {
             Some(_) => Err(SessionError::Waits),
         }
     }
+}
+
+// The questions that a look-up of records of a type attempts for a name. What is none attempts nothing.
+fn attempted_for(
+    resolver: &NetworkResolver,
+    name: &str,
+    record_type: RecordType,
+) -> Result<Vec<Attempted>, AllocError>
+    ensures { IfOk result (λ attempted. Explains (settings resolver.now) resolver.now.client.cache
+        (run.Lookup name.now record_type 0) attempted.items) }
+{
+    let alloc = resolver.client().cache().allocator();
+    let name = String::from_str(alloc, name)?;
+    resolver.explain(&Request::Lookup {
+        name,
+        record_type,
+        now: 0,
+    })
 }

@@ -8,10 +8,10 @@ ghost use Rattle.hickory_resolver_tries.specs.Question.{question_of};
 ghost use Rattle.yimarotu_session.specs.LookupTables.{HasRoomToAsk, held_at, table_of};
 ghost use Rattle.yimarotu_session.specs.Messages.{whole_query};
 ghost use Rattle.yimarotu_session.specs.NetworkSessions.{TellingValue, forgotten_by_pool};
-ghost use Rattle.yimarotu_session.specs.NetworkSteps.{Announces, AsksAhead, AsksFor, AsksOther, AsksOwn, AsksPool, IsAnswered, IsAskedAhead, SessionSteps, StepsPool, Tells, TellsAsker, TellsLookup, TellsOther, action_of, forgotten, no_dnssec, one_more};
+ghost use Rattle.yimarotu_session.specs.NetworkSteps.{Announces, AsksAhead, AsksFor, AsksOther, AsksOwn, AsksPool, AsksSecond, IsAnswered, IsAskedAhead, SessionSteps, StepsPool, Tells, TellsAhead, TellsAsker, TellsLookup, TellsOther, action_of, forgotten, no_dnssec, one_more};
 ghost use Rattle.yimarotu_session.specs.declared.network_lookup.NetworkLookup.TheVariants.{Asks};
 
-use crate::ahead::Ahead;
+use crate::ahead::{Ahead, SecondQuestion, asks_alone, hear_ahead};
 use crate::lookup_table::LookupTable;
 use crate::network_session::{GROUP, NetworkAction, NetworkResolver, NetworkSession, Pool};
 use crate::telling::Telling;
@@ -129,7 +129,7 @@ impl NetworkSession {
         ensures err { OnErr result (self.new ≡ self.old) }
     {
         match self.table.question_ahead(&self.resolver, number)? {
-            Some(query) => self.ask_ahead(number, query),
+            Some(second) => self.ask_second(number, second),
             None => {
                 self.table.pop_to_ask();
                 Ok(())
@@ -137,16 +137,28 @@ impl NetworkSession {
         }
     }
 
+    // The question of the second family of the look-up of a number is asked ahead, where a look-up of it alone asks it.
+    fn ask_second(&mut self, number: u64, second: SecondQuestion) -> Result<(), AllocError>
+        ensures ok { OnOk result (AsksSecond number self.old self.new second) }
+        ensures err { OnErr result (self.new ≡ self.old) }
+    {
+        if asks_alone(&mut self.resolver, &second)? {
+            return self.ask_ahead(number, second);
+        }
+        self.table.pop_to_ask();
+        Ok(())
+    }
+
     // This question is asked ahead of the look-up of a number.
-    fn ask_ahead(&mut self, number: u64, query: Query) -> Result<(), AllocError>
-        ensures ok { OnOk result (AsksAhead number self.old self.new query) }
+    fn ask_ahead(&mut self, number: u64, second: SecondQuestion) -> Result<(), AllocError>
+        ensures ok { OnOk result (AsksAhead number second self.old self.new) }
         ensures err { OnErr result (self.new ≡ self.old) }
     {
         self.table.reserve_asker()?;
         let options = self.resolver.request_options();
-        let copy = Clone::clone(&query)?;
+        let copy = Clone::clone(&second.query)?;
         let asked = ask_pool(&mut self.pool, copy, options)?;
-        answer_ahead(&mut self.table, number, query, asked);
+        answer_ahead(&mut self.table, number, second, asked);
         Ok(())
     }
 
@@ -209,7 +221,7 @@ fn tell_asker(
 {
     match table.waits_for(asker) {
         Some(number) => tell_lookup(resolver, table, telling, asker, number)?,
-        None => tell_other(table, telling, asker)?,
+        None => tell_other(resolver, table, telling, asker)?,
     }
     telling.count();
     Ok(())
@@ -235,15 +247,39 @@ fn tell_lookup(
     Ok(())
 }
 
-// What was asked ahead by an asker is kept with what its transaction came to.
-fn tell_other(table: &mut LookupTable, telling: &Telling, asker: &Asker) -> Result<(), AllocError>
-    ensures told { OnOk result (TellsOther telling.now.over asker.now (table_of table.old) (table_of table.new)) }
+// What was asked ahead by an asker stays with what its transaction came to, which the resolver hears.
+fn tell_other(
+    resolver: &mut NetworkResolver,
+    table: &mut LookupTable,
+    telling: &Telling,
+    asker: &Asker,
+) -> Result<(), AllocError>
+    ensures told { OnOk result (TellsOther telling.now.over asker.now resolver.old (table_of table.old) resolver.new
+        (table_of table.new)) }
+    ensures resolver { OnErr result (resolver.new ≡ resolver.old) }
     ensures table { OnErr result (table_of table.new ≡ table_of table.old) }
 {
-    if let Some(number) = table.waits_ahead(asker) {
-        let outcome = telling.outcome()?;
-        table.tell_ahead(asker.number, number, outcome);
+    match table.waits_ahead(asker) {
+        Some(number) => tell_ahead(resolver, table, telling, asker, number),
+        None => Ok(()),
     }
+}
+
+fn tell_ahead(
+    resolver: &mut NetworkResolver,
+    table: &mut LookupTable,
+    telling: &Telling,
+    asker: &Asker,
+    number: u64,
+) -> Result<(), AllocError>
+    ensures told { OnOk result (TellsAhead telling.now.over asker.now resolver.old (table_of table.old) resolver.new
+        (table_of table.new) number) }
+    ensures resolver { OnErr result (resolver.new ≡ resolver.old) }
+    ensures table { OnErr result (table_of table.new ≡ table_of table.old) }
+{
+    let outcome = telling.outcome()?;
+    hear_ahead(resolver, table.ahead.get(&number), &outcome)?;
+    table.tell_ahead(asker.number, number, outcome);
     Ok(())
 }
 
@@ -298,13 +334,13 @@ fn answer(resolver: &mut NetworkResolver, table: &mut LookupTable, number: u64, 
 }
 
 // What is asked ahead of a look-up waits for its asker, as the pool answered. Its turn is over.
-fn answer_ahead(table: &mut LookupTable, number: u64, query: Query, asked: Asked)
+fn answer_ahead(table: &mut LookupTable, number: u64, second: SecondQuestion, asked: Asked)
     requires { HasRoomToAsk table.old }
-    ensures { IsAskedAhead asked query number (table_of table.old) (table_of table.new) }
+    ensures { IsAskedAhead asked second number (table_of table.old) (table_of table.new) }
 {
     table.pop_to_ask();
     if let Asked::Asker(asker) = asked {
-        table.wait_ahead(number, query, asker);
+        table.wait_ahead(number, second, asker);
     }
 }
 

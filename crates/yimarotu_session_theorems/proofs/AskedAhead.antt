@@ -1,24 +1,30 @@
 -- A question that was asked ahead of a look-up is the one that the look-up comes to, or is told to its asker.
-use Rattle.std.proofs.Common.{◌≡◌, ◌∙◌, ◌==◌, ◌&&◌, ℕ, Bool, true, false, cond, true≢false, refl, sym, ap, subst}
+use Rattle.std.proofs.Common.{◌≡◌, ◌∙◌, ◌==◌, ◌&&◌, ℕ, Bool, true, false, cond, List, true≢false, refl, sym, ap, subst, inl, inr}
 use Rattle.std.specs.Prelude.{Option, None, Some}
 use Rattle.std.specs.Bool.{beq}
 use Rattle.std.specs.Option.{is_some, option_and_then}
-use Rattle.std.proofs.lemmas.Bool.{eqb-true}
+use Rattle.std.proofs.lemmas.Bool.{and_parts, eqb-true}
+use Rattle.hickory_proto_core.specs.Handles.{OutcomeValue}
 use Rattle.hickory_proto_core.specs.Query.{query_eq, query_equiv}
 use Rattle.hickory_proto_core.specs.declared.dns_request.DnsRequestOptions.{DnsRequestOptions}
 use Rattle.hickory_proto_core.specs.declared.query.Query.{Query}
 use Rattle.hickory_resolver_askers.specs.declared.asker.Asker.{Asker}
+use Rattle.hickory_resolver_pool.specs.Pool.{PoolState}
+use Rattle.hickory_resolver_pool_theorems.specs.Runs.{Happening}
 use Rattle.hickory_resolver_theorems.specs.ResumingCalls.{WaitingCallValue}
 use Rattle.hickory_resolver_tries.specs.Question.{is_dnssec_ok, payload_or_zero, question_eq, question_equiv, question_of}
 use Rattle.hickory_resolver_tries.specs.declared.pool_question.PoolQuestion.{PoolQuestion}
-use Rattle.yimarotu_session.specs.Ahead.{ahead_of, asker_ahead, is_ahead}
+use Rattle.yimarotu_session.specs.Ahead.{ahead_of, asker_ahead, is_ahead, is_waited_for}
 use Rattle.yimarotu_session.specs.LookupTables.{TableValue, ahead_at, asker_of, held_at, if_waits_ahead, if_waits_for, is_same, waits_ahead, waits_for}
+use Rattle.yimarotu_session.specs.Messages.{whole_query}
 use Rattle.yimarotu_session.specs.NetworkSteps.{no_dnssec}
 use Rattle.yimarotu_session.specs.Sessions.{value_at}
 use Rattle.yimarotu_session.specs.declared.ahead.Ahead.{Ahead}
 use Rattle.yimarotu_session.specs.declared.ahead.Ahead.TheVariants.{Nothing, Told, Waits}
+use Rattle.yimarotu_session.specs.declared.ahead.SecondQuestion.{SecondQuestion}
 use Rattle.yimarotu_session.specs.declared.network_lookup.NetworkLookup.{NetworkLookup}
 use Rattle.yimarotu_session.specs.declared.network_lookup.NetworkLookup.TheVariants.{Asks, Asked, Done}
+use Rattle.yimarotu_session_theorems.specs.NetworkLaws.{IsFromPool}
 
 -- ---- equal questions
 
@@ -28,6 +34,13 @@ equal-then p q r pq qr = question_equiv.congr p q r pq ∙ qr
 
 pub equal-self : (p : PoolQuestion) → question_eq p p ≡ true
 equal-self p = question_equiv.refl p
+
+-- what is from the pool is so for each equal question
+pub from-equal : (first : PoolState) (past : List Happening) (p q : PoolQuestion) (outcome : OutcomeValue)
+    → question_eq p q ≡ true → IsFromPool first past q outcome → IsFromPool first past p outcome
+from-equal first past p q outcome same (inl t) =
+    inl (record { over = t.over; was_over = t.was_over; same = equal-then p q t.over.question same t.same; told = t.told; read = t.read })
+from-equal first past p q outcome same (inr refused) = inr refused
 
 -- the same bits and size are sent with names, types and classes that are so
 abbrev sent-alike : PoolQuestion → PoolQuestion → Bool → Bool
@@ -42,6 +55,15 @@ pub equal-questions : (p q : Query) (options : DnsRequestOptions) → query_eq p
 equal-questions p q options same =
     let alike = sent-alike (question_of q options no_dnssec) (question_of q options no_dnssec) in
     ap alike (same ∙ sym (query_equiv.refl q)) ∙ question_equiv.refl (question_of q options no_dnssec)
+
+-- a call that waits for what comes back to a question asks that question
+pub asked-alone : (q : Query) (w : WaitingCallValue) (options : DnsRequestOptions) → is_waited_for q w ≡ true
+    → question_eq (question_of (whole_query w.lookup.hop.query) options no_dnssec) (question_of q options no_dnssec) ≡ true
+asked-alone q w options waits =
+    let own = w.lookup.hop.query in
+    let parts = and_parts own.name.fqdn (query_eq own q) waits in
+    let whole : whole_query own ≡ own = ap (λ (b : Bool). record own { name = record own.name { fqdn = b } }) (sym parts.0) in
+    equal-questions (whole_query own) q options (ap (λ (p : Query). query_eq p q) whole ∙ parts.1)
 
 -- ---- what was asked ahead, where it is this question
 
@@ -103,7 +125,7 @@ found-waiting asker table n found = by (value_at asker.number table.askers) foun
 
 -- and so has what is asked ahead
 pub record FoundAsking (asker : Asker) (table : TableValue) (n : ℕ) : Type 0 where
-  pub question : Query
+  pub question : SecondQuestion
   pub the_asker : Asker
   pub place : ahead_at n table ≡ Some (Waits question the_asker)
   pub transaction : the_asker.transaction ≡ asker.transaction

@@ -23,14 +23,15 @@ use Rattle.hickory_resolver_theorems.specs.ResumingCalls.{WaitingCallValue}
 use Rattle.yimarotu_session.specs.LookupTables.{ChangesAhead, TableValue, ahead_at, emptied, first_asked, question_ahead}
 use Rattle.yimarotu_session.specs.Messages.{whole_query}
 use Rattle.yimarotu_session.specs.NetworkSessions.{NetworkValue, TellingValue}
-use Rattle.yimarotu_session.specs.NetworkSteps.{AsksAhead, AsksAs, AsksBy, AsksOther, AsksOwn, AsksPool, GoesOnAt, IsAnswered, IsAskedAhead, TakesOver, UsesTold, no_dnssec, pool_says}
+use Rattle.yimarotu_session.specs.NetworkSteps.{AsksAhead, AsksAs, AsksBy, AsksIf, AsksOther, AsksOwn, AsksPool, AsksSecond, GoesOnAt, IsAnswered, IsAskedAhead, TakesOver, UsesTold, no_dnssec, pool_says}
 use Rattle.yimarotu_session.specs.Sessions.{PutsUnder, value_at}
 use Rattle.yimarotu_session.specs.declared.ahead.Ahead.{Ahead}
 use Rattle.yimarotu_session.specs.declared.ahead.Ahead.TheVariants.{Nothing, Told, Waits}
+use Rattle.yimarotu_session.specs.declared.ahead.SecondQuestion.{SecondQuestion}
 use Rattle.yimarotu_session.specs.declared.network_lookup.NetworkLookup.{NetworkLookup}
 use Rattle.yimarotu_session.specs.declared.network_lookup.NetworkLookup.TheVariants.{Asks, Asked, Done}
 use Rattle.yimarotu_session_theorems.specs.NetworkLaws.{IsFromPool, question_with}
-use Rattle.yimarotu_session_theorems.proofs.AskedAhead.{IsFoundAhead, equal-questions, equal-self, equal-then, found-ahead}
+use Rattle.yimarotu_session_theorems.proofs.AskedAhead.{IsFoundAhead, equal-questions, equal-self, equal-then, found-ahead, from-equal}
 use Rattle.yimarotu_session_theorems.proofs.Going.{gone-on-at, none-done, own-places, passed, puts-lookup}
 use Rattle.yimarotu_session_theorems.proofs.Kept.{AreAhead, AreAskedFor, IsAhead, IsAskedFor, IsTelling, Kept, Lookups, Places, PlacesLess, PoolMoves, ahead-grows, ahead-on, alike, asked-on, call_at, call_of, first, keeps, keeps-telling, lookups-same, options, places-less, places-same, pool-stays, pool-takes, question_for}
 use Rattle.yimarotu_session_theorems.proofs.Moves.{stays}
@@ -139,7 +140,7 @@ module _ (resolver : ResolverValue (List OutcomeValue)) (limits : PoolLimits) (s
         places-less resolver limits seed past n (Some Nothing) s.table.ahead mid.ahead tt
         (subst (λ (x : Option Ahead). PutsUnder n (option_map emptied x) s.table.ahead mid.ahead) there c.puts)
 
-    takes-over : (n : ℕ) (w : WaitingCallValue) (q : Query) (b : Asker) → s.telling ≡ None
+    takes-over : (n : ℕ) (w : WaitingCallValue) (q : SecondQuestion) (b : Asker) → s.telling ≡ None
         → value_at n s.table.lookups ≡ Some (Asks w)
         → IsFoundAhead (whole_query w.lookup.hop.query) (ahead_at n s.table) (Waits q b) → TakesOver w b n s after
         → Kept resolver limits seed after
@@ -156,7 +157,7 @@ module _ (resolver : ResolverValue (List OutcomeValue)) (limits : PoolLimits) (s
         (record {
           list = is.list;
           asked = is.asked;
-          same = equal-then (question_with (options resolver limits seed) w) (question_for resolver limits seed q) is.asked (same-question w q f.same) is.same;
+          same = equal-then (question_with (options resolver limits seed) w) (question_for resolver limits seed q.query) is.asked (same-question w q.query f.same) is.same;
           own = is.own;
         })
 
@@ -167,7 +168,7 @@ module _ (resolver : ResolverValue (List OutcomeValue)) (limits : PoolLimits) (s
     uses-told n w q outcome there f h =
         let p = pool-stays resolver limits seed s k after (ap (λ (x : NetworkValue). x.pool) h.others_stay) in
         let call : call_at s.table.lookups n ≡ Some w = ap (λ (x : Option NetworkLookup). option_and_then call_of x) there in
-        let from = from-equal (question_with (options resolver limits seed) w) (question_for resolver limits seed q) outcome (same-question w q f.same) (k.ahead n (Told q outcome) f.there) in
+        let from = from-equal (first resolver limits seed) k.past (question_with (options resolver limits seed) w) (question_for resolver limits seed q) outcome (same-question w q f.same) (k.ahead n (Told q outcome) f.there) in
         let went = gone-on-at resolver limits seed s k after k.past n outcome (first_asked h.mid) (ap (λ (t : TableValue). t.lookups) h.empties.others_stay)
         (emptied-less k.past n (Told q outcome) h.mid f.there h.empties)
         (λ v is.
@@ -176,12 +177,6 @@ module _ (resolver : ResolverValue (List OutcomeValue)) (limits : PoolLimits) (s
         subst (λ (x : WaitingCallValue). IsFromPool (first resolver limits seed) k.past (question_with (options resolver limits seed) x) outcome) own from)
         h.goes_on in
         keeps-telling resolver limits seed s k after p went.played went.less (ap (λ (x : NetworkValue). x.telling) h.others_stay)
-      where
-        from-equal : (p q : PoolQuestion) (o : OutcomeValue) → question_eq p q ≡ true
-            → IsFromPool (first resolver limits seed) k.past q o → IsFromPool (first resolver limits seed) k.past p o
-        from-equal p q o same (inl t) =
-            inl (record { over = t.over; was_over = t.was_over; same = equal-then p q t.over.question same t.same; told = t.told; read = t.read })
-        from-equal p q o same (inr refused) = inr refused
 
     asks-own : (n : ℕ) (w : WaitingCallValue) → s.telling ≡ None → value_at n s.table.lookups ≡ Some (Asks w)
         → AsksOwn w n s after → Kept resolver limits seed after
@@ -210,11 +205,12 @@ module _ (resolver : ResolverValue (List OutcomeValue)) (limits : PoolLimits) (s
         by true e = new x e
         by false e = grows x (k.ahead m x e)
 
-    asks-ahead : (n : ℕ) → s.telling ≡ None → (q : Query) → AsksAhead n s after q → Kept resolver limits seed after
-    asks-ahead n none q h = by (pool_says q s) refl h.asked
+    asks-ahead : (n : ℕ) → s.telling ≡ None → (q : SecondQuestion) → AsksAhead n q s after
+        → Kept resolver limits seed after
+    asks-ahead n none q h = by (pool_says q.query s) refl h.asked
       where
         p : PoolMoves resolver limits seed k.past s.pool after.pool
-        p = pool-takes resolver limits seed s k after (asking q) h.pool_is
+        p = pool-takes resolver limits seed s k after (asking q.query) h.pool_is
 
         kept : after.table.lookups ≡ s.table.lookups
             → AreAhead resolver limits seed (p.later ++ k.past) after.pool after.table.ahead → Kept resolver limits seed after
@@ -230,14 +226,14 @@ module _ (resolver : ResolverValue (List OutcomeValue)) (limits : PoolLimits) (s
             (ahead-on resolver limits seed s k after p
             (places-same resolver limits seed (p.later ++ k.past) s.table.ahead after.table.ahead (ap (λ (t : TableValue). t.ahead) same)))
 
-        new : (b : Asker) → pool_says q s ≡ asked.Asker b → (place : Option Ahead) (x : Ahead)
+        new : (b : Asker) → pool_says q.query s ≡ asked.Asker b → (place : Option Ahead) (x : Ahead)
             → option_map (λ nothing. Waits q b) place ≡ Some x → IsAhead resolver limits seed (p.later ++ k.past) after.pool x
         new b says None x e = let clash : None ≡ Some x = e in absurd cc
         new b says (Some y) x e =
             let same : Waits q b ≡ x = cc in
-            subst (λ (z : Ahead). IsAhead resolver limits seed (p.later ++ k.past) after.pool z) same (new-asked q b h.pool_is says)
+            subst (λ (z : Ahead). IsAhead resolver limits seed (p.later ++ k.past) after.pool z) same (new-asked q.query b h.pool_is says)
 
-        by : (said : pool_asked.Asked) → pool_says q s ≡ said → IsAskedAhead said q n s.table after.table
+        by : (said : pool_asked.Asked) → pool_says q.query s ≡ said → IsAskedAhead said q n s.table after.table
             → Kept resolver limits seed after
         by (asked.Asker b) says c =
             kept (ap (λ (t : TableValue). t.lookups) c.others_stay)
@@ -246,14 +242,24 @@ module _ (resolver : ResolverValue (List OutcomeValue)) (limits : PoolLimits) (s
         by asked.Overloaded says same = stays same
         by asked.NoServers says same = stays same
 
+    -- where a look-up of it alone would ask it
+    asks-second : (n : ℕ) → s.telling ≡ None → (q : SecondQuestion) → AsksSecond n s after q
+        → Kept resolver limits seed after
+    asks-second n none q h = by h.asks h.goes_on
+      where
+        by : (asks : Bool) → AsksIf asks n q s after → Kept resolver limits seed after
+        by true h = asks-ahead n none q h
+        by false same = passed resolver limits seed s k after (first_asked s.table) refl refl same
+
     asks-other : (n : ℕ) (held : Option NetworkLookup) → s.telling ≡ None → AsksOther held n s after
         → Kept resolver limits seed after
     asks-other n held none h = by (question_ahead s.resolver held (ahead_at n s.table)) h
       where
-        by : (q : Option Query) → MatchOption q (after ≡ record s { table = first_asked s.table }) (AsksAhead n s after)
+        by : (q : Option SecondQuestion)
+            → MatchOption q (after ≡ record s { table = first_asked s.table }) (AsksSecond n s after)
             → Kept resolver limits seed after
         by None same = passed resolver limits seed s k after (first_asked s.table) refl refl same
-        by (Some q) h = asks-ahead n none q h
+        by (Some q) h = asks-second n none q h
 
     pub asks : (n : ℕ) → s.telling ≡ None → (held : Option NetworkLookup) → value_at n s.table.lookups ≡ held
         → AsksAs held n s after → Kept resolver limits seed after

@@ -6,6 +6,7 @@ use Rattle.hickory_proto_core.specs.Handles.{OutcomeValue}
 use Rattle.hickory_proto_core.specs.Messages.{MessageValue}
 use Rattle.hickory_proto_core.specs.NameGiven.{IsReadAddress, IsReadName}
 use Rattle.hickory_proto_core.specs.codes.record_type.RecordType.{RecordType}
+use Rattle.hickory_proto_core.specs.declared.query.Query.{Query}
 use Rattle.hickory_resolver.specs.Contexts.{progress_of}
 use Rattle.hickory_resolver.specs.Starting.{KeepsAllButCache, StartsHost, StartsName}
 use Rattle.hickory_resolver_askers.specs.declared.asker.Asker.{Asker}
@@ -16,7 +17,7 @@ use Rattle.hickory_resolver_pool.specs.Laws.{PoolEvent, after_event, group_has, 
 use Rattle.hickory_resolver_pool.specs.Laws as pool_event
 use Rattle.hickory_resolver_model.specs.Lookup.{LookupResult}
 use Rattle.hickory_resolver_pool.specs.Over.{IsCoreOutcome, OverValue}
-use Rattle.hickory_resolver_pool.specs.Pool.{Steps}
+use Rattle.hickory_resolver_pool.specs.Pool.{Steps, after_tick}
 use Rattle.hickory_resolver_pool.specs.declared.pool.Action.{Action}
 use Rattle.hickory_resolver_pool.specs.declared.pool.Action.TheVariants as pool_action
 use Rattle.hickory_resolver_pool.specs.declared.limits.PoolLimits.{PoolLimits}
@@ -28,11 +29,11 @@ use Rattle.hickory_resolver_pool_theorems.proofs.Told.{core_is_told_what_came}
 use Rattle.hickory_resolver_theorems.specs.InterleavedCalls.{AllCleared, CallEventValue, CallHappens, NameCleared}
 use Rattle.hickory_resolver_tries.specs.Question.{question_eq}
 use Rattle.hickory_resolver_tries.specs.declared.pool_question.PoolQuestion.{PoolQuestion}
-use Rattle.yimarotu_session.specs.Ahead.{told_ahead}
+use Rattle.yimarotu_session.specs.Ahead.{HearsAhead, told_ahead}
 use Rattle.hickory_resolver_theorems.specs.ResumingCalls.{CallProgressValue, WaitingCallValue}
 use Rattle.yimarotu_session.specs.Calls.{Does}
-use Rattle.yimarotu_session.specs.LookupTables.{TableValue, announced, asker_of, first_announced, held_at, lookup_of, waits_ahead, waits_for, without_asker}
-use Rattle.yimarotu_session.specs.NetworkSessions.{Begins, BeginsLookup, Cancels, ClearsName, NetworkValue, TellingValue, cleared, forgotten_by_pool, seconds_of, with_pool}
+use Rattle.yimarotu_session.specs.LookupTables.{TableValue, announced, asker_of, first_announced, held_at, lookup_of, waits_ahead, waits_for, without_asker, without_told}
+use Rattle.yimarotu_session.specs.NetworkSessions.{Begins, BeginsLookup, Cancels, ClearsName, NetworkValue, TellingValue, cleared, forgotten_by_pool, is_attempted, seconds_of, with_pool}
 use Rattle.yimarotu_session.specs.NetworkSteps.{asker_with, Announces, AnnouncesAs, AnnouncesFirst, AnnouncesIt, AsksFirst, AsksFor, ForgetsFirst, SessionSteps, StepsPool, Tells, TellsAhead, TellsAsker, TellsLookup, TellsNext, TellsOther, forgotten, telling_of}
 use Rattle.yimarotu_session.specs.Sessions.{PutsUnder, value_at}
 use Rattle.yimarotu_session.specs.declared.ahead.Ahead.{Ahead}
@@ -45,10 +46,10 @@ use Rattle.yimarotu_session.specs.declared.session_error.SessionError.{SessionEr
 use Rattle.yimarotu_session.specs.declared.session_error.SessionError.TheVariants.{InUse, OutOfMemory}
 use Rattle.yimarotu_session_theorems.specs.NetworkLaws.{IsFedFrom, IsFromPool, WasOver, question_with}
 use Rattle.yimarotu_session_theorems.specs.NetworkRuns.{Happens, NetworkEvent, all_is_cleared, channel_fails, host_is_started, is_cancelled, is_started, is_stepped, name_is_cleared, octets_come, servers_are, time_passes}
-use Rattle.yimarotu_session_theorems.proofs.AskedAhead.{equal-then, found-asking, found-waiting}
+use Rattle.yimarotu_session_theorems.proofs.AskedAhead.{asked-alone, equal-then, found-asking, found-waiting, from-equal}
 use Rattle.yimarotu_session_theorems.proofs.Asking.{asks}
-use Rattle.yimarotu_session_theorems.proofs.Going.{Played, Went, dropped, gone-on-at, none-done, own-places, passed, puts-lookup, started, table-stays}
-use Rattle.yimarotu_session_theorems.proofs.Kept.{IsAskedFor, IsSettledAt, IsTelling, IsToldOf, Kept, Lookups, PoolMoves, ahead-on, alike, asked-on, asks-same, call-of-lookup, call_at, call_of, first, keeps, keeps-telling, lookup-not-asked, lookups-less, lookups-same, options, places-less, places-same, pool-does, pool-stays, pool-takes, puts-calls, question_for, told-grows}
+use Rattle.yimarotu_session_theorems.proofs.Going.{Played, Went, dropped, gone-on-at, heard-alone, none-done, own-places, passed, puts-lookup, started, table-stays}
+use Rattle.yimarotu_session_theorems.proofs.Kept.{IsAskedFor, IsSettledAt, IsTelling, IsToldOf, Kept, Lookups, Places, PlacesLess, PoolMoves, ahead-on, alike, asked-on, asks-same, call-of-lookup, call_at, call_of, first, keeps, keeps-telling, lookup-not-asked, lookups-less, lookups-same, options, places-less, places-same, places-untold, pool-does, pool-stays, pool-takes, pool-takes-both, puts-calls, question_for, told-grows}
 use Rattle.yimarotu_session_theorems.proofs.Moves.{Puts, clears, over, stays, waiting_in, world}
 
 module _ (resolver : ResolverValue (List OutcomeValue)) (limits : PoolLimits) (seed : List ℕ) where
@@ -128,8 +129,8 @@ module _ (resolver : ResolverValue (List OutcomeValue)) (limits : PoolLimits) (s
 
     -- ---- a look-up is forgotten
 
-    cancelled : (n : ℕ) (was_there : Bool) → Cancels n s was_there after → Kept resolver limits seed after
-    cancelled n was_there c = pool-by (asker_of (held_at n s.table)) c.pool_is
+    cancelled : (n now : ℕ) (was_there : Bool) → Cancels n now s was_there after → Kept resolver limits seed after
+    cancelled n now was_there c = pool-by (asker_of (held_at n s.table)) c.pool_is
       where
         puts : Puts n None (call_at s.table.lookups) (call_at after.table.lookups)
         puts = puts-calls n None s.table.lookups after.table.lookups c.is_forgotten.puts
@@ -147,10 +148,11 @@ module _ (resolver : ResolverValue (List OutcomeValue)) (limits : PoolLimits) (s
             })
             c.telling_stays
 
-        pool-by : (a : Option Asker) → after.pool ≡ option_map_or (forgotten_by_pool s.pool) a s.pool
+        pool-by : (a : Option Asker) → after.pool ≡ after_tick now (option_map_or (forgotten_by_pool s.pool) a s.pool)
             → Kept resolver limits seed after
-        pool-by None same = kept (pool-stays resolver limits seed s k after same)
-        pool-by (Some a) same = kept (pool-takes resolver limits seed s k after (is_forgotten a) same)
+        pool-by None same = kept (pool-takes resolver limits seed s k after (pool_event.time_passes now) same)
+        pool-by (Some a) same =
+            kept (pool-takes-both resolver limits seed s k after (is_forgotten a) (pool_event.time_passes now) same)
 
     -- ---- the cache is cleared
 
@@ -159,11 +161,12 @@ module _ (resolver : ResolverValue (List OutcomeValue)) (limits : PoolLimits) (s
 
     -- one event of the cache alone
     cache-cleared : (told : CallEventValue) → IsFedFrom (first resolver limits seed) (options resolver limits seed) k.past told
-        → (clear : Resolver → Resolver) → after ≡ record s { resolver = clear s.resolver }
+        → (clear : Resolver → Resolver) (passes : Query → Bool)
+        → after ≡ record s { resolver = clear s.resolver; table = without_told passes s.table }
         → ((r : Resolver) → clear (over resolver cache) ≡ over resolver (clear (over resolver cache)).client.cache)
         → CallHappens (settings resolver) (world resolver cache k.flights) told (world resolver (clear (over resolver cache)).client.cache k.flights)
         → Kept resolver limits seed after
-    cache-cleared told from clear same others happen =
+    cache-cleared told from clear passes same others happen =
         let e : after.resolver ≡ clear (over resolver cache) = ap (λ (x : NetworkValue). x.resolver) same ∙ ap clear k.after_is in
         let cache_is : after.resolver.client.cache ≡ (clear (over resolver cache)).client.cache = ap (λ (r : Resolver). r.client.cache) e in
         keeps-telling resolver limits seed s k after (pool-stays resolver limits seed s k after (ap (λ (x : NetworkValue). x.pool) same))
@@ -175,17 +178,22 @@ module _ (resolver : ResolverValue (List OutcomeValue)) (limits : PoolLimits) (s
               (λ n. ap (λ (x : NetworkValue). call_at x.table.lookups n) same);
           fed = (from, tt);
         })
-        (asks-same resolver limits seed k.past s.table after.table (ap (λ (x : NetworkValue). x.table) same))
+        (record {
+          lookups = lookups-same s.table.lookups after.table.lookups (ap (λ (x : NetworkValue). x.table.lookups) same);
+          places = subst (λ (l : Places). PlacesLess resolver limits seed k.past s.table.ahead l)
+              (sym (ap (λ (x : NetworkValue). x.table.ahead) same))
+              (places-untold resolver limits seed k.past passes s.table.ahead);
+        })
         (ap (λ (x : NetworkValue). x.telling) same)
 
     name-cleared : (text : List ℕ) (t : RecordType) (result : Result (Unit {0}) SessionError)
         → ClearsName text t s result after → Kept resolver limits seed after
     name-cleared text t (Ok u) ((given, gives, live, same), unchanged, out) =
-        cache-cleared (NameCleared t given) tt (after_clear_lookup t given) same (λ r. refl) refl
+        cache-cleared (NameCleared t given) tt (after_clear_lookup t given) (is_attempted (settings s.resolver) t given) same (λ r. refl) refl
     name-cleared text t (Err e) (cleared, same, out) = nothing same
 
     all-cleared : after ≡ cleared s → Kept resolver limits seed after
-    all-cleared same = cache-cleared AllCleared tt without_entries same (λ r. refl) refl
+    all-cleared same = cache-cleared AllCleared tt without_entries (λ q. true) same (λ r. refl) refl
 
     -- ---- somebody is told
 
@@ -234,20 +242,24 @@ module _ (resolver : ResolverValue (List OutcomeValue)) (limits : PoolLimits) (s
         l.goes_on
 
     told-ahead : (past : List Happening) (o : OverValue) → IsToldOf resolver limits seed past s.table o → (number n : ℕ)
-        → after.resolver ≡ s.resolver → waits_ahead (asker_with o number) s.table ≡ Some n
-        → TellsAhead o (asker_with o number) s.table after.table n → Went resolver limits seed s k after past
-    told-ahead past o t number n same found l =
+        → waits_ahead (asker_with o number) s.table ≡ Some n
+        → TellsAhead o (asker_with o number) s.resolver s.table after.resolver after.table n → Went resolver limits seed s k after past
+    told-ahead past o t number n found l =
         let f = found-asking (asker_with o number) s.table n found in
+        let from = from-over past o t.was_over (question_for resolver limits seed f.question.query)
+        (t.ahead n f.question f.the_asker f.place f.transaction) l.outcome l.told in
+        let heard = subst (λ (x : Option Ahead). HearsAhead l.outcome x s.resolver after.resolver) f.place l.heard in
         let lookups : after.table.lookups ≡ s.table.lookups = ap (λ (x : TableValue). x.lookups) l.changes.others_stay in
-        let place : Option Ahead = Some (Told f.question l.outcome) in
+        let place : Option Ahead = Some (Told f.question.query l.outcome) in
         let puts = subst (λ (x : Option Ahead). PutsUnder n (option_map (told_ahead l.outcome) x) s.table.ahead after.table.ahead) f.place l.changes.puts in
         record {
-          played = none-done resolver limits seed s k after past same (λ m. ap (λ (x : Lookups). call_at x m) lookups);
+          played = heard-alone resolver limits seed s k after past f.question l.outcome
+              (λ w waits. from-equal (first resolver limits seed) past (question_with (options resolver limits seed) w) (question_for resolver limits seed f.question.query) l.outcome
+              (asked-alone f.question.query w (options resolver limits seed) waits) from)
+              heard (λ m. ap (λ (x : Lookups). call_at x m) lookups);
           less = record {
             lookups = lookups-same s.table.lookups after.table.lookups lookups;
-            places = places-less resolver limits seed past n place s.table.ahead after.table.ahead
-                (from-over past o t.was_over (question_for resolver limits seed f.question)
-                (t.ahead n f.question f.the_asker f.place f.transaction) l.outcome l.told) puts;
+            places = places-less resolver limits seed past n place s.table.ahead after.table.ahead from puts;
           };
         }
 
@@ -255,15 +267,16 @@ module _ (resolver : ResolverValue (List OutcomeValue)) (limits : PoolLimits) (s
         → TellsAsker o (asker_with o number) s.resolver s.table after.resolver after.table → Went resolver limits seed s k after past
     told-one past o t number h = by (waits_for (asker_with o number) s.table) refl h
       where
-        other : (n : Option ℕ) → waits_ahead (asker_with o number) s.table ≡ n → after.resolver ≡ s.resolver
-            → MatchOption n (after.table ≡ s.table) (TellsAhead o (asker_with o number) s.table after.table) → Went resolver limits seed s k after past
-        other None none same stays = table-stays resolver limits seed s k after past same stays
-        other (Some n) found same l = told-ahead past o t number n same found l
+        other : (n : Option ℕ) → waits_ahead (asker_with o number) s.table ≡ n
+            → MatchOption n ((after.resolver ≡ s.resolver) × (after.table ≡ s.table)) (TellsAhead o (asker_with o number) s.resolver s.table after.resolver after.table)
+            → Went resolver limits seed s k after past
+        other None none (same, stays) = table-stays resolver limits seed s k after past same stays
+        other (Some n) found l = told-ahead past o t number n found l
 
         by : (n : Option ℕ) → waits_for (asker_with o number) s.table ≡ n
-            → MatchOption n ((after.resolver ≡ s.resolver) × TellsOther o (asker_with o number) s.table after.table) (TellsLookup o (asker_with o number) s.resolver s.table after.resolver after.table)
+            → MatchOption n (TellsOther o (asker_with o number) s.resolver s.table after.resolver after.table) (TellsLookup o (asker_with o number) s.resolver s.table after.resolver after.table)
             → Went resolver limits seed s k after past
-        by None none (same, h) = other (waits_ahead (asker_with o number) s.table) refl same h
+        by None none h = other (waits_ahead (asker_with o number) s.table) refl h
         by (Some n) found l = told-lookup past o t number n found l
 
     told-next : (t : TellingValue) → s.telling ≡ Some t → (number : ℕ) → TellsNext t s after number
@@ -368,7 +381,7 @@ module _ (resolver : ResolverValue (List OutcomeValue)) (limits : PoolLimits) (s
             ends = steps;
           };
           asked = λ n w a there same. equal-end o (question_with (options resolver limits seed) w) a steps (k.asked n w a there) same;
-          ahead = λ n q a there same. equal-end o (question_for resolver limits seed q) a steps (k.ahead n (Waits q a) there) same;
+          ahead = λ n q a there same. equal-end o (question_for resolver limits seed q.query) a steps (k.ahead n (Waits q a) there) same;
         }
         said (Some pool_action.Continue) steps = tt
 
@@ -420,7 +433,7 @@ module _ (resolver : ResolverValue (List OutcomeValue)) (limits : PoolLimits) (s
     happens (host_is_started number host now result) h =
         begun (StartsHost (IsReadAddress host) (IsReadName host) (seconds_of now)) (Some Nothing) number now (λ past. tt)
         (λ past progress free puts comes. host-begun past number (seconds_of now) host progress free puts comes) result h
-    happens (is_cancelled number was_there) h = cancelled number was_there h
+    happens (is_cancelled number now was_there) h = cancelled number now was_there h
     happens (servers_are servers) h = to-pool-alone (group_has 0 servers) h
     happens (octets_come channel octets now) h = to-pool-alone (pool_event.octets_come channel octets now) h
     happens (channel_fails failure now) h = to-pool-alone (pool_event.channel_fails failure now) h

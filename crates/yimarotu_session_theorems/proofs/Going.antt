@@ -1,5 +1,5 @@
 -- What a step does to the resolver: nothing, or a look-up begins, goes on, or is dropped.
-use Rattle.std.proofs.Common.{◌≡◌, ◌∙◌, ℕ, List, [], ◌∷◌, refl, sym, ap, subst}
+use Rattle.std.proofs.Common.{◌≡◌, ◌∙◌, ℕ, Bool, true, false, List, [], ◌∷◌, refl, sym, ap, subst}
 use Rattle.std.specs.Prelude.{MatchOption, Option, None, Some}
 use Rattle.std.specs.Option.{option_and_then}
 use Rattle.hickory_proto_core.specs.Handles.{OutcomeValue}
@@ -7,20 +7,23 @@ use Rattle.hickory_resolver.specs.Contexts.{progress_of}
 use Rattle.hickory_resolver.specs.Starting.{ResumesAt, StartsAt}
 use Rattle.hickory_resolver_model.specs.Cache.{CacheValue}
 use Rattle.hickory_resolver_model.specs.Resolver.{ResolverValue}
-use Rattle.hickory_resolver_model.specs.Run.{Call}
+use Rattle.hickory_resolver_model.specs.Resuming.{IsDone, Waits}
+use Rattle.hickory_resolver_model.specs.Run.{Call, name_call}
 use Rattle.hickory_resolver_pool.specs.declared.limits.PoolLimits.{PoolLimits}
 use Rattle.hickory_resolver_pool_theorems.specs.Runs.{Happening}
-use Rattle.hickory_resolver_theorems.specs.InterleavedCalls.{CallDropped, CallFed, CallStarted}
+use Rattle.hickory_resolver_theorems.specs.InterleavedCalls.{CallDropped, CallEventValue, CallFed, CallStarted}
 use Rattle.hickory_resolver_theorems.specs.ResumingCalls.{CallProgressValue, WaitingCallValue}
+use Rattle.yimarotu_session.specs.Ahead.{Hears, ResumesFor, ResumesIf, StartsAlone, is_waited_for}
 use Rattle.yimarotu_session.specs.LookupTables.{TableValue, held_at}
 use Rattle.yimarotu_session.specs.NetworkSessions.{NetworkValue}
 use Rattle.yimarotu_session.specs.NetworkSteps.{GoesOn, GoesOnAt, GoesOnWith, Resumes}
 use Rattle.yimarotu_session.specs.Sessions.{PutsUnder, value_at}
+use Rattle.yimarotu_session.specs.declared.ahead.SecondQuestion.{SecondQuestion}
 use Rattle.yimarotu_session.specs.declared.network_lookup.NetworkLookup.{NetworkLookup}
 use Rattle.yimarotu_session.specs.declared.network_lookup.NetworkLookup.TheVariants.{Asks, Asked, Done}
-use Rattle.yimarotu_session_theorems.specs.NetworkLaws.{IsFromPool, question_with}
+use Rattle.yimarotu_session_theorems.specs.NetworkLaws.{IsFedFrom, IsFromPool, question_with}
 use Rattle.yimarotu_session_theorems.proofs.Kept.{AsksLess, Done-to, Kept, Lookups, LookupsLess, Places, PlacesLess, alike, asks-same, call-of-lookup, call_at, call_of, first, keeps-telling, lookup-not-asked, lookups-less, lookups-same, options, places-same, pool-stays, puts-calls}
-use Rattle.yimarotu_session_theorems.proofs.Moves.{Puts, begins, drops, feeds, stays, waiting_in}
+use Rattle.yimarotu_session_theorems.proofs.Moves.{Comes-and-goes, Puts, begins, drops, feeds, heard, over, stays, unheard, waiting_in}
 
 module _ (resolver : ResolverValue (List OutcomeValue)) (limits : PoolLimits) (seed : List ℕ) where
   abbrev pub Resolver : Type 0
@@ -63,6 +66,51 @@ module _ (resolver : ResolverValue (List OutcomeValue)) (limits : PoolLimits) (s
           (subst (λ (r : Resolver). StartsAt now call r progress after.resolver) k.after_is starts) puts;
       fed = (tt, tt);
     }
+
+    -- what is told of a call that comes and goes
+    abbrev IsFed : List Happening → CallEventValue → Type 0
+    IsFed past = IsFedFrom (first resolver limits seed) (options resolver limits seed) past
+
+    abbrev Passing : List Happening → Call → ℕ → ((n : ℕ) → later n ≡ waiting n) → Type 0
+    Passing past call now waits =
+        Comes-and-goes resolver cache k.flights waiting k.flying after.resolver later (IsFed past) waits call now (λ p. tt) (λ c. tt)
+
+    passing : (past : List Happening) (call : Call) (now : ℕ) (waits : (n : ℕ) → later n ≡ waiting n)
+        → Passing past call now waits → Played past
+    passing past call now waits p = record { told = p.told; moves = p.moves; fed = p.all }
+
+    abbrev StartsOwn : Call → ℕ → CallProgressValue → Type 0
+    StartsOwn call now progress = StartsAt now call (over resolver cache) progress (over resolver cache)
+
+    -- a look-up of one question is started, goes on with this where it asks that, and is let go
+    pub heard-alone : (past : List Happening) (q : SecondQuestion) (outcome : OutcomeValue)
+        → ((w : WaitingCallValue) → is_waited_for q.query w ≡ true → From past w outcome)
+        → Hears q outcome s.resolver after.resolver → ((n : ℕ) → later n ≡ waiting n) → Played past
+    heard-alone past q outcome from h waits = by-start h.starts
+      where
+        unheard-by : (call : Call) (p : CallProgressValue) → StartsOwn call q.started p → after.resolver ≡ s.resolver
+            → Played past
+        unheard-by call p starts same =
+            passing past call q.started waits
+            (unheard resolver cache k.flights waiting k.flying after.resolver later (IsFed past) waits call q.started (λ p. tt) (λ c. tt) p starts (same ∙ k.after_is))
+
+        by-test : (call : Call) (w : WaitingCallValue) (b : Bool) → is_waited_for q.query w ≡ b
+            → StartsOwn call q.started (Waits w) → ResumesIf b w outcome s.resolver after.resolver → Played past
+        by-test call w true is starts (progress, resumes) =
+            passing past call q.started waits
+            (heard resolver cache k.flights waiting k.flying after.resolver later (IsFed past) waits call q.started (λ p. tt) (λ c. tt) w outcome progress starts
+            (subst (λ (r : Resolver). ResumesAt w outcome r progress after.resolver) k.after_is resumes) (from w is))
+        by-test call w false is starts same = unheard-by call (Waits w) starts same
+
+        by : (call : Call) (p : CallProgressValue) → ResumesFor q.query p outcome s.resolver after.resolver
+            → StartsOwn call q.started p → Played past
+        by call (Waits w) goes_on starts = by-test call w (is_waited_for q.query w) refl starts goes_on
+        by call (IsDone result) same starts = unheard-by call (IsDone result) starts same
+
+        by-start : StartsAlone q s.resolver h.progress → Played past
+        by-start (given, gives, starts) =
+            by (name_call q.query.query_type given) h.progress h.goes_on
+            (subst (λ (r : Resolver). StartsAt q.started (name_call q.query.query_type given) r h.progress r) k.after_is starts)
 
     pub fed : (past : List Happening) (n : ℕ) (w : WaitingCallValue) (outcome : OutcomeValue) (progress : CallProgressValue)
         → waiting n ≡ Some w → ResumesAt w outcome s.resolver progress after.resolver

@@ -1,12 +1,13 @@
 -- What is kept by each event and each step of a session: its pool is one that was reached, what is being told was said
 -- by it, what was asked ahead of a look-up and told is from it, and what happened to the resolver is told as events of
 -- calls.
-use Rattle.std.proofs.Common.{◌≡◌, ◌∙◌, ℕ, Bool, true, false, cond, List, [], ◌∷◌, ◌++◌, nat_eq, refl, sym, ap, subst, ◌⊎◌, inl, inr, arith}
+use Rattle.std.proofs.Common.{◌≡◌, ◌∙◌, ℕ, Bool, true, false, cond, List, [], ◌∷◌, ◌++◌, map, nat_eq, refl, sym, ap, subst, ◌⊎◌, inl, inr, arith}
 use Rattle.std.specs.Prelude.{Option, None, Some}
 use Rattle.std.specs.List.{AllByRecursion}
-use Rattle.std.specs.Option.{option_and_then}
+use Rattle.std.specs.Option.{option_and_then, option_map}
 use Rattle.std.proofs.lemmas.Bool.Decides.{nat_tests}
 use Rattle.std.proofs.lemmas.List.{append_assoc}
+use Rattle.std.proofs.lemmas.Map.Made.{lookup-map_values}
 use Rattle.hickory_proto_core.specs.Handles.{OutcomeValue}
 use Rattle.hickory_proto_core.specs.declared.dns_request.DnsRequestOptions.{DnsRequestOptions}
 use Rattle.hickory_proto_core.specs.declared.query.Query.{Query}
@@ -29,12 +30,14 @@ use Rattle.hickory_resolver_theorems.specs.InterleavedCalls.{CallDropped, CallEv
 use Rattle.hickory_resolver_theorems.specs.ResumingCalls.{WaitingCallValue}
 use Rattle.hickory_resolver_tries.specs.Question.{question_eq, question_of}
 use Rattle.hickory_resolver_tries.specs.declared.pool_question.PoolQuestion.{PoolQuestion}
+use Rattle.yimarotu_session.specs.Ahead.{is_told_of, untold}
 use Rattle.yimarotu_session.specs.LookupTables.{TableValue, lookup_of}
 use Rattle.yimarotu_session.specs.NetworkSessions.{NetworkValue, TellingValue, new_session}
 use Rattle.yimarotu_session.specs.NetworkSteps.{no_dnssec}
 use Rattle.yimarotu_session.specs.Sessions.{PutsUnder, value_at}
 use Rattle.yimarotu_session.specs.declared.ahead.Ahead.{Ahead}
 use Rattle.yimarotu_session.specs.declared.ahead.Ahead.TheVariants.{Nothing, Told, Waits}
+use Rattle.yimarotu_session.specs.declared.ahead.SecondQuestion.{SecondQuestion}
 use Rattle.yimarotu_session.specs.declared.network_lookup.NetworkLookup.{NetworkLookup}
 use Rattle.yimarotu_session.specs.declared.network_lookup.NetworkLookup.TheVariants.{Asks, Asked, Done}
 use Rattle.yimarotu_session_theorems.specs.NetworkLaws.{IsFedFrom, IsFromPool, WasOver, question_with}
@@ -199,6 +202,22 @@ module _ (resolver : ResolverValue (List OutcomeValue)) (limits : PoolLimits) (s
       by true e = inr (settled-one place settled e)
       by false e = inl e
 
+  -- what was told is let go
+  pub places-untold : (past : List Happening) (passes : Query → Bool) (before : Places)
+      → PlacesLess past before (map (λ e. (e.0, untold passes e.1)) before)
+  places-untold past passes before n x there =
+      of-place (value_at n before) refl (sym (lookup-map_values (untold passes) (nat_eq n) before) ∙ there)
+    where
+      of-test : (y : Ahead) → value_at n before ≡ Some y → (b : Bool) → cond b Nothing y ≡ x
+          → (value_at n before ≡ Some x) ⊎ IsSettled past x
+      of-test y is true e = inr (subst (λ (z : Ahead). IsSettled past z) e tt)
+      of-test y is false e = inl (is ∙ ap (λ (z : Ahead). Some z) e)
+
+      of-place : (y : Option Ahead) → value_at n before ≡ y → option_map (untold passes) y ≡ Some x
+          → (value_at n before ≡ Some x) ⊎ IsSettled past x
+      of-place None is e = let clash : None ≡ Some x = e in absurd cc
+      of-place (Some y) is e = let same : untold passes y ≡ x = cc in of-test y is (is_told_of passes y) same
+
   pub places-same : (past : List Happening) (before after : Places) → after ≡ before → PlacesLess past before after
   places-same past before after same n x there = inl (ap (λ (l : Places). value_at n l) (sym same) ∙ there)
 
@@ -228,7 +247,7 @@ module _ (resolver : ResolverValue (List OutcomeValue)) (limits : PoolLimits) (s
 
   abbrev pub IsAhead : List Happening → PoolState → Ahead → Type 0
   IsAhead past pool Nothing = Unit {0}
-  IsAhead past pool (Waits q a) = IsAskedFor pool (question_for q) a
+  IsAhead past pool (Waits q a) = IsAskedFor pool (question_for q.query) a
   IsAhead past pool (Told q outcome) = IsFromPool first past (question_for q) outcome
 
   abbrev pub AreAhead : List Happening → PoolState → Places → Type 0
@@ -242,8 +261,8 @@ module _ (resolver : ResolverValue (List OutcomeValue)) (limits : PoolLimits) (s
 
   abbrev pub AheadEqual : OverValue → Places → Type 0
   AheadEqual over places =
-      (n : ℕ) (q : Query) (a : Asker) → value_at n places ≡ Some (Waits q a)
-      → a.transaction ≡ over.transaction → question_eq (question_for q) over.question ≡ true
+      (n : ℕ) (q : SecondQuestion) (a : Asker) → value_at n places ≡ Some (Waits q a)
+      → a.transaction ≡ over.transaction → question_eq (question_for q.query) over.question ≡ true
 
   pub record IsToldOf (past : List Happening) (table : TableValue) (over : OverValue) : Type 0 where
     pub was_over : WasOver first past over
@@ -297,8 +316,8 @@ module _ (resolver : ResolverValue (List OutcomeValue)) (limits : PoolLimits) (s
     ahead = λ n q a there. by n q a (less.places n (Waits q a) there);
   }
     where
-      by : (n : ℕ) (q : Query) (a : Asker) → (value_at n before.ahead ≡ Some (Waits q a)) ⊎ ⊥
-          → a.transaction ≡ over.transaction → question_eq (question_for q) over.question ≡ true
+      by : (n : ℕ) (q : SecondQuestion) (a : Asker) → (value_at n before.ahead ≡ Some (Waits q a)) ⊎ ⊥
+          → a.transaction ≡ over.transaction → question_eq (question_for q.query) over.question ≡ true
       by n q a (inl there) same = h.ahead n q a there same
       by n q a (inr never) same = absurd never
 
@@ -323,6 +342,24 @@ module _ (resolver : ResolverValue (List OutcomeValue)) (limits : PoolLimits) (s
           (record { list = h.list; asked = h.asked; same = h.same; own = own-event (h.list, h.asked) a.transaction s.pool e h.own });
     }
 
+    -- two events, one after the other
+    abbrev pub pool-takes-both : (e f : PoolEvent) → after.pool ≡ after_event (after_event s.pool e) f
+        → PoolMoves k.past s.pool after.pool
+    pool-takes-both e f same =
+        let mid = after_event s.pool e in
+        record {
+          later = came mid f ∷ came s.pool e ∷ [];
+          runs = subst (λ (p : PoolState). Runs first (came mid f ∷ came s.pool e ∷ k.past) p) (sym same)
+              (by_event (came s.pool e ∷ k.past) mid f (by_event k.past s.pool e k.runs));
+          asked = λ q a h. subst (λ (p : PoolState). IsAskedFor p q a) (sym same)
+              (record {
+                list = h.list;
+                asked = h.asked;
+                same = h.same;
+                own = own-event (h.list, h.asked) a.transaction mid f (own-event (h.list, h.asked) a.transaction s.pool e h.own);
+              });
+        }
+
     abbrev pub pool-does : (r : Option Action) → Steps s.pool r after.pool → PoolMoves k.past s.pool after.pool
     pool-does r steps = record {
       later = did s.pool r ∷ [];
@@ -345,7 +382,7 @@ module _ (resolver : ResolverValue (List OutcomeValue)) (limits : PoolLimits) (s
     pub ahead-grows : (p : PoolMoves k.past s.pool after.pool) (x : Ahead) → IsAhead k.past s.pool x
         → IsAhead (p.later ++ k.past) after.pool x
     ahead-grows p Nothing h = tt
-    ahead-grows p (Waits q a) h = p.asked (question_for q) a h
+    ahead-grows p (Waits q a) h = p.asked (question_for q.query) a h
     ahead-grows p (Told q outcome) h = from-grows first p.later k.past (question_for q) outcome h
 
     pub ahead-on : (p : PoolMoves k.past s.pool after.pool) → PlacesLess (p.later ++ k.past) s.table.ahead after.table.ahead

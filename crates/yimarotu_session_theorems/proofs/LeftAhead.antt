@@ -3,6 +3,7 @@ use Rattle.std.proofs.Common.{◌≡◌, ◌∙◌, ℕ, Bool, true, false, cond
 use Rattle.std.specs.Prelude.{MatchOption, MatchResult, Option, None, Some, Result, Ok, Err, slice_get}
 use Rattle.std.specs.Option.{option_map}
 use Rattle.std.proofs.lemmas.Bool.Decides.{nat_tests}
+use Rattle.std.proofs.lemmas.Map.Made.{lookup-map_values}
 use Rattle.hickory_proto_core.specs.Handles.{OutcomeValue}
 use Rattle.hickory_proto_core.specs.NameGiven.{IsReadAddress, IsReadName}
 use Rattle.hickory_proto_core.specs.codes.record_type.RecordType.{RecordType}
@@ -10,21 +11,22 @@ use Rattle.hickory_resolver.specs.Driving.{CallProgress}
 use Rattle.hickory_resolver.specs.Starting.{StartsHost, StartsName}
 use Rattle.hickory_resolver.specs.client.waiting.Progress.TheVariants as progress
 use Rattle.hickory_resolver_askers.specs.declared.asker.Asker.{Asker}
-use Rattle.hickory_resolver_model.specs.Resolver.{ResolverValue}
+use Rattle.hickory_resolver_model.specs.Resolver.{ResolverValue, settings}
 use Rattle.hickory_resolver_pool.specs.declared.limits.PoolLimits.{PoolLimits}
 use Rattle.hickory_resolver_pool.specs.declared.pool.Asked as pool_asked
 use Rattle.hickory_resolver_pool.specs.declared.pool.Asked.TheVariants as asked
 use Rattle.hickory_resolver_theorems.specs.ResumingCalls.{WaitingCallValue}
 use Rattle.hickory_proto_core.specs.declared.query.Query.{Query}
-use Rattle.yimarotu_session.specs.Ahead.{Resolver, ahead_of}
+use Rattle.yimarotu_session.specs.Ahead.{Resolver, ahead_of, untold}
 use Rattle.yimarotu_session.specs.Calls.{Does}
-use Rattle.yimarotu_session.specs.LookupTables.{ChangesAhead, TableValue, ahead_at, announced, emptied, first_announced, first_asked, held_at, lookup_of, question_ahead, waits_ahead, waits_for, without_asker}
+use Rattle.yimarotu_session.specs.LookupTables.{ChangesAhead, TableValue, ahead_at, announced, emptied, first_announced, first_asked, held_at, lookup_of, question_ahead, waits_ahead, waits_for, without_asker, without_told}
 use Rattle.yimarotu_session.specs.Messages.{whole_query}
-use Rattle.yimarotu_session.specs.NetworkSessions.{Begins, BeginsLookup, Cancels, ClearsName, NetworkValue, TellingValue, new_session, seconds_of}
-use Rattle.yimarotu_session.specs.NetworkSteps.{Announces, AnnouncesAs, AnnouncesFirst, AsksAhead, AsksAs, AsksBy, AsksFirst, AsksFor, AsksPool, ForgetsFirst, GoesOn, GoesOnAt, GoesOnWith, IsAnswered, IsAskedAhead, StepsPool, Tells, TellsAhead, TellsLookup, TellsNext, TellsOther, WaitsFor, asker_with, forgotten, pool_says}
+use Rattle.yimarotu_session.specs.NetworkSessions.{Begins, BeginsLookup, Cancels, ClearsName, NetworkValue, TellingValue, is_attempted, new_session, seconds_of}
+use Rattle.yimarotu_session.specs.NetworkSteps.{Announces, AnnouncesAs, AnnouncesFirst, AsksAhead, AsksAs, AsksBy, AsksFirst, AsksFor, AsksIf, AsksPool, AsksSecond, ForgetsFirst, GoesOn, GoesOnAt, GoesOnWith, IsAnswered, IsAskedAhead, StepsPool, Tells, TellsAhead, TellsLookup, TellsNext, TellsOther, WaitsFor, asker_with, forgotten, pool_says}
 use Rattle.yimarotu_session.specs.Sessions.{PutsUnder, value_at}
 use Rattle.yimarotu_session.specs.declared.ahead.Ahead.{Ahead}
 use Rattle.yimarotu_session.specs.declared.ahead.Ahead.TheVariants.{Nothing, Told, Waits}
+use Rattle.yimarotu_session.specs.declared.ahead.SecondQuestion.{SecondQuestion}
 use Rattle.yimarotu_session.specs.declared.network_lookup.NetworkLookup.{NetworkLookup}
 use Rattle.yimarotu_session.specs.declared.network_lookup.NetworkLookup.TheVariants.{Asks, Asked, Done}
 use Rattle.yimarotu_session.specs.declared.network_session.NetworkAction.{NetworkAction}
@@ -86,6 +88,19 @@ fine-changed n change before after c fine =
     by None is x e = let clash : None ≡ Some x = e in absurd cc
     by (Some y) is x e = fine n y is
 
+-- what was told is let go
+fine-untold : (passes : Query → Bool) (before after : TableValue) → after ≡ without_told passes before → Fine before
+    → Fine after
+fine-untold passes before after same fine n x there =
+    subst (λ (h : Option NetworkLookup). IsUnfinished h) (sym (ap (λ (t : TableValue). value_at n t.lookups) same))
+    (by (value_at n before.ahead) refl
+    (sym (lookup-map_values (untold passes) (nat_eq n) before.ahead) ∙ sym (ap (λ (t : TableValue). value_at n t.ahead) same) ∙ there))
+  where
+    by : (place : Option Ahead) → value_at n before.ahead ≡ place → option_map (untold passes) place ≡ Some x
+        → IsUnfinished (value_at n before.lookups)
+    by None is e = let clash : None ≡ Some x = e in absurd cc
+    by (Some y) is e = fine n y is
+
 lookup-unfinished : (p : CallProgress) → IsUnfinished (Some (lookup_of p))
 lookup-unfinished (progress.Waiting w) = tt
 lookup-unfinished (progress.Done found) = tt
@@ -139,27 +154,29 @@ module _ (s : NetworkValue) (fine : Fine s.table) (after : NetworkValue) where
   none-there : (held : Option NetworkLookup) (x : Ahead) → None ≡ Some x → IsUnfinished held
   none-there held x e = let clash : None ≡ Some x = e in absurd cc
 
-  cancelled : (n : ℕ) (was_there : Bool) → Cancels n s was_there after → Fine after.table
-  cancelled n was_there c =
+  cancelled : (n now : ℕ) (was_there : Bool) → Cancels n now s was_there after → Fine after.table
+  cancelled n now was_there c =
       fine-put n None None s.table after.table c.is_forgotten.puts c.is_forgotten.puts_ahead (none-there None) fine
 
   name-cleared : (text : List ℕ) (t : RecordType) (result : Result (Unit {0}) SessionError) → ClearsName text t s result after
       → Fine after.table
-  name-cleared text t (Ok u) ((given, gives, live, same), unchanged, out) = stays (ap (λ (x : NetworkValue). x.table) same)
+  name-cleared text t (Ok u) ((given, gives, live, same), unchanged, out) =
+      fine-untold (is_attempted (settings s.resolver) t given) s.table after.table (ap (λ (x : NetworkValue). x.table) same) fine
   name-cleared text t (Err e) (cleared, same, out) = stays (ap (λ (x : NetworkValue). x.table) same)
 
   tells : (t : TellingValue) → Tells s after t → Fine after.table
   tells t h = by (slice_get t.over.askers t.told) h
     where
-      other : (number : ℕ) (n : Option ℕ) → MatchOption n (after.table ≡ s.table) (TellsAhead t.over (asker_with t.over number) s.table after.table)
+      other : (number : ℕ) (n : Option ℕ)
+          → MatchOption n ((after.resolver ≡ s.resolver) × (after.table ≡ s.table)) (TellsAhead t.over (asker_with t.over number) s.resolver s.table after.resolver after.table)
           → Fine after.table
-      other number None same = stays same
+      other number None (same, is) = stays is
       other number (Some n) l = fine-changed n _ (without_asker number s.table) after.table l.changes fine
 
       one : (number : ℕ) (n : Option ℕ)
-          → MatchOption n ((after.resolver ≡ s.resolver) × TellsOther t.over (asker_with t.over number) s.table after.table) (TellsLookup t.over (asker_with t.over number) s.resolver s.table after.resolver after.table)
+          → MatchOption n (TellsOther t.over (asker_with t.over number) s.resolver s.table after.resolver after.table) (TellsLookup t.over (asker_with t.over number) s.resolver s.table after.resolver after.table)
           → Fine after.table
-      one number None (same, h) = other number (waits_ahead (asker_with t.over number) s.table) h
+      one number None h = other number (waits_ahead (asker_with t.over number) s.table) h
       one number (Some n) l = fine-gone n l.outcome s.resolver (without_asker number s.table) after.resolver after.table l.goes_on fine
 
       by : (number : Option ℕ) → MatchOption number (after ≡ record s { telling = None }) (TellsNext t s after) → Fine after.table
@@ -187,15 +204,19 @@ module _ (s : NetworkValue) (fine : Fine s.table) (after : NetworkValue) where
       fine-gone n outcome s.resolver (first_asked h.mid) after.resolver after.table h.goes_on
       (fine-changed n emptied s.table h.mid h.empties fine)
 
-  asks-other : (n : ℕ) (q : Option Query)
-      → MatchOption q (after ≡ record s { table = first_asked s.table }) (AsksAhead n s after) → Fine after.table
-  asks-other n None same = passed (first_asked s.table) refl refl (ap (λ (x : NetworkValue). x.table) same)
-  asks-other n (Some q) h = by (pool_says q s) h.asked
+  asks-second : (n : ℕ) (q : SecondQuestion) (asks : Bool) → AsksIf asks n q s after → Fine after.table
+  asks-second n q false same = passed (first_asked s.table) refl refl (ap (λ (x : NetworkValue). x.table) same)
+  asks-second n q true h = by (pool_says q.query s) h.asked
     where
       by : (said : pool_asked.Asked) → IsAskedAhead said q n s.table after.table → Fine after.table
       by (asked.Asker b) c = fine-changed n _ _ after.table c fine
       by asked.Overloaded same = passed (first_asked s.table) refl refl same
       by asked.NoServers same = passed (first_asked s.table) refl refl same
+
+  asks-other : (n : ℕ) (q : Option SecondQuestion)
+      → MatchOption q (after ≡ record s { table = first_asked s.table }) (AsksSecond n s after) → Fine after.table
+  asks-other n None same = passed (first_asked s.table) refl refl (ap (λ (x : NetworkValue). x.table) same)
+  asks-other n (Some q) h = asks-second n q h.asks h.goes_on
 
   asks : (n : ℕ) (held : Option NetworkLookup) → AsksAs held n s after → Fine after.table
   asks n None h = asks-other n (question_ahead s.resolver None (ahead_at n s.table)) h
@@ -245,13 +266,13 @@ module _ (s : NetworkValue) (fine : Fine s.table) (after : NetworkValue) where
       begins (StartsName (IsReadName name) t (seconds_of now)) None number now result h
   happens (host_is_started number host now result) h =
       begins (StartsHost (IsReadAddress host) (IsReadName host) (seconds_of now)) (Some Nothing) number now result h
-  happens (is_cancelled number was_there) h = cancelled number was_there h
+  happens (is_cancelled number now was_there) h = cancelled number now was_there h
   happens (servers_are servers) same = stays (ap (λ (x : NetworkValue). x.table) same)
   happens (octets_come channel octets now) same = stays (ap (λ (x : NetworkValue). x.table) same)
   happens (channel_fails failure now) same = stays (ap (λ (x : NetworkValue). x.table) same)
   happens (time_passes now) same = stays (ap (λ (x : NetworkValue). x.table) same)
   happens (name_is_cleared name t result) h = name-cleared name t result h
-  happens all_is_cleared same = stays (ap (λ (x : NetworkValue). x.table) same)
+  happens all_is_cleared same = fine-untold (λ q. true) s.table after.table (ap (λ (x : NetworkValue). x.table) same) fine
   happens (is_stepped action) h = stepped action s.telling h
 
 module _ (resolver : ResolverValue (List OutcomeValue)) (limits : PoolLimits) (seed : List ℕ) where

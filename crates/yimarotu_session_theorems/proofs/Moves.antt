@@ -1,6 +1,7 @@
 -- What is done to a resolver, with calls that wait under numbers, is an event of calls that happens.
 use Rattle.std.proofs.Common.{◌≡◌, ◌∙◌, ℕ, Bool, true, false, cond, List, [], ◌∷◌, ◌++◌, nat_eq, refl, sym, ap, subst, arith}
 use Rattle.std.specs.Prelude.{Option, None, Some}
+use Rattle.std.specs.List.{AllByRecursion}
 use Rattle.std.proofs.lemmas.Bool.Decides.{nat_tests}
 use Rattle.std.proofs.lemmas.List.{append-nil, append_assoc, map-append}
 use Rattle.hickory_proto_core.specs.Handles.{OutcomeValue}
@@ -151,6 +152,20 @@ module _ (n : ℕ) (c : PendingCallValue) (flights : Flights) (there : at n flig
       let r = cut n c flights there in
       r.removed ∙ sym (append-nil (r.front ++ r.back))
 
+-- ---- one more call, behind these, that goes on
+
+abbrev pub one_pending : Call → List Exchange → WaitingCallValue → PendingCallValue
+one_pending call asks w = record { call = call; asks = asks; waiting = w }
+
+none-placed : (lookup : ProgressValue) (calls : List PendingCallValue) → placed lookup calls [] [] ≡ calls
+none-placed (Waits w) calls = append-nil (calls ++ []) ∙ append-nil calls
+none-placed (IsDone result) calls = append-nil (calls ++ []) ∙ append-nil calls
+
+one-placed : (lookup : ProgressValue) (calls : List PendingCallValue) (c : PendingCallValue)
+    → placed lookup calls (c ∷ []) [] ≡ calls ++ c ∷ []
+one-placed (Waits w) calls c = append-nil (calls ++ c ∷ [])
+one-placed (IsDone result) calls c = ap (λ (l : List PendingCallValue). l ++ c ∷ []) (append-nil calls)
+
 -- ---- over one resolver
 
 module _ {H : Type 0} (first : ResolverValue H) where
@@ -159,6 +174,10 @@ module _ {H : Type 0} (first : ResolverValue H) where
 
   abbrev pub world : CacheValue → Flights → CallWorldValue
   world cache flights = record { cache = cache; hosts = first.hosts; calls = values_of flights }
+
+  -- with these calls in flight
+  abbrev pub at_cache : CacheValue → List PendingCallValue → CallWorldValue
+  at_cache cache calls = record { cache = cache; hosts = first.hosts; calls = calls }
 
   -- it is told, and what is told of it happens
   pub record Moves
@@ -252,6 +271,127 @@ module _ {H : Type 0} (first : ResolverValue H) where
                 (record { once = once-removed n flights flying.once; is = λ m. at-removed n m flights flying.once }) puts;
           };
         }
+
+    -- ---- a call that is started, goes on once at the most, and is let go
+
+    -- all that is told of it passes
+    module _ (Passes : CallEventValue → Type 0) (alike : (n : ℕ) → later n ≡ waiting n) (call : Call) (now : ℕ)
+        (begun : (progress : CallProgressValue) → Passes (CallStarted call now progress))
+        (let_go : (c : PendingCallValue) → Passes (CallDropped c)) where
+      pub record Comes-and-goes : Type 0 where
+        pub told : List CallEventValue
+        pub moves : Moves told cache flights after later
+        pub all : AllByRecursion Passes told
+
+      flying-on : AreFlying flights later
+      flying-on = record { once = flying.once; wait = λ n. flying.wait n ∙ sym (alike n) }
+
+      -- the calls that wait are those that waited
+      as-before : (end : CallWorldValue) → end ≡ at_cache after.client.cache (values_of flights ++ [])
+          → world after.client.cache flights ≡ end
+      as-before end is =
+          ap (λ (l : List PendingCallValue). at_cache after.client.cache l) (sym (append-nil (values_of flights))) ∙ sym is
+
+      -- it asks nothing, or is told nothing
+      pub unheard : (progress : CallProgressValue) → StartsAt now call (over cache) progress (over cache)
+          → after ≡ over cache → Comes-and-goes
+      unheard progress starts same = by progress starts
+        where
+          cache_is : after.client.cache ≡ cache
+          cache_is = ap (λ (r : ResolverValue H). r.client.cache) same
+
+          ends : world after.client.cache flights ≡ at_cache cache (values_of flights ++ [])
+          ends = as-before (at_cache cache (values_of flights ++ []))
+              (ap (λ (x : CacheValue). at_cache x (values_of flights ++ [])) (sym cache_is))
+
+          after-is : after ≡ over after.client.cache
+          after-is = same ∙ ap over (sym cache_is)
+
+          by : (p : CallProgressValue) → StartsAt now call (over cache) p (over cache) → Comes-and-goes
+          by (IsDone result) starts = record {
+            told = CallStarted call now (IsDone result) ∷ [];
+            moves = record {
+              left = flights;
+              happen = (at_cache cache (values_of flights ++ []), (starts.starts, refl, refl), ends);
+              after_is = after-is;
+              flying = flying-on;
+            };
+            all = (begun (IsDone result), tt);
+          }
+          by (Waits w) starts =
+              let c = one_pending call [] w in
+              record {
+                told = CallStarted call now (Waits w) ∷ CallDropped c ∷ [];
+                moves = record {
+                  left = flights;
+                  happen = (
+                    at_cache cache (values_of flights ++ c ∷ []),
+                    (starts.starts, refl, refl),
+                    (at_cache cache (values_of flights ++ []), (values_of flights, [], refl, refl), ends),
+                  );
+                  after_is = after-is;
+                  flying = flying-on;
+                };
+                all = (begun (Waits w), (let_go c, tt));
+              }
+
+      -- it waits, and goes on with this
+      pub heard : (w : WaitingCallValue) (outcome : OutcomeValue) (progress : CallProgressValue)
+          → StartsAt now call (over cache) (Waits w) (over cache) → ResumesAt w outcome (over cache) progress after
+          → Passes (CallFed (one_pending call [] w) outcome progress) → Comes-and-goes
+      heard w outcome progress starts resumes passes = by progress resumes passes
+        where
+          by : (p : CallProgressValue) → ResumesAt w outcome (over cache) p after
+              → Passes (CallFed (one_pending call [] w) outcome p) → Comes-and-goes
+          by (IsDone result) resumes passes =
+              let c = one_pending call [] w in
+              let lookup : ProgressValue = resumes.resumes.0 in
+              let left = placed lookup (values_of flights) [] [] in
+              record {
+                told = CallStarted call now (Waits w) ∷ CallFed c outcome (IsDone result) ∷ [];
+                moves = record {
+                  left = flights;
+                  happen = (
+                    at_cache cache (values_of flights ++ c ∷ []),
+                    (starts.starts, refl, refl),
+                    (
+                      at_cache after.client.cache left,
+                      (values_of flights, [], refl, resumes.resumes, refl, refl),
+                      ap (λ (l : List PendingCallValue). at_cache after.client.cache l) (sym (none-placed lookup (values_of flights))),
+                    ),
+                  );
+                  after_is = resumes.others_stay;
+                  flying = flying-on;
+                };
+                all = (begun (Waits w), (passes, tt));
+              }
+          by (Waits v) resumes passes =
+              let c = one_pending call [] w in
+              let lookup : ProgressValue = resumes.resumes.0 in
+              let d = one_pending call (exchange_with c outcome ∷ []) v in
+              let left = placed lookup (values_of flights) (d ∷ []) [] in
+              record {
+                told = CallStarted call now (Waits w) ∷ CallFed c outcome (Waits v) ∷ CallDropped d ∷ [];
+                moves = record {
+                  left = flights;
+                  happen = (
+                    at_cache cache (values_of flights ++ c ∷ []),
+                    (starts.starts, refl, refl),
+                    (
+                      at_cache after.client.cache left,
+                      (values_of flights, [], refl, resumes.resumes, refl, refl),
+                      (
+                        at_cache after.client.cache (values_of flights ++ []),
+                        (values_of flights, [], one-placed lookup (values_of flights) d, refl),
+                        as-before (at_cache after.client.cache (values_of flights ++ [])) refl,
+                      ),
+                    ),
+                  );
+                  after_is = resumes.others_stay;
+                  flying = flying-on;
+                };
+                all = (begun (Waits w), (passes, (let_go d, tt)));
+              }
 
     pub clears : (told : CallEventValue) → CallHappens (settings first) (world cache flights) told (world after.client.cache flights)
         → after ≡ over after.client.cache → ((n : ℕ) → later n ≡ waiting n) → Moves (told ∷ []) cache flights after later

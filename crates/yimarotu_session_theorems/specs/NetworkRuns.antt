@@ -13,7 +13,7 @@ use Rattle.yimarotu_session.specs.declared.session_error.SessionError.{SessionEr
 pub data NetworkEvent : Type 0 where
   is_started : ℕ → List ℕ → RecordType → ℕ → Result (Unit {0}) SessionError → NetworkEvent
   host_is_started : ℕ → List ℕ → ℕ → Result (Unit {0}) SessionError → NetworkEvent
-  is_cancelled : ℕ → Bool → NetworkEvent
+  is_cancelled : ℕ → ℕ → Bool → NetworkEvent
   servers_are : List PoolServerValue → NetworkEvent
   octets_come : ℕ → List ℕ → ℕ → NetworkEvent
   channel_fails : ChannelFailure → ℕ → NetworkEvent
@@ -25,7 +25,7 @@ pub data NetworkEvent : Type 0 where
 abbrev pub Happens : NetworkEvent → NetworkValue → NetworkValue → Type 0
 Happens (is_started number name t now result) before after = BeginsName number name t now before result after
 Happens (host_is_started number host now result) before after = BeginsHost number host now before result after
-Happens (is_cancelled number was_there) before after = Cancels number before was_there after
+Happens (is_cancelled number now was_there) before after = Cancels number now before was_there after
 Happens (servers_are servers) before after = after ≡ with_pool (after_servers 0 servers before.pool) before
 Happens (octets_come channel octets now) before after =
     after ≡ with_pool (after_octets channel octets now before.pool) before

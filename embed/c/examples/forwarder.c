@@ -176,7 +176,7 @@ static void finish(struct lookup *lookup) {
         waiter = next;
     }
     close_upstream(lookup);
-    yimarotu_cancel(&session, lookup->number);
+    yimarotu_cancel(&session, lookup->number, milliseconds());
     lookup->number = 0, lookup->waiters = NULL, lookup_count--;
 }
 
@@ -300,7 +300,7 @@ static void start(const struct waiter *client) {
     if (waits && (lookup = new_lookup(number, client)) != NULL) return go_on(lookup, came);
     if (waits) refuse(client, SERVFAIL);
     else send_reply(client, write_answer(query, answer_of(number), message, room));
-    yimarotu_cancel(&session, number);
+    yimarotu_cancel(&session, number, milliseconds());
 }
 
 /* Takes a query of this client, in which its address or its connection stands. */

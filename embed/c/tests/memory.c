@@ -175,7 +175,7 @@ static end clear_name(void) {
     return status == YIMAROTU_OK ? WHOLE : status == YIMAROTU_NO_MEMORY ? NO_MEMORY : WRONG;
 }
 
-static end cancel_5(void) { return yimarotu_cancel(&session, 5) == YIMAROTU_OK ? WHOLE : WRONG; }
+static end cancel_5(void) { return yimarotu_cancel(&session, 5, 100000) == YIMAROTU_OK ? WHOLE : WRONG; }
 static end clear(void) { return yimarotu_clear(&session) == YIMAROTU_OK ? WHOLE : WRONG; }
 
 static end close_it(void) {
@@ -210,7 +210,7 @@ static end act_up_to(uint8_t kind) {
 static end look_up(void) {
     static uint8_t reply[sizeof FOUND - 1];
     yimarotu_address address;
-    yimarotu_cancel(&session, 1);
+    yimarotu_cancel(&session, 1, 100000);
     end end = act_up_to(YIMAROTU_NOTHING);
     if (end != WHOLE) return end;
     yimarotu_clear(&session);
@@ -296,7 +296,7 @@ static end make(const call *made) {
  * started it, it is started again; then its answer may stand in the cache already. */
 static end make_again(const call *made, end before) {
     if (before != RAN_OUT) return make(made);
-    yimarotu_cancel(&session, made->number);
+    yimarotu_cancel(&session, made->number, 100000);
     if (made->start == NULL || made->start() == WHOLE) return make(made);
     return yimarotu_answer(&session, made->number, 512, room, ROOM).error == YIMAROTU_RAN_OUT ? RAN_OUT : WHOLE;
 }

@@ -93,22 +93,35 @@ static bool act(void) {
     }
 }
 
-static bool open_with(uint8_t seed_octet, const char *settings) {
+static bool open_over(uint8_t seed_octet, const char *settings, const char *hosts) {
     uint8_t seed[32];
     memset(seed, seed_octet, sizeof seed);
     first = behind = stream_count = done_count = 0;
     told = 0xcbf29ce484222325u;
-    return yimarotu_open(&session, BYTES(""), BYTES("host.example"), (const uint8_t *)settings, strlen(settings), BYTES(""),
-                         seed, sizeof seed, 1000).status == YIMAROTU_OK;
+    return yimarotu_open(&session, BYTES(""), BYTES("host.example"), (const uint8_t *)settings, strlen(settings),
+                         (const uint8_t *)hosts, strlen(hosts), seed, sizeof seed, 1000).status == YIMAROTU_OK;
 }
+
+static bool open_with(uint8_t seed_octet, const char *settings) { return open_over(seed_octet, settings, ""); }
 
 static const char ONE[] = "server 192.0.2.53\noption ip_strategy Ipv4Only\n";
 
+/* A look-up of the addresses of a host, and of that of a number. */
+static bool start_host(uint64_t number, const char *host, uint64_t moment) {
+    latest = moment;
+    yimarotu_progress progress = yimarotu_start_ip(&session, number, (const uint8_t *)host, strlen(host), moment);
+    return progress.status == YIMAROTU_OK && act();
+}
+
 static bool start(uint64_t number, uint64_t moment) {
     char name[64];
-    int length = snprintf(name, sizeof name, "w%llu.example.", (unsigned long long)number);
+    snprintf(name, sizeof name, "w%llu.example.", (unsigned long long)number);
+    return start_host(number, name, moment);
+}
+
+static bool cancel(uint64_t number, uint64_t moment) {
     latest = moment;
-    return yimarotu_start_ip(&session, number, (const uint8_t *)name, (size_t)length, moment).status == YIMAROTU_OK && act();
+    return yimarotu_cancel(&session, number, moment) == YIMAROTU_OK && act();
 }
 
 static bool came(uint64_t channel, const uint8_t *octets, size_t length, uint64_t moment) {
@@ -177,11 +190,11 @@ static void prefixes(void) {
         sent *question = &queue[(behind - 1) % QUEUE];
         whole = reply_to(question->octets, false, reply);
         is_right = is_right && came(question->channel, reply, length, 1000) && error_of(number) != YIMAROTU_FOUND;
-        is_right = is_right && yimarotu_cancel(&session, number) == YIMAROTU_OK && act();
+        is_right = is_right && cancel(number, 1000);
         is_right = is_right && start(++number, 1000);
         question = &queue[(behind - 1) % QUEUE];
         is_right = is_right && came(question->channel, reply, reply_to(question->octets, false, reply), 1000);
-        is_right = is_right && has_address(number) && yimarotu_cancel(&session, number) == YIMAROTU_OK && act();
+        is_right = is_right && has_address(number) && cancel(number, 1000);
     }
     tell("every part of a reply, and the whole", is_right && number > 80);
     yimarotu_close(&session);
@@ -203,7 +216,7 @@ static void changes(void) {
                      || memcmp(reply + end - 4, whole + end - 4, 4) != 0;
         is_right = is_right && came(question->channel, reply, length, 1000 + number);
         is_right = is_right && !(is_other && error_of(number) == YIMAROTU_FOUND);
-        is_right = is_right && yimarotu_cancel(&session, number) == YIMAROTU_OK && act();
+        is_right = is_right && cancel(number, 1000 + number);
     }
     tell("a hundred thousand changed replies", is_right);
     yimarotu_close(&session);
@@ -315,6 +328,136 @@ static void families(void) {
     }
 }
 
+/* ---- what is asked ahead of a look-up, which asks for AAAA records first */
+
+static const char BOTH[] = "server 192.0.2.53\noption ip_strategy Ipv6AndIpv4\n";
+
+enum { AAAA = 28 };
+
+/* The place in the queue of the last question of a type, and QUEUE where there is none. */
+static size_t last_of(unsigned type) {
+    for (size_t at = behind; at > 0; at--)
+        if (type_of(&queue[at - 1]) == type) return at - 1;
+    return QUEUE;
+}
+
+/* The server answers the last question of a type: with an address, that there is no such record, or with a code. */
+static bool answer_last(unsigned type, uint64_t moment) {
+    uint8_t reply[ROOM];
+    size_t at = last_of(type);
+    if (at == QUEUE) return false;
+    size_t length = type == A ? reply_to(queue[at].octets, false, reply) : nothing_to(queue[at].octets, reply);
+    return came(queue[at].channel, reply, length, moment);
+}
+
+static bool fail_last(unsigned type, uint64_t moment) {
+    uint8_t reply[ROOM];
+    size_t at = last_of(type);
+    if (at == QUEUE) return false;
+    size_t length = end_of_name(queue[at].octets) + 4;
+    memset(reply, 0, HEADER);
+    memcpy(reply, queue[at].octets, length);
+    reply[2] = 0x81, reply[3] = 0x80 | 2, reply[7] = 0, reply[11] = 0;
+    return came(queue[at].channel, reply, length, moment);
+}
+
+/* What the hosts, or the cache, answer is not asked ahead. */
+static void answered_here(void) {
+    yimarotu_address room[2];
+    bool is_right = open_over(12, BOTH, "10.9.9.9 printer\n") && start_host(1, "printer.", 1000);
+    tell("the hosts' question is not asked ahead", is_right && behind == 1 && type_of(&queue[0]) == AAAA);
+    is_right = is_right && answer_last(AAAA, 1000) && behind == 1 && done_count == 1;
+    yimarotu_found found = yimarotu_addresses(&session, 1, 1000, room, sizeof room);
+    tell("and the hosts answer it", is_right && found.count == 1 && memcmp(room[0].octets, "\12\11\11\11", 4) == 0);
+    yimarotu_close(&session);
+    is_right = open_with(12, BOTH) && yimarotu_start(&session, 2, BYTES("w1.example."), A, 1000).waits && act();
+    is_right = is_right && answer_last(A, 1000) && behind == 1 && start(1, 1000);
+    tell("nor what the cache has", is_right && behind == 2 && type_of(&queue[1]) == AAAA);
+    is_right = is_right && answer_last(AAAA, 1000) && behind == 2 && has_address(1);
+    tell("and the cache answers it", is_right);
+    yimarotu_close(&session);
+}
+
+/* What came ahead is in the cache at once: for a look-up beside it, and where the one that asked it is cancelled. */
+static void heard_at_once(void) {
+    bool is_right = open_with(13, BOTH) && start(1, 1000) && behind == 2 && answer_last(A, 1000) && done_count == 0;
+    is_right = is_right && start_host(2, "w1.example.", 2000);
+    tell("what came ahead is not asked again", is_right && behind == 2);
+    is_right = is_right && answer_last(AAAA, 2000) && behind == 2 && done_count == 2 && has_address(1);
+    tell("and answers both", is_right && error_of(2) == YIMAROTU_FOUND);
+    yimarotu_close(&session);
+    is_right = open_with(13, BOTH) && start(1, 1000) && answer_last(A, 1000) && cancel(1, 1000) && done_count == 0;
+    yimarotu_progress progress = yimarotu_start(&session, 1, BYTES("w1.example."), A, 1000);
+    is_right = is_right && progress.status == YIMAROTU_OK && !progress.waits && act() && behind == 2;
+    tell("what came ahead of a look-up that is cancelled stays", is_right && has_address(1));
+    yimarotu_close(&session);
+}
+
+static bool clear_all(void) { return yimarotu_clear(&session) == YIMAROTU_OK && act(); }
+
+static bool clear_one(const char *name, uint16_t type) {
+    return yimarotu_clear_name(&session, (const uint8_t *)name, strlen(name), type) == YIMAROTU_OK && act();
+}
+
+static bool clear_w1(void) { return clear_one("w1.EXAMPLE.", A); }
+static bool clear_searched(void) { return clear_one("w1", A); }
+static bool other_servers_and_clear(void) {
+    return yimarotu_servers(&session, BYTES("nameserver 192.0.2.78\n"), true) == YIMAROTU_OK && act();
+}
+
+static bool clear_another(void) { return clear_one("w2.example.", A) && clear_one("w1.example.", AAAA); }
+static bool clear_no_name(void) { return clear_one("w1..example.", A); }
+static bool other_servers_alone(void) {
+    return yimarotu_servers(&session, BYTES("nameserver 192.0.2.78\n"), false) == YIMAROTU_OK && act();
+}
+
+/* Each clear reaches what came ahead before it: an address, or a failure, which no cache has. Another one does not. */
+static void cleared_ahead(void) {
+    const struct { const char *name; bool (*clear)(void); bool reaches; } clears[] = {
+        {"a clear reaches what came ahead", clear_all, true},
+        {"a clear of its name", clear_w1, true},
+        {"a clear of a name that is searched", clear_searched, true},
+        {"other servers, and a clear", other_servers_and_clear, true},
+        {"a clear of another name or type does not", clear_another, false},
+        {"nor one of what is no name", clear_no_name, false},
+        {"nor other servers alone", other_servers_alone, false},
+    };
+    const char settings[] = "server 192.0.2.53\noption ip_strategy Ipv6AndIpv4\nsearch example.\n";
+    for (size_t at = 0; at < sizeof clears / sizeof clears[0]; at++) {
+        for (int fails = 0; fails < 2; fails++) {
+            bool is_right = open_with(14, settings) && start(1, 1000) && behind == 2;
+            is_right = is_right && (fails ? fail_last(A, 1000) : answer_last(A, 1000)) && behind == 2;
+            is_right = is_right && clears[at].clear() && behind == 2 && done_count == 0 && answer_last(AAAA, 1000);
+            if (clears[at].reaches)
+                is_right = is_right && behind == 3 && last_of(A) == 2 && done_count == 0 && answer_last(A, 1000);
+            bool is_found = clears[at].reaches || !fails;
+            is_right = is_right && done_count == 1 && behind == (clears[at].reaches ? 3u : 2u);
+            tell(clears[at].name, is_right && error_of(1) == (is_found ? YIMAROTU_FOUND : YIMAROTU_NO_RECORDS));
+            yimarotu_close(&session);
+        }
+    }
+}
+
+/* What is still in flight at a clear is kept when it comes, like any other. */
+static void in_flight_at_a_clear(void) {
+    bool is_right = open_with(15, BOTH) && start(1, 1000) && clear_all() && answer_last(A, 1000);
+    is_right = is_right && start_host(2, "w1.example.", 1000) && behind == 2;
+    is_right = is_right && answer_last(AAAA, 1000) && behind == 2 && done_count == 2;
+    tell("in flight at a clear", is_right && has_address(1));
+    yimarotu_close(&session);
+}
+
+/* The place of a look-up that is cancelled is taken at the moment of that: a question that waited has its time from
+ * then on. */
+static void places(void) {
+    bool is_right = open_with(16, "server 192.0.2.53\noption ip_strategy Ipv4Only\noption timeout 2\n");
+    for (uint64_t number = 1; is_right && number <= 4097; number++) is_right = start(number, 1000);
+    for (uint64_t number = 1; is_right && number <= 4096; number++) is_right = cancel(number, 2500);
+    yimarotu_waits waits = yimarotu_wait(&session, 2500);
+    tell("a place that comes free", is_right && behind == 4097 && waits.has_deadline && waits.milliseconds == 2000);
+    yimarotu_close(&session);
+}
+
 /* Channels that fail: the next server is asked; where none is left that is told. */
 static void failures(void) {
     uint8_t reply[ROOM];
@@ -331,10 +474,10 @@ static void other_servers(void) {
     uint8_t reply[ROOM];
     bool is_right = open_with(9, ONE) && start(1, 1000);
     is_right = is_right && came(queue[0].channel, reply, reply_to(queue[0].octets, false, reply), 1000);
-    is_right = is_right && yimarotu_cancel(&session, 1) == YIMAROTU_OK;
+    is_right = is_right && cancel(1, 1000);
     is_right = is_right && yimarotu_servers(&session, BYTES("nameserver 192.0.2.77\n"), false) == YIMAROTU_OK && start(1, 1000);
     tell("other servers: the cache stays", is_right && behind == 1 && has_address(1));
-    is_right = yimarotu_cancel(&session, 1) == YIMAROTU_OK;
+    is_right = cancel(1, 1000);
     is_right = is_right && yimarotu_servers(&session, BYTES("nameserver 192.0.2.78\n"), true) == YIMAROTU_OK && start(1, 1000);
     tell("other servers: the cache goes", is_right && behind == 2);
     yimarotu_close(&session);
@@ -422,6 +565,11 @@ int main(void) {
     closed_streams();
     silence();
     families();
+    answered_here();
+    heard_at_once();
+    cleared_ahead();
+    in_flight_at_a_clear();
+    places();
     failures();
     other_servers();
     what_does_not_fit();

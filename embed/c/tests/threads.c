@@ -22,7 +22,7 @@ static bool turn(yimarotu_session *session, uint8_t last) {
     if (yimarotu_feed(session, 1, reply, sizeof reply).waits) return false;
     yimarotu_answered answered = yimarotu_answer(session, 1, ROOM, room, ROOM);
     if (answered.length != sizeof reply || memcmp(room + 2, reply + 2, sizeof reply - 2) != 0) return false;
-    return yimarotu_cancel(session, 1) == YIMAROTU_OK && yimarotu_clear(session) == YIMAROTU_OK;
+    return yimarotu_cancel(session, 1, 100000) == YIMAROTU_OK && yimarotu_clear(session) == YIMAROTU_OK;
 }
 
 static void *run(void *given) {

@@ -14,5 +14,5 @@ returns-clause-ok c =
     let after : NetworkValue = record { resolver = inside.resolver; pool = c.ask_pool.new.pool; table = table_of c.answer_ahead.new.table; telling = inside.telling } in
     let same : before ≡ c.args.self.now = search rules in
     let options = c.request_options-options in
-    subst (λ (s : NetworkValue). AsksAhead c.args.number s after c.args.query) same
-    (asks-ahead c.args.number before after (table_of c.reserve_asker.new.self) c.args.query c.in_ok-copy.copy options.result c.in_ok-asked.asked c.in_ok-copy.ensures.cases options.ensures c.reserve_asker.ensures.same c.in_ok-asked.ensures.told c.in_ok-asked.ensures.ok c.answer_ahead.ensures refl)
+    subst (λ (s : NetworkValue). AsksAhead c.args.number c.args.second s after) same
+    (asks-ahead c.args.number before after (table_of c.reserve_asker.new.self) c.args.second c.in_ok-copy.copy options.result c.in_ok-asked.asked c.in_ok-copy.ensures.cases options.ensures c.reserve_asker.ensures.same c.in_ok-asked.ensures.told c.in_ok-asked.ensures.ok c.answer_ahead.ensures refl)
