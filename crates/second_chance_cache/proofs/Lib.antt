@@ -1,0 +1,11 @@
+pub mod Bounded
+pub mod Keys
+pub mod Numbers
+pub mod Outlasting
+pub mod Results
+pub mod Rounds
+pub mod Sieves
+pub mod Slots
+pub mod Sound
+pub mod Sweeps
+pub mod Updated

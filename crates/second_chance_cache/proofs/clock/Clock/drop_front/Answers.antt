@@ -1,0 +1,39 @@
+use Rattle.std.proofs.Common.{◌≡◌, List, ◌∷◌, sym, ◌∙◌, ap, subst, arith}
+use Rattle.std.specs.Prelude.{Option, None}
+use Rattle.second_chance_cache.specs.SecondChance.{Entry}
+use Rattle.second_chance_cache.specs.Clock.{AreSound, dropped, number_in}
+use Rattle.second_chance_cache.proofs.Sound.{sound-hole}
+use Rattle.second_chance_cache.proofs.clock.Clock.drop_front.Goals as goal
+
+pub returns-in-Some-Some : goal.returns-in-Some-Some
+returns-in-Some-Some g c =
+    let rest = c.pop_front.new.self in
+    let same = c.let_go.ensures.slots in
+    record {
+      sound = c.let_go.ensures.sound;
+      room = record {
+        len = rw same (omega (arith, c.in-Some-Some.ensures.len));
+        slots = rw same c.in-Some-Some.ensures.capacity;
+        index = c.let_go.ensures.index;
+      };
+      slots = rw same (sym (ap dropped c.in-Some-Some.ensures.items));
+    }
+
+pub returns-in-Some-None : goal.returns-in-Some-None
+returns-in-Some-None g c =
+    let s = c.args.self.now in
+    let rest = c.pop_front.new.self in
+    let were : s.slots.items ≡ None ∷ rest.items =
+    c.in-Some-None.ensures.items
+    ∙ ap (λ (slot : Option (Entry g.row.V.Denot)). slot ∷ rest.items) c.in-Some-None.field-0-is in
+    record {
+      sound = sound-hole (λ k. number_in k s.index) s.first s.count s.octets rest.items
+          (subst (λ (l : List (Option (Entry g.row.V.Denot))).
+          AreSound (λ k. number_in k s.index) l s.first s.count s.octets) were c.requires);
+      room = record {
+        len = omega (arith, c.in-Some-None.ensures.len);
+        slots = c.in-Some-None.ensures.capacity;
+        index = omega arith;
+      };
+      slots = sym (ap dropped were);
+    }

@@ -1,0 +1,4 @@
+pub mod Clock
+pub mod Laws
+pub mod Lending
+pub mod SecondChance

@@ -1,0 +1,10 @@
+pub mod Added
+pub mod Walked
+pub mod Lowering
+pub mod Named
+pub mod Whole
+pub mod Header
+pub mod Telling
+pub mod Keys
+pub mod Cut
+pub mod Seen

@@ -1,0 +1,5 @@
+pub mod Key
+pub mod Stored
+pub mod Told
+pub mod Laws
+pub mod Walk
