@@ -1,40 +1,29 @@
-//! Prints what the layers answer, clients, resolvers, their builders and configurations above all. The output that is
-//! wanted stands beside this crate's sources, written by hand.
+//! Prints what the layers answer, and makes public calls one by one. The output that is wanted stands beside this
+//! crate's sources, written by hand, from the standards where these say it.
 //!
-//! The word `worked` of the arguments stands for worked cases where no script can ask: calls for which a script has no
-//! line, over handles of one's own, and with a hasher of one's own. Then come the lines of the file `attempts.cases`,
-//! each with the names that are attempted behind it. Then come look-ups that wait, where others store, clear and evict
-//! between a question and what comes back to it: the steps of the file `steps.cases` over a client, and the events of
-//! the file `events.cases` over a resolver.
+//! The word `worked` of the arguments stands for what no script can say. First come the lines of the file `name.cases`,
+//! each a call on names or addresses with its answer behind it, and texts of codes, data and errors; then readers and
+//! writers that fail; then messages as bytes: those of the file `wire.cases` are read, what they say is printed, and
+//! they are written again; then a table of very many outcomes, and which hasher is asked. Last come look-ups that wait,
+//! where others store, clear and evict between a question and what comes back to it: the events of the file
+//! `events.cases` over resolvers. What a script can say is in `script_cases`.
 //!
 //! Every other word names a call that takes memory, or one that takes none: it is made between two marks, and
 //! `tests/refuse_memory` makes each of them with less.
 #![tactic(auto)]
 
-mod attempted;
-mod bounds;
-mod clears;
-mod copied_parts;
-mod given_names;
 mod hashers;
-mod in_turn;
-mod kinds;
 mod large_table;
 mod memory;
-mod negative_replies;
-mod no_names;
-mod options;
-mod outcomes;
-mod own_handle;
+mod names;
 mod parts;
 mod playing;
-mod replaced;
-mod servers;
+mod sample;
 mod shown;
-mod stepping;
-mod table_run;
-mod types;
-mod upstream;
+mod streams;
+mod texts;
+mod watched_calls;
+mod wire;
 
 use hickory_proto_core::NetError;
 use std::alloc::Global;
@@ -56,42 +45,19 @@ fn take_word<R: AllocGlobal + Files + Print>(rt: &R, word: &str) -> anyhow::Resu
 }
 
 fn show_worked<R: AllocGlobal + Files + Print>(rt: &R) -> anyhow::Result<()> {
-    let cases = fs::read_to_string(rt, "attempts.cases")?;
-    let steps = fs::read_to_string(rt, "steps.cases")?;
+    let names = fs::read_to_string(rt, "name.cases")?;
+    names::show_lines(rt, rt.alloc(), &names);
+    texts::show_all(rt, rt.alloc())?;
+    streams::show_all(rt, rt.alloc())?;
+    let messages = fs::read_to_string(rt, "wire.cases")?;
+    wire::show_all(rt, rt.alloc(), &messages)?;
     let events = fs::read_to_string(rt, "events.cases")?;
-    show_all(rt, rt.alloc(), [&cases, &steps, &events])?;
+    show_resolvers(rt, rt.alloc(), &events)?;
     Ok(())
 }
 
-fn show_all(rt: &impl Print, alloc: Global, files: [&str; 3]) -> Result<(), NetError> {
-    let [cases, steps, events] = files;
-    show_clients(rt, alloc)?;
-    show_resolvers(rt, alloc)?;
-    table_run::show_run(rt, alloc)?;
-    attempted::show_attempts(rt, alloc, cases)?;
-    stepping::show_steps(rt, alloc, steps)?;
-    playing::show_played(rt, alloc, events)
-}
-
-fn show_clients(rt: &impl Print, alloc: Global) -> Result<(), NetError> {
+fn show_resolvers(rt: &impl Print, alloc: Global, events: &str) -> Result<(), NetError> {
     large_table::show_table(rt, alloc)?;
-    options::show_of_clients(rt, alloc)?;
-    own_handle::show_own_handle(rt, alloc);
-    negative_replies::show_negative(rt, alloc);
-    kinds::show_kinds(rt, alloc)?;
-    in_turn::show_in_turn(rt, alloc)?;
-    no_names::show_no_names(rt, alloc);
-    Ok(())
-}
-
-fn show_resolvers(rt: &impl Print, alloc: Global) -> Result<(), NetError> {
-    types::show_types(rt, alloc)?;
-    given_names::show_given(rt, alloc)?;
-    bounds::show_bounds(rt, alloc)?;
-    options::show_of_resolvers(rt, alloc)?;
     hashers::show_hashers(rt, alloc)?;
-    clears::show_clears(rt, alloc)?;
-    servers::show_configuration(rt, alloc)?;
-    copied_parts::show_copies(rt, alloc)?;
-    replaced::show_replaced(rt, alloc)
+    playing::show_played(rt, alloc, events)
 }

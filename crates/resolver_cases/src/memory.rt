@@ -21,14 +21,14 @@ mod marks;
 mod messages;
 mod names;
 mod runs;
-mod sample;
 mod scripts;
-mod shown;
 mod tables;
 mod waits;
 mod wire;
 mod without;
 
+pub use clients::Upstream;
+pub use handles::ask_each;
 use hickory_proto_core::NetError;
 use std::alloc::Global;
 

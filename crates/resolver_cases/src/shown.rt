@@ -1,16 +1,52 @@
-//! The texts of what is sent and of what is answered. A line that is not written is missed by whoever reads the text.
-use hickory_proto_core::{Exchange, Name, NetError, Record};
-use hickory_resolver::{Lookup, LookupIp};
+//! The texts of answers. A line that is not written is missed by whoever reads the text.
+use hickory_proto_core::{
+    DnsError, DnsResponse, Exchange, Message, NetError, NoRecords, Outcome, Query, Record,
+};
+use hickory_resolver::Lookup;
 use std::fmt::{Debug, Display};
+
+/// What a call makes, and the text of it.
+pub trait Shown {
+    /// Prints the value, each of its lines whole.
+    fn show(&self, rt: &impl Print);
+}
+
+/// What was made, or the error.
+pub fn show<T: Shown + Drop, E: Display + Drop>(rt: &impl Print, answer: Result<T, E>) {
+    show_made(rt, &answer);
+    // `drop` costs the prover less than the end of the block.
+    drop(answer);
+}
+
+/// The text that was made, or the error as `Debug` prints it.
+pub fn show_named<T: Display + Drop, E: Debug + Drop>(rt: &impl Print, answer: Result<T, E>) {
+    match &answer {
+        Ok(text) => say(rt, text),
+        Err(error) => say_value(rt, error),
+    }
+    drop(answer);
+}
+
+/// The text that was made, or the error.
+pub fn show_text<T: Display + Drop, E: Display + Drop>(rt: &impl Print, answer: Result<T, E>) {
+    match &answer {
+        Ok(text) => say(rt, text),
+        Err(error) => say(rt, error),
+    }
+    drop(answer);
+}
+
+/// What was made, or the error, of an answer that is kept.
+pub fn show_made<T: Shown, E: Display>(rt: &impl Print, answer: &Result<T, E>) {
+    match answer {
+        Ok(made) => made.show(rt),
+        Err(error) => say(rt, error),
+    }
+}
 
 /// A line.
 pub fn say(rt: &impl Print, line: &impl Display) {
-    let _ = rt.println(line);
-}
-
-/// A line that begins with this text.
-pub fn say_of(rt: &impl Print, lead: &str, part: &impl Display) {
-    let _ = println!(rt; "{lead}{part}");
+    let _ = println!(rt; "{line}");
 }
 
 /// A value, as `Debug` prints it.
@@ -18,59 +54,108 @@ pub fn say_value(rt: &impl Print, value: &impl Debug) {
     let _ = println!(rt; "{value:?}");
 }
 
-/// The questions that were sent, and the reply.
-pub fn show_reply(rt: &impl Print, sent: &[Exchange], reply: Result<Lookup, NetError>) {
-    show_sent(rt, "  sent ", sent);
-    match &reply {
-        Ok(lookup) => show_answers(rt, lookup.answers()),
-        Err(error) => say_of(rt, "  ", error),
-    }
-    // `drop` costs the prover less than the end of the block.
-    drop(reply);
+/// A line of a part of an answer.
+pub fn say_part(rt: &impl Print, what: &str, part: &impl Display) {
+    let _ = println!(rt; "  {what} {part}");
 }
 
-/// A line for each question that was sent.
-pub fn show_sent(rt: &impl Print, lead: &str, sent: &[Exchange]) {
-    for exchange in sent {
-        say_of(rt, lead, &exchange.query);
+/// The question that a look-up or a call waits for.
+pub fn say_waits(rt: &impl Print, question: &Query) {
+    let _ = println!(rt; "waits for {question}");
+}
+
+impl Shown for () {
+    fn show(&self, rt: &impl Print) {
+        say(rt, &"done");
     }
 }
 
-/// A line for each answer, without its TTL.
-pub fn show_answers(rt: &impl Print, answers: &[Record]) {
-    for answer in answers {
-        let (owner, record_type) = (&answer.name, answer.record_type());
-        let _ = println!(rt; "  answer {owner} {record_type} {}", answer.rdata);
+// How many records there are, and the records.
+impl Shown for Vec<Record> {
+    fn show(&self, rt: &impl Print) {
+        say(rt, &self.len());
+        show_records(rt, "record", self);
     }
 }
 
-/// The addresses of a look-up.
-pub fn show_addresses(rt: &impl Print, found: LookupIp) {
-    for address in found {
-        say_of(rt, "  address ", &address);
+fn show_records(rt: &impl Print, section: &str, records: &[Record]) {
+    for record in records {
+        say_part(rt, section, record);
     }
 }
 
-/// The end of a line: names with a blank between each two.
-pub fn show_names(rt: &impl Print, names: &[Name]) {
-    let mut lead = "";
-    for name in names {
-        let _ = rt.print(lead);
-        let _ = rt.print(name);
-        lead = " ";
+/// The questions and the records of a message.
+pub fn show_message(rt: &impl Print, message: &Message) {
+    for query in &message.queries {
+        say_part(rt, "question", query);
     }
-    say(rt, &"");
+    show_records(rt, "answer", &message.answers);
+    show_records(rt, "authority", &message.authorities);
+    show_records(rt, "additional", &message.additionals);
 }
 
-/// What a look-up that waited came to: until when it may be used and its answers, or the error.
-pub fn show_result(rt: &impl Print, looked_up: &Result<Lookup, NetError>) {
-    match looked_up {
-        Ok(lookup) => {
-            say_of(rt, "until ", &lookup.valid_until());
-            for answer in lookup.answers() {
-                say_of(rt, "  ", answer);
-            }
+impl Shown for Message {
+    fn show(&self, rt: &impl Print) {
+        say(rt, &"a message");
+        show_message(rt, self);
+    }
+}
+
+impl Shown for DnsResponse {
+    fn show(&self, rt: &impl Print) {
+        say(rt, &"an answer");
+    }
+}
+
+// Up to which moment a look-up may be used, and its message.
+impl Shown for Lookup {
+    fn show(&self, rt: &impl Print) {
+        let _ = println!(rt; "until {}", self.valid_until());
+        show_message(rt, self.message());
+    }
+}
+
+/// An answer, or the error and what it says.
+pub fn show_outcome<T: Shown>(rt: &impl Print, outcome: &Result<T, NetError>) {
+    show_made(rt, outcome);
+    if let Err(NetError::Dns(DnsError::NoRecordsFound(none))) = outcome {
+        show_none(rt, none);
+    }
+}
+
+// For how many seconds a negative answer may be kept, its question, how many servers it refers to, and its records.
+fn show_none(rt: &impl Print, none: &NoRecords) {
+    let _ = println!(rt; "  for {}: {}", none.negative_ttl.unwrap_or(0), none.query);
+    if let Some(soa) = &none.soa {
+        say_part(rt, "soa", soa);
+    }
+    if let Some(servers) = &none.ns {
+        for server in servers {
+            let addresses = server.glue.len();
+            let _ = println!(rt; "  server {} with {addresses} addresses", server.ns);
         }
+    }
+    if let Some(authorities) = &none.authorities {
+        show_records(rt, "authority", authorities);
+    }
+}
+
+/// The questions that were asked, and whether each was answered or why not.
+pub fn show_exchanges(rt: &impl Print, exchanges: &[Exchange]) {
+    for exchange in exchanges {
+        show_answered(rt, "asked", &exchange.query, &exchange.outcome);
+    }
+}
+
+/// A question, and whether it is answered or why not.
+pub fn show_answered(rt: &impl Print, what: &str, query: &Query, outcome: &Outcome) {
+    let _ = rt.print("  ");
+    let _ = rt.print(what);
+    let _ = rt.print(" ");
+    let _ = rt.print(query);
+    let _ = rt.print(": ");
+    match outcome {
+        Ok(_) => say(rt, &"answered"),
         Err(error) => say(rt, error),
     }
 }

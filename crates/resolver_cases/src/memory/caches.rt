@@ -1,8 +1,8 @@
 //! The cache: what a store or a look into it answers, and what it keeps then.
 use crate::memory::marks::done;
-use crate::memory::sample::{answer, none, query};
-use crate::memory::shown::{say, say_part, show, show_outcome};
 use crate::parts::whole;
+use crate::sample::{answer, none, query};
+use crate::shown::{say, say_part, show, show_outcome};
 use hickory_proto_core::{Message, NetError, Query};
 use hickory_resolver::{ResponseCache, TtlConfig};
 use std::alloc::Global;

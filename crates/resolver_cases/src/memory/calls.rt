@@ -2,9 +2,9 @@
 //! after it.
 use crate::memory::clients::{Upstream, resolver, show_kept};
 use crate::memory::marks::done;
-use crate::memory::sample::{Said, no_such_name, outcome_of};
-use crate::memory::shown::{say_waits, show_made};
 use crate::memory::waits::waiting_of;
+use crate::sample::{Said, no_such_name, outcome_of};
+use crate::shown::{say_waits, show_made};
 use hickory_proto_core::{DnsResponse, Name, NetError, Query, RecordType};
 use hickory_resolver::{CallProgress, LookupIpStrategy, Resolver};
 use std::alloc::Global;
@@ -94,11 +94,8 @@ fn resume_next(
     case: &str,
     resolver: &mut Resolver<Upstream>,
 ) -> Result<(), NetError> {
-    let name = Name::from_ascii(alloc, "a.x.")?;
-    let outcome = DnsResponse::from_message(no_such_name(
-        alloc,
-        Query::query(name, RecordType::A),
-    )?);
+    let asked = Query::query(Name::from_ascii(alloc, "a.x.")?, RecordType::A);
+    let outcome = DnsResponse::from_message(no_such_name(alloc, Ok(asked))?);
     let waiting = waiting_of(start(case, resolver))?;
     show_progress(rt, call!(rt, case, resolver.resume(waiting, Ok(outcome))));
     Ok(())

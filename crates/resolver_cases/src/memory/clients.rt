@@ -1,25 +1,21 @@
 //! Clients and resolvers: what they answer, what was asked, and what the cache keeps then.
 use crate::memory::caches::has;
 use crate::memory::marks::done;
-use crate::memory::sample::{Pair, Said, name, query, script, table};
-use crate::memory::shown::{Shown, say_waits, show, show_exchanges};
 use crate::memory::waits::waiting_of;
 use crate::parts::{both, whole};
-use crate::types::{self, TYPES};
+use crate::sample::{Pair, Said, name, query, script, table};
+use crate::shown::{Shown, say_waits, show, show_exchanges};
 use hickory_proto_core::{
-    DnsHandle, DnsRequestOptions, Name, NetError, RecordType, Recorded, ScriptHandle, TableHandle,
+    DnsHandle, DnsRequestOptions, Exchange, Name, NetError, RecordType, Recorded, TableHandle,
 };
 use hickory_resolver::{
-    CachingClient, Hosts, LookupFuture, LookupIp, LookupIpFuture, LookupIpStrategy, Resolver,
-    ResolverConfig, ResolverOpts, ResponseCache,
+    CachingClient, Hosts, Lookup, LookupFuture, LookupIp, LookupIpFuture, LookupIpStrategy,
+    Resolver, ResolverConfig, ResolverOpts, ResponseCache,
 };
 use std::alloc::Global;
 
 /// An upstream that is a table and records what it is asked.
 pub type Upstream = Recorded<TableHandle>;
-
-/// An upstream that is a script and records what it is asked.
-pub type Scripted = Recorded<ScriptHandle>;
 
 const A: RecordType = RecordType::A;
 
@@ -35,6 +31,21 @@ pub const BEHIND: [Pair; 2] = [("a", A, Said::Alias("b")), ("b", A, Said::NoMemo
 
 // The script of a handle that has no memory at first.
 const AT_FIRST: [Pair; 2] = [("a", A, Said::NoMemory), ("a", A, Said::Address)];
+
+// The types of the calls for one type each, in their order.
+const TYPES: [RecordType; 11] = [
+    RecordType::A,
+    RecordType::AAAA,
+    RecordType::MX,
+    RecordType::NS,
+    RecordType::SMIMEA,
+    RecordType::SOA,
+    RecordType::SRV,
+    RecordType::TLSA,
+    RecordType::TXT,
+    RecordType::CERT,
+    RecordType::PTR,
+];
 
 // The names that the upstream knows.
 const LABELS: [&str; 3] = ["a", "b", "c"];
@@ -59,26 +70,16 @@ pub fn make(rt: &impl Print, alloc: Global, case: &str) -> Result<bool, NetError
     }
 }
 
-/// What a client whose upstream is a table asked it, and what its cache keeps of these names.
+/// What a client asked its upstream, and what its cache keeps of these names.
 pub fn show_client(
     rt: &impl Print,
     alloc: Global,
-    client: &CachingClient<Upstream>,
+    exchanges: &[Exchange],
+    cache: &ResponseCache,
     labels: &[&str],
 ) -> Result<(), NetError> {
-    show_exchanges(rt, client.handle().exchanges());
-    show_kept(rt, alloc, client.cache(), labels)
-}
-
-/// The same, where the upstream is a script.
-pub fn show_scripted(
-    rt: &impl Print,
-    alloc: Global,
-    client: &CachingClient<Scripted>,
-    labels: &[&str],
-) -> Result<(), NetError> {
-    show_exchanges(rt, client.handle().exchanges());
-    show_kept(rt, alloc, client.cache(), labels)
+    show_exchanges(rt, exchanges);
+    show_kept(rt, alloc, cache, labels)
 }
 
 /// How many entries a cache has, and which of these names have one.
@@ -124,7 +125,13 @@ fn with_mut_client(
         "CachingClient::ask" => ask(rt, alloc, case, client)?,
         _ => look_up_in_turn(rt, alloc, case, client)?,
     }
-    show_client(rt, alloc, client, &LABELS)
+    show_client(
+        rt,
+        alloc,
+        client.handle().exchanges(),
+        client.cache(),
+        &LABELS,
+    )
 }
 
 fn look_up<H: DnsHandle>(
@@ -259,14 +266,21 @@ fn with_mut_resolver(
         "Resolver::lookup_ip" => show(rt, call!(rt, case, resolver.lookup_ip("a.", 0))),
         _ => show(rt, call!(rt, case, resolver.lookup_ip("127.0.0.1", 0))),
     }
-    show_client(rt, alloc, resolver.client(), &LABELS)
+    let client = resolver.client();
+    show_client(
+        rt,
+        alloc,
+        client.handle().exchanges(),
+        client.cache(),
+        &LABELS,
+    )
 }
 
 // How many of these look-ups, each of a name that the upstream knows nothing of, were out of memory.
 fn ask_each(resolver: &mut Resolver<Upstream>) -> u8 {
     let mut refused = 0_u8;
     for record_type in TYPES {
-        let answer = types::ask(resolver, "d.", record_type);
+        let answer = look_up_type(resolver, "d.", record_type);
         if matches!(&answer, Err(NetError::OutOfMemory)) {
             refused = refused.saturating_add(1);
         }
@@ -275,12 +289,39 @@ fn ask_each(resolver: &mut Resolver<Upstream>) -> u8 {
     refused
 }
 
+// The look-up of a type by its own call.
+fn look_up_type(
+    resolver: &mut Resolver<Upstream>,
+    name: &str,
+    record_type: RecordType,
+) -> Result<Lookup, NetError> {
+    match record_type {
+        RecordType::A => resolver.ipv4_lookup(name, 0),
+        RecordType::AAAA => resolver.ipv6_lookup(name, 0),
+        RecordType::MX => resolver.mx_lookup(name, 0),
+        RecordType::NS => resolver.ns_lookup(name, 0),
+        RecordType::SMIMEA => resolver.smimea_lookup(name, 0),
+        RecordType::SOA => resolver.soa_lookup(name, 0),
+        RecordType::SRV => resolver.srv_lookup(name, 0),
+        RecordType::TLSA => resolver.tlsa_lookup(name, 0),
+        RecordType::TXT => resolver.txt_lookup(name, 0),
+        RecordType::CERT => resolver.cert_lookup(name, 0),
+        _ => resolver.reverse_lookup(name, 0),
+    }
+}
+
 // The canonical name of an alias is asked for, and the handle has no memory for its answer.
 fn look_up_behind(rt: &impl Print, alloc: Global, case: &str) -> Result<(), NetError> {
     let handle = Recorded::new(alloc, script(alloc, &BEHIND)?);
     let mut client = CachingClient::new(alloc, 8, handle, false);
     let shown = match look_up(rt, alloc, case, &mut client, "a") {
-        Ok(()) => show_scripted(rt, alloc, &client, &LABELS),
+        Ok(()) => show_client(
+            rt,
+            alloc,
+            client.handle().exchanges(),
+            client.cache(),
+            &LABELS,
+        ),
         Err(error) => Err(error),
     };
     drop(client);
@@ -293,7 +334,14 @@ fn look_up_at_first(rt: &impl Print, alloc: Global, case: &str) -> Result<(), Ne
     let handle = Recorded::new(alloc, script);
     let mut resolver = Resolver::builder_with_config(config, handle).build()?;
     show(rt, call!(rt, case, resolver.ipv4_lookup("a", 0)));
-    let shown = show_scripted(rt, alloc, resolver.client(), &LABELS);
+    let client = resolver.client();
+    let shown = show_client(
+        rt,
+        alloc,
+        client.handle().exchanges(),
+        client.cache(),
+        &LABELS,
+    );
     drop(resolver);
     shown
 }

@@ -1,7 +1,7 @@
 //! Servers, groups of them, and configurations.
 use crate::memory::marks::done;
-use crate::memory::sample::{IP, group, name, text};
-use crate::memory::shown::{Shown, say, show};
+use crate::sample::{IP, group, name, text};
+use crate::shown::{Shown, say, show};
 use hickory_proto_core::NetError;
 use hickory_resolver::{
     ConnectionConfig, NameServerConfig, ResolverConfig, ServerGroup, cloudflare, google, quad9,
@@ -73,7 +73,7 @@ impl Shown for ResolverConfig {
 
 impl Shown for ServerGroup<'_> {
     fn show(&self, rt: &impl Print) {
-        let _ = println!(rt; "{} {}", self.server_name, self.ips.len());
+        let _ = println!(rt; "{self:?}");
     }
 }
 

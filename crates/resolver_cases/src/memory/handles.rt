@@ -1,8 +1,8 @@
 //! Handles: a table that is made and asked, and one that records what it is asked.
 use crate::memory::marks::done;
-use crate::memory::sample::{Pair, Said, outcomes, query, table};
-use crate::memory::shown::{say, show, show_exchanges};
 use crate::parts::both;
+use crate::sample::{Pair, Said, outcomes, query, table};
+use crate::shown::{say, show, show_exchanges};
 use hickory_proto_core::{
     DnsHandle, DnsRequest, DnsRequestOptions, NetError, RecordType, Recorded, TableHandle,
 };
@@ -46,6 +46,21 @@ fn new_table(rt: &impl Print, alloc: Global, case: &str) -> Result<(), NetError>
     asked
 }
 
+/// What a table answers for the addresses of these names.
+pub fn ask_each(
+    rt: &impl Print,
+    alloc: Global,
+    table: &mut TableHandle,
+    labels: &[&str],
+) -> Result<(), NetError> {
+    for label in labels {
+        let request = request(alloc, label)?;
+        let _ = rt.print("  ");
+        show(rt, table.send(&request));
+    }
+    Ok(())
+}
+
 fn ask_made(
     rt: &impl Print,
     alloc: Global,
@@ -54,15 +69,13 @@ fn ask_made(
     match made {
         Ok(table) => {
             say(rt, &"a table");
-            for label in ["a", "b", "c"] {
-                let request = request(alloc, label)?;
-                let _ = rt.print("  ");
-                show(rt, table.send(&request));
-            }
+            ask_each(rt, alloc, table, &["a", "b", "c"])
         }
-        Err(error) => say(rt, error),
+        Err(error) => {
+            say(rt, error);
+            Ok(())
+        }
     }
-    Ok(())
 }
 
 // What a table answers, and what it answers the next time.

@@ -1,8 +1,8 @@
 //! Look-ups, bounds and attempts.
 use crate::memory::marks::done;
-use crate::memory::sample::{address, five_addresses, name, one, one_address, query, with_answer};
-use crate::memory::shown::{Shown, say, show};
 use crate::parts::both;
+use crate::sample::{address, five_addresses, name, one, one_address, query, with_answer};
+use crate::shown::{Shown, say, show};
 use hickory_proto_core::{Message, Name, NetError, OpCode, RData, RecordType};
 use hickory_resolver::{Lookup, TtlBounds, TtlConfig, attempts};
 use std::alloc::Global;
@@ -54,7 +54,7 @@ fn of_records(rt: &impl Print, alloc: Global, case: &str) -> Result<(), NetError
 // Of a message without a question.
 fn of_message(rt: &impl Print, alloc: Global, case: &str) -> Result<(), NetError> {
     let empty = Message::response(alloc, 0, OpCode::Query);
-    let message = with_answer(empty, address(alloc, "a", 60));
+    let message = with_answer(Ok(empty), address(alloc, "a", 60));
     let (query, message) = both(query(alloc, "a"), message)?;
     match case {
         "Lookup::of_message" => {

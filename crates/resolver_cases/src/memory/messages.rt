@@ -1,9 +1,9 @@
 //! Messages that grow, shared addresses, and what responses come to.
 use crate::memory::marks::done;
-use crate::memory::sample::{
+use crate::sample::{
     address, empty, five_addresses, glue, no_such_name, one_address, query, with_answer,
 };
-use crate::memory::shown::{Shown, say, show, show_message, show_outcome};
+use crate::shown::{Shown, say, show, show_message, show_outcome};
 use hickory_proto_core::{DnsError, DnsResponse, Glue, Message, NetError, Record};
 use std::alloc::Global;
 
@@ -27,12 +27,10 @@ pub fn make(rt: &impl Print, alloc: Global, case: &str) -> Result<bool, NetError
 fn message_of(alloc: Global, case: &str) -> Result<Message, NetError> {
     match case {
         "Message::add_answers" | "Message::add_authorities" | "Message::add_additionals" => {
-            with_answer(
-                no_such_name(alloc, query(alloc, "x")?)?,
-                address(alloc, "x", 60),
-            )
+            let message = no_such_name(alloc, query(alloc, "x"));
+            with_answer(message, address(alloc, "x", 60))
         }
-        _ => empty(alloc, query(alloc, "a")?),
+        _ => empty(alloc, query(alloc, "a")),
     }
 }
 
@@ -85,7 +83,7 @@ fn add_all(case: &str, message: &mut Message, added: Vec<Record>) -> Result<(), 
 
 // What a response that there is no such name comes to.
 fn from_response(rt: &impl Print, alloc: Global, case: &str) -> Result<(), NetError> {
-    let response = DnsResponse::from_message(no_such_name(alloc, query(alloc, "x")?)?);
+    let response = DnsResponse::from_message(no_such_name(alloc, query(alloc, "x"))?);
     let outcome = call!(rt, case, DnsError::from_response(response));
     show_outcome(rt, &outcome);
     drop(outcome);

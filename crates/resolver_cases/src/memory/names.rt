@@ -1,7 +1,7 @@
 //! Names, and what makes them.
 use crate::memory::marks::done;
-use crate::memory::sample::{IP, name, text};
-use crate::memory::shown::show_text;
+use crate::sample::{IP, name, text};
+use crate::shown::show_text;
 use hickory_proto_core::{IntoName, Name, NameError, NetError, ip_text};
 use hickory_proto_names::ip::printed_text;
 use std::alloc::Global;

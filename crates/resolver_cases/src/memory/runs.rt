@@ -1,10 +1,10 @@
 //! Runs: the replies, what was asked, and what the cache keeps then.
-use crate::memory::clients::{BEHIND, show_client, show_scripted};
+use crate::memory::clients::{BEHIND, show_client};
 use crate::memory::marks::done;
-use crate::memory::sample::{Pair, Said, script, table, text};
-use crate::memory::shown::say;
 use crate::parts::{both, whole};
-use hickory_proto_core::{Exchange, NetError, RecordType, Recorded, ScriptHandle, TableHandle};
+use crate::sample::{Pair, Said, table, text};
+use crate::shown::say;
+use hickory_proto_core::{Exchange, NetError, RecordType, Recorded, TableHandle};
 use hickory_resolver::{
     Heard, Hosts, Listener, LookupIpStrategy, Reply, Request, ResolverConfig, ResolverOpts, Step,
     Transcript, run, run_told, run_with_hasher,
@@ -38,6 +38,20 @@ const HOSTS: [Pair; 3] = [
     ("t", A, Said::Late),
 ];
 
+// What is asked: as a script says it, a name, a type, and the moment.
+type Asked = (&'static str, &'static str, RecordType, u64);
+
+// The addresses of the host; that it lacks a family, out of the cache; its address, cleared and asked again; the name
+// that is not answered; and all is cleared.
+const OF_TABLE: [Asked; 6] = [
+    ("lookup_ip", "h.", A, 10),
+    ("lookup", "h.", RecordType::AAAA, 25),
+    ("clear_lookup", "h.", A, 25),
+    ("lookup", "h.", A, 26),
+    ("lookup", "t.", A, 26),
+    ("clear", "", A, 26),
+];
+
 /// Makes the call of a case, and says whether there is such a case.
 pub fn make(rt: &impl Print, alloc: Global, case: &str) -> Result<bool, NetError> {
     let two = ["a", "b"];
@@ -48,7 +62,7 @@ pub fn make(rt: &impl Print, alloc: Global, case: &str) -> Result<bool, NetError
         "run: eight hops" => done(run_table(rt, alloc, case, false, &CHAIN, &CHAINED)),
         "run: a table" => done(run_table(rt, alloc, case, false, &HOSTS, &["h", "t"])),
         "run: a handle without memory, and a later request" => {
-            done(run_script(rt, alloc, case, &two))
+            done(run_table(rt, alloc, case, false, &BEHIND, &two))
         }
         "run_told" => done(run_to_listener(rt, alloc, case, &two)),
         _ => Ok(false),
@@ -77,49 +91,45 @@ impl Listener for Keeper {
 type Told = Heard<Recorded<TableHandle>, BuildHasherDefault<FoldHasher>, Keeper>;
 
 fn requests(alloc: Global, case: &str) -> Result<Vec<Request>, NetError> {
+    let asked: &[Asked] = match case {
+        "run: eight hops" => &[("lookup", "n0.", A, 0)],
+        "run: a table" => &OF_TABLE,
+        _ => &[("lookup", "a.", A, 0), ("lookup", "b.", A, 4)],
+    };
     let mut requests = Vec::new(alloc);
-    whole(push_requests(alloc, case, &mut requests), requests)
+    whole(push_requests(alloc, asked, &mut requests), requests)
 }
 
-// Of the table: the addresses of the host; that it lacks a family, out of the cache; its address, cleared and asked
-// again; the name that is not answered; and all is cleared.
-fn push_requests(alloc: Global, case: &str, requests: &mut Vec<Request>) -> Result<(), NetError> {
-    match case {
-        "run: eight hops" => requests.push(lookup(alloc, "n0.", A, 0)?)?,
-        "run: a table" => {
-            let (host, now) = (text(alloc, "h.")?, 10);
-            requests.push(Request::LookupIp { host, now })?;
-            requests.push(lookup(alloc, "h.", RecordType::AAAA, 25)?)?;
-            let (name, record_type, now) = (text(alloc, "h.")?, A, 25);
-            requests.push(Request::ClearLookup {
-                name,
-                record_type,
-                now,
-            })?;
-            requests.push(lookup(alloc, "h.", A, 26)?)?;
-            requests.push(lookup(alloc, "t.", A, 26)?)?;
-            requests.push(Request::Clear { now: 26 })?;
-        }
-        _ => {
-            requests.push(lookup(alloc, "a.", A, 0)?)?;
-            requests.push(lookup(alloc, "b.", A, 4)?)?;
-        }
+fn push_requests(
+    alloc: Global,
+    asked: &[Asked],
+    requests: &mut Vec<Request>,
+) -> Result<(), NetError> {
+    for asked in asked {
+        requests.push(request(alloc, *asked)?)?;
     }
     Ok(())
 }
 
-fn lookup(
-    alloc: Global,
-    name: &str,
-    record_type: RecordType,
-    now: u64,
-) -> Result<Request, NetError> {
+fn request(alloc: Global, (verb, name, record_type, now): Asked) -> Result<Request, NetError> {
     let name = text(alloc, name)?;
-    Ok(Request::Lookup {
-        name,
-        record_type,
-        now,
-    })
+    match verb {
+        "lookup" => Ok(Request::Lookup {
+            name,
+            record_type,
+            now,
+        }),
+        "lookup_ip" => Ok(Request::LookupIp { host: name, now }),
+        "clear_lookup" => Ok(Request::ClearLookup {
+            name,
+            record_type,
+            now,
+        }),
+        _ => {
+            drop(name);
+            Ok(Request::Clear { now })
+        }
+    }
 }
 
 // Options of a run, which asks for both families.
@@ -198,38 +208,14 @@ fn show_run(
         Ok(transcript) => {
             show_steps(rt, transcript.steps());
             let resolver = transcript.into_resolver();
-            let shown = show_client(rt, alloc, resolver.client(), labels);
-            drop(resolver);
-            shown
-        }
-        Err(error) => {
-            say(rt, &error);
-            Ok(())
-        }
-    }
-}
-
-// The same over a script.
-fn run_script(rt: &impl Print, alloc: Global, case: &str, labels: &[&str]) -> Result<(), NetError> {
-    let (requests, handle) = both(requests(alloc, case), script(alloc, &BEHIND))?;
-    let (config, hosts) = (ResolverConfig::default(alloc), Hosts::default(alloc));
-    let options = options(alloc, false);
-    let answer = call!(rt, case, run(config, options, hosts, handle, &requests));
-    drop(requests);
-    show_scripted_run(rt, alloc, answer, labels)
-}
-
-fn show_scripted_run(
-    rt: &impl Print,
-    alloc: Global,
-    answer: Result<Transcript<ScriptHandle>, NetError>,
-    labels: &[&str],
-) -> Result<(), NetError> {
-    match answer {
-        Ok(transcript) => {
-            show_steps(rt, transcript.steps());
-            let resolver = transcript.into_resolver();
-            let shown = show_scripted(rt, alloc, resolver.client(), labels);
+            let client = resolver.client();
+            let shown = show_client(
+                rt,
+                alloc,
+                client.handle().exchanges(),
+                client.cache(),
+                labels,
+            );
             drop(resolver);
             shown
         }
@@ -253,7 +239,14 @@ fn run_to_listener(
     let shown = match &told {
         Ok(told) => {
             show_steps(rt, &told.listener.steps);
-            show_client(rt, alloc, told.resolver.client(), labels)
+            let client = told.resolver.client();
+            show_client(
+                rt,
+                alloc,
+                client.handle().exchanges(),
+                client.cache(),
+                labels,
+            )
         }
         Err(error) => {
             say(rt, error);

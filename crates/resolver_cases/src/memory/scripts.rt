@@ -1,5 +1,5 @@
 //! Scripts, and lines of them.
-use crate::memory::shown::{Shown, say, say_part, show, show_answered};
+use crate::shown::{Shown, say, say_part, show, show_answered};
 use hickory_proto_core::NetError;
 use replay_script::{Line, Script, read_line, read_script};
 use std::alloc::Global;

@@ -1,8 +1,8 @@
 //! Tables of hosts.
 use crate::memory::marks::done;
-use crate::memory::sample::{name, one, query};
-use crate::memory::shown::{Shown, say, say_part, show};
 use crate::parts::both;
+use crate::sample::{name, one, query};
+use crate::shown::{Shown, say, say_part, show};
 use hickory_proto_core::{Name, NetError, Query, RecordType};
 use hickory_resolver::{Hosts, Lookup, Watched};
 use std::alloc::Global;

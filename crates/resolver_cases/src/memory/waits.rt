@@ -2,8 +2,8 @@
 use crate::memory::caches::cache_of;
 use crate::memory::clients::show_kept;
 use crate::memory::marks::done;
-use crate::memory::sample::{Said, outcome_of, query};
-use crate::memory::shown::{say_waits, show_made};
+use crate::sample::{Said, outcome_of, query};
+use crate::shown::{say_waits, show_made};
 use hickory_proto_core::{NetError, Outcome, Query, RecordType, ScriptHandle};
 use hickory_resolver::{CachingClient, ClientState, Progress, ResponseCache, Waiting};
 use std::alloc::Global;

@@ -1,5 +1,5 @@
 //! Messages as bytes.
-use crate::memory::shown::{Shown, say_part, show};
+use crate::shown::{Shown, say_part, show};
 use hickory_proto_core::NetError;
 use hickory_proto_wire::WireMessage;
 use std::alloc::Global;

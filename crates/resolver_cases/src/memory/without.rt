@@ -2,9 +2,9 @@
 use crate::memory::clients::with_search;
 use crate::memory::handles::request;
 use crate::memory::marks::done;
-use crate::memory::sample::{Pair, Said, glue, one, query, script};
-use crate::memory::shown::{say, show_text};
 use crate::parts::both;
+use crate::sample::{Pair, Said, glue, one, query, script};
+use crate::shown::{say, show_text};
 use hickory_proto_core::{
     DnsHandle, DnsRequestOptions, Name, NetError, Outcome, RecordType, ScriptHandle, clone_outcome,
     read_ip,
