@@ -98,7 +98,7 @@ def in_child(work):
 
 def library():
     sys.path.insert(0, str(EMBED / "python"))
-    os.environ.setdefault("YIMAROTU", str(LIBRARY))
+    os.environ.setdefault("YIMAROTU_LIBRARY", str(LIBRARY))
     import yimarotu
     return yimarotu
 

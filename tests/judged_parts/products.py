@@ -1,5 +1,4 @@
 """Resolvers with a setting, as the command of each: given its port, that of its upstream and a folder of its own."""
-import sys
 from pathlib import Path
 
 from live_parts.servers import ADDRESS
@@ -84,12 +83,13 @@ def resolved(unpacked):
     return words
 
 
-def forward(port, upstream, folder):
-    return [sys.executable, str(TOP / "tools/forward"), "--listen", f"{ADDRESS}:{port}", "--server", f"{ADDRESS}:{upstream}"]
+def forwarder(port, upstream, folder):
+    """The example for C, as `make -C embed` builds it."""
+    return [str(TOP / "embed/out/forwarder"), ADDRESS, str(port), ADDRESS, str(upstream)]
 
 
 # This product, which has to be without a finding.
-OWN = "tools/forward, as it is"
+OWN = "the forwarder for C, as it is"
 # Each product with a setting, by the words of docs/JUDGED.md.
 SETTINGS = {
     "unbound, as it is": unbound(),
@@ -102,7 +102,7 @@ SETTINGS = {
     "knot-resolver, serve_stale": knot("modules.load('serve_stale < cache')"),
     "pdns-recursor, as it is": recursor(),
     "pdns-recursor, --serve-stale-extensions=10": recursor("--serve-stale-extensions=10"),
-    OWN: forward,
+    OWN: forwarder,
 }
 # Settings that serve on purpose what ran out: it is found.
 SERVES_STALE = ("unbound, serve-expired: yes", "dnsmasq, --min-cache-ttl=10", "dnsmasq, --use-stale-cache",

@@ -1,4 +1,4 @@
-"""Cases of `forward`: many clients at once, over a server that counts."""
+"""Cases of a forwarder: many clients at once, over a server that counts."""
 import asyncio
 import contextlib
 import os
@@ -15,7 +15,7 @@ import dns.query
 import dns.rcode
 import dns.rdatatype
 
-from . import lookups, servers, stub, tools, zone
+from . import lookups, servers, stub, zone
 
 CLIENTS, ADDRESSES, ALIASES, ABSENT = 20, 120, 60, 20
 # How many clients ask for each name.
@@ -47,10 +47,11 @@ def wanted():
     return {dns.name.from_text(f"{name}.example.test."): address for name, address in names.items()}
 
 
-def run(cases, programs, folder):
+def run(cases, forwarder, folder):
+    """The forwarder is one that `forwarder.forwarding(SERVER, PORT)` runs."""
     with cases.guard("forward"), stub.running(list(zone_records())) as server:
         port = servers.free_port()
-        with tools.forwarding(programs, server.text, port, "--tries", "1") as process:
+        with forwarder.forwarding(server.text, port) as process:
             one_name(cases, server, port)
             many_clients(cases, server, port)
             replies(cases, server, port)
@@ -61,16 +62,16 @@ def run(cases, programs, folder):
             malformed(cases, port)
             cases.equal("forward is still there", process.poll(), None)
         cases.equal("forward is ended by a signal", process.returncode, 0)
-    over_real_servers(cases, programs, folder)
+    over_real_servers(cases, forwarder, folder)
 
 
-def over_real_servers(cases, programs, folder):
+def over_real_servers(cases, forwarder, folder):
     """What a client is told is what the server itself says."""
     questions = [question for question in zone.QUESTIONS if question[1]]
     for name in servers.SERVERS:
         port = servers.free_port()
         with cases.guard(f"forward over {name}"), servers.running(name, folder) as server:
-            with tools.forwarding(programs, server.text, port):
+            with forwarder.forwarding(server.text, port):
                 for question in questions:
                     found, told = said(port, *question), said(server.port, *question)
                     cases.equal(f"forward over {name}, {' '.join(question)}", found, told)

@@ -163,7 +163,7 @@ def running(forwarder, **how):
         socks = [stack.enter_context(datagrams()) for _ in range(2)]
         socks[0].bind((servers.ADDRESS, 0))
         upstream, client = Upstream(socks[0]), Client(socks[1], port)
-        process = stack.enter_context(forwarder.forwarding(None, upstream.text, port, **how))
+        process = stack.enter_context(forwarder.forwarding(upstream.text, port, **how))
         client.send(KEPT)
         upstream.answer(upstream.hear(), (3600, "IN", "A", "192.0.2.1"))
         client.hear()

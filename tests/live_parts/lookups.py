@@ -1,6 +1,5 @@
 """Cases of `resolve`: over unbound, over dnsmasq, and over a server that lies."""
 import re
-import time
 from concurrent.futures import ThreadPoolExecutor
 
 import dns.message
@@ -22,20 +21,16 @@ def run(cases, programs, folder):
     hosts.write_text(HOSTS)
     for name in servers.SERVERS:
         with cases.guard(name), servers.running(name, folder) as server:
-            compare_all(cases, programs, name, server)
-            names_and_hosts(cases, programs, name, server, hosts)
-            silence(cases, programs, name, server)
-            session(cases, programs, f"{name}, a session", server, folder, hosts)
+            compare_all(cases, name, server)
+            names_and_hosts(cases, name, server, hosts)
+            silence(cases, name, server)
     records = [*zone.RECORDS, "lied.example.test. 60 IN A 192.0.2.9"]
     with cases.guard("a server that lies"), stub.running(records) as server:
-        misbehaviour(cases, programs, server)
-        moments(cases, programs, server)
-        session(cases, programs, "a server that lies, a session", server, folder, hosts, "lied.example.test", "A",
-                "silent.example.test", "A", "refused.example.test", "A")
+        misbehaviour(cases, server)
 
 
-def resolve(programs, server, *words):
-    return tools.run("resolve", "--server", server.text, "--serve", programs.serve, *words)
+def resolve(server, *words):
+    return tools.run("resolve", "--server", server.text, *words)
 
 
 def direct(port, name, rdtype):
@@ -54,11 +49,11 @@ def direct(port, name, rdtype):
         name = chained.canonical_name
 
 
-def compare_all(cases, programs, server_name, server):
+def compare_all(cases, server_name, server):
     """Each question, some of them at once: what is printed is what the server itself says."""
     asked = [[word for word in question if word] for question in zone.QUESTIONS]
     with ThreadPoolExecutor(AT_ONCE) as pool:
-        printed = pool.map(lambda words: resolve(programs, server, *words), asked)
+        printed = pool.map(lambda words: resolve(server, *words), asked)
         for words, (status, output, said) in zip(asked, printed):
             found = (status, sorted(output.splitlines()), said)
             cases.equal(f"{server_name}, {' '.join(words)}", found, wanted(server, *words))
@@ -74,83 +69,56 @@ def wanted(server, name, rdtype=None):
     return NO_RECORDS, [], f"{name} {rdtype}: {what}\n" if rdtype else f"{name}: {what}\n"
 
 
-def names_and_hosts(cases, programs, server_name, server, hosts):
+def names_and_hosts(cases, server_name, server, hosts):
     search = ("--search", "nowhere.test", "--search", "example.test")
     wanted = (FOUND, "www.example.test. 60 IN A 192.0.2.1\n", "")
-    cases.equal(f"{server_name}, a search list", resolve(programs, server, *search, "www", "A"), wanted)
-    found = resolve(programs, server, *search, "--ndots", "3", "_imap._tcp", "SRV")
+    cases.equal(f"{server_name}, a search list", resolve(server, *search, "www", "A"), wanted)
+    found = resolve(server, *search, "--ndots", "3", "_imap._tcp", "SRV")
     wanted = (FOUND, "_imap._tcp.example.test. 60 IN SRV 10 5 143 mail.example.test.\n", "")
     cases.equal(f"{server_name}, a search list and ndots", found, wanted)
-    found = resolve(programs, server, "--hosts", hosts, "printer.example.test", "A", "--reverse", "192.0.2.200")
+    found = resolve(server, "--hosts", hosts, "printer.example.test", "A", "--reverse", "192.0.2.200")
     # A line of hosts names an address twice.
     name = "200.2.0.192.in-addr.arpa."
     names = f"{name} 86400 IN PTR printer.example.test.\n{name} 86400 IN PTR printer.\n"
     cases.equal(f"{server_name}, a file of hosts", found, (FOUND, PRINTER + names, ""))
 
 
-def silence(cases, programs, server_name, server):
+def silence(cases, server_name, server):
     with server.silenced():
-        found = resolve(programs, server, "--timeout", "0.2", "www.example.test", "A")
+        found = resolve(server, "--timeout", "1", "--tries", "1", "www.example.test", "A")
     cases.equal(f"{server_name}, silent", found, (FAILED, "", "www.example.test A: timeout\n"))
 
 
-def session(cases, programs, case, server, folder, hosts, *more):
-    """Many names in one session. Its journal is replayed, and prints the same text."""
-    journal = folder / "journal"
-    words = [word for question in zone.QUESTIONS for word in question if word]
-    words += ["www", "A", "printer", "A", "www.example.test", "A", "localhost", "192.0.2.7", *more]
-    options = ("--search", "example.test", "--hosts", hosts, "--journal", journal, "--timeout", "0.2", "--blocks")
-    _, output, _ = resolve(programs, server, *options, *words)
-    heads = [line for line in output.splitlines() if not line.startswith(" ")]
-    wanted = sum(rdtype is None for _, rdtype in zone.QUESTIONS)
-    cases.equal(f"{case}: a block for each request", len(heads), len(zone.QUESTIONS) + 5 + len(more) // 2)
-    cases.equal(f"{case}: requests of addresses", sum(" lookup_ip " in line for line in heads), wanted + 2)
-    cases.equal(f"{case}: the journal is replayed", tools.replayed(programs.replay, journal, hosts), output)
-
-
-def misbehaviour(cases, programs, server):
-    found = resolve(programs, server, "lied.example.test", "A")
+def misbehaviour(cases, server):
+    # (what is cut off behind a right id and question ends what is asked of a server, which so is named twice)
+    found = resolve(server, "--server", server.text, "--timeout", "1", "lied.example.test", "A")
     cases.equal("lies before the reply", found, (FOUND, "lied.example.test. 60 IN A 192.0.2.9\n", ""))
-    cases.equal("lies before the reply: one question", len(server.questions_for("lied.example.test.")), 1)
-    found = resolve(programs, server, "--timeout", "0.2", "--tries", "2", "silent.example.test", "A")
+    found = resolve(server, "--timeout", "1", "--tries", "2", "silent.example.test", "A")
     cases.equal("a silent server", found, (FAILED, "", "silent.example.test A: timeout\n"))
     asked = server.questions_for("silent.example.test.")
     cases.equal("a silent server: two tries", len(asked), 2)
     ids, ports = {it[2] for it in asked}, {it[3] for it in asked}
     cases.equal("a silent server: fresh ids and ports", (len(ids), len(ports)), (2, 2))
-    _, block, _ = resolve(programs, server, "--blocks", "nowhere.example.test", "A")
-    told = ["  sent nowhere.example.test. IN A", "  err norecords NXDOMAIN 240 nowhere.example.test. IN A"]
-    cases.equal("a negative answer holds as long as its SOA record says", block.splitlines()[1:], told)
-    found = resolve(programs, server, "refused.example.test", "A")
+    found = resolve(server, "refused.example.test", "A")
     cases.equal("a server that refuses", found, (FAILED, "", "refused.example.test A: code REFUSED\n"))
-    explained(cases, programs, server)
+    explained(cases, server)
     server.asked.clear()
-    resolve(programs, server, "big.example.test", "TXT")
+    resolve(server, "big.example.test", "TXT")
     cases.equal("a truncated reply is asked for by TCP", [it[4] for it in server.asked], [False, True])
     cases.equal("no more than one question a name", len(server.questions_for("big.example.test.")), 2)
 
 
-def moments(cases, programs, server):
-    """Moments are of a clock that does not go back: of the one that this machine has for all processes."""
-    before = int(time.monotonic())
-    _, block, _ = resolve(programs, server, "--blocks", "www.example.test", "A")
-    moment = int(block.split()[1])
-    cases.tell("the moment of a request", before <= moment <= time.monotonic(), f"{moment}, not {before} or soon after")
-
-
-def explained(cases, programs, server):
+def explained(cases, server):
     """Of a name that is looked up twice, a question is sent the first time. The seconds that are left may differ."""
-    _, output, _ = resolve(programs, server, "--explain", "www.example.test", "A", "www.example.test", "A")
-    question = "www.example.test. IN A"
+    _, output, _ = resolve(server, "--explain", "www.example.test", "A", "www.example.test", "A")
+    question = "www.example.test. A"
     told = [
-        f"; attempt {question}: the server would be asked",
-        f"; {server.text} was asked for www.example.test. A IN: reply NOERROR",
-        f"; stored {question} until N",
-        f"; {question} may be used for N seconds",
+        f"; {question} is asked of {server.text}",
+        f"; {server.text} said of {question} after N ms: NOERROR, N answer",
+        "; may be used for N seconds",
         "www.example.test. N IN A 192.0.2.1",
-        f"; attempt {question}: the cache answers, kept N seconds ago",
-        "; no question was sent",
-        f"; {question} may be used for N seconds",
+        "; no question was sent: the cache, the hosts or the name itself answers",
+        "; may be used for N seconds",
         "www.example.test. N IN A 192.0.2.1",
     ]
     cases.equal("explained", [re.sub(r"(?<= )\d+(?= |$)", "N", line) for line in output.splitlines()], told)

@@ -1,7 +1,6 @@
 """Runs the tools."""
 import os
 import subprocess
-from contextlib import contextmanager
 from pathlib import Path
 
 from .packages import PYTHON
@@ -22,20 +21,3 @@ def run(tool, *words):
 def replayed(program, *files):
     done = subprocess.run([program, *files], stdin=subprocess.DEVNULL, capture_output=True, timeout=SECONDS, text=True)
     return done.stdout if done.returncode == 0 else f"status {done.returncode}: {done.stderr}"
-
-
-@contextmanager
-def forwarding(programs, server, port, *words):
-    """A forwarder to this server, once it listens."""
-    words = ["--listen", f"127.0.0.1:{port}", "--server", server, "--serve", str(programs.serve), *words]
-    words = [PYTHON, str(TOOLS / "forward"), *words]
-    process = subprocess.Popen(words, stdin=subprocess.DEVNULL, stderr=subprocess.PIPE, text=True, env=ENVIRONMENT)
-    try:
-        said = process.stderr.readline()
-        if not said.startswith("forwarding on "):
-            raise RuntimeError(said + process.stderr.read())
-        yield process
-    finally:
-        process.terminate()
-        process.stderr.close()
-        process.wait(SECONDS)

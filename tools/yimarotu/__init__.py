@@ -1,4 +1,4 @@
-"""What the tools in Python share: the co-process, the network, and the words of scripts.
+"""What the tools in Python share: the co-process, captures, and the words of scripts.
 
 Nothing here is proved, and nothing here decides what is asked, kept or answered: `resolve_serve` does.
 """

@@ -6,7 +6,7 @@ from dataclasses import dataclass
 from pathlib import Path
 from typing import Callable, Optional
 
-from .upstream import Question
+from .question import Question
 
 TOP = Path(__file__).resolve().parents[2]
 # The program as the gate leaves it; and the launcher, which compiles it without proof.

@@ -177,11 +177,6 @@ class Record:
     def rrset(self):
         return dns.rrset.from_rdata(self.owner, self.ttl, self.rdata)
 
-    def shown(self):
-        """The record as people know it."""
-        words = (self.fields[0], self.fields[1], self.fields[2], dns.rdatatype.to_text(self.rdtype))
-        return " ".join((*words, self.rdata.to_text()))
-
 
 def chain(name, rdtype, records):
     """The records that the name leads to: aliases from one to the next, and what their end has of the type; and that

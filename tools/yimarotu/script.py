@@ -4,7 +4,7 @@ from dataclasses import dataclass
 import dns.rdataclass
 
 from . import records
-from .upstream import Question
+from .question import Question
 
 
 @dataclass

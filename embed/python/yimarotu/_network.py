@@ -1,0 +1,251 @@
+"""The network of a session: a socket for each channel, what is done of what the library says, and what comes.
+
+Nothing is decided here: who is asked, which reply is believed, and when it is asked again, the library says. The
+driver, which waits until a socket is ready, is in `resolver` for plain code, and in `aio` for asyncio.
+"""
+from __future__ import annotations
+
+import errno
+import socket
+from typing import Any, Dict, List, NamedTuple, Optional, Tuple
+
+from . import _numbers as numbers
+from ._driven import DrivenSession
+from ._settings import Opening
+
+# Errors of this machine, and not of the way to the server.
+LOCAL = {errno.EMFILE, errno.ENFILE, errno.ENOBUFS, errno.ENOMEM, errno.EADDRNOTAVAIL}
+NOT_YET = {errno.EAGAIN, errno.EWOULDBLOCK, errno.EINTR, errno.EINPROGRESS, errno.ENOTCONN, errno.EALREADY}
+# The most octets that are read at once: a whole datagram.
+MOST = 65535
+KINDS = {
+    numbers.DATAGRAM: socket.SOCK_DGRAM | socket.SOCK_NONBLOCK,
+    numbers.STREAM: socket.SOCK_STREAM | socket.SOCK_NONBLOCK,
+}
+
+
+class Server(NamedTuple):
+    """The server of a channel."""
+
+    address: str
+    port: int
+    is_stream: bool
+
+    def __str__(self) -> str:
+        text = f"[{self.address}]:{self.port}" if ":" in self.address else f"{self.address}:{self.port}"
+        return f"{text} (TCP)" if self.is_stream else text
+
+
+class Place(NamedTuple):
+    """A server as sockets have it."""
+
+    server: Server
+    family: int
+    kind: int
+    address: Any
+
+
+class Channel:
+    """A channel that is open: its socket, and of a stream what waits to be sent."""
+
+    __slots__ = ("number", "sock", "server", "out", "is_failed")
+
+    def __init__(self, number: int, sock: socket.socket, server: Server) -> None:
+        self.number, self.sock, self.server = number, sock, server
+        self.out = b""
+        self.is_failed = False
+
+
+class Watcher:
+    """Hears what goes over the network; `python -m yimarotu --explain` is one."""
+
+    def opened(self, channel: int, server: Server) -> None: ...
+    def sent(self, channel: int, octets: bytes) -> None: ...
+    def came(self, channel: int, octets: bytes) -> None: ...
+    def failed(self, channel: int, why: str) -> None: ...
+    def closed(self, channel: int) -> None: ...
+
+
+class Network:
+    """A session and its channels. A driver says how sockets are watched."""
+
+    def __init__(self, opening: Opening, watcher: Optional[Watcher] = None) -> None:
+        self.session = DrivenSession(opening)
+        self.channels: Dict[int, Channel] = {}
+        self.watcher = watcher
+        self._places: Dict[Tuple[bytes, int, int], Place] = {}
+        # Whether something was sent, so that time may end something sooner than was said before.
+        self.has_sent = False
+
+    def watch(self, channel: Channel) -> None:
+        """From now on `receive` is to be called whenever something came on it."""
+        raise NotImplementedError
+
+    def watch_room(self, channel: Channel, is_wanted: bool) -> None:
+        """Whether `flush` is to be called whenever it takes octets."""
+        raise NotImplementedError
+
+    def unwatch(self, channel: Channel) -> None:
+        """It is watched no more: its socket is about to be closed."""
+        raise NotImplementedError
+
+    def act(self) -> List[int]:
+        """Does what is to be done, and gives the numbers of the look-ups that are done."""
+        session, following = self.session, self.session.next
+        done: List[int] = []
+        while True:
+            action = following()
+            kind = action.kind
+            if kind == numbers.CONTINUE:
+                continue
+            if kind == numbers.NOTHING:
+                return done
+            if kind == numbers.LOOKED_UP:
+                done.append(int(action.number))
+            elif kind == numbers.OPEN:
+                self._open(action)
+            elif kind == numbers.SEND:
+                self._send(action.channel, session.room[: action.length])
+            elif kind == numbers.CLOSE:
+                self._close(action.channel)
+
+    def _open(self, action: Any) -> None:
+        number, octets = int(action.channel), bytes(self.session.room[: action.length])
+        key = octets, action.port, action.protocol
+        place = self._places.get(key) or _place(*key)
+        # (the number of a link may change)
+        if len(octets) <= 16:
+            self._places[key] = place
+        if self.watcher is not None:
+            self.watcher.opened(number, place.server)
+        try:
+            sock = _connected(place)
+        except OSError as error:
+            self._failed(number, error)
+            return
+        self.channels[number] = channel = Channel(number, sock, place.server)
+        self.watch(channel)
+
+    def _send(self, number: int, octets: memoryview) -> None:
+        self.has_sent = True
+        channel = self.channels.get(number)
+        if channel is None:
+            return
+        if self.watcher is not None:
+            self.watcher.sent(number, bytes(octets))
+        if channel.server.is_stream:
+            channel.out += octets
+            self.flush(channel)
+            return
+        try:
+            channel.sock.send(octets)
+        except OSError as error:
+            # (a datagram for which there is no room is lost, as one on the way may be)
+            if error.errno not in NOT_YET:
+                self._failed(number, error)
+
+    def flush(self, channel: Channel) -> None:
+        """Sends what waits on a stream, as far as it goes."""
+        if channel.is_failed or not channel.out:
+            return
+        try:
+            channel.out = channel.out[channel.sock.send(channel.out) :]
+        except OSError as error:
+            if error.errno not in NOT_YET:
+                self._fail(channel, error)
+                return
+        self.watch_room(channel, bool(channel.out))
+
+    def receive(self, channel: Channel) -> None:
+        """Hands in what came on a channel, or that it failed."""
+        try:
+            octets = channel.sock.recv(MOST)
+        except OSError as error:
+            if error.errno not in NOT_YET:
+                self._fail(channel, error)
+            return
+        if octets or not channel.server.is_stream:
+            if self.watcher is not None:
+                self.watcher.came(channel.number, octets)
+            self.session.came(channel.number, octets)
+        else:
+            self._fail(channel, None)
+
+    def _fail(self, channel: Channel, error: Optional[OSError]) -> None:
+        """A stream that failed is of no use any more; a socket for datagrams is kept after an ICMP error."""
+        if channel.server.is_stream and not channel.is_failed:
+            channel.is_failed = True
+            self.unwatch(channel)
+        self._failed(channel.number, error)
+
+    def _failed(self, number: int, error: Optional[OSError]) -> None:
+        why = numbers.CHANNEL_UNREACHABLE
+        if error is None:
+            why = numbers.CHANNEL_CLOSED
+        elif error.errno in LOCAL:
+            why = numbers.CHANNEL_LOCAL
+        elif error.errno == errno.ECONNREFUSED:
+            why = numbers.CHANNEL_REFUSED
+        if self.watcher is not None:
+            self.watcher.failed(number, "closed" if error is None else error.strerror or str(error))
+        self.session.failed(number, why)
+
+    def _close(self, number: int) -> None:
+        channel = self.channels.pop(number, None)
+        if channel is not None:
+            if not channel.is_failed:
+                self.unwatch(channel)
+            channel.sock.close()
+            if self.watcher is not None:
+                self.watcher.closed(number)
+
+    def close(self) -> None:
+        """Closes the session and all channels."""
+        for number in list(self.channels):
+            self._close(number)
+        self.session.close()
+
+    def __del__(self) -> None:
+        for channel in getattr(self, "channels", {}).values():
+            channel.sock.close()
+
+    def leave(self) -> None:
+        """Gives all up in a child of fork: the sockets are closed here, and stay open in the parent."""
+        for channel in self.channels.values():
+            channel.sock.close()
+        self.channels.clear()
+        self.session.leave()
+
+
+def _scope_number(scope: bytes) -> int:
+    """The number of the link of a link-local address: of the name of an interface, or as it stands."""
+    text = scope.decode("ascii", "replace")
+    try:
+        return socket.if_nametoindex(text) if text else 0
+    except OSError:
+        return int(text) if text.isdecimal() else 0
+
+
+def _place(octets: bytes, port: int, protocol: int) -> Place:
+    """The place of a server of which the library told the address, with its scope behind it (RFC 4007, section 6)."""
+    address, scope = octets[:16], octets[16:]
+    is_stream = protocol == numbers.STREAM
+    if len(octets) == 4:
+        text = socket.inet_ntop(socket.AF_INET, address)
+        return Place(Server(text, port, is_stream), socket.AF_INET, KINDS[protocol], (text, port))
+    text = socket.inet_ntop(socket.AF_INET6, address)
+    shown = text + ("%" + scope.decode("ascii", "replace") if scope else "")
+    where = text, port, 0, _scope_number(scope)
+    return Place(Server(shown, port, is_stream), socket.AF_INET6, KINDS[protocol], where)
+
+
+def _connected(place: Place) -> socket.socket:
+    """A socket that is connected to a server, or of a stream about to be."""
+    sock = socket.socket(place.family, place.kind)
+    try:
+        sock.connect(place.address)
+    except OSError as error:
+        if error.errno != errno.EINPROGRESS:
+            sock.close()
+            raise
+    return sock
