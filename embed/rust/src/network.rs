@@ -1,0 +1,252 @@
+//! Sockets for the channels of a session. It opens them, moves octets and waits, and decides
+//! nothing.
+
+use std::io::{self, ErrorKind, Read, Write};
+use std::net::{IpAddr, SocketAddr, SocketAddrV6, TcpStream, UdpSocket};
+use std::os::fd::AsRawFd;
+use std::time::Duration;
+
+use crate::ffi::system::{self, PollFd};
+use crate::{ChannelFailure, Protocol};
+
+/// The most that a datagram, or a piece of a stream, can be.
+const ROOM: usize = 1 << 16;
+/// What may wait for a stream.
+const OUT: usize = 1 << 20;
+/// No wait is longer, in milliseconds.
+const LONGEST: u128 = 60_000;
+/// A descriptor that poll passes over.
+const NONE: i32 = -1;
+
+/// What happened on a channel.
+pub(crate) enum Event<'a> {
+    Came(&'a [u8]),
+    Failed(ChannelFailure),
+}
+
+enum Socket {
+    Datagram(UdpSocket),
+    Stream {
+        stream: TcpStream,
+        /// What waits to be sent.
+        out: Vec<u8>,
+    },
+}
+
+struct Channel {
+    number: u64,
+    socket: Socket,
+}
+
+/// The channels that are open, each with what is waited for beside it, at the same place.
+#[derive(Default)]
+pub(crate) struct Network {
+    channels: Vec<Channel>,
+    polled: Vec<PollFd>,
+    room: Vec<u8>,
+}
+
+impl Network {
+    /// Opens a channel; or tells why it failed.
+    pub(crate) fn open(
+        &mut self,
+        channel: u64,
+        protocol: Protocol,
+        server: SocketAddr,
+    ) -> Result<(), ChannelFailure> {
+        let socket = socket_to(server, protocol).map_err(|error| failure_of(&error))?;
+        self.polled.push(PollFd {
+            fd: socket.fd(),
+            events: system::POLLIN,
+            revents: 0,
+        });
+        self.channels.push(Channel {
+            number: channel,
+            socket,
+        });
+        Ok(())
+    }
+
+    /// Sends octets on a channel, as far as it goes; or tells why it failed.
+    pub(crate) fn send(&mut self, channel: u64, octets: &[u8]) -> Result<(), ChannelFailure> {
+        let Some(place) = self.place_of(channel) else {
+            return Ok(());
+        };
+        match &mut self.channels[place].socket {
+            Socket::Datagram(socket) => match socket.send(octets) {
+                Err(error) if !is_for_later(&error) => Err(failure_of(&error)),
+                _ => Ok(()),
+            },
+            Socket::Stream { out, .. } if out.len() + octets.len() > OUT => {
+                Err(ChannelFailure::Local)
+            }
+            Socket::Stream { out, .. } => {
+                out.extend_from_slice(octets);
+                self.flush(place)
+            }
+        }
+    }
+
+    /// Closes a channel.
+    pub(crate) fn close(&mut self, channel: u64) {
+        if let Some(place) = self.place_of(channel) {
+            self.channels.swap_remove(place);
+            self.polled.swap_remove(place);
+        }
+    }
+
+    /// Waits until something happens, for so long at most, and tells it.
+    pub(crate) fn wait<E: From<io::Error>>(
+        &mut self,
+        longest: Option<Duration>,
+        mut tell: impl FnMut(u64, Event<'_>) -> Result<(), E>,
+    ) -> Result<(), E> {
+        let longest = longest.map_or(LONGEST, |it| it.as_millis().min(LONGEST));
+        system::wait_for(&mut self.polled, i32::try_from(longest).unwrap_or(0))?;
+        for place in 0..self.channels.len() {
+            let number = self.channels[place].number;
+            match self.look_at(place) {
+                Ok(0) => {}
+                Ok(length) => tell(number, Event::Came(&self.room[..length]))?,
+                Err(failure) => tell(number, Event::Failed(failure))?,
+            }
+        }
+        Ok(())
+    }
+
+    /// Sends what waits, and puts what came at the front of the room; gives its length. A datagram
+    /// of no octets is none. A stream that failed is looked at no more: it would always be ready.
+    fn look_at(&mut self, place: usize) -> Result<usize, ChannelFailure> {
+        let happened = std::mem::take(&mut self.polled[place].revents);
+        let sent = match happened & system::POLLOUT {
+            0 => Ok(()),
+            _ => self.flush(place),
+        };
+        let got = match happened & !system::POLLOUT {
+            0 => sent.map(|()| 0),
+            _ => sent.and_then(|()| self.receive(place)),
+        };
+        if got.is_err() && matches!(self.channels[place].socket, Socket::Stream { .. }) {
+            self.polled[place].fd = NONE;
+        }
+        got
+    }
+
+    fn place_of(&self, channel: u64) -> Option<usize> {
+        self.channels.iter().position(|it| it.number == channel)
+    }
+
+    /// Sends what waits for a stream, as far as it goes.
+    fn flush(&mut self, place: usize) -> Result<(), ChannelFailure> {
+        let Socket::Stream { stream, out } = &mut self.channels[place].socket else {
+            return Ok(());
+        };
+        match stream.write(out) {
+            Ok(sent) => drop(out.drain(..sent)),
+            Err(error) if is_for_later(&error) => {}
+            Err(error) => return Err(failure_of(&error)),
+        }
+        let of_out = if out.is_empty() { 0 } else { system::POLLOUT };
+        self.polled[place].events = system::POLLIN | of_out;
+        Ok(())
+    }
+
+    /// Puts what came at the front of the room, and gives its length.
+    fn receive(&mut self, place: usize) -> Result<usize, ChannelFailure> {
+        self.room.resize(ROOM, 0);
+        let (got, is_stream) = match &mut self.channels[place].socket {
+            Socket::Datagram(socket) => (socket.recv(&mut self.room), false),
+            Socket::Stream { stream, .. } => (stream.read(&mut self.room), true),
+        };
+        match got {
+            Ok(0) if is_stream => Err(ChannelFailure::Closed),
+            Ok(length) => Ok(length),
+            Err(error) if is_for_later(&error) => Ok(0),
+            Err(error) => Err(failure_of(&error)),
+        }
+    }
+}
+
+impl Socket {
+    fn fd(&self) -> i32 {
+        match self {
+            Socket::Datagram(socket) => socket.as_raw_fd(),
+            Socket::Stream { stream, .. } => stream.as_raw_fd(),
+        }
+    }
+}
+
+/// A socket of its own, connected to a server.
+fn socket_to(server: SocketAddr, protocol: Protocol) -> io::Result<Socket> {
+    match protocol {
+        Protocol::Udp => Ok(Socket::Datagram(system::socket_to(server, false)?.into())),
+        Protocol::Tcp => {
+            let stream = TcpStream::from(system::socket_to(server, true)?);
+            stream.set_nodelay(true)?;
+            Ok(Socket::Stream {
+                stream,
+                out: Vec::new(),
+            })
+        }
+    }
+}
+
+/// The address of a server's socket. The scope of a link-local address is the name of an interface,
+/// or its number.
+pub(crate) fn socket_address(address: IpAddr, port: u16, scope: &[u8]) -> SocketAddr {
+    match address {
+        IpAddr::V4(_) => SocketAddr::new(address, port),
+        IpAddr::V6(address) => SocketAddrV6::new(address, port, 0, scope_id(scope)).into(),
+    }
+}
+
+fn scope_id(scope: &[u8]) -> u32 {
+    let text = std::str::from_utf8(scope).unwrap_or_default();
+    match text {
+        "" => 0,
+        text => system::interface(text)
+            .or_else(|| text.parse().ok())
+            .unwrap_or(0),
+    }
+}
+
+fn is_for_later(error: &io::Error) -> bool {
+    let of_now = [
+        ErrorKind::WouldBlock,
+        ErrorKind::NotConnected,
+        ErrorKind::Interrupted,
+    ];
+    of_now.contains(&error.kind())
+}
+
+fn failure_of(error: &io::Error) -> ChannelFailure {
+    let is_of_number = [system::EMFILE, system::ENFILE, system::ENOBUFS]
+        .contains(&error.raw_os_error().unwrap_or_default());
+    match error.kind() {
+        _ if is_of_number => ChannelFailure::Local,
+        ErrorKind::OutOfMemory | ErrorKind::AddrNotAvailable | ErrorKind::AddrInUse => {
+            ChannelFailure::Local
+        }
+        ErrorKind::ConnectionRefused => ChannelFailure::Refused,
+        _ => ChannelFailure::Unreachable,
+    }
+}
+
+#[cfg(test)]
+mod tests {
+    use super::*;
+
+    #[test]
+    fn scopes_are_names_or_numbers() {
+        let address: IpAddr = "fe80::1".parse().unwrap();
+        let wanted =
+            |id| SocketAddr::from(SocketAddrV6::new("fe80::1".parse().unwrap(), 53, 0, id));
+        assert_eq!(
+            socket_address(address, 53, b"lo"),
+            wanted(system::interface("lo").unwrap())
+        );
+        assert_eq!(socket_address(address, 53, b"7"), wanted(7));
+        assert_eq!(socket_address(address, 53, b""), wanted(0));
+        assert_eq!(socket_address(address, 53, b"\xff"), wanted(0));
+    }
+}
