@@ -7,6 +7,6 @@ SLACK = 1
 
 def cases(told, judge, top):
     with told.guard("worked traces"):
-        for file in sorted((top / "crates/judge_cases/data").glob("nsec*.trace")):
+        for file in sorted((top / "tests/traces").glob("nsec*.trace")):
             _, text, _ = program.run(judge, file, "--cold")
             told.equal(f"{file.stem}, reckoned", reckoning.reckon(file.read_text(), SLACK), reckoning.found_by_judge(text))
