@@ -1,10 +1,10 @@
 //! A case: a question, the form of a try at it, and a stream.
-use crate::lines::{form_of, octets_of, question_of};
-use crate::shown::{read_word, show_octets, show_read, show_taken, show_word};
+use crate::tries::lines::{form_of, octets_of, question_of};
+use crate::tries::shown::{read_word, show_octets, show_read, show_taken};
 use hickory_resolver_tries::belief::judge;
 use hickory_resolver_tries::outcome::read_reply;
 use hickory_resolver_tries::{Belief, MessageStream, TryForm, TryMessage};
-use std::alloc::Global;
+use std::alloc::{AllocError, Global};
 
 /// The question and the try that were said last, and a stream.
 #[derive(Drop)]
@@ -26,55 +26,47 @@ impl Case {
         })
     }
 
-    /// Does what a line says.
+    /// Does what a line says, or prints it.
     pub fn take(&mut self, rt: &impl Print, alloc: Global, line: &str) -> anyhow::Result<()> {
         if let Some(text) = line.strip_prefix("ask ") {
-            return self.ask(alloc, text);
+            let question = question_of(alloc, text)?;
+            self.message = TryMessage::new(alloc, question)?;
+            return Ok(());
         }
         if let Some(text) = line.strip_prefix("try ") {
             self.form = form_of(alloc, text)?;
-            return self.show_try(rt, alloc);
+            return Ok(self.show_try(rt, alloc)?);
         }
         self.take_octets(rt, alloc, line)
     }
 
-    fn ask(&mut self, alloc: Global, text: &str) -> anyhow::Result<()> {
-        let question = question_of(alloc, text)?;
-        self.message = TryMessage::new(alloc, question)?;
-        Ok(())
-    }
-
     fn take_octets(&mut self, rt: &impl Print, alloc: Global, line: &str) -> anyhow::Result<()> {
-        if let Some(text) = line.strip_prefix("came ") {
-            let octets = octets_of(alloc, text)?;
-            return self.show_came(rt, alloc, &octets);
+        let (word, text) = line.split_once(' ').unwrap_or((line, ""));
+        match word {
+            "came" => self.show_came(rt, alloc, &octets_of(alloc, text)?),
+            "prefixes" => self.show_prefixes(rt, alloc, &octets_of(alloc, text)?),
+            "piece" => self.show_piece(rt, alloc, &octets_of(alloc, text)?)?,
+            _ => {
+                let _ = rt.println(line);
+            }
         }
-        if let Some(text) = line.strip_prefix("prefixes ") {
-            let octets = octets_of(alloc, text)?;
-            return self.show_prefixes(rt, alloc, &octets);
-        }
-        if let Some(text) = line.strip_prefix("piece ") {
-            let octets = octets_of(alloc, text)?;
-            return self.show_piece(rt, alloc, &octets);
-        }
-        println!(rt; "{line}")?;
         Ok(())
     }
 
-    fn show_try(&self, rt: &impl Print, alloc: Global) -> anyhow::Result<()> {
+    fn show_try(&self, rt: &impl Print, alloc: Global) -> Result<(), AllocError> {
         let octets = self.message.octets(alloc, &self.form)?;
         show_octets(rt, alloc, "sent", &octets)
     }
 
-    fn show_came(&self, rt: &impl Print, alloc: Global, octets: &[u8]) -> anyhow::Result<()> {
+    fn show_came(&self, rt: &impl Print, alloc: Global, octets: &[u8]) {
         match judge(&self.message, &self.form, octets) {
-            Belief::Believed => self.show_believed(rt, alloc, octets),
-            other => show_word(rt, belief_word(other)),
+            Belief::Believed => {
+                show_read(rt, &read_reply(alloc, &self.message, &self.form, octets));
+            }
+            other => {
+                let _ = rt.println(belief_word(other));
+            }
         }
-    }
-
-    fn show_believed(&self, rt: &impl Print, alloc: Global, octets: &[u8]) -> anyhow::Result<()> {
-        show_read(rt, &read_reply(alloc, &self.message, &self.form, octets))
     }
 
     fn word_of(&self, alloc: Global, octets: &[u8]) -> &'static str {
@@ -85,19 +77,23 @@ impl Case {
     }
 
     // What the first octets are, from none to all: a line where that changes.
-    fn show_prefixes(&self, rt: &impl Print, alloc: Global, octets: &[u8]) -> anyhow::Result<()> {
+    fn show_prefixes(&self, rt: &impl Print, alloc: Global, octets: &[u8]) {
         let mut last = "";
         for end in 0..=octets.len() {
             let word = self.word_of(alloc, &octets[..end]);
             if word != last {
-                println!(rt; "from {end} octets on: {word}")?;
+                let _ = println!(rt; "from {end} octets on: {word}");
             }
             last = word;
         }
-        Ok(())
     }
 
-    fn show_piece(&mut self, rt: &impl Print, alloc: Global, octets: &[u8]) -> anyhow::Result<()> {
+    fn show_piece(
+        &mut self,
+        rt: &impl Print,
+        alloc: Global,
+        octets: &[u8],
+    ) -> Result<(), AllocError> {
         let mut rest = octets;
         for _ in 0..=octets.len() {
             let (message, behind) = self.stream.next(rest)?;
@@ -107,7 +103,7 @@ impl Case {
             rest = behind;
         }
         let held = self.stream.held_len();
-        println!(rt; "held: {held}")?;
+        let _ = println!(rt; "held: {held}");
         Ok(())
     }
 }

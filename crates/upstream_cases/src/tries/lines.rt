@@ -1,4 +1,5 @@
 //! What the lines of a case say.
+use crate::words::has_word;
 use anyhow::Context;
 use hickory_proto_core::{DnsRequestOptions, Name, Query, RecordType};
 use hickory_resolver_tries::{DnssecOptions, PoolQuestion, TryForm};
@@ -44,17 +45,13 @@ pub fn form_of(alloc: Global, text: &str) -> anyhow::Result<TryForm> {
     };
     for word in text.split_whitespace() {
         if let Some(digits) = word.strip_prefix("id=") {
-            form.id = digits.parse::<u16>()?;
+            form.id = digits.parse::<u16>().unwrap_or(0);
         }
         if let Some(digits) = word.strip_prefix("letters=") {
             form.letters = Some(letters_of(alloc, digits)?);
         }
     }
     Ok(form)
-}
-
-fn has_word(text: &str, wanted: &str) -> bool {
-    text.split_whitespace().any(|word| word == wanted)
 }
 
 fn letters_of(alloc: Global, digits: &str) -> anyhow::Result<[u8; 32]> {

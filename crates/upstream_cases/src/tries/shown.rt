@@ -3,7 +3,6 @@ use hickory_proto_core::{Query, Record};
 use hickory_proto_wire::WireMessage;
 use hickory_resolver_tries::{Reply, ReplyOutcome};
 use std::alloc::{AllocError, Global};
-use std::io;
 
 /// A word and octets as hex digits.
 pub fn show_octets(
@@ -11,9 +10,9 @@ pub fn show_octets(
     alloc: Global,
     word: &str,
     octets: &[u8],
-) -> anyhow::Result<()> {
+) -> Result<(), AllocError> {
     let digits = hex::encode(alloc, octets)?;
-    println!(rt; "{word} {digits}")?;
+    let _ = println!(rt; "{word} {digits}");
     Ok(())
 }
 
@@ -38,19 +37,12 @@ pub fn read_word(read: &Result<Reply, AllocError>) -> &'static str {
     }
 }
 
-/// A line of one word or more.
-pub fn show_word(rt: &impl Print, word: &str) -> anyhow::Result<()> {
-    println!(rt; "{word}")?;
-    Ok(())
-}
-
 /// What a reply comes to, and its message.
-pub fn show_read(rt: &impl Print, read: &Result<Reply, AllocError>) -> anyhow::Result<()> {
-    show_word(rt, read_word(read))?;
+pub fn show_read(rt: &impl Print, read: &Result<Reply, AllocError>) {
+    let _ = rt.println(read_word(read));
     if let Ok(reply) = read {
-        show_message(rt, &reply.message)?;
+        show_message(rt, &reply.message);
     }
-    Ok(())
 }
 
 /// A message that a stream had, and whether it had one.
@@ -58,7 +50,7 @@ pub fn show_taken(
     rt: &impl Print,
     alloc: Global,
     message: &Option<Vec<u8>>,
-) -> anyhow::Result<bool> {
+) -> Result<bool, AllocError> {
     if let Some(octets) = message {
         show_octets(rt, alloc, "message", octets)?;
         return Ok(true);
@@ -67,24 +59,21 @@ pub fn show_taken(
 }
 
 // Its questions and its answers.
-fn show_message(rt: &impl Print, message: &Option<WireMessage>) -> io::Result<()> {
+fn show_message(rt: &impl Print, message: &Option<WireMessage>) {
     if let Some(read) = message {
-        show_queries(rt, &read.message.queries)?;
-        show_records(rt, &read.message.answers)?;
+        show_queries(rt, &read.message.queries);
+        show_records(rt, &read.message.answers);
     }
-    Ok(())
 }
 
-fn show_queries(rt: &impl Print, queries: &[Query]) -> io::Result<()> {
+fn show_queries(rt: &impl Print, queries: &[Query]) {
     for query in queries {
-        println!(rt; "  asks {query}")?;
+        let _ = println!(rt; "  asks {query}");
     }
-    Ok(())
 }
 
-fn show_records(rt: &impl Print, records: &[Record]) -> io::Result<()> {
+fn show_records(rt: &impl Print, records: &[Record]) {
     for shown in records {
-        println!(rt; "  answer {shown}")?;
+        let _ = println!(rt; "  answer {shown}");
     }
-    Ok(())
 }
