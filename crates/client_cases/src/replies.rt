@@ -1,20 +1,15 @@
-//! Reads the replies of the file `replies.script`, each beside its question, and prints what is kept of each, and what is
-//! kept beside that where DNSSEC records were asked; and where aliases lead to the question of the next reply, both put
-//! together, as they are 20 seconds later. The gate compares the text with the file `stdout`, which is written by hand
-//! from the standards.
-#![tactic(auto)]
-
+//! What is kept of replies, each beside its question, and what is kept beside that where DNSSEC records were asked; and
+//! where aliases lead to the question of the next reply, both put together, as they are 20 seconds later.
 use hickory_proto_core::{Message, Outcome, Query, Record};
 use hickory_proto_wire::WireMessage;
 use replay_script::read_script;
 use std::alloc::Global;
-use std::fs;
 use whole_replies::{KeptReply, next_question};
 
-fn main(rt: HostRuntime) -> anyhow::Result<()> {
-    let octets = fs::read(&rt, "replies.script")?;
-    let script = read_script(rt.alloc(), &octets)?;
-    show_all(&rt, rt.alloc(), &script.outcomes)
+/// Each reply of a script.
+pub fn run(rt: &impl Print, alloc: Global, script: &[u8]) -> anyhow::Result<()> {
+    let script = read_script(alloc, script)?;
+    show_all(rt, alloc, &script.outcomes)
 }
 
 fn show_all(rt: &impl Print, alloc: Global, outcomes: &[(Query, Outcome)]) -> anyhow::Result<()> {

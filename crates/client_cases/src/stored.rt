@@ -1,13 +1,10 @@
-//! Reads the lines of the file `replies.cases`: how many seconds later, how many octets of room, whether the upstream is
-//! trusted; a reply that came from it; and a client's query. Prints what the client is told of the reply, which was stored.
-//! The gate compares the text with the file `stdout`, which is written by hand from the standards.
-#![tactic(auto)]
-
+//! Replies that are stored. A line says how many seconds later, how many octets of room, and whether the upstream is
+//! trusted; a reply that came from it; and a client's query. Printed is what the client is told of the reply.
+use crate::words::{numbers_of, octets_of, show_octets};
 use client_queries::{ClientQuery, read_query};
 use hickory_proto_core::Query;
 use hickory_proto_wire::WireMessage;
-use std::alloc::Global;
-use std::fs;
+use std::alloc::{AllocError, Global};
 use stored_replies::StoredReply;
 use whole_replies::KeptReply;
 
@@ -19,10 +16,10 @@ struct Numbers {
     trust: bool,
 }
 
-fn main(rt: HostRuntime) -> anyhow::Result<()> {
-    let cases = fs::read_to_string(&rt, "replies.cases")?;
+/// Each line.
+pub fn run(rt: &impl Print, alloc: Global, cases: &str) -> anyhow::Result<()> {
     for line in cases.lines() {
-        take(&rt, rt.alloc(), line)?;
+        take(rt, alloc, line)?;
     }
     Ok(())
 }
@@ -34,28 +31,19 @@ fn take(rt: &impl Print, alloc: Global, line: &str) -> anyhow::Result<()> {
         return Ok(());
     }
     let mut parts = line.split("|");
-    let numbers = numbers_of(parts.next().unwrap_or(""))?;
+    let first = parts.next().unwrap_or("");
+    let numbers = said_of(first, &numbers_of(alloc, first)?);
     let message = octets_of(alloc, parts.next().unwrap_or(""))?;
     let query = octets_of(alloc, parts.next().unwrap_or(""))?;
     show(rt, alloc, &numbers, &message, &query)
 }
 
-fn numbers_of(text: &str) -> anyhow::Result<Numbers> {
-    let mut words = text.split_ascii_whitespace();
-    Ok(Numbers {
-        now: words.next().unwrap_or("").parse()?,
-        room: words.next().unwrap_or("").parse()?,
-        trust: words.next() == Some("trust"),
-    })
-}
-
-// The octets that a text spells, two digits each; blanks between them are passed over.
-fn octets_of(alloc: Global, text: &str) -> anyhow::Result<Vec<u8>> {
-    let mut digits = String::new(alloc);
-    for word in text.split_ascii_whitespace() {
-        digits.push_str(word)?;
+fn said_of(text: &str, numbers: &[u64]) -> Numbers {
+    Numbers {
+        now: numbers.first().copied().unwrap_or(0),
+        room: numbers.get(1).copied().unwrap_or(0) as usize,
+        trust: text.contains("trust"),
     }
-    Ok(hex::decode(alloc, digits.as_str())?)
 }
 
 fn show(
@@ -67,7 +55,9 @@ fn show(
 ) -> anyhow::Result<()> {
     let stored = stored(alloc, message)?;
     match (stored, read_query(octets)) {
-        (Some(stored), Some(query)) => show_told(rt, alloc, numbers, &stored, octets, &query),
+        (Some(stored), Some(query)) => {
+            Ok(show_told(rt, alloc, numbers, &stored, octets, &query)?)
+        }
         _ => {
             let _ = rt.println("nothing");
             Ok(())
@@ -104,7 +94,7 @@ fn show_told(
     stored: &StoredReply,
     octets: &[u8],
     query: &ClientQuery,
-) -> anyhow::Result<()> {
+) -> Result<(), AllocError> {
     let mut room = vec![in alloc; 170; numbers.room]?;
     let word = if stored.is_current(numbers.now) {
         "told"
@@ -112,10 +102,10 @@ fn show_told(
         "late"
     };
     if let Some(length) = stored.write(octets, query, numbers.trust, numbers.now, &mut room) {
-        return show_octets(rt, alloc, word, &room, length);
+        return show_beginning(rt, alloc, word, &room, length);
     }
     match stored.write_cut(octets, query, numbers.trust, &mut room) {
-        Some(length) => show_octets(rt, alloc, "cut", &room, length),
+        Some(length) => show_beginning(rt, alloc, "cut", &room, length),
         None => {
             let _ = rt.println("none");
             Ok(())
@@ -123,16 +113,12 @@ fn show_told(
     }
 }
 
-fn show_octets(
+fn show_beginning(
     rt: &impl Print,
     alloc: Global,
     word: &str,
     room: &[u8],
     length: usize,
-) -> anyhow::Result<()> {
-    let text = hex::encode(alloc, &room[..length.min(room.len())])?;
-    let _ = rt.print(word);
-    let _ = rt.print(" ");
-    let _ = rt.println(text.as_str());
-    Ok(())
+) -> Result<(), AllocError> {
+    show_octets(rt, alloc, word, &room[..length.min(room.len())])
 }

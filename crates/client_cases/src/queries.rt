@@ -1,16 +1,12 @@
-//! Reads the octets of the file `queries.cases`, each line as what came from a client, and prints what they are and the
-//! reply that refuses them. The gate compares the text with the file `stdout`, which is written by hand from the
-//! standards.
-#![tactic(auto)]
-
+//! Queries of clients: each line as what came from one, and what it is, and the reply that refuses it.
+use crate::words::{octets_of, show_octets};
 use client_queries::{ClientQuery, Refusal, Verdict, datagram_limit, read_query, refuse};
-use std::alloc::Global;
-use std::fs;
+use std::alloc::{AllocError, Global};
 
-fn main(rt: HostRuntime) -> anyhow::Result<()> {
-    let cases = fs::read_to_string(&rt, "queries.cases")?;
+/// Each line.
+pub fn run(rt: &impl Print, alloc: Global, cases: &str) -> anyhow::Result<()> {
     for line in cases.lines() {
-        take(&rt, rt.alloc(), line)?;
+        take(rt, alloc, line)?;
     }
     Ok(())
 }
@@ -22,19 +18,10 @@ fn take(rt: &impl Print, alloc: Global, line: &str) -> anyhow::Result<()> {
         return Ok(());
     }
     let octets = octets_of(alloc, line)?;
-    show(rt, alloc, &octets)
+    Ok(show(rt, alloc, &octets)?)
 }
 
-// The octets that the line spells, two digits each; blanks between them are passed over.
-fn octets_of(alloc: Global, line: &str) -> anyhow::Result<Vec<u8>> {
-    let mut digits = String::new(alloc);
-    for word in line.split_ascii_whitespace() {
-        digits.push_str(word)?;
-    }
-    Ok(hex::decode(alloc, digits.as_str())?)
-}
-
-fn show(rt: &impl Print, alloc: Global, octets: &[u8]) -> anyhow::Result<()> {
+fn show(rt: &impl Print, alloc: Global, octets: &[u8]) -> Result<(), AllocError> {
     let Some(query) = read_query(octets) else {
         let _ = rt.println("dropped");
         return Ok(());
@@ -54,13 +41,9 @@ fn show_refused(
     octets: &[u8],
     query: &ClientQuery,
     refusal: Refusal,
-) -> anyhow::Result<()> {
+) -> Result<(), AllocError> {
     let reply = refuse(alloc, octets, query, refusal)?;
-    let text = hex::encode(alloc, reply.as_slice())?;
-    let _ = rt.print(word_of(refusal));
-    let _ = rt.print(" ");
-    let _ = rt.println(text.as_str());
-    Ok(())
+    show_octets(rt, alloc, word_of(refusal), reply.as_slice())
 }
 
 fn word_of(refusal: Refusal) -> &'static str {
