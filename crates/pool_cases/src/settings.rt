@@ -1,11 +1,23 @@
-//! What is read.
-use crate::shown::show;
+//! What a session is opened with: files resolv.conf, host names and settings, and what is read of them.
+
+mod shown;
+
+use crate::settings::shown::show;
 use session_settings::read_session_settings;
 use std::alloc::{AllocError, Global};
 
-/// A file resolv.conf, a host name, and settings.
+/// Does what each line says.
+pub fn run(rt: &impl Print, alloc: Global, cases: &str) -> Result<(), AllocError> {
+    let mut case = Case::new(alloc);
+    for line in cases.lines() {
+        case.take(rt, line)?;
+    }
+    Ok(())
+}
+
+// A file resolv.conf, a host name, and settings.
 #[derive(Drop)]
-pub struct Case {
+struct Case {
     alloc: Global,
     conf: Vec<u8>,
     hostname: Vec<u8>,
@@ -13,8 +25,8 @@ pub struct Case {
 }
 
 impl Case {
-    /// Nothing is said.
-    pub fn new(alloc: Global) -> Case {
+    // Nothing is said.
+    fn new(alloc: Global) -> Case {
         Case {
             alloc,
             conf: Vec::new(alloc),
@@ -23,9 +35,9 @@ impl Case {
         }
     }
 
-    /// A line behind `conf`, `host` or `set` is one of the file, of the name or of the settings. At `read` all is read
-    /// and forgotten. Another line is printed as it is.
-    pub fn take(&mut self, rt: &impl Print, line: &str) -> Result<(), AllocError> {
+    // A line behind `conf`, `host` or `set` is one of the file, of the name or of the settings. At `read` all is read
+    // and forgotten. Another line is printed as it is.
+    fn take(&mut self, rt: &impl Print, line: &str) -> Result<(), AllocError> {
         if let Some(text) = line.strip_prefix("conf ") {
             return push_line(&mut self.conf, text);
         }
