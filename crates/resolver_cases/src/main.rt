@@ -6,7 +6,10 @@
 //! writers that fail; then messages as bytes: those of the file `wire.cases` are read, what they say is printed, and
 //! they are written again; then a table of very many outcomes, and which hasher is asked. Last come look-ups that wait,
 //! where others store, clear and evict between a question and what comes back to it: the events of the file
-//! `events.cases` over resolvers. What a script can say is in `script_cases`.
+//! `events.cases` over resolvers. What a script can say is a script.
+//!
+//! The word `weights`, with a number, stands for what entries of a cache weigh: those of the file `weight.cases`, each
+//! so many times. `tests/weights` compares that with what they take.
 //!
 //! Every other word names a call that takes memory, or one that takes none: it is made between two marks, and
 //! `tests/refuse_memory` makes each of them with less.
@@ -23,6 +26,7 @@ mod shown;
 mod streams;
 mod texts;
 mod watched_calls;
+mod weights;
 mod wire;
 
 use hickory_proto_core::NetError;
@@ -38,6 +42,10 @@ fn main(rt: HostRuntime) -> anyhow::Result<()> {
 }
 
 fn take_word<R: AllocGlobal + Files + Print>(rt: &R, word: &str) -> anyhow::Result<()> {
+    if let Some(copies) = word.strip_prefix("weights ") {
+        let replies = fs::read_to_string(rt, "weight.cases")?;
+        return weights::show_all(rt, rt.alloc(), copies.parse().unwrap_or(0), &replies);
+    }
     match word {
         "worked" => show_worked(rt),
         call => Ok(memory::make(rt, rt.alloc(), call)?),
@@ -59,5 +67,6 @@ fn show_worked<R: AllocGlobal + Files + Print>(rt: &R) -> anyhow::Result<()> {
 fn show_resolvers(rt: &impl Print, alloc: Global, events: &str) -> Result<(), NetError> {
     large_table::show_table(rt, alloc)?;
     hashers::show_hashers(rt, alloc)?;
+    hashers::show_hashers_of_replay(rt, alloc)?;
     playing::show_played(rt, alloc, events)
 }
