@@ -315,9 +315,8 @@ impl Resolver {
         &self,
         start: impl FnOnce(&mut Session, u64, Moment) -> Result<bool, SessionError>,
     ) -> Result<Pending<'_, T>, ResolveError> {
-        let now = Moment::now();
-        let number = self.driven.borrow_mut().start(start, now)?;
-        let ends = self.time_limit.map(|limit| now + limit);
+        let ends = self.time_limit.map(Moment::after);
+        let number = self.driven.borrow_mut().start(start, Moment::now())?;
         // From here on it is cancelled when it is dropped.
         let pending = Pending {
             resolver: self,
@@ -329,8 +328,8 @@ impl Resolver {
         Ok(pending)
     }
 
-    /// Goes on with the look-ups that wait: waits until something happens, for so long at most, and
-    /// does what is to be done then.
+    /// Goes on with the look-ups that wait: waits until something happens, for so long at most, in
+    /// whole milliseconds, and does what is to be done then.
     ///
     /// # Errors
     ///
@@ -556,7 +555,7 @@ impl<T: From<Lookup>> Pending<'_, T> {
     ///
     /// As of [`Pending::wait`].
     pub fn wait_for(mut self, limit: Duration) -> Result<T, ResolveError> {
-        self.ends = Some(Moment::now() + limit);
+        self.ends = Some(Moment::after(limit));
         self.wait()
     }
 }

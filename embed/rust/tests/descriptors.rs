@@ -3,10 +3,13 @@
 
 mod common;
 
-use std::fs;
-use std::time::Duration;
+use std::time::{Duration, Instant};
+use std::{fs, thread};
 
 use common::{Does, Server, TRUNCATED};
+
+/// What takes longer will not come.
+const LONG: Duration = Duration::from_secs(30);
 
 /// How many sockets this program has open.
 fn sockets() -> usize {
@@ -35,8 +38,10 @@ fn what_is_dropped_is_closed() {
     assert_eq!(sockets(), before);
     // One that waits on a stream.
     let waiting = resolver.start_lookup_ip("s.").unwrap();
-    for _ in 0..5 {
+    let start = Instant::now();
+    while !server.asked().contains(&("s.".to_owned(), true)) {
         resolver.poll(Duration::from_millis(20)).unwrap();
+        assert!(start.elapsed() < LONG);
     }
     assert!(sockets() > before);
     assert!(
@@ -47,11 +52,9 @@ fn what_is_dropped_is_closed() {
     );
     drop(resolver);
     // The server's side of a stream is closed when it sees that ours is.
-    for _ in 0..100 {
-        if sockets() == before {
-            break;
-        }
-        std::thread::sleep(Duration::from_millis(20));
+    let start = Instant::now();
+    while sockets() != before && start.elapsed() < LONG {
+        thread::sleep(Duration::from_millis(20));
     }
     assert_eq!(sockets(), before);
     let found = server.resolver();

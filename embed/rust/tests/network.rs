@@ -3,13 +3,13 @@
 mod common;
 
 use std::collections::HashSet;
-use std::net::{IpAddr, Ipv6Addr, UdpSocket};
+use std::net::{IpAddr, Ipv6Addr};
 use std::thread;
 use std::time::{Duration, Instant};
 
 use common::{
-    Does, NXDOMAIN, REFUSED, RESPONSE, SERVFAIL, Server, TRUNCATED, address, address_of_six,
-    record, soa, with_address,
+    Does, NXDOMAIN, Nobody, REFUSED, RESPONSE, SERVFAIL, Server, TRUNCATED, address,
+    address_of_six, record, soa, with_address,
 };
 use yimarotu::{
     LookupIp, RData, RecordType, ResolveErrorKind, Resolver, ResponseCode, SessionError,
@@ -193,15 +193,17 @@ fn asks_once_more_where_a_stream_is_closed() {
 fn asks_the_second_server() {
     let good = Server::good(7);
     let failing = Server::new(|asked| vec![Does::Says(asked.reply(RESPONSE | SERVFAIL, &[], &[]))]);
-    let nobody = UdpSocket::bind("127.0.0.1:0")
-        .unwrap()
-        .local_addr()
-        .unwrap();
-    for first in [failing.address, Server::silent().address, nobody] {
+    let nobody = Nobody::new();
+    let servers = [
+        (failing.address, 20),
+        (Server::silent().address, 1),
+        (nobody.address(), 20),
+    ];
+    for (first, timeout) in servers {
         let resolver = Resolver::builder_without_system()
             .server(first)
             .server(good.address)
-            .option("timeout", 1)
+            .option("timeout", timeout)
             .option("server_ordering_strategy", "UserProvidedOrder")
             .option("num_concurrent_reqs", 1)
             .option("ip_strategy", "Ipv4Only")
@@ -270,14 +272,12 @@ fn tells_what_went_wrong() {
         std::io::Error::from(error).kind(),
         std::io::ErrorKind::InvalidInput
     );
-    let nobody = UdpSocket::bind("127.0.0.1:0")
-        .unwrap()
-        .local_addr()
-        .unwrap();
+    let nobody = Nobody::new();
     let resolver = Resolver::builder_without_system()
-        .server(nobody)
-        .option("timeout", 1);
-    let resolver = resolver.build().unwrap();
+        .server(nobody.address())
+        .option("timeout", 1)
+        .build()
+        .unwrap();
     let error = resolver.lookup_ip(NAME).unwrap_err();
     assert!(
         matches!(error.kind(), ResolveErrorKind::Upstream),
@@ -296,14 +296,20 @@ fn tells_what_went_wrong() {
 
 #[test]
 fn a_call_has_a_time_limit() {
+    // The name servers have a minute, and the call less: all of its time, and not theirs.
     let server = Server::silent();
-    let limit = Duration::from_millis(150);
+    let limits = [150_000, 1, 999, 1_001].map(Duration::from_micros);
+    for limit in limits.into_iter().chain([Duration::from_millis(3); 20]) {
+        let resolver = server.builder().option("timeout", 60).time_limit(limit);
+        let resolver = resolver.build().unwrap();
+        let start = Instant::now();
+        let error = resolver.lookup_ip(NAME).unwrap_err();
+        assert!(matches!(error.kind(), ResolveErrorKind::TimeLimit) && error.is_timeout());
+        let took = start.elapsed();
+        assert!(took >= limit && took < Duration::from_secs(30), "{took:?}");
+    }
+    let limit = Duration::from_millis(10);
     let resolver = server.builder().time_limit(limit).build().unwrap();
-    let start = Instant::now();
-    let error = resolver.lookup_ip(NAME).unwrap_err();
-    assert!(matches!(error.kind(), ResolveErrorKind::TimeLimit) && error.is_timeout());
-    let took = start.elapsed();
-    assert!(took >= limit && took < Duration::from_secs(5), "{took:?}");
     let error = resolver
         .start_lookup_ip(NAME)
         .unwrap()

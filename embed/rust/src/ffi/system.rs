@@ -4,6 +4,7 @@ use std::ffi::{CString, c_char, c_int, c_uint, c_void};
 use std::io;
 use std::net::SocketAddr;
 use std::os::fd::{FromRawFd, OwnedFd, RawFd};
+use std::time::Duration;
 
 const CLOCK_BOOTTIME: c_int = 7;
 const AF_INET: u16 = 2;
@@ -65,15 +66,15 @@ unsafe extern "C" {
     fn connect(fd: c_int, address: *const c_void, length: u32) -> c_int;
 }
 
-/// The milliseconds of the clock that does not go back, and counts while the machine sleeps.
-pub(crate) fn milliseconds() -> u64 {
+/// The time of the clock that does not go back, and counts while the machine sleeps.
+pub(crate) fn time() -> Duration {
     let mut time = TimeSpec {
         seconds: 0,
         nanoseconds: 0,
     };
     // SAFETY: it writes the time that it is given, which is laid out as a timespec of 64 bits.
     unsafe { clock_gettime(CLOCK_BOOTTIME, &raw mut time) };
-    (time.seconds as u64) * 1000 + (time.nanoseconds as u64) / 1_000_000
+    Duration::new(time.seconds as u64, time.nanoseconds as u32)
 }
 
 /// Octets that nobody knows.

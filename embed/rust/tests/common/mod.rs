@@ -190,6 +190,21 @@ impl Drop for Server {
     }
 }
 
+/// A port at which nobody is, and nobody will be: a socket has it that hears itself alone.
+pub struct Nobody(UdpSocket);
+
+impl Nobody {
+    pub fn new() -> Nobody {
+        let socket = UdpSocket::bind((Ipv4Addr::LOCALHOST, 0)).unwrap();
+        socket.connect(socket.local_addr().unwrap()).unwrap();
+        Nobody(socket)
+    }
+
+    pub fn address(&self) -> SocketAddr {
+        self.0.local_addr().unwrap()
+    }
+}
+
 /// Sockets of one port for both.
 fn listen(address: IpAddr) -> (TcpListener, UdpSocket) {
     loop {
