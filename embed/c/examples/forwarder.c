@@ -60,9 +60,10 @@ static int epoll, datagrams, streams, lookup_count, waiter_count;
 static uint8_t room[MESSAGE], message[MESSAGE]; /* a reply; and what a look-up came to, of which it is made */
 static volatile sig_atomic_t is_ended;
 
+/* By a clock that counts while the machine sleeps: else answers would be used for longer than they may be. */
 static int64_t milliseconds(void) {
     struct timespec now;
-    clock_gettime(CLOCK_MONOTONIC, &now);
+    clock_gettime(CLOCK_BOOTTIME, &now);
     return now.tv_sec * 1000 + now.tv_nsec / 1000000;
 }
 

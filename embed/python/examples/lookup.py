@@ -53,9 +53,14 @@ def ask(question, server):
     return ask_by_tcp(question, server) if reply[2] & 2 else reply
 
 
+def second():
+    """By a clock that does not go back, and counts while the machine sleeps."""
+    return int(time.clock_gettime(time.CLOCK_BOOTTIME))
+
+
 def look_up(session, host, server):
     """What a look-up came to, with its questions asked of the server."""
-    waits = session.start_ip(NUMBER, host, int(time.monotonic()))
+    waits = session.start_ip(NUMBER, host, second())
     while waits:
         try:
             waits = session.feed(NUMBER, ask(session.question(NUMBER).message, server))
@@ -90,7 +95,7 @@ def main():
     if len(sys.argv) != 4:
         sys.exit("usage: lookup.py HOST SERVER PORT")
     host, server, port = sys.argv[1:]
-    with yimarotu.Session("option preserve_intermediates false\n", moment=int(time.monotonic())) as session:
+    with yimarotu.Session("option preserve_intermediates false\n", moment=second()) as session:
         answer = look_up(session, host, (server, int(port)))
     if answer.error != yimarotu.FOUND:
         sys.exit(1)
