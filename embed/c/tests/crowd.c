@@ -1,6 +1,5 @@
 /* A thousand look-ups at once, by sockets: crowd SERVER PORT. The addresses of w0.example.test to w999.example.test are
  * 192.0.2. and the number, less what of it is a multiple of 250. Prints how many were found. */
-#define CHANNELS 800
 #define main lookup
 #include "../examples/lookup.c"
 #undef main

@@ -1,11 +1,10 @@
-//! Looks the addresses of a host up, as getaddrinfo does: lookup HOST [-f RESOLV_CONF] [SETTING
-//! ..]. Whom to ask, and how, says /etc/resolv.conf or the file, and in place of it each SETTING, a
-//! line as "server 192.0.2.53".
+//! Looks the addresses of a host up: lookup HOST [SETTINGS]. Whom to ask, and how, the system's
+//! files say, or in place of them the settings, lines as "server 192.0.2.53".
 
+use std::env;
 use std::process::ExitCode;
-use std::{env, fs};
 
-use yimarotu::{ResolveError, ResolveErrorKind, Resolver, SessionError};
+use yimarotu::{ResolveError, ResolveErrorKind, Resolver, ResolverBuilder, SessionError};
 
 const NO_RECORDS: u8 = 1;
 const USAGE: u8 = 2;
@@ -13,15 +12,18 @@ const FAILED: u8 = 3;
 
 fn main() -> ExitCode {
     let words: Vec<String> = env::args().skip(1).collect();
-    let (host, file, settings) = match &words[..] {
-        [] => {
-            eprintln!("usage: lookup HOST [-f RESOLV_CONF] [SETTING ..]");
+    let (host, builder) = match &words[..] {
+        [host] => (host, Resolver::builder()),
+        [host, settings] => {
+            let builder = Resolver::builder_without_system();
+            (host, Ok(builder.settings(settings)))
+        }
+        _ => {
+            eprintln!("usage: lookup HOST [SETTINGS]");
             return ExitCode::from(USAGE);
         }
-        [host, flag, file, settings @ ..] if flag == "-f" => (host, Some(file), settings),
-        [host, settings @ ..] => (host, None, settings),
     };
-    match look_up(host, file, settings) {
+    match builder.and_then(|builder| look_up(host, builder)) {
         Ok(()) => ExitCode::SUCCESS,
         Err(error) => {
             eprintln!("{host}: {error}");
@@ -30,16 +32,8 @@ fn main() -> ExitCode {
     }
 }
 
-fn look_up(host: &str, file: Option<&String>, settings: &[String]) -> Result<(), ResolveError> {
-    let mut builder = Resolver::builder()?;
-    if let Some(file) = file {
-        builder = builder.resolv_conf(fs::read(file).unwrap_or_default());
-    }
-    let resolver = settings
-        .iter()
-        .fold(builder, |builder, line| builder.settings(line))
-        .build()?;
-    for address in resolver.lookup_ip(host)?.iter() {
+fn look_up(host: &str, builder: ResolverBuilder) -> Result<(), ResolveError> {
+    for address in builder.build()?.lookup_ip(host)?.iter() {
         println!("{address}");
     }
     Ok(())
