@@ -1,5 +1,5 @@
-"""A name server of the tests' own, in a thread: slow, silent, lying, truncating, and with streams that close. It writes
-messages by hand (RFC 1035, section 4), and counts what it is asked."""
+"""A name server of the tests' own, in a thread: slow, silent, lying, truncating, with replies that it holds until it is told,
+and with streams that close. It writes messages by hand (RFC 1035, section 4), and counts what it is asked."""
 import contextlib
 import ipaddress
 import os
@@ -18,6 +18,8 @@ TYPES = {
 }
 NOERROR, SERVFAIL, NXDOMAIN, REFUSED = 0, 2, 3, 5
 SLOW = 0.4
+# What takes longer will not come, in seconds.
+LONG = 30
 
 
 def name_octets(name):
@@ -60,6 +62,7 @@ ZONE = {
     "cut": [("A", 60, address("192.0.2.8"))],
     "lied": [("A", 60, address("192.0.2.9"))],
     "slow": [("A", 60, address("192.0.2.10"))],
+    "held": [("A", 60, address("192.0.2.12"))],
     "xn--bcher-kva": [("A", 60, address("192.0.2.11"))],
 }
 APEX = "example.test."
@@ -128,11 +131,20 @@ class Server:
     """Answers at a port of its own."""
 
     def __init__(self, port):
-        self.port, self.asked, self._late, self._closed = port, [], [], 0
+        self.port, self.asked, self._late, self._held, self._closed = port, [], [], [], 0
         self.text = f"{ADDRESS}:{port}"
 
     def count(self, first=None):
         return sum(first is None or query.first == first for query in self.asked)
+
+    def wait_for(self, first, count):
+        """Until it has been asked so often for this."""
+        counted(lambda: self.count(first), count)
+
+    def release(self):
+        """Sends the replies that it holds."""
+        held, self._held = self._held, []
+        self._late += held
 
     def serve_datagram(self, sock):
         octets, peer = sock.recvfrom(65535)
@@ -142,8 +154,11 @@ class Server:
             return
         if query.first == "lied":
             self._lie(sock, query, peer)
-        if query.first == "slow":
-            self._late.append((time.monotonic() + SLOW, true_reply(query), peer))
+        late = time.monotonic() + (SLOW if query.first == "slow" else 0), true_reply(query), peer
+        if query.first == "held":
+            self._held.append(late)
+        elif query.first == "slow":
+            self._late.append(late)
         else:
             sock.sendto(true_reply(query), peer)
 
@@ -186,6 +201,15 @@ class Server:
                 step = 1 if query.first == "cut" else len(octets)
                 for at in range(0, len(octets), step):
                     connection.sendall(octets[at : at + step])
+
+
+@contextlib.contextmanager
+def nobody():
+    """A port at which nobody is: a socket has it that hears itself alone."""
+    with socket.socket(socket.AF_INET, socket.SOCK_DGRAM) as sock:
+        sock.bind((ADDRESS, 0))
+        sock.connect(sock.getsockname())
+        yield sock.getsockname()[1]
 
 
 def free_port():
@@ -232,8 +256,8 @@ def serve(sock, handle, ending, wait):
 
 
 def counted(count, wanted):
-    """What is counted. Where a number is wanted, the server has a second to close its streams."""
-    until = time.monotonic() + 1
+    """What is counted. Where a number is wanted, it is waited for: the server has its time to close its streams."""
+    until = time.monotonic() + LONG
     while wanted not in (None, count()) and time.monotonic() < until:
         time.sleep(0.02)
     return count()

@@ -11,16 +11,20 @@ import yimarotu
 STREAM = socket.SOCK_STREAM
 
 
-class Patched(unittest.TestCase):
+class WithPatch(unittest.TestCase):
+    timeout = 60
+
     def setUp(self):
         stack = contextlib.ExitStack()
         self.addCleanup(stack.close)
         self.server = stack.enter_context(network.running())
         self.original = socket.getaddrinfo
-        given = {"servers": [self.server.text], "resolv_conf": "", "hostname": "", "timeout": 1}
+        given = {"servers": [self.server.text], "resolv_conf": "", "hostname": "", "timeout": self.timeout}
         resolver = yimarotu.Resolver(hosts="127.0.0.1 here.example.test\n::1 here.example.test\n", **given)
         self.resolver = stack.enter_context(yimarotu.patched_getaddrinfo(stack.enter_context(resolver)))
 
+
+class Patched(WithPatch):
     def places(self, *words, **more):
         return {(it[0], it[4][0]) for it in socket.getaddrinfo(*words, **more)}
 
@@ -59,7 +63,6 @@ class Patched(unittest.TestCase):
         wanted = {
             "nowhere.example.test": socket.EAI_NONAME, "example.test": socket.EAI_NODATA, "a..b": socket.EAI_NONAME,
             "servfail.example.test": socket.EAI_AGAIN, "refused.example.test": socket.EAI_FAIL,
-            "silent.example.test": socket.EAI_AGAIN,
         }
         for name, number in wanted.items():
             with self.assertRaises(socket.gaierror, msg=name) as caught:
@@ -69,7 +72,7 @@ class Patched(unittest.TestCase):
     def test_what_stands_on_it(self):
         with socket.create_server((network.ADDRESS, 0)) as listener:
             threading.Thread(target=answer_once, args=(listener,), daemon=True).start()
-            connection = http.client.HTTPConnection("here.example.test", listener.getsockname()[1], timeout=5)
+            connection = http.client.HTTPConnection("here.example.test", listener.getsockname()[1], timeout=60)
             connection.request("GET", "/")
             self.assertEqual(connection.getresponse().read(), b"here")
             connection.close()
@@ -84,6 +87,15 @@ class Patched(unittest.TestCase):
             self.assertEqual(socket.getaddrinfo("localhost", 80, socket.AF_INET, STREAM)[0][4], ("127.0.0.1", 80))
         with self.assertRaises(yimarotu.Closed):
             own.statistics()
+
+
+class Hurried(WithPatch):
+    timeout = 1
+
+    def test_silence(self):
+        with self.assertRaises(socket.gaierror) as caught:
+            socket.getaddrinfo("silent.example.test", 80)
+        self.assertEqual(caught.exception.errno, socket.EAI_AGAIN)
 
 
 def told(call, words):

@@ -172,8 +172,8 @@ class Ends(unittest.TestCase):
         text = """
         import signal, threading, yimarotu
         with yimarotu.Resolver(servers=[SERVER]) as resolver:
-            threading.Timer(0.3, signal.pthread_kill, (threading.main_thread().ident, signal.SIGINT)).start()
             try:
+                threading.Timer(0.3, signal.pthread_kill, (threading.main_thread().ident, signal.SIGINT)).start()
                 resolver.addresses("silent.example.test")
             except KeyboardInterrupt:
                 print(resolver.addresses("four.example.test")[0])
@@ -243,7 +243,9 @@ class Command(unittest.TestCase):
             hosts.write("192.0.2.200 printer.example.test\n")
             hosts.flush()
             found = self.command("--hosts", hosts.name, "printer.example.test", "--set", "option ip_strategy Ipv4Only")
-        self.assertEqual(found, (0, "printer.example.test. 86400 IN A 192.0.2.200\n", ""))
+        # (a second may begin between the opening and the question)
+        self.assertRegex(found[1], r"\Aprinter.example.test. 86(400|39\d) IN A 192.0.2.200\n\Z")
+        self.assertEqual(found[::2], (0, ""))
 
     def test_explained(self):
         search = ("--search", "nowhere.test", "--search", "example.test")

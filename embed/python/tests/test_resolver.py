@@ -18,6 +18,11 @@ import yimarotu
 WWW = [ipaddress.ip_address("2001:db8::1"), ipaddress.ip_address("192.0.2.1")]
 
 
+def near(ttl):
+    """What may be left of a TTL when it is looked at."""
+    return range(ttl - network.LONG, ttl + 1)
+
+
 class WithServer(unittest.TestCase):
     def setUp(self):
         self.stack = contextlib.ExitStack()
@@ -33,16 +38,16 @@ class Answers(WithServer):
     def test_addresses(self):
         found = self.resolver().addresses("www.example.test")
         self.assertEqual(list(found), WWW)
-        self.assertIn(found.ttl, (59, 60))
+        self.assertIn(found.ttl, near(60))
         left = found.until - datetime.datetime.now(datetime.timezone.utc)
-        self.assertTrue(57 < left.total_seconds() <= 60, left)
+        self.assertTrue(60 - network.LONG < left.total_seconds() <= 60, left)
         self.assertEqual(self.server.count(), 2)
 
     def test_aliases(self):
         resolver = self.resolver()
         found = resolver.addresses("third.example.test")
         self.assertEqual(list(found), WWW)
-        self.assertIn(found.ttl, (49, 50))
+        self.assertIn(found.ttl, near(50))
         answer = resolver.lookup("third.example.test", "A")
         self.assertEqual((answer.name, [str(it.data) for it in answer]), ("www.example.test.", ["192.0.2.1"]))
 
@@ -97,7 +102,7 @@ class Answers(WithServer):
         self.assertEqual(list(resolver.addresses("printer")), [ipaddress.ip_address("192.0.2.9")])
         names = resolver.reverse("192.0.2.9")
         self.assertEqual(list(names), ["printer.example.test.", "printer."])
-        self.assertIn(names.ttl, (86399, 86400))
+        self.assertIn(names.ttl, near(86400))
         self.assertEqual(list(resolver.reverse(ipaddress.ip_address("::1"))), ["localhost."])
 
 
@@ -112,12 +117,12 @@ class Errors(WithServer):
         for _ in range(2):
             error = self.told(resolver.addresses, "nowhere.example.test")
             self.assertIs(type(error), yimarotu.NoSuchName)
-            self.assertIn(error.ttl, (239, 240))
+            self.assertIn(error.ttl, near(240))
             self.assertEqual(error.name, "nowhere.example.test")
             self.assertEqual(str(error), "nowhere.example.test: there is no such name")
             error = self.told(resolver.lookup, "www.example.test", "MX")
             self.assertIs(type(error), yimarotu.NoRecords)
-            self.assertIn(error.ttl, (239, 240))
+            self.assertIn(error.ttl, near(240))
         self.assertEqual(self.server.count(), 3)
         self.assertTrue(issubclass(yimarotu.NoSuchName, yimarotu.NoAnswer))
 
@@ -138,19 +143,28 @@ class Errors(WithServer):
             resolver.lookup("www", "NONE")
 
     def test_timeouts(self):
-        resolver = self.resolver(settings="option attempts 0\noption timeout 1\n", timeout=30)
-        error = self.told(resolver.lookup, "silent.example.test", timeout=0.2)
-        self.assertIsInstance(error, TimeoutError)
-        self.assertIs(type(error), yimarotu.Timeout)
-        began = time.monotonic()
-        error = self.told(resolver.lookup, "silent.example.test")
-        self.assertIsInstance(error, TimeoutError)
-        self.assertTrue(0.9 < time.monotonic() - began < 4)
-        self.assertEqual(resolver.statistics().timed_out, 1)
+        patient = self.resolver(settings="option timeout 60\n")
+        hurried = self.resolver(settings="option attempts 0\noption timeout 1\n", timeout=60)
+        for resolver, timeout, least in ((patient, 0.2, 0.2), (hurried, None, 0.99)):
+            began = time.monotonic()
+            error = self.told(resolver.lookup, "silent.example.test", timeout=timeout)
+            self.assertTrue(least <= time.monotonic() - began < network.LONG)
+            self.assertIsInstance(error, TimeoutError)
+            self.assertIs(type(error), yimarotu.Timeout)
+        self.assertEqual([it.statistics().timed_out for it in (patient, hurried)], [0, 1])
+
+    def test_short_limits(self):
+        """Each call has all of its time."""
+        resolver = self.resolver()
+        for timeout in [0.001, 0.0009, 0.0011] + [0.003] * 20:
+            began = time.monotonic()
+            self.told(resolver.lookup, "silent.example.test", timeout=timeout)
+            self.assertGreaterEqual(time.monotonic() - began, timeout)
 
     def test_nobody_is_there(self):
-        resolver = self.resolver(servers=[f"127.0.0.1:{network.free_port()}"], settings="option timeout 1")
-        error = self.told(resolver.lookup, "www.example.test", timeout=15)
+        port = self.stack.enter_context(network.nobody())
+        resolver = self.resolver(servers=[f"127.0.0.1:{port}"], settings="option timeout 1")
+        error = self.told(resolver.lookup, "www.example.test", timeout=60)
         self.assertIsInstance(error, ConnectionError)
         self.assertIs(type(error), yimarotu.Unreachable)
 
@@ -214,7 +228,7 @@ class Servers(WithServer):
     def test_second_server(self):
         with socket.socket(socket.AF_INET, socket.SOCK_DGRAM) as silent:
             silent.bind((network.ADDRESS, 0))
-            for port in (network.free_port(), silent.getsockname()[1]):
+            for port in (self.stack.enter_context(network.nobody()), silent.getsockname()[1]):
                 resolver = self.resolver(servers=[("127.0.0.1", port), self.server.text], settings="option timeout 1")
                 self.assertEqual(list(resolver.addresses("www.example.test")), WWW)
 
@@ -226,10 +240,11 @@ class Servers(WithServer):
         self.assertEqual(len({query.port for query in self.server.asked}), 1)
 
     def test_other_servers(self):
-        resolver = self.resolver(servers=[f"127.0.0.1:{network.free_port()}"], settings="option timeout 1")
+        resolver = self.resolver(settings="option timeout 1")
         resolver.reload_servers(f"nameserver {network.OTHER_ADDRESS}\n", clears=True)
         with self.assertRaises(yimarotu.Error):
             resolver.lookup("www.example.test", timeout=1)
+        self.assertEqual(self.server.count(), 0)
 
 
 class Cache(WithServer):
@@ -252,8 +267,8 @@ class Cache(WithServer):
         resolver = self.resolver()
         resolver.addresses("four.example.test")
         time.sleep(2.1)
-        self.assertIn(resolver.addresses("four.example.test").ttl, (57, 58))
-        self.assertEqual(resolver.addresses("four.example.test").ttl, resolver.lookup("four.example.test")[0].ttl)
+        ttls = resolver.addresses("four.example.test").ttl, resolver.lookup("four.example.test")[0].ttl
+        self.assertTrue(all(ttl in near(58) for ttl in ttls) and ttls[0] >= ttls[1], ttls)
 
     def test_ttl_of_zero(self):
         resolver = self.resolver(settings="option ip_strategy Ipv4Only")
@@ -324,17 +339,17 @@ class Closing(WithServer):
 
         def wait():
             try:
-                resolver.addresses("silent.example.test", timeout=30)
+                resolver.addresses("silent.example.test", timeout=60)
             except yimarotu.Error as error:
                 told.append(type(error))
 
         threads = [threading.Thread(target=wait) for _ in range(8)]
         for thread in threads:
             thread.start()
-        time.sleep(0.3)
+        self.server.wait_for("silent", 2)
         resolver.close()
         for thread in threads:
-            thread.join(5)
+            thread.join(network.LONG)
         self.assertEqual(told, [yimarotu.Closed] * 8)
 
 
@@ -358,26 +373,26 @@ class Threads(WithServer):
 
     def test_slow_and_fast(self):
         """One that waits for a silent server holds nobody up, and hands the sockets on when it ends."""
-        resolver, told = self.resolver(), []
+        resolver, told = self.resolver(settings="option timeout 60"), []
 
         def wait(name, timeout):
             began = time.monotonic()
             with contextlib.suppress(yimarotu.Timeout):
                 resolver.lookup(name, timeout=timeout)
-            told.append((name.split(".")[0], round(time.monotonic() - began, 1)))
+            told.append((name.split(".")[0], time.monotonic() - began))
 
-        waits = [("silent.example.test", 1.5), ("slow.example.test", 10), ("silent.example.test", 3)]
+        waits = [("silent.example.test", 3), ("slow.example.test", 60), ("silent.example.test", 6)]
         threads = [threading.Thread(target=wait, args=it) for it in waits]
         for thread in threads:
             thread.start()
-        time.sleep(0.1)
+        self.server.wait_for("silent", 1)
         began = time.monotonic()
-        resolver.lookup("four.example.test", timeout=10)
-        self.assertLess(time.monotonic() - began, 1)
+        resolver.lookup("four.example.test", timeout=60)
+        self.assertLess(time.monotonic() - began, 3)
         for thread in threads:
-            thread.join(20)
+            thread.join(60)
         self.assertEqual([name for name, _ in told], ["slow", "silent", "silent"])
-        self.assertTrue(1.4 <= told[1][1] <= 2.5 and 2.9 <= told[2][1] <= 4, told)
+        self.assertTrue(3 <= told[1][1] < 6 <= told[2][1] < network.LONG, told)
 
     def test_equal_questions_are_sent_once(self):
         resolver, found = self.resolver(), []
@@ -427,12 +442,13 @@ class Forks(WithServer):
     def test_in_mid_look_up(self):
         """A child of a fork while another thread waits; that one goes on."""
         resolver, found = self.resolver(), []
-        thread = threading.Thread(target=lambda: found.append(resolver.lookup("slow.example.test")))
+        thread = threading.Thread(target=lambda: found.append(resolver.lookup("held.example.test", timeout=60)))
         thread.start()
-        time.sleep(0.1)
+        self.server.wait_for("held", 1)
         self.assertEqual(self.in_child(lambda: len(resolver.addresses("www.example.test")) == 2), 0)
-        thread.join(10)
-        self.assertEqual([str(it[0].data) for it in found], ["192.0.2.10"])
+        self.server.release()
+        thread.join(60)
+        self.assertEqual([str(it[0].data) for it in found], ["192.0.2.12"])
 
     def test_closed_in_the_child(self):
         resolver = self.resolver()

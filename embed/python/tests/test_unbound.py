@@ -14,7 +14,7 @@ import network
 import yimarotu
 from yimarotu import aio
 
-COUNT, SECONDS = 200, 20
+COUNT, SECONDS = 200, 60
 UNBOUND = """server:
   interface: {address}
   port: {port}
