@@ -15,14 +15,15 @@ import dns.rrset
 
 from . import servers
 
-SECONDS = 10
+SECONDS = 30
 # For how long a server hears nothing until all questions have come.
 QUIET = 0.3
 KEPT = "kept.example.test."
 # What one connection asks at once, of which it may have so many under way.
 PIPELINED, MOST_UNDER_WAY = 3000, 500
-# How many clients ask for one name at once, of which so many may be kept waiting.
-CROWD, MOST_WAITING = 20_000, 15_000
+# How many clients ask for one name at once, of which so many may be kept waiting, and for how many seconds: then they are
+# told that nobody answers, and as many may wait anew.
+CROWD, MOST_WAITING, WAIT = 20_000, 10_000, 3
 # How many queries are sent before it is seen to that they have been taken.
 STEP = 400
 # More names than are looked up at once.
@@ -185,7 +186,7 @@ def one_connection(cases, forwarder):
         count = upstream.hear_all()
         cases.tell(f"of {PIPELINED} queries of one connection a part is under way", 0 < count <= MOST_UNDER_WAY, count)
         client.send("other.example.test.")
-        asked = upstream.hear_of("other.example.test.", 1)
+        asked = upstream.hear_of("other.example.test.", SECONDS)
         if asked:
             upstream.answer(asked, (60, "IN", "A", "192.0.2.2"))
         cases.equal("another client is answered meanwhile", client.hear().rcode(), dns.rcode.NOERROR)
@@ -194,12 +195,13 @@ def one_connection(cases, forwarder):
 def one_name(cases, forwarder):
     """Of a crowd that asks for one name, some are refused."""
     with running(forwarder) as (_, client, port, _), datagrams() as sock:
-        crowd, refused = Client(sock, port), 0
+        crowd, refused, began = Client(sock, port), 0, time.monotonic()
         for _ in range(CROWD // STEP):
             crowd.send(*["slow.example.test."] * STEP)
             client.ask(KEPT)
             refused += crowd.count()
-        is_bounded = CROWD - refused <= MOST_WAITING
+        turns = 1 + int((time.monotonic() - began) / WAIT)
+        is_bounded = CROWD - refused <= turns * MOST_WAITING
         cases.tell(f"of {CROWD} clients that ask for one name not all wait", is_bounded, f"{refused} were refused")
 
 

@@ -11,6 +11,8 @@ from . import servers, stub, tools, zone
 
 HOSTS = "192.0.2.200 printer.example.test printer\n2001:db8::200 printer.example.test\n"
 PRINTER = "printer.example.test. 86400 IN A 192.0.2.200\n"
+# A second may begin between the opening, from which a day is counted, and the question.
+AGED = PRINTER.replace("86400", "86399")
 FOUND, NO_RECORDS, FAILED = 0, 1, 3
 # How many tools run at once.
 AT_ONCE = 8
@@ -39,7 +41,7 @@ def direct(port, name, rdtype):
     lines = []
     while True:
         query = dns.message.make_query(name, rdtype, payload=1232)
-        response, _ = dns.query.udp_with_fallback(query, servers.ADDRESS, timeout=2, port=port)
+        response, _ = dns.query.udp_with_fallback(query, servers.ADDRESS, timeout=30, port=port)
         for rrset in response.answer:
             kind = dns.rdatatype.to_text(rrset.rdtype)
             lines += [f"{rrset.name} {rrset.ttl} IN {kind} {rdata.to_text()}" for rdata in rrset]
@@ -80,6 +82,7 @@ def names_and_hosts(cases, server_name, server, hosts):
     # A line of hosts names an address twice.
     name = "200.2.0.192.in-addr.arpa."
     names = f"{name} 86400 IN PTR printer.example.test.\n{name} 86400 IN PTR printer.\n"
+    found = found[0], found[1].replace(AGED, PRINTER), found[2]
     cases.equal(f"{server_name}, a file of hosts", found, (FOUND, PRINTER + names, ""))
 
 

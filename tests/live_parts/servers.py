@@ -13,7 +13,7 @@ import dns.query
 from . import zone
 
 ADDRESS = "127.0.0.1"
-SECONDS_TO_START = 10
+SECONDS_TO_START = 60
 
 UNBOUND = """server:
   interface: {address}
@@ -42,6 +42,15 @@ def free_port():
             except OSError:
                 continue
             return datagrams.getsockname()[1]
+
+
+@contextmanager
+def nobody():
+    """A port at which nobody is: a socket has it that hears itself alone."""
+    with socket.socket(socket.AF_INET, socket.SOCK_DGRAM) as sock:
+        sock.bind((ADDRESS, 0))
+        sock.connect(sock.getsockname())
+        yield sock.getsockname()[1]
 
 
 def unbound_words(port, folder):
@@ -104,7 +113,7 @@ def wait_for(port, process):
     query = dns.message.make_query("www.example.test", "A")
     while True:
         try:
-            dns.query.udp(query, ADDRESS, timeout=0.1, port=port)
+            dns.query.udp(query, ADDRESS, timeout=1, port=port)
             return
         except (dns.exception.Timeout, OSError):
             if process.poll() is not None or time.monotonic() > until:

@@ -17,6 +17,8 @@ import dns.rrset
 from . import zone
 from .servers import ADDRESS, free_port
 
+# How long it is quiet behind a flood, in seconds.
+PAUSE = 0.5
 # What the resolver must never believe.
 LIE = "203.0.113.66"
 OTHER_ADDRESS = "127.0.0.2"
@@ -123,6 +125,8 @@ class Stub:
                 if forged != query.id:
                     sock.sendto(struct.pack(">H", forged) + wire[2:], peer)
                 time.sleep(max(0, start + number / self.floods - time.monotonic()))
+        # The system drops what comes to a socket that is full: the program gets time to read.
+        time.sleep(PAUSE)
 
     def lie_from_elsewhere(self, query, peer):
         """The same reply with a false address, from another port and from another address of this machine."""

@@ -6,7 +6,7 @@ from pathlib import Path
 from .packages import PYTHON
 
 TOOLS = Path(__file__).resolve().parents[2] / "tools"
-SECONDS = 30
+SECONDS = 120
 ENVIRONMENT = {**os.environ, "PYTHONDONTWRITEBYTECODE": "1"}
 
 

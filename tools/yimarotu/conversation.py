@@ -78,8 +78,8 @@ class Conversation(asyncio.SubprocessProtocol):
         mark = f"r{next(self._marks)}"
         waiting = Waiting(asyncio.get_running_loop().create_future(), explain)
         self._waiting[mark] = waiting
-        # The moment is of a clock that does not go back.
-        self._tell(f"{mark} {'explain ' if explain else ''}at {int(time.monotonic())} {words}")
+        # The moment is of a clock that does not go back, and counts while the machine sleeps.
+        self._tell(f"{mark} {'explain ' if explain else ''}at {int(time.clock_gettime(time.CLOCK_BOOTTIME))} {words}")
         return await waiting.future
 
     async def close(self):
