@@ -20,7 +20,10 @@ ROOM = 1 << 16
 ADDRESSES, MESSAGE = 17 * 64, 65535
 NXDOMAIN = 3
 _clock, _BOOTTIME = time.clock_gettime_ns, time.CLOCK_BOOTTIME
-_next = library.yimarotu_next
+_next, _start, _start_ip, _cancel = (
+    library.yimarotu_next, library.yimarotu_start, library.yimarotu_start_ip, library.yimarotu_cancel
+)
+_addresses, _answer = library.yimarotu_addresses, library.yimarotu_answer
 
 
 def now() -> int:
@@ -115,44 +118,50 @@ class DrivenSession:
 
     def start(self, number: int, name: bytes, record_type: int) -> bool:
         """Starts a look-up of records, and tells whether it waits."""
-        progress = library.yimarotu_start(self._at, number, name, len(name), record_type, now())
-        _check(progress.status)
+        progress = _start(self._at, number, name, len(name), record_type, now())
+        if progress.status:
+            _check(progress.status)
         return bool(progress.waits)
 
     def start_ip(self, number: int, host: bytes) -> bool:
         """Starts a look-up of addresses, and tells whether it waits."""
-        progress = library.yimarotu_start_ip(self._at, number, host, len(host), now())
-        _check(progress.status)
+        progress = _start_ip(self._at, number, host, len(host), now())
+        if progress.status:
+            _check(progress.status)
         return bool(progress.waits)
 
     def forget(self, number: int, is_done: bool) -> None:
         """Forgets a look-up, whether it waits or is done."""
         # Only the place of one that waited comes free. Time is told for no other: it could end what was answered already,
         # by octets that nobody has read yet.
-        library.yimarotu_cancel(self._at, number, 0 if is_done else now())
+        _cancel(self._at, number, 0 if is_done else now())
 
     def addresses(self, number: int, host: str) -> Tuple[List[Address], int]:
         """The addresses that a look-up came to, and for how many seconds from now on they may be used."""
-        found = library.yimarotu_addresses(self._at, number, now(), self._addresses_at, len(self._addresses))
-        if found.status == numbers.ROOM:
+        found = _addresses(self._at, number, now(), self._addresses_at, len(self._addresses))
+        if found.status:
+            if found.status != numbers.ROOM:
+                _check(found.status)
             self._addresses_at, self._addresses = self._new_room(17 * found.count)
             return self.addresses(number, host)
-        _check(found.status)
         if found.error:
             raise self._error(number, host)
-        return [_address(self._addresses[17 * at : 17 * at + 17]) for at in range(found.count)], int(found.ttl)
+        length = 17 * found.count
+        octets = bytes(self._addresses[:length])
+        return [_address(octets, at) for at in range(0, length, 17)], found.ttl
 
     def answer(self, number: int, name: str) -> Told:
         """The message of the records that a look-up came to."""
         told, message = self._answer(number)
         if told.error:
             raise _error_of(told, name)
-        return Told(message, int(told.until))
+        return Told(message, told.until)
 
     def _answer(self, number: int) -> Tuple[Any, bytes]:
         # (the room has space for the longest message)
-        told = library.yimarotu_answer(self._at, number, MESSAGE, self.room_at, self._room_length)
-        _check(told.status)
+        told = _answer(self._at, number, MESSAGE, self.room_at, self._room_length)
+        if told.status:
+            _check(told.status)
         return told, bytes(self.room[: told.length])
 
     def _error(self, number: int, name: str) -> Error:
@@ -173,10 +182,10 @@ class DrivenSession:
         return Statistics(told.started, told.done_at_once, told.sent, told.timed_out, told.entries, told.octets)
 
 
-def _address(octets: memoryview) -> Address:
-    if octets[0] == 4:
-        return ipaddress.IPv4Address(bytes(octets[1:5]))
-    return ipaddress.IPv6Address(bytes(octets[1:]))
+def _address(octets: bytes, at: int) -> Address:
+    if octets[at] == 4:
+        return ipaddress.IPv4Address(octets[at + 1 : at + 5])
+    return ipaddress.IPv6Address(octets[at + 1 : at + 17])
 
 
 def _check(status: int) -> None:

@@ -15,6 +15,8 @@ Given = TypeVar("Given", Addresses, Answer)
 class Request(Generic[Given]):
     """A look-up of a name."""
 
+    __slots__ = ("name",)
+
     def __init__(self, name: str) -> None:
         self.name = name
 
@@ -30,6 +32,8 @@ class Request(Generic[Given]):
 class ForAddresses(Request[Addresses]):
     """A look-up of the addresses of a host."""
 
+    __slots__ = ()
+
     def start(self, session: DrivenSession, number: int) -> bool:
         return session.start_ip(number, octets_of(self.name))
 
@@ -40,8 +44,10 @@ class ForAddresses(Request[Addresses]):
 class ForRecords(Request[Answer]):
     """A look-up of records of a type."""
 
+    __slots__ = ("record_type",)
+
     def __init__(self, name: str, record_type: Union[str, int]) -> None:
-        super().__init__(name)
+        self.name = name
         self.record_type = type_number(record_type)
 
     def start(self, session: DrivenSession, number: int) -> bool:
@@ -53,6 +59,8 @@ class ForRecords(Request[Answer]):
 
 class ForHost(Request[Answer]):
     """A look-up of the addresses of a host, whose whole answer is wanted."""
+
+    __slots__ = ()
 
     def start(self, session: DrivenSession, number: int) -> bool:
         return session.start_ip(number, octets_of(self.name))

@@ -6,7 +6,7 @@ from datetime import datetime, timezone
 from typing import List, Tuple
 
 from ._driven import Address, Told, now
-from .records import PTR, Record, Sections, read_sections, type_word
+from .records import PTR, Record, read_answers, read_sections, type_word
 
 ANY = 255
 
@@ -67,28 +67,29 @@ class Answer(List[Record], Timed):
     section, as NS records among the authorities."""
 
     __slots__ = ("_told", "_whole")
-    _whole: Tuple[Sections, bytes]
+    _whole: Tuple[Tuple[Record, ...], bytes]
 
     @classmethod
     def of(cls, record_type: int, told: Told) -> Answer:
-        sections = read_sections(told.message)
+        message, until = told
+        answers = read_answers(message)
         word = type_word(record_type)
-        made = cls(record for record in sections.answers if record_type == ANY or record.type == word)
-        made._told = max(0, told.until - now() // 1000), time.time()
-        made._whole = sections, told.message
+        made = cls(answers if record_type == ANY else [record for record in answers if record.type == word])
+        made._told = max(0, until - now() // 1000), time.time()
+        made._whole = answers, message
         return made
 
     @property
     def answers(self) -> Tuple[Record, ...]:
-        return self._whole[0].answers
+        return self._whole[0]
 
     @property
     def authorities(self) -> Tuple[Record, ...]:
-        return self._whole[0].authorities
+        return read_sections(self._whole[1]).authorities
 
     @property
     def additionals(self) -> Tuple[Record, ...]:
-        return self._whole[0].additionals
+        return read_sections(self._whole[1]).additionals
 
     @property
     def message(self) -> bytes:

@@ -27,8 +27,10 @@ TYPES = {
     "OPENPGPKEY": 61, "SVCB": 64, "HTTPS": 65, "SPF": 99, "ANY": 255, "URI": 256, "CAA": 257,
 }
 _TYPE_WORDS = {number: word for word, number in TYPES.items()}
-# Most labels need no escape.
+# Most labels need no escape, and most names have none that does.
 _is_plain = re.compile(rb"[A-Za-z0-9_-]+").fullmatch
+_are_plain = re.compile(rb"[A-Za-z0-9_.-]+").fullmatch
+_HEAD = struct.Struct(">2HIH")
 _CLASS_WORDS = {1: "IN", 3: "CH", 4: "HS", 254: "NONE", 255: "ANY"}
 
 
@@ -41,7 +43,7 @@ def type_number(record_type: Union[str, int]) -> int:
     if isinstance(record_type, str):
         word = record_type.upper()
         number = TYPES.get(word, -1)
-        if word.startswith("TYPE") and word[4:].isdecimal():
+        if number < 0 and word.startswith("TYPE") and word[4:].isdecimal():
             number = int(word[4:])
     else:
         number = int(record_type)
@@ -254,21 +256,26 @@ def read_name(message: bytes, at: int) -> Tuple[str, int]:
     >>> read_name(b"\\3www\\7example\\0" + b"\\1a\\xc0\\4", 13)
     ('a.example.', 17)
     """
-    labels: List[str] = []
+    labels: List[bytes] = []
     end, limit = -1, at
-    while True:
-        length = message[at]
+    while length := message[at]:
         if length >= 0xC0:
             end = at + 2 if end < 0 else end
             at = (length & 0x3F) << 8 | message[at + 1]
             if at >= limit:
                 raise ValueError("a pointer that does not lead back")
             limit = at
-        elif length == 0:
-            return ".".join(labels) + ".", at + 1 if end < 0 else end
         else:
-            labels.append(_label_text(message[at + 1 : at + 1 + length]))
-            at += 1 + length
+            labels.append(message[at + 1 : (at := at + 1 + length)])
+    return _name_text(labels), at + 1 if end < 0 else end
+
+
+def _name_text(labels: List[bytes]) -> str:
+    text = b".".join(labels)
+    # (a dot within a label is escaped)
+    if _are_plain(text) and text.count(b".") < len(labels):
+        return text.decode("ascii") + "."
+    return ".".join(map(_label_text, labels)) + "."
 
 
 def _read_txt(message: bytes, at: int, end: int) -> TXT:
@@ -311,18 +318,49 @@ _READERS: Dict[int, Callable[[bytes, int, int], Data]] = {
     257: _read_caa,
 }
 OPT = 41
+_new = object.__new__
 
 
-def _read_record(message: bytes, at: int) -> Tuple[int, Record, int]:
-    """The number of the type of a record, the record, and where it ends."""
-    name, at = read_name(message, at)
-    number, class_number, ttl, length = struct.unpack_from(">2HIH", message, at)
-    at, end = at + 10, at + 10 + length
-    reader = _READERS.get(number) if class_number == 1 else None
-    data = reader(message, at, end) if reader is not None and length else Unknown(message[at:end])
-    if number == 16 and not length:
-        data = TXT(())
-    return number, Record(name, type_word(number), class_word(class_number), ttl, data), end
+def _read_records(message: bytes, at: int, count: int) -> Tuple[Tuple[Record, ...], int]:
+    """So many records of a message without OPT, and where they end."""
+    records: List[Record] = []
+    owners: Dict[bytes, str] = {}
+    for _ in range(count):
+        pointer = message[at : at + 2]
+        if pointer in owners:
+            name, at = owners[pointer], at + 2
+        else:
+            name, at = read_name(message, at)
+            if pointer >= b"\xc0":
+                owners[pointer] = name
+        number, class_number, ttl, length = _HEAD.unpack_from(message, at)
+        at, start = at + 10 + length, at + 10
+        reader = _READERS.get(number) if class_number == 1 else None
+        if reader is not None and (length or number == TYPES["TXT"]):
+            data = reader(message, start, at)
+        else:
+            data = Unknown(message[start:at])
+        if number != OPT:
+            record = _new(Record)
+            # (as its `__init__` does, and faster)
+            record.__dict__.update(
+                name=name, type=type_word(number), class_=class_word(class_number), ttl=ttl, data=data
+            )
+            records.append(record)
+    return tuple(records), at
+
+
+def _behind_questions(message: bytes, count: int) -> int:
+    at = 12
+    for _ in range(count):
+        at = _behind_name(message, at) + 4
+    return at
+
+
+def read_answers(message: bytes) -> Tuple[Record, ...]:
+    """The records of the answer section of a message."""
+    questions, answers = struct.unpack_from(">2H", message, 4)
+    return _read_records(message, _behind_questions(message, questions), answers)[0]
 
 
 def read_sections(message: bytes) -> Sections:
@@ -333,16 +371,10 @@ def read_sections(message: bytes) -> Sections:
     a. 60 IN A 192.0.2.1
     """
     questions, *counts = struct.unpack_from(">4H", message, 4)
-    at, sections = 12, []
-    for _ in range(questions):
-        at = _behind_name(message, at) + 4
+    at, sections = _behind_questions(message, questions), []
     for count in counts:
-        records = []
-        for _ in range(count):
-            number, record, at = _read_record(message, at)
-            if number != OPT:
-                records.append(record)
-        sections.append(tuple(records))
+        records, at = _read_records(message, at, count)
+        sections.append(records)
     return Sections(*sections)
 
 
