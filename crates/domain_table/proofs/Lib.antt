@@ -1,0 +1,4 @@
+pub mod Kept
+pub mod Longest
+pub mod OneValue
+pub mod Suffixes

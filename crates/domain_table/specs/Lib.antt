@@ -1,0 +1,3 @@
+pub mod Domains
+pub mod Laws
+pub mod Names
