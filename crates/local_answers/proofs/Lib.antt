@@ -1,0 +1,4 @@
+pub mod Endings
+pub mod HostsTold
+pub mod Labels
+pub mod Served

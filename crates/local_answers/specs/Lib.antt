@@ -1,0 +1,7 @@
+pub mod Decisions
+pub mod FromHosts
+pub mod Replies
+pub mod Rules
+pub mod Special
+pub mod Told
+pub mod Zones
