@@ -216,6 +216,30 @@ impl KeptReply {
         }))
     }
 
+    /// As `of`, of a reply that others are told of too: what is kept of it is copied.
+    pub fn copy_of(
+        alloc: Global,
+        query: &Query,
+        dnssec: bool,
+        reply: &WireMessage,
+    ) -> Result<Option<KeptReply>, AllocError>
+        ensures { IfOk result (λ kept. kept ≡ kept_of query.now dnssec reply.now) }
+    {
+        let message = &reply.message;
+        if MOST_NAMES < count_names(query, &message.answers) {
+            return Ok(None);
+        }
+        let answers = copied_answers(alloc, query, dnssec, &message.answers)?;
+        let authorities = copied_authorities(query, dnssec, message)?;
+        Ok(Some(KeptReply {
+            code: message.metadata.response_code,
+            authentic_data: reply.authentic_data,
+            seconds: seconds_of(negative_limit(query, message), &answers, &authorities),
+            answers,
+            authorities,
+        }))
+    }
+
     /// Puts the reply to the question that it leads to behind it (RFC 6604). Where memory is refused nothing changes.
     pub fn append(&mut self, last: KeptReply) -> Result<(), AllocError>
         ensures ok { OnOk result (self.new ≡ joined self.old last) }
@@ -286,6 +310,40 @@ fn kept_records(
     keep_way(alloc, query, dnssec, &mut answers)?;
     keep_authorities(dnssec, negative, moved, &mut authorities);
     Ok((answers, authorities))
+}
+
+// What is kept of the answers, copied.
+fn copied_answers(
+    alloc: Global,
+    query: &Query,
+    dnssec: bool,
+    answers: &[Record],
+) -> Result<Vec<Record>, AllocError>
+    ensures { IfOk result (λ kept. kept.items ≡ filter (is_kept_of query.now answers.now dnssec) answers.now) }
+{
+    let names = names_of(alloc, query, answers)?;
+    let (last, _) = end_of(query, answers);
+    let mut kept = Vec::new(alloc);
+    for found in answers {
+        if is_kept(query, last, dnssec, &names, found) {
+            kept.push(Clone::clone(found)?)?;
+        }
+    }
+    Ok(kept)
+}
+
+// What is kept of the authorities, copied.
+fn copied_authorities(
+    query: &Query,
+    dnssec: bool,
+    message: &Message,
+) -> Result<Vec<Record>, AllocError>
+    ensures { IfOk result (λ kept. kept.items ≡ kept_authorities query.now dnssec message.now) }
+{
+    let (_, moved) = end_of(query, &message.answers);
+    let mut authorities = message.authorities.clone()?;
+    keep_authorities(dnssec, is_negative(query, message), moved, &mut authorities);
+    Ok(authorities)
 }
 
 fn age_records(records: &mut Vec<Record>, seconds: u32)
