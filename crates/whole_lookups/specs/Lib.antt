@@ -1,0 +1,3 @@
+pub mod Denied
+pub mod Laws
+pub mod Lookups
