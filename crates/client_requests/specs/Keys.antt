@@ -1,0 +1,42 @@
+-- Under what a reply is kept, and a question is looked up.
+use Rattle.std.specs.Prelude.{◌≡◌, ℕ, ◌+◌, Bool, true, List, ◌∷◌, nat_eq}
+use Rattle.std.specs.Cmp.{IsEquivalence, unsigned_Decides}
+use Rattle.std.specs.Cmp.Lexicographic.{nat_list_eq_equiv}
+use Rattle.std.specs.Hash as fed
+use Rattle.std.specs.Hash.{Alike, items_Alike, same_Alike}
+use Rattle.std.specs.Str.{bytes_eq}
+use Rattle.hickory_proto_wire.specs.Messages.{bit}
+use Rattle.hickory_proto_wire.specs.Writing.{weighed}
+use Rattle.client_queries.specs.declared.query.ClientQuery.{ClientQuery}
+use Rattle.stored_replies.specs.Key.{question_key}
+use Rattle.stored_replies.specs.Told.{asks_dnssec}
+use Rattle.client_requests.specs.Requests.{RequestValue, question_of}
+
+-- what is asked of DNSSEC: its records (DO), and that nothing is checked (CD)
+abbrev pub dnssec_octet : ClientQuery → ℕ
+dnssec_octet q = weighed (asks_dnssec q.edns) 1 + weighed (bit 16 q.flags) 2
+
+-- That, and the question with its name in lower case. So what is asked with DO or CD is another thing than without.
+abbrev pub key_of : RequestValue → List ℕ
+key_of r = dnssec_octet r.query ∷ question_key (question_of r)
+
+-- ---- keys of a map
+
+abbrev pub key_eq : List ℕ → List ℕ → Bool
+key_eq = bytes_eq
+
+pub key_equiv : IsEquivalence key_eq
+key_equiv = nat_list_eq_equiv
+
+abbrev pub key_hash_input : List ℕ → List (List ℕ)
+key_hash_input key = fed.slice fed.u8 key
+
+-- keys that are equal feed a hasher the same
+octets_alike : Alike nat_eq fed.u8
+octets_alike = same_Alike fed.u8 unsigned_Decides
+
+keys_alike : Alike key_eq key_hash_input
+keys_alike = items_Alike octets_alike
+
+pub key_respects_eq : (one other : List ℕ) → key_eq one other ≡ true → key_hash_input one ≡ key_hash_input other
+key_respects_eq = keys_alike.fed
