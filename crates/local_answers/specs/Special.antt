@@ -1,6 +1,6 @@
 -- Names that are answered without asking, as the core answers them (RFC 6761, sections 6.3 and 6.4; RFC 7686, section
 -- 2).
-use Rattle.std.specs.Prelude.{ℕ, [], ◌∷◌, Option, None, Some, if◌then◌else◌}
+use Rattle.std.specs.Prelude.{[], ◌∷◌, Option, None, Some, if◌then◌else◌}
 use Rattle.std.specs.Option.{option_map_or}
 use Rattle.hickory_proto_core.specs.Codes.{type_code}
 use Rattle.hickory_proto_core.specs.codes.response_code.ResponseCode.TheVariants as response
