@@ -45,22 +45,25 @@ static void fail(uint64_t channel, int error) {
     yimarotu_failed(&session, channel, why, now());
 }
 
-/* Opens a channel: a socket of its own, connected to the server whose address, and scope behind it, are in the room. */
+/* Opens a channel: a socket of its own, connected to the server whose address, and scope behind it, are in the room. One
+ * that failed stays until the library says that it is to be closed. */
 static void open_channel(const yimarotu_action *open) {
     bool is_v4 = open->family == 4, is_stream = open->protocol == YIMAROTU_STREAM;
     struct sockaddr_in v4 = {.sin_family = AF_INET, .sin_port = htons(open->port)};
     struct sockaddr_in6 v6 = {.sin6_family = AF_INET6, .sin6_port = htons(open->port)};
     char scope[IF_NAMESIZE] = "";
     memcpy(is_v4 ? (void *)&v4.sin_addr : (void *)&v6.sin6_addr, room, is_v4 ? 4 : 16);
-    if (open->length > 16) snprintf(scope, sizeof scope, "%.*s", (int)open->length - 16, (char *)room + 16);
-    v6.sin6_scope_id = if_nametoindex(scope) ? if_nametoindex(scope) : (uint32_t)atoi(scope);
+    if (open->length > 16) {
+        snprintf(scope, sizeof scope, "%.*s", (int)open->length - 16, (char *)room + 16);
+        v6.sin6_scope_id = if_nametoindex(scope) ? if_nametoindex(scope) : (uint32_t)atoi(scope);
+    }
     if (count == CHANNELS) return fail(open->channel, EMFILE);
     int fd = socket(is_v4 ? AF_INET : AF_INET6, (is_stream ? SOCK_STREAM : SOCK_DGRAM) | SOCK_CLOEXEC | SOCK_NONBLOCK, 0);
     if (fd < 0) return fail(open->channel, errno);
-    int ended = is_v4 ? connect(fd, (struct sockaddr *)&v4, sizeof v4) : connect(fd, (struct sockaddr *)&v6, sizeof v6);
-    if (ended != 0 && errno != EINPROGRESS) return fail(open->channel, errno), (void)close(fd);
     channels[count] = (struct channel){.number = open->channel, .is_stream = is_stream};
     polled[count++] = (struct pollfd){.fd = fd, .events = POLLIN};
+    int ended = is_v4 ? connect(fd, (struct sockaddr *)&v4, sizeof v4) : connect(fd, (struct sockaddr *)&v6, sizeof v6);
+    if (ended != 0 && errno != EINPROGRESS) fail(open->channel, errno);
 }
 
 /* Sends what waits on a channel, and so many octets of the room behind it, as far as it goes. */
