@@ -30,6 +30,10 @@ def run(cases, programs, folder):
         converse(cases, programs, "a server that counts", server, folder, *more)
 
 
+def moment():
+    return time.clock_gettime(time.CLOCK_BOOTTIME)
+
+
 def requests(more):
     questions = [f"{name} {kind}" if kind else name for name, kind in zone.QUESTIONS]
     asked = [*questions, *MORE, "localhost", "192.0.2.7", *more]
@@ -40,13 +44,13 @@ def converse(cases, programs, name, server, folder, *more):
     """Many requests, and what a replay of the journal prints."""
     journal, hosts = folder / "journal", folder / "hosts"
     hosts.write_text(HOSTS)
-    before, asked = int(time.clock_gettime(time.CLOCK_BOOTTIME)), requests(more)
+    before, asked = int(moment()), requests(more)
     blocks = asyncio.run(told(programs.serve, server.port, asked, ["--journal", journal, "--hosts", hosts]))
     heads = [block.lines[0] for block in blocks]
     cases.equal(f"{name}: a block for each request", [head.split(None, 2)[2].split()[0] for head in heads],
                 [words.split()[0] for words in asked])
     moments = [int(head.split()[1]) for head in heads]
-    is_right = before <= moments[0] and moments == sorted(moments) and moments[-1] <= time.clock_gettime(time.CLOCK_BOOTTIME)
+    is_right = before <= moments[0] and moments == sorted(moments) and moments[-1] <= moment()
     cases.tell(f"{name}: the moments of the requests", is_right, moments)
     printed = "".join(f"{line}\n" for block in blocks for line in block.lines)
     cases.equal(f"{name}: the journal is replayed", tools.replayed(programs.replay, journal, hosts), printed)

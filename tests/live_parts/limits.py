@@ -21,8 +21,8 @@ QUIET = 0.3
 KEPT = "kept.example.test."
 # What one connection asks at once, of which it may have so many under way.
 PIPELINED, MOST_UNDER_WAY = 3000, 500
-# How many clients ask for one name at once, of which so many may be kept waiting, and for how many seconds: then they are
-# told that nobody answers, and as many may wait anew.
+# How many clients ask for one name at once, of which so many may be kept waiting, and for how many seconds: then they
+# are told that nobody answers, and as many may wait anew.
 CROWD, MOST_WAITING, WAIT = 20_000, 10_000, 3
 # How many queries are sent before it is seen to that they have been taken.
 STEP = 400

@@ -1,5 +1,5 @@
-"""A name server of the tests' own, in a thread: slow, silent, lying, truncating, with replies that it holds until it is told,
-and with streams that close. It writes messages by hand (RFC 1035, section 4), and counts what it is asked."""
+"""A name server of the tests' own, in a thread: slow, silent, lying, truncating, with replies that it holds until it is
+told, and with streams that close. It writes messages by hand (RFC 1035, section 4), and counts what it is asked."""
 import contextlib
 import ipaddress
 import os
