@@ -2,3 +2,4 @@ pub mod Endings
 pub mod HostsTold
 pub mod Labels
 pub mod Served
+pub mod SpecialTold

@@ -1,5 +1,6 @@
 pub mod Decisions
 pub mod FromHosts
+pub mod Laws
 pub mod Replies
 pub mod Rules
 pub mod Special

@@ -4,6 +4,7 @@
 
 pub mod choices;
 mod from_hosts;
+pub mod laws;
 pub mod local_data;
 mod replies;
 pub mod rules;

@@ -47,9 +47,10 @@ impl LocalData {
 }
 
 impl<S: BuildHasher> LocalData<S> {
-    /// What is done with a question of the class of the Internet at a moment (seconds). Its name is given as octets too,
-    /// as they stand in the question. The hosts come first, then the special names, then the rule of the longest domain
-    /// that is the name or above it; where there is none, group 0 is asked. The only error is to be out of memory.
+    /// What is done with a question of the class of the Internet at a moment (seconds). Its name is given as octets
+    /// too, as they stand in the question. The hosts come first, then the special names, then the rule of the longest
+    /// domain that is the name or above it; where there is none, group 0 is asked. The only error is to be out of
+    /// memory.
     pub fn decide(
         &self,
         alloc: Global,
