@@ -1,5 +1,5 @@
 -- How many clients wait, and whether one more may.
-use Rattle.std.specs.Prelude.{ℕ, ◌+◌, ◌-◌, Bool, ◌&&◌, ◌==◌, List, [], nat_lt, nat_le, unwrap_or, if◌then◌else◌}
+use Rattle.std.specs.Prelude.{◌≢◌, ℕ, ◌+◌, ◌-◌, Bool, ◌&&◌, ◌==◌, List, [], nat_lt, nat_le, Some, unwrap_or, if◌then◌else◌}
 use Rattle.std.specs.Ordering.{nat_cmp}
 use Rattle.std.specs.Map.{lookup, remove_entry, set_value}
 use Rattle.std.specs.BTreeMap.{insert_entry, is_at}
@@ -16,6 +16,10 @@ default_limits = record { all = MOST_CLIENTS; of_address = MOST_OF_ADDRESS; of_q
 pub record CountsValue : Type 0 where
   pub all : ℕ
   pub of_networks : List (ℕ × ℕ)
+
+-- no network is counted of which nobody waits
+abbrev pub HasNoZero : List (ℕ × ℕ) → Type 0
+HasNoZero counts = (network : ℕ) → lookup (is_at (nat_cmp network)) counts ≢ Some 0
 
 abbrev pub nobody : CountsValue
 nobody = record { all = 0; of_networks = [] }

@@ -1,9 +1,9 @@
 //! How many clients wait.
-ghost use Rattle.std.specs.Prelude.{◌≡◌, ◌+◌, ◌-◌, OnOk, OnErr, IfOk};
+ghost use Rattle.std.specs.Prelude.{◌≡◌, ◌<◌, ◌+◌, ◌-◌, IsSome, OnOk, OnErr, IfOk};
 ghost use Rattle.std.specs.Ordering.{nat_cmp};
-ghost use Rattle.std.specs.Map.{set_value, remove_entry};
+ghost use Rattle.std.specs.Map.{keys_of, lookup, set_value, remove_entry};
 ghost use Rattle.std.specs.BTreeMap.{insert_entry, is_at};
-ghost use Rattle.client_limits.specs.Counts.{nobody, count_at, count_of, admits, added, removed, lowered, one_less};
+ghost use Rattle.client_limits.specs.Counts.{HasNoZero, nobody, count_at, count_of, admits, added, removed, lowered, one_less};
 ghost use Rattle.client_limits.specs.Networks.{counted_as};
 
 use crate::limits::ClientLimits;
@@ -24,11 +24,13 @@ pub struct ClientCounts {
 }
 
 impl Model for ClientCounts {
-    ghost use Rattle.client_limits.specs.Counts.{CountsValue};
+    ghost use Rattle.client_limits.specs.Counts.{CountsValue, HasNoZero};
 
     ghost Value = { CountsValue };
 
     ghost view = { λ c. record { all = c.all; of_networks = c.of_networks.entries } };
+
+    ghost invariant = { λ c. HasNoZero c.of_networks.entries };
 }
 
 fn count_at(counts: &Counts, network: u128) -> usize
@@ -43,13 +45,18 @@ fn count_at(counts: &Counts, network: u128) -> usize
 fn set_count(counts: &mut Counts, network: u128, count: usize) -> Result<(), AllocError>
     ensures ok { OnOk result (counts.new.entries ≡ insert_entry nat_cmp counts.old.entries network count) }
     ensures err { OnErr result (counts.new.entries ≡ counts.old.entries) }
+    ensures keys { OnOk result (IsSome (lookup (is_at (nat_cmp network)) counts.old.entries)
+        → keys_of counts.new.entries ≡ keys_of counts.old.entries) }
+    ensures no_zero { 0 < count → HasNoZero counts.old.entries → HasNoZero counts.new.entries }
 {
     counts.insert(network, count)?;
     Ok(())
 }
 
 fn lower(counts: &mut Counts, network: u128)
-    ensures { counts.new.entries ≡ lowered network counts.old.entries }
+    ensures lowered { counts.new.entries ≡ lowered network counts.old.entries }
+    ensures no_zero { 1 < count_at network counts.old.entries → HasNoZero counts.old.entries
+        → HasNoZero counts.new.entries }
 {
     if let Some(count) = counts.get_mut(&network) {
         *count = count.saturating_sub(1);
@@ -58,7 +65,9 @@ fn lower(counts: &mut Counts, network: u128)
 
 // Of so many clients of a network one goes.
 fn one_less(counts: &mut Counts, network: u128, count: usize)
-    ensures { counts.new.entries ≡ one_less network count counts.old.entries }
+    ensures less { counts.new.entries ≡ one_less network count counts.old.entries }
+    ensures no_zero { count ≡ count_at network counts.old.entries → HasNoZero counts.old.entries
+        → HasNoZero counts.new.entries }
 {
     if count <= 1 {
         counts.remove(&network);
@@ -101,10 +110,11 @@ impl ClientCounts {
             && self.of(address) < limits.of_address
     }
 
-    /// One more waits. Once they cannot be counted any more, memory is refused. A refused call changes nothing.
+    /// One more waits; where that one waits no more, nothing has changed. Once they cannot be counted any more, memory is refused. A refused call changes nothing.
     pub fn add(&mut self, address: IpAddr) -> Result<(), AllocError>
         ensures ok { OnOk result (self.new ≡ added address self.old) }
         ensures err { OnErr result (self.new ≡ self.old) }
+        ensures undone { OnOk result (removed address self.new ≡ self.old) }
     {
         let all = next(self.all)?;
         let count = next(self.of(address))?;

@@ -1,0 +1,86 @@
+-- A caching forwarder: what it holds, and what time does with it.
+use Rattle.std.specs.Prelude.{ℕ, ◌+◌, ◌/◌, ◌%◌, ◌^◌, max, List, [], Option, None}
+use Rattle.hickory_resolver_pool.specs.Over.{OverValue}
+use Rattle.hickory_resolver_pool.specs.Pool.{PoolState, after_tick}
+use Rattle.client_limits.specs.Counts.{CountsValue, nobody}
+use Rattle.client_requests.specs.Requests.{RequestValue}
+use Rattle.client_requests.specs.declared.fetch_end.FetchEnd.{FetchEnd}
+use Rattle.failure_replies.specs.declared.failure.FailureReason.{FailureReason}
+use Rattle.kept_failures.specs.declared.failure.KeptFailure.{KeptFailure}
+use Rattle.second_chance_cache.specs.SecondChance.{CacheValue, no_entries}
+use Rattle.second_chance_cache.specs.declared.bounds.CacheBounds.{CacheBounds}
+use Rattle.stored_replies.specs.Stored.{StoredValue}
+use Rattle.yimarotu_forwarder.specs.Fetches.{FetchesValue, no_fetches}
+use Rattle.yimarotu_forwarder.specs.Options.{OptionsValue}
+use Rattle.yimarotu_forwarder.specs.Local.{LocalValue}
+
+-- a transaction of the pool that is over, and how many of its askers were told
+pub record TellingValue : Type 0 where
+  pub over : OverValue
+  pub told : ℕ
+
+-- What a look-up came to: its key, what it was, the generation under which it began, and who is still to be told.
+pub record ReplyingValue : Type 0 where
+  pub key : List ℕ
+  pub end : FetchEnd
+  pub generation : ℕ
+  pub waiting : List RequestValue
+
+-- Options, local data and the servers; what is kept; how many wait, and for what; what is told to askers, and replied
+-- to clients; how often local data changed; the latest moment that was told (milliseconds); and the octets of the reply
+-- that was written last.
+pub record ForwarderValue : Type 0 where
+  pub options : OptionsValue
+  pub local : LocalValue
+  pub pool : PoolState
+  pub cache : CacheValue StoredValue
+  pub failures : CacheValue (KeptFailure FailureReason)
+  pub counts : CountsValue
+  pub fetches : FetchesValue
+  pub telling : Option TellingValue
+  pub replying : Option ReplyingValue
+  pub generation : ℕ
+  pub clock : ℕ
+  pub reply : List ℕ
+
+abbrev pub second_of : ForwarderValue → ℕ
+second_of s = s.clock / 1000
+
+-- time passed up to this moment
+abbrev pub at_moment : ℕ → ForwarderValue → ForwarderValue
+at_moment now s = record s { clock = max s.clock now; pool = after_tick now s.pool }
+
+abbrev pub with_pool : PoolState → ForwarderValue → ForwarderValue
+with_pool pool s = record s { pool = pool }
+
+-- an event of a channel came at this moment
+abbrev pub moment_passes : ℕ → ForwarderValue → ForwarderValue
+moment_passes now s = record s { clock = max s.clock now }
+
+-- what is kept is let go
+abbrev pub cleared : ForwarderValue → ForwarderValue
+cleared s = record s { cache = no_entries s.cache.bounds; failures = no_entries s.failures.bounds }
+
+abbrev pub next_generation : ℕ → ℕ
+next_generation n = (n + 1) % 2 ^ 64
+
+-- other local data, and the next generation of it
+abbrev pub with_local : LocalValue → ForwarderValue → ForwarderValue
+with_local local s = record (cleared s) { local = local; generation = next_generation s.generation }
+
+-- nothing is kept, nobody waits, and no group has servers
+abbrev pub new_forwarder : OptionsValue → LocalValue → CacheBounds → CacheBounds → PoolState → ForwarderValue
+new_forwarder options local cache failures pool = record {
+  options = options;
+  local = local;
+  pool = pool;
+  cache = no_entries cache;
+  failures = no_entries failures;
+  counts = nobody;
+  fetches = no_fetches;
+  telling = None;
+  replying = None;
+  generation = 0;
+  clock = 0;
+  reply = [];
+}

@@ -1,0 +1,11 @@
+pub mod Options
+pub mod Local
+pub mod Fetches
+pub mod FetchTables
+pub mod Forwarders
+pub mod Replying
+pub mod LookingUp
+pub mod Queries
+pub mod Telling
+pub mod Hearing
+pub mod Steps

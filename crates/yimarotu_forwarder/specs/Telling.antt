@@ -1,0 +1,169 @@
+-- What a transaction of the servers came to, and what a fetch makes of it.
+use Rattle.std.specs.Prelude.{◌≡◌, ◌+◌, ◌⊎◌, ℕ, Bool, true, false, List, Option, None, Some, MatchOption, slice_get, if◌then◌else◌}
+use Rattle.std.specs.Option.{option_map_or}
+use Rattle.hickory_proto_wire.specs.declared.wire_message.WireMessage.{WireMessage}
+use Rattle.hickory_resolver_pool.specs.Over.{OverValue, message_of}
+use Rattle.hickory_resolver_pool.specs.declared.over.PoolOutcome.{PoolOutcome}
+use Rattle.hickory_resolver_pool.specs.declared.over.PoolOutcome.TheVariants as pool
+use Rattle.client_requests.specs.declared.fetch_end.FetchEnd.{FetchEnd}
+use Rattle.client_requests.specs.declared.fetch_end.FetchEnd.TheVariants.{Reply, Failure}
+use Rattle.failure_replies.specs.declared.failure.FailureReason.{FailureReason}
+use Rattle.failure_replies.specs.declared.failure.FailureReason.TheVariants as reason
+use Rattle.kept_failures.specs.Failures.{FailuresValue, noted}
+use Rattle.second_chance_cache.specs.SecondChance.{without}
+use Rattle.whole_lookups.specs.Denied.{without_denied}
+use Rattle.whole_lookups.specs.Lookups.{heard}
+use Rattle.whole_lookups.specs.Lookups as whole
+use Rattle.whole_lookups.specs.Lookups.{LookupValue}
+use Rattle.whole_lookups.specs.declared.heard.Heard.{Heard}
+use Rattle.whole_lookups.specs.declared.heard.Heard.TheVariants as heard_as
+use Rattle.whole_replies.specs.Kept.{KeptValue}
+use Rattle.yimarotu_forwarder.specs.Fetches.{Ends, FetchValue, FetchesValue, HoldsFetch, LeadsOn, asked_for, fetch_at, without_asker}
+use Rattle.yimarotu_forwarder.specs.Forwarders.{ForwarderValue, ReplyingValue, TellingValue, second_of}
+use Rattle.yimarotu_forwarder.specs.Replying.{end_of}
+use Rattle.yimarotu_forwarder.specs.declared.telling.Told.{Told}
+use Rattle.yimarotu_forwarder.specs.declared.telling.Told.TheVariants as told
+
+-- ---- what it came to
+
+-- why there is no reply
+abbrev pub reason_of : PoolOutcome → FailureReason
+reason_of pool.Response = reason.NetworkError
+reason_of pool.Cut = reason.NetworkError
+reason_of pool.Code = reason.NetworkError
+reason_of pool.Unreachable = reason.NoReachableAuthority
+reason_of pool.Timeout = reason.NoReachableAuthority
+reason_of pool.Overloaded = reason.NotReady
+
+abbrev pub response_in : PoolOutcome → Option WireMessage → Option WireMessage
+response_in pool.Response message = message
+response_in other message = None
+
+-- the reply, where it is one
+abbrev pub response_of : OverValue → Option WireMessage
+response_of over = response_in over.outcome (message_of over)
+
+-- ---- a fetch is over
+
+-- That there was no place for it says nothing of the servers, and is not kept (RFC 9520, section 3.2).
+abbrev pub is_kept_failure : FailureReason → Bool
+is_kept_failure reason.NotReady = false
+is_kept_failure _ = true
+
+-- a failure is noted, and a reply lets go of those before it
+abbrev pub failures_after : List ℕ → FetchEnd → ℕ → FailuresValue FailureReason → FailuresValue FailureReason
+failures_after key (Reply s) second c = record c { entries = without key c.entries }
+failures_after key (Failure why) second c = if is_kept_failure why then noted key why second c else c
+
+abbrev pub replying_of : List ℕ → FetchEnd → FetchValue → ReplyingValue
+replying_of key end f = record { key = key; end = end; generation = f.generation; waiting = f.waiting }
+
+-- it came to this: those who wait are replied to from then on
+pub record Finishes (key : List ℕ) (end : FetchEnd) (f : FetchValue) (before after : ForwarderValue) : Type 0 where
+  pub ends : Ends key before.fetches after.fetches
+  pub others_are : after ≡ record before { fetches = after.fetches; replying = Some (replying_of key end f) }
+
+-- and that is noted
+abbrev pub with_end : List ℕ → FetchEnd → ForwarderValue → ForwarderValue
+with_end key end s = record s { failures = failures_after key end (second_of s) s.failures }
+
+abbrev pub EndsFetch : List ℕ → FetchEnd → FetchValue → ForwarderValue → ForwarderValue → Type 0
+EndsFetch key end f before after = Finishes key end f (with_end key end before) after
+
+-- It counts from the second at which the first of its replies came, so that no record outlives what was received.
+abbrev pub first_second : FetchValue → ForwarderValue → ℕ
+first_second f s = option_map_or (λ second. second) f.heard (second_of s)
+
+-- a whole reply, without the addresses that are denied
+abbrev pub whole_end : KeptValue → FetchValue → ForwarderValue → FetchEnd
+whole_end kept f s =
+    end_of f.lookup.asked (without_denied s.options.allowed s.options.denied kept) (first_second f s)
+
+-- ---- an asker is told
+
+-- what a fetch hears: it goes on with a question, it is whole, or it fails
+abbrev pub told_as : Heard → Told
+told_as heard_as.Asks = told.Asks
+told_as (heard_as.Whole kept) = told.Whole kept
+told_as heard_as.Fails = told.Fails reason.Other
+
+abbrev pub told_of : OverValue → FetchValue → Told
+told_of over f =
+    option_map_or (λ m. told_as (heard m f.lookup)) (response_of over) (told.Fails (reason_of over.outcome))
+
+abbrev pub lookup_after : OverValue → FetchValue → LookupValue
+lookup_after over f = option_map_or (λ m. whole.after m f.lookup) (response_of over) f.lookup
+
+-- the second at which the first of its replies came, once it hears this
+abbrev pub heard_after : Told → ℕ → Option ℕ → Option ℕ
+heard_after told.Asks second heard = Some (option_map_or (λ first. first) heard second)
+heard_after other second heard = heard
+
+-- it was heard at a second
+abbrev pub heard_so : OverValue → ℕ → FetchValue → FetchValue
+heard_so over second f =
+    record f { lookup = lookup_after over f; heard = heard_after (told_of over f) second f.heard }
+
+-- So the fetches: one that goes on has a question to ask.
+abbrev pub HearsIn : Told → List ℕ → FetchValue → FetchesValue → FetchesValue → Type 0
+HearsIn told.Asks key f = LeadsOn key f
+HearsIn other key f = HoldsFetch key f
+
+-- So the forwarder: one that heard the end is over.
+abbrev pub Hears : Told → List ℕ → FetchValue → ForwarderValue → ForwarderValue → Type 0
+Hears told.Asks key f before after =
+    LeadsOn key f before.fetches after.fetches × (after ≡ record before { fetches = after.fetches })
+Hears (told.Whole kept) key f before after = EndsFetch key (whole_end kept f before) f before after
+Hears (told.Fails why) key f before after = EndsFetch key (Failure why) f before after
+
+-- what its transaction came to, for the fetch that it asks for
+abbrev pub TellsFetch : OverValue → List ℕ → ForwarderValue → ForwarderValue → FetchValue → Type 0
+TellsFetch over key before after f = Hears (told_of over f) key (heard_so over (second_of before) f) before after
+
+abbrev pub forgets_asker : ℕ → ForwarderValue → ForwarderValue
+forgets_asker asker s = record s { fetches = without_asker asker s.fetches }
+
+abbrev pub TellsKey : OverValue → ℕ → ForwarderValue → ForwarderValue → List ℕ → Type 0
+TellsKey over asker before after key =
+    MatchOption (fetch_at key before.fetches) (after ≡ forgets_asker asker before)
+    (TellsFetch over key (forgets_asker asker before) after)
+
+-- an asker for whom nothing is looked up is passed over
+abbrev pub TellsAsker : OverValue → ℕ → ForwarderValue → ForwarderValue → Type 0
+TellsAsker over asker before after =
+    MatchOption (asked_for asker before.fetches) (after ≡ before) (TellsKey over asker before after)
+
+-- ---- one asker after another
+
+abbrev pub first_telling : OverValue → TellingValue
+first_telling over = record { over = over; told = 0 }
+
+abbrev pub one_more : TellingValue → TellingValue
+one_more t = record t { told = t.told + 1 }
+
+abbrev pub TellsNext : TellingValue → ForwarderValue → ForwarderValue → ℕ → Type 0
+TellsNext t before after asker = TellsAsker t.over asker (record before { telling = Some (one_more t) }) after
+
+-- where all were told, it is let go
+abbrev pub Tells : ForwarderValue → ForwarderValue → TellingValue → Type 0
+Tells before after t =
+    MatchOption (slice_get t.over.askers t.told) (after ≡ record before { telling = None }) (TellsNext t before after)
+
+-- ---- where memory runs out
+
+-- No memory was left to store a whole reply, or to note a failure: the look-up fails, which is not noted.
+abbrev pub EndsForMemory : List ℕ → FetchValue → ForwarderValue → ForwarderValue → Type 0
+EndsForMemory key f before after = Finishes key (Failure reason.Other) f before after
+
+-- A refused telling changes nothing, or the look-up that was told fails.
+abbrev pub StopsNext : TellingValue → ForwarderValue → ForwarderValue → ℕ → Type 0
+StopsNext t before after asker =
+    MatchOption (asked_for asker before.fetches) ⊥ (λ key. MatchOption (fetch_at key before.fetches) ⊥
+    (λ f. EndsForMemory key (heard_so t.over (second_of before) f)
+    (forgets_asker asker (record before { telling = Some (one_more t) })) after))
+
+abbrev pub Stops : ForwarderValue → ForwarderValue → TellingValue → Type 0
+Stops before after t = MatchOption (slice_get t.over.askers t.told) ⊥ (StopsNext t before after)
+
+abbrev pub StopsTelling : ForwarderValue → ForwarderValue → TellingValue → Type 0
+StopsTelling before after t = (after ≡ before) ⊎ Stops before after t

@@ -1,0 +1,190 @@
+//! A caching forwarder.
+ghost use Rattle.std.specs.Prelude.{◌≡◌, Err, IfOk, IsOkUnless, None, OnErr, OnOk, Some};
+ghost use Rattle.hickory_resolver_pool.specs.Pool.{after_failure, after_octets, after_servers};
+ghost use Rattle.hickory_resolver_pool.specs.Servers.{first_fixed};
+ghost use Rattle.hickory_resolver_traffic.specs.Tasks.{next_deadline};
+ghost use Rattle.yimarotu_forwarder.specs.Forwarders.{at_moment, cleared, moment_passes, new_forwarder, second_of, with_local, with_pool};
+
+use crate::fetches::Fetches;
+use crate::local::Local;
+use crate::options::ForwarderOptions;
+use crate::replying::Replying;
+use crate::telling::Telling;
+use client_limits::ClientCounts;
+use client_requests::ReplyRoom;
+use failure_replies::FailureReason;
+use hickory_resolver_pool::{Failure, NameServerPool, PoolServer, ServersError};
+use kept_failures::FailureCache;
+use local_answers::LocalData;
+use second_chance_cache::{CacheBounds, SecondChanceCache};
+use std::alloc::{AllocError, Global};
+use std::hash::RandomState;
+use std::marker::Model;
+use stored_replies::StoredReply;
+
+// The pool that questions go to.
+pub(crate) type Pool = NameServerPool<RandomState>;
+
+// What is kept, under keys that strangers choose.
+pub(crate) type Cache = SecondChanceCache<StoredReply, RandomState>;
+
+pub(crate) type Failures = FailureCache<FailureReason, RandomState>;
+
+/// A caching forwarder: queries of clients go in, and replies come out, out of local data, out of what is kept, or
+/// after servers were asked. Events take in what came, and `next_action` does what follows of it, one step a call: after each
+/// event, and before the next, it is called until it answers `None`. Moments are milliseconds of a clock that does not
+/// go back.
+#[derive(Drop)]
+pub struct Forwarder {
+    pub(crate) alloc: Global,
+    pub(crate) options: ForwarderOptions,
+    pub(crate) local: Local,
+    pub(crate) pool: Pool,
+    pub(crate) cache: Cache,
+    pub(crate) failures: Failures,
+    pub(crate) counts: ClientCounts,
+    pub(crate) fetches: Fetches,
+    pub(crate) telling: Option<Telling>,
+    pub(crate) replying: Option<Replying>,
+    pub(crate) generation: u64,
+    pub(crate) clock: u64,
+    pub(crate) reply: ReplyRoom,
+}
+
+impl Model for Forwarder {
+    ghost use Rattle.yimarotu_forwarder.specs.FetchTables.{fetches_of};
+    ghost use Rattle.yimarotu_forwarder.specs.Forwarders.{ForwarderValue};
+
+    ghost Value = { ForwarderValue };
+
+    ghost view = { λ f. record {
+      options = f.options;
+      local = record { hosts = f.local.hosts; rules = f.local.rules };
+      pool = f.pool;
+      cache = f.cache;
+      failures = f.failures;
+      counts = f.counts;
+      fetches = fetches_of f.fetches;
+      telling = f.telling;
+      replying = f.replying;
+      generation = f.generation;
+      clock = f.clock;
+      reply = f.reply;
+    } };
+}
+
+impl Forwarder {
+    /// A forwarder over a pool, of whose groups none has servers yet, with bounds of its cache and of the failures that
+    /// it keeps. The hasher is for questions, which come from strangers.
+    pub fn new(
+        alloc: Global,
+        options: ForwarderOptions,
+        local: LocalData<RandomState>,
+        pool: NameServerPool<RandomState>,
+        cache: CacheBounds,
+        failures: CacheBounds,
+        hasher: RandomState,
+    ) -> Result<Forwarder, AllocError>
+        ensures { IfOk result (λ made. made ≡ new_forwarder options
+            (record { hosts = local.hosts; rules = local.rules }) cache failures pool) }
+    {
+        Ok(Forwarder {
+            alloc,
+            options,
+            local,
+            pool,
+            cache: SecondChanceCache::with_hasher(alloc, cache, hasher),
+            failures: FailureCache::with_hasher(alloc, failures, hasher),
+            counts: ClientCounts::new(alloc),
+            fetches: Fetches::new(alloc, hasher),
+            telling: None,
+            replying: None,
+            generation: 0,
+            clock: 0,
+            reply: ReplyRoom::new(alloc)?,
+        })
+    }
+
+    /// Other local data from now on. What was kept is let go, and so is what comes of look-ups that began before, once
+    /// it is told.
+    pub fn set_local(&mut self, local: LocalData<RandomState>)
+        ensures { self.new ≡ with_local (record { hosts = local.hosts; rules = local.rules }) self.old }
+    {
+        self.clear();
+        self.local = local;
+        self.generation = self.generation.wrapping_add(1);
+    }
+
+    /// Lets go of the replies and the failures that are kept. Look-ups go on.
+    pub fn clear(&mut self)
+        ensures { self.new ≡ cleared self.old }
+    {
+        self.cache.clear();
+        self.failures.clear();
+    }
+
+    // The second of the latest moment that was told.
+    pub(crate) fn second(&self) -> u64
+        ensures { result ≡ second_of self.now }
+    {
+        self.clock / 1000
+    }
+
+    /// Time passed. A moment before one that was told counts as that one.
+    pub fn tick(&mut self, now: u64)
+        ensures { self.new ≡ at_moment now self.old }
+    {
+        self.clock = self.clock.max(now);
+        self.pool.tick(now);
+    }
+
+    /// The servers of a group from now on, of which nothing is known yet. What is in flight goes on with those that it
+    /// began with.
+    pub fn set_servers(&mut self, group: u64, servers: &[PoolServer]) -> Result<(), ServersError>
+        ensures ok { OnOk result (self.new ≡ with_pool (after_servers group servers.now self.old.pool) self.old) }
+        ensures err { OnErr result (self.new ≡ self.old) }
+        ensures fixed { (place : _) → first_fixed servers.now ≡ Some place
+            → result ≡ Err (ServersError.FixedPort place) }
+        ensures free { first_fixed servers.now ≡ None → IsOkUnless result ServersError.OutOfMemory }
+    {
+        self.pool.set_servers(group, servers)
+    }
+
+    /// Octets came on a channel: a datagram, or a piece of a stream, cut anywhere. On a channel that is not open they
+    /// change nothing. A refused call changes nothing.
+    pub fn came(&mut self, channel: u64, octets: &[u8], now: u64) -> Result<(), AllocError>
+        ensures ok { OnOk result (self.new ≡ moment_passes now
+            (with_pool (after_octets channel octets.now now self.old.pool) self.old)) }
+        ensures err { OnErr result (self.new ≡ self.old) }
+    {
+        self.pool.came(channel, octets, now)?;
+        self.clock = self.clock.max(now);
+        Ok(())
+    }
+
+    /// A channel failed. A datagram channel is kept open after that until an action closes it, unless it could not be
+    /// opened at all. A refused call changes nothing.
+    pub fn failed(&mut self, channel: u64, why: Failure, now: u64) -> Result<(), AllocError>
+        ensures ok { OnOk result (self.new ≡ moment_passes now (with_pool
+            (after_failure (record { channel = channel; why = why }) now self.old.pool) self.old)) }
+        ensures err { OnErr result (self.new ≡ self.old) }
+    {
+        self.pool.failed(channel, why, now)?;
+        self.clock = self.clock.max(now);
+        Ok(())
+    }
+
+    /// The earliest moment at which time ends something, where nothing is left to be done.
+    pub fn next_deadline(&self) -> Option<u64>
+        ensures { result ≡ next_deadline self.now.pool.traffic }
+    {
+        self.pool.next_deadline()
+    }
+
+    /// The octets of the reply that was written last.
+    pub fn reply(&self) -> &[u8]
+        ensures { result.now ≡ self.now.reply }
+    {
+        self.reply.as_slice()
+    }
+}

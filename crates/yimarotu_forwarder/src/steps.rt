@@ -1,0 +1,315 @@
+//! The steps of a forwarder.
+ghost use Rattle.std.specs.Prelude.{◌≡◌, IfOk, MatchOption, None, OnErr, OnOk, Some, slice_get};
+ghost use Rattle.yimarotu_forwarder.specs.Fetches.{FetchValue, fetch_at};
+ghost use Rattle.yimarotu_forwarder.specs.Forwarders.{ReplyingValue};
+ghost use Rattle.yimarotu_forwarder.specs.LookingUp.{next_question};
+ghost use Rattle.yimarotu_forwarder.specs.Steps.{AsksFor, AsksOr, AsksPool, ForwarderSteps, IsDecidedNext, RepliesNext, RepliesTo, StepsPool, StopsAsking, StopsFetch, StopsStep, action_of, has_turn, keeps, keeps_end, lets_go, with_stored};
+ghost use Rattle.yimarotu_forwarder.specs.Telling.{EndsFetch, Finishes, replying_of, whole_end, with_end};
+ghost use Rattle.client_requests.specs.declared.fetch_end.FetchEnd.TheVariants as fetch_end;
+ghost use Rattle.failure_replies.specs.declared.failure.FailureReason.TheVariants as reason;
+ghost use Rattle.std.specs.Option.{is_none, option_map};
+ghost use Rattle.whole_lookups.specs.Lookups.{whole_with};
+
+use crate::fetch::Fetch;
+use crate::forwarder::Forwarder;
+use crate::local::decide;
+use crate::looking_up::ask;
+use crate::replying::Replying;
+use crate::telling::Telling;
+use client_requests::{FetchEnd, ReplyKey};
+use failure_replies::FailureReason;
+use hickory_proto_core::Query;
+use hickory_resolver_pool::{Action, Asked, DnssecOptions, Opening, Sent};
+use local_answers::Decision;
+use std::alloc::AllocError;
+use stored_replies::StoredReply;
+use whole_replies::KeptReply;
+
+/// What a program has to do next.
+#[derive(Drop)]
+pub enum ForwarderAction {
+    /// It sends the forwarder's reply to the client of this number.
+    Reply(u64),
+    /// It opens a channel.
+    Open(Opening),
+    /// It writes octets on a channel.
+    Send(Sent),
+    /// It closes a channel. Each that was opened is closed once, also one that failed.
+    Close(u64),
+    /// Nothing: something was done of which it has no part.
+    Continue,
+}
+
+impl Forwarder {
+    /// Does the next step, and answers what the program has to do for it; `None` where nothing is left to be done. Who
+    /// waits for what a look-up came to is replied to first; then questions are asked that replies led to; then those
+    /// are told who asked in a transaction that is over; and else the pool does its next step. A refused call changes
+    /// nothing, but that a look-up that was at its end fails, or that its reply is told and not kept.
+    pub fn next_action(&mut self) -> Result<Option<ForwarderAction>, AllocError>
+        ensures ok { IfOk result (λ action. ForwarderSteps self.old action self.new) }
+        ensures err { OnErr result (StopsStep self.old self.new) }
+    {
+        if self.replying.is_some() {
+            return Ok(Some(self.reply_next()?));
+        }
+        if let Some(key) = self.fetches.first_to_ask() {
+            self.ask_for(key)?;
+            return Ok(Some(ForwarderAction::Continue));
+        }
+        if self.telling.is_some() {
+            self.tell()?;
+            return Ok(Some(ForwarderAction::Continue));
+        }
+        self.step_pool()
+    }
+
+    // ---- who waits
+
+    // The next who waits is replied to. Where all were, what the look-up came to is kept, and let go.
+    fn reply_next(&mut self) -> Result<ForwarderAction, AllocError>
+        ensures ok { (r : ReplyingValue) → self.old.replying ≡ Some r
+            → IfOk result (λ action. RepliesNext self.old (Some action) self.new r) }
+        ensures err { OnErr result (self.new ≡ record self.old { replying = None }) }
+    {
+        if self.all_are_told() {
+            self.let_go()
+        } else {
+            Ok(self.reply_first())
+        }
+    }
+
+    fn all_are_told(&self) -> bool
+        ensures { (r : ReplyingValue) → self.now.replying ≡ Some r → result ≡ is_none (slice_get r.waiting 0) }
+    {
+        match &self.replying {
+            Some(replying) => replying.waiting.front().is_none(),
+            None => true,
+        }
+    }
+
+    // The first who waits is replied to, where there is one.
+    fn reply_first(&mut self) -> ForwarderAction
+        ensures { (r : ReplyingValue) → self.old.replying ≡ Some r
+            → MatchOption (slice_get r.waiting 0) (self.new ≡ self.old) (RepliesTo r self.old (Some result) self.new) }
+    {
+        let (trust, second) = (self.options.trusts_authentic_data, self.second());
+        let Some(replying) = &mut self.replying else {
+            return ForwarderAction::Continue;
+        };
+        match replying.waiting.pop_front() {
+            Some(waiting) => {
+                let client = waiting.client();
+                self.reply
+                    .put_end(&waiting.request(), &replying.end, trust, second);
+                self.counts.remove(client.address);
+                ForwarderAction::Reply(client.number)
+            }
+            None => ForwarderAction::Continue,
+        }
+    }
+
+    // What the look-up came to is let go, once it is kept. Where no memory is left it is not.
+    fn let_go(&mut self) -> Result<ForwarderAction, AllocError>
+        ensures ok { (r : ReplyingValue) → self.old.replying ≡ Some r
+            → IfOk result (λ action. (action ≡ ForwarderAction.Continue) × (self.new ≡ lets_go r self.old)) }
+        ensures err { OnErr result (self.new ≡ record self.old { replying = None }) }
+    {
+        if let Some(replying) = self.replying.take() {
+            self.keep(replying)?;
+        }
+        Ok(ForwarderAction::Continue)
+    }
+
+    fn keep(&mut self, replying: Replying) -> Result<(), AllocError>
+        ensures ok { OnOk result (self.new ≡ keeps replying self.old) }
+        ensures err { OnErr result (self.new ≡ self.old) }
+    {
+        let Replying {
+            key,
+            end,
+            generation,
+            ..
+        } = replying;
+        if generation != self.generation {
+            return Ok(());
+        }
+        self.keep_end(&key, end)
+    }
+
+    fn keep_end(&mut self, key: &ReplyKey, end: FetchEnd) -> Result<(), AllocError>
+        ensures ok { OnOk result (self.new ≡ keeps_end key.now end self.old) }
+        ensures err { OnErr result (self.new ≡ self.old) }
+    {
+        match end {
+            FetchEnd::Reply(stored) => self.store(key, stored),
+            FetchEnd::Failure(_) => Ok(()),
+        }
+    }
+
+    fn store(&mut self, key: &ReplyKey, stored: StoredReply) -> Result<(), AllocError>
+        ensures ok { OnOk result (self.new ≡ with_stored key.now stored self.old) }
+        ensures err { OnErr result (self.new ≡ self.old) }
+    {
+        let second = self.second();
+        let weight = stored.weight();
+        let until = stored
+            .until()
+            .min(second.saturating_add(self.options.greatest_ttl));
+        self.cache
+            .store(key.as_slice(), stored, weight, until, second)
+    }
+
+    // ---- questions that replies led to
+
+    // The fetch of a key, the first that has one, asks its question.
+    fn ask_for(&mut self, key: ReplyKey) -> Result<(), AllocError>
+        ensures ok { OnOk result (AsksFor self.old self.new key) }
+        ensures err { OnErr result (StopsAsking self.old self.new key) }
+    {
+        match self.decide_next(&key)? {
+            Some(decision) => self.ask_as(key, decision),
+            None => {
+                self.fetches.pop_to_ask();
+                Ok(())
+            }
+        }
+    }
+
+    // As was decided of its question.
+    fn ask_as(&mut self, key: ReplyKey, decision: Decision) -> Result<(), AllocError>
+        ensures ok { (f : FetchValue) → fetch_at key self.old.fetches ≡ Some f
+            → OnOk result (AsksOr decision key f (has_turn self.old) self.new) }
+        ensures err { OnErr result (StopsAsking self.old self.new key) }
+    {
+        match decision {
+            Decision::Answer(kept) => self.answer_next(key, kept),
+            Decision::Ask(group) => self.ask_next(key, group),
+        }
+    }
+
+    // What is decided of the question that the fetch of a key has to ask; none where there is no such fetch.
+    fn decide_next(&self, key: &ReplyKey) -> Result<Option<Decision>, AllocError>
+        ensures { IfOk result (IsDecidedNext self.now key.now) }
+    {
+        match self.fetches.get(key) {
+            Some(fetch) => {
+                let next = &fetch.lookup.next;
+                Ok(Some(decide(self.alloc, &self.local, next, self.second())?))
+            }
+            None => Ok(None),
+        }
+    }
+
+    // The question is answered here: that is told behind what came.
+    fn answer_next(&mut self, key: ReplyKey, kept: KeptReply) -> Result<(), AllocError>
+        ensures ok { (f : FetchValue) → fetch_at key self.old.fetches ≡ Some f → OnOk result
+            (EndsFetch key (whole_end (whole_with kept f.lookup) f (has_turn self.old)) f (has_turn self.old)
+            self.new) }
+        ensures err { OnErr result (StopsFetch key self.old self.new) }
+    {
+        self.fetches.pop_to_ask();
+        match self.fetches.remove(&key) {
+            Some(fetch) => self.finish_local(key, fetch, kept),
+            None => Ok(()),
+        }
+    }
+
+    fn finish_local(
+        &mut self,
+        key: ReplyKey,
+        fetch: Fetch,
+        kept: KeptReply,
+    ) -> Result<(), AllocError>
+        ensures ok { OnOk result (self.new
+            ≡ record (with_end key (whole_end (whole_with kept fetch.lookup) fetch self.old) self.old) {
+              replying = Some (replying_of key (whole_end (whole_with kept fetch.lookup) fetch self.old) fetch);
+            }) }
+        ensures err { OnErr result (self.new
+            ≡ record self.old { replying = Some (replying_of key (fetch_end.Failure reason.Other) fetch) }) }
+    {
+        let mut fetch = fetch;
+        match fetch.lookup.hear_local(kept) {
+            Ok(whole) => self.finish_whole(key, fetch, whole),
+            Err(error) => {
+                self.reply_all(key, fetch, FetchEnd::Failure(FailureReason::Other));
+                Err(error)
+            }
+        }
+    }
+
+    // The fetch of a key asks its question of a group.
+    fn ask_next(&mut self, key: ReplyKey, group: u64) -> Result<(), AllocError>
+        ensures ok { (f : FetchValue) → fetch_at key self.old.fetches ≡ Some f
+            → OnOk result (AsksPool group key f (has_turn self.old) self.new) }
+        ensures err { OnErr result (self.new ≡ self.old) }
+    {
+        let Some((query, dnssec)) = self.next_question(&key)? else {
+            return Ok(());
+        };
+        self.fetches.reserve_asker()?;
+        let asked = ask(&mut self.pool, group, query, dnssec, self.clock)?;
+        self.fetches.pop_to_ask();
+        match asked {
+            Asked::Asker(asker) => {
+                self.fetches.insert_asker(asker.number, key);
+                Ok(())
+            }
+            Asked::Overloaded => Ok(self.end_unasked(key, FailureReason::NotReady)),
+            Asked::NoServers => Ok(self.end_unasked(key, FailureReason::NoReachableAuthority)),
+        }
+    }
+
+    // The question that the fetch of a key has to ask, and what is asked of DNSSEC.
+    fn next_question(&self, key: &ReplyKey) -> Result<Option<(Query, DnssecOptions)>, AllocError>
+        ensures { IfOk result (λ question. question
+            ≡ option_map (next_question self.now) (fetch_at key.now self.now.fetches)) }
+    {
+        match self.fetches.get(key) {
+            Some(fetch) => {
+                let dnssec = self.dnssec_of(fetch.lookup.dnssec, fetch.checking_disabled);
+                Ok(Some((Clone::clone(&fetch.lookup.next)?, dnssec)))
+            }
+            None => Ok(None),
+        }
+    }
+
+    // The question of the fetch of a key was not asked: it failed, which is not noted.
+    fn end_unasked(&mut self, key: ReplyKey, why: FailureReason)
+        ensures { (f : FetchValue) → fetch_at key self.old.fetches ≡ Some f
+            → Finishes key (fetch_end.Failure why) f self.old self.new }
+    {
+        if let Some(fetch) = self.fetches.remove(&key) {
+            self.reply_all(key, fetch, FetchEnd::Failure(why));
+        }
+    }
+
+    // ---- the pool
+
+    // The pool does its next step, where nobody is told.
+    fn step_pool(&mut self) -> Result<Option<ForwarderAction>, AllocError>
+        ensures ok { self.old.telling ≡ None → IfOk result (λ action. StepsPool self.old action self.new) }
+        ensures err { OnErr result (self.new ≡ self.old) }
+    {
+        match self.pool.next_action()? {
+            Some(Action::Over(over)) => {
+                self.telling = Some(Telling::new(over));
+                Ok(Some(ForwarderAction::Continue))
+            }
+            did => Ok(handed_on(did)),
+        }
+    }
+}
+
+// What the program has to do for a step of the pool.
+fn handed_on(did: Option<Action>) -> Option<ForwarderAction>
+    ensures { result ≡ action_of did }
+{
+    match did {
+        None => None,
+        Some(Action::Open(opening)) => Some(ForwarderAction::Open(opening)),
+        Some(Action::Send(sent)) => Some(ForwarderAction::Send(sent)),
+        Some(Action::Close(channel)) => Some(ForwarderAction::Close(channel)),
+        Some(Action::Over(_)) => Some(ForwarderAction::Continue),
+        Some(Action::Continue) => Some(ForwarderAction::Continue),
+    }
+}
