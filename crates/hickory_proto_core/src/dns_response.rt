@@ -247,7 +247,7 @@ fn add_if_address(
     }
     let owner = Clone::clone(&found.name)?;
     let glue = joined(alloc, by_owner.remove(&owner), found.clone()?)?;
-    let _none = by_owner.insert(owner, glue)?;
+    by_owner.insert(owner, glue)?;
     Ok(())
 }
 

@@ -66,7 +66,7 @@ impl<'a> ReadNames<'a> {
         }
         let name = shared(self.alloc, name)?;
         let copy = Clone::clone(&name)?;
-        let _none = self.names.insert(place, copy)?;
+        self.names.insert(place, copy)?;
         Ok(name)
     }
 }
