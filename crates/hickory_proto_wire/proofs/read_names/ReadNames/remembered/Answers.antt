@@ -13,5 +13,5 @@ invariant_of-self-2 c =
     let read : IsReadAt octets c.args.place c.in_ok-copy.copy =
     subst (λ (o : List ℕ). IsReadAt o c.args.place c.in_ok-copy.copy) (sym c.self.view_is)
     (subst (λ (n : NameValue). IsReadAt c.args.self.now c.args.place n) name c.requires) in
-    subst (λ (names : List (ℕ × NameValue)). AllRead octets names) (sym c.in_ok-_none.ensures.entries)
+    subst (λ (names : List (ℕ × NameValue)). AllRead octets names) (sym c.in_ok-insert.ensures.entries)
     (still_all_read octets c.self.inside.names.entries c.args.place c.in_ok-copy.copy c.self.invariant read)
