@@ -1,7 +1,7 @@
 -- What is kept of a believed reply, so that a client can be told the whole of it again; how replies are put together
 -- where aliases lead on (RFC 6604); and how what is kept ages (RFC 2181, section 8).
 use Rattle.std.specs.Prelude.{ℕ, Bool, not, ◌&&◌, ◌||◌, ◌-◌, List, ◌++◌, length, map, filter, min, nat_lt, Option, None, Some, unwrap_or, if◌then◌else◌}
-use Rattle.std.specs.Option.{is_some}
+use Rattle.std.specs.Option.{is_some, option_map_or}
 use Rattle.hickory_proto_core.specs.Messages.{MessageValue}
 use Rattle.hickory_proto_core.specs.Records.{RecordValue, soa_minimum, lower_ttl}
 use Rattle.hickory_proto_core.specs.ResponseKind.{negative_ttl_of}
@@ -44,9 +44,14 @@ authorities_kept dnssec negative moved authorities =
     if dnssec || (negative && not moved) then authorities
     else filter (is_kept_authority negative) authorities
 
+-- The minimum of a SOA record is no less a limit than its TTL (RFC 2308, section 5): so a client that looks at the TTL
+-- alone keeps a negative answer no longer.
+abbrev pub within_minimum : RecordValue → RecordValue
+within_minimum r = record r { ttl = option_map_or (λ minimum. min r.ttl minimum) (soa_minimum r.rdata) r.ttl }
+
 abbrev pub kept_authorities : Query → Bool → MessageValue → List RecordValue
 kept_authorities q dnssec m =
-    authorities_kept dnssec (is_negative q m) (is_moved (walk_of q m.answers)) m.authorities
+    map within_minimum (authorities_kept dnssec (is_negative q m) (is_moved (walk_of q m.answers)) m.authorities)
 
 -- A negative answer may be kept as its SOA record says, and not at all without one (RFC 2308, section 5).
 abbrev pub negative_limit : Query → MessageValue → Option ℕ

@@ -8,7 +8,7 @@ ghost use Rattle.hickory_resolver_model.specs.AliasWalk.{walk_of};
 ghost use Rattle.hickory_resolver_model.specs.Bounds.{least_ttl};
 ghost use Rattle.hickory_resolver_tries.specs.Outcome.{at_name, has_code, has_soa, is_answered, leads_on};
 ghost use Rattle.whole_replies.specs.Ways.{is_kept, is_kept_of};
-ghost use Rattle.whole_replies.specs.Kept.{KeptValue, is_negative, kept_answers, is_start_of_zone, is_kept_authority, authorities_kept, kept_authorities, negative_limit, lesser, seconds_of, is_too_long, kept_of, is_unfinished, next_question, joined, aged};
+ghost use Rattle.whole_replies.specs.Kept.{KeptValue, is_negative, kept_answers, is_start_of_zone, is_kept_authority, authorities_kept, within_minimum, kept_authorities, negative_limit, lesser, seconds_of, is_too_long, kept_of, is_unfinished, next_question, joined, aged};
 
 use crate::choices::MOST_NAMES;
 use crate::ways::{count_names, is_kept, names_of};
@@ -176,13 +176,36 @@ fn keep_if_negative(negative: bool, authorities: &mut Vec<Record>)
     authorities.retain(|found| is_kept_authority(negative, found));
 }
 
-fn keep_authorities(dnssec: bool, negative: bool, moved: bool, authorities: &mut Vec<Record>)
+fn choose_authorities(dnssec: bool, negative: bool, moved: bool, authorities: &mut Vec<Record>)
     ensures { authorities.new.items ≡ authorities_kept dnssec negative moved authorities.old.items }
 {
     if dnssec || (negative && !moved) {
         return;
     }
     keep_if_negative(negative, authorities);
+}
+
+fn keep_within_minimum(found: &mut Record)
+    ensures { found.new ≡ within_minimum found.old }
+{
+    if let Some(minimum) = found.rdata.soa_minimum() {
+        found.ttl = found.ttl.min(minimum);
+    }
+}
+
+fn keep_all_within_minimum(records: &mut Vec<Record>)
+    ensures { records.new.items ≡ map within_minimum records.old.items }
+{
+    for found in records.iter_mut() {
+        keep_within_minimum(found);
+    }
+}
+
+fn keep_authorities(dnssec: bool, negative: bool, moved: bool, authorities: &mut Vec<Record>)
+    ensures { authorities.new.items ≡ map within_minimum (authorities_kept dnssec negative moved authorities.old.items) }
+{
+    choose_authorities(dnssec, negative, moved, authorities);
+    keep_all_within_minimum(authorities);
 }
 
 impl KeptReply {
