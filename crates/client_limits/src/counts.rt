@@ -110,7 +110,8 @@ impl ClientCounts {
             && self.of(address) < limits.of_address
     }
 
-    /// One more waits; where that one waits no more, nothing has changed. Once they cannot be counted any more, memory is refused. A refused call changes nothing.
+    /// One more waits; where that one waits no more, nothing has changed. Once they cannot be counted any more, memory is
+    /// refused. A refused call changes nothing.
     pub fn add(&mut self, address: IpAddr) -> Result<(), AllocError>
         ensures ok { OnOk result (self.new ≡ added address self.old) }
         ensures err { OnErr result (self.new ≡ self.old) }

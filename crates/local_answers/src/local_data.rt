@@ -1,8 +1,9 @@
 //! All that is known here, and what it decides.
 ghost use Rattle.std.specs.Prelude.{◌≡◌, [], IfOk, OnErr, OnOk};
-ghost use Rattle.local_answers.specs.Decisions.{IsDecided, decided_by, decided_here};
+ghost use Rattle.local_answers.specs.Decisions.{IsDecided, decided_by, decided_here, is_of_zone_above};
 ghost use Rattle.local_answers.specs.Zones.{FirstServed, locally_served_zones, with_served};
 
+use crate::choices::DS;
 use crate::from_hosts::hosts_reply;
 use crate::rules::{DomainRule, blocked_reply, served_reply};
 use crate::special::special_reply;
@@ -97,6 +98,13 @@ impl<S: BuildHasher> LocalData<S> {
     }
 }
 
+// Whether a question is for what stands with the zone above the domain that begins at this place of the name.
+fn is_of_zone_above(query: &Query, place: usize) -> bool
+    ensures { result ≡ is_of_zone_above query.now place }
+{
+    place == 0 && query.query_type.code() == DS
+}
+
 // What a rule does with a question, where its domain begins at a place of the name.
 fn decide_by(
     alloc: Global,
@@ -107,6 +115,7 @@ fn decide_by(
     ensures { IfOk result (λ decision. decision ≡ decided_by query.now place rule) }
 {
     match rule {
+        DomainRule::Serve if is_of_zone_above(query, place) => Ok(Decision::Ask(0)),
         DomainRule::Serve => Ok(Decision::Answer(served_reply(alloc, query, place)?)),
         DomainRule::Block(blocked) => {
             Ok(Decision::Answer(blocked_reply(alloc, query, place, blocked)?))
