@@ -1,5 +1,6 @@
 //! A bounded cache of failures.
-ghost use Rattle.std.specs.Prelude.{◌≡◌, ◌+◌, length, OnOk, OnErr};
+ghost use Rattle.std.specs.Prelude.{◌≡◌, ◌+◌, ℕ, Bool, List, filter, length, not, OnOk, OnErr};
+ghost use Rattle.std.specs.Fn.{FnReturnsAt};
 ghost use Rattle.second_chance_cache.specs.SecondChance.{IsCache, no_entries, without, told};
 ghost use Rattle.kept_failures.specs.Failures.{failure_at, noted, seconds_after, weight_of};
 
@@ -74,6 +75,17 @@ impl<R: Drop, S: BuildHasher> FailureCache<R, S> {
         ensures { self.new ≡ record self.old { entries = without key.now self.old.entries } }
     {
         self.cache.remove(key);
+    }
+
+    /// Forgets the failures whose keys pass a test, such as those of a zone. It asks of each key, and so takes time for
+    /// each failure. Takes no memory.
+    pub fn remove_where<F: Fn(&[u8]) -> bool>(&mut self, is_gone: F)
+        requires { F.IsAlwaysCallable is_gone }
+        ensures { (test : List ℕ → Bool)
+            → ((key : List ℕ) (gone : Bool) → FnReturnsAt F.Fn is_gone key gone → gone ≡ test key)
+            → self.new ≡ record self.old { entries = filter (λ e. not (test e.key)) self.old.entries } }
+    {
+        self.cache.remove_where(is_gone);
     }
 
     /// Forgets all failures. The bounds stay. Takes no memory.
