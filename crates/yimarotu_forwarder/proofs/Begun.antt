@@ -17,7 +17,7 @@ use Rattle.stored_replies.specs.Told.{asks_dnssec}
 use Rattle.yimarotu_forwarder.specs.Fetches.{Begins, FetchValue, FetchesValue}
 use Rattle.yimarotu_forwarder.specs.Forwarders.{ForwarderValue}
 use Rattle.yimarotu_forwarder.specs.LookingUp.{BeginsWith, counts_after, dnssec_of, new_fetch, pool_question, pool_says}
-use Rattle.yimarotu_forwarder.specs.declared.answered.Answered.TheVariants.{Waits}
+use Rattle.yimarotu_forwarder.specs.declared.answered.Outcome.TheVariants.{Waits}
 
 pub begins_with : (query : Query) (r waiting : RequestValue) (group : ℕ) (before : ForwarderValue)
     (what : pool_asked.Asked) (a : Asker) (dnssec : DnssecOptions) (fetch : FetchValue) (key : List ℕ)

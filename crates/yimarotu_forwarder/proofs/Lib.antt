@@ -6,3 +6,7 @@ pub mod Told
 pub mod Asking
 pub mod Begun
 pub mod NameOctets
+pub mod Below
+pub mod Left
+pub mod Pushed
+pub mod Missed

@@ -9,7 +9,9 @@ use Rattle.failure_replies.specs.declared.failure.FailureReason.{FailureReason}
 use Rattle.kept_failures.specs.declared.failure.KeptFailure.{KeptFailure}
 use Rattle.second_chance_cache.specs.SecondChance.{CacheValue, no_entries}
 use Rattle.second_chance_cache.specs.declared.bounds.CacheBounds.{CacheBounds}
-use Rattle.stored_replies.specs.Stored.{StoredValue}
+use Rattle.yimarotu_forwarder.specs.Cached.{CachedValue}
+use Rattle.yimarotu_forwarder.specs.Counting.{no_counts}
+use Rattle.yimarotu_forwarder.specs.declared.counting.ForwarderCounts.{ForwarderCounts}
 use Rattle.yimarotu_forwarder.specs.Fetches.{FetchesValue, no_fetches}
 use Rattle.yimarotu_forwarder.specs.Options.{OptionsValue}
 use Rattle.yimarotu_forwarder.specs.Local.{LocalValue}
@@ -26,19 +28,21 @@ pub record ReplyingValue : Type 0 where
   pub generation : ℕ
   pub waiting : List RequestValue
 
--- Options, local data and the servers; what is kept; how many wait, and for what; what is told to askers, and replied
--- to clients; how often local data changed; the latest moment that was told (milliseconds); and the octets of the reply
--- that was written last.
+-- Options, local data and the servers; what is kept; how many wait, what became of how many queries, and what is looked
+-- up; what is told to askers, and replied to clients; the key of what is to be looked up anew; how often local data
+-- changed; the latest moment that was told (milliseconds); and the octets of the reply that was written last.
 pub record ForwarderValue : Type 0 where
   pub options : OptionsValue
   pub local : LocalValue
   pub pool : PoolState
-  pub cache : CacheValue StoredValue
+  pub cache : CacheValue CachedValue
   pub failures : CacheValue (KeptFailure FailureReason)
   pub counts : CountsValue
+  pub counted : ForwarderCounts
   pub fetches : FetchesValue
   pub telling : Option TellingValue
   pub replying : Option ReplyingValue
+  pub prefetch : Option (List ℕ)
   pub generation : ℕ
   pub clock : ℕ
   pub reply : List ℕ
@@ -77,9 +81,11 @@ new_forwarder options local cache failures pool = record {
   cache = no_entries cache;
   failures = no_entries failures;
   counts = nobody;
+  counted = no_counts;
   fetches = no_fetches;
   telling = None;
   replying = None;
+  prefetch = None;
   generation = 0;
   clock = 0;
   reply = [];

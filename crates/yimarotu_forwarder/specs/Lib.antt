@@ -1,8 +1,14 @@
 pub mod Options
+pub mod Counting
+pub mod Cached
 pub mod Local
 pub mod Fetches
 pub mod FetchTables
 pub mod Forwarders
+pub mod Leaving
+pub mod Flushing
+pub mod Prefetching
+pub mod Statistics
 pub mod Replying
 pub mod LookingUp
 pub mod Queries

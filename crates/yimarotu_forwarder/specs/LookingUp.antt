@@ -20,17 +20,17 @@ use Rattle.whole_lookups.specs.Lookups.{begun}
 use Rattle.yimarotu_forwarder.specs.Fetches.{Begins, ChangesFetch, FetchValue, fetch_at, has_request, with_waiting}
 use Rattle.yimarotu_forwarder.specs.Forwarders.{ForwarderValue, with_pool}
 use Rattle.yimarotu_forwarder.specs.Replying.{Drops, Fails, Refuses}
-use Rattle.yimarotu_forwarder.specs.declared.answered.Answered.{Answered}
-use Rattle.yimarotu_forwarder.specs.declared.answered.Answered.TheVariants.{Waits}
+use Rattle.yimarotu_forwarder.specs.declared.answered.Outcome.{Outcome}
+use Rattle.yimarotu_forwarder.specs.declared.answered.Outcome.TheVariants as outcome
 
 -- ---- where there is no place
 
 -- A client that asks by a stream is told so; one that asks by a datagram is dropped, and asks again by itself.
-abbrev pub IsPastBoundBy : Bool → RequestValue → ForwarderValue → Answered → ForwarderValue → Type 0
+abbrev pub IsPastBoundBy : Bool → RequestValue → ForwarderValue → Outcome → ForwarderValue → Type 0
 IsPastBoundBy true r before = Fails before r reason.NotReady
 IsPastBoundBy false r before = Drops before
 
-abbrev pub IsPastBound : RequestValue → ForwarderValue → Answered → ForwarderValue → Type 0
+abbrev pub IsPastBound : RequestValue → ForwarderValue → Outcome → ForwarderValue → Type 0
 IsPastBound r = IsPastBoundBy r.client.is_stream r
 
 -- ---- what is asked of the servers
@@ -77,8 +77,8 @@ new_fetch q r waiting generation = record {
 }
 
 pub record BeginsFetch (q : Query) (r waiting : RequestValue) (asker : ℕ) (before : ForwarderValue)
-    (answered : Answered) (after : ForwarderValue) : Type 0 where
-  pub waits : answered ≡ Waits
+    (answered : Outcome) (after : ForwarderValue) : Type 0 where
+  pub waits : answered ≡ outcome.Waits
   pub begins : Begins (key_of r) (new_fetch q r waiting before.generation) asker before.fetches after.fetches
   pub others_are : after ≡ record before {
     counts = added r.client.address before.counts;
@@ -86,18 +86,18 @@ pub record BeginsFetch (q : Query) (r waiting : RequestValue) (asker : ℕ) (bef
   }
 
 -- as the pool said
-abbrev pub BeginsBy : pool_asked.Asked → Query → RequestValue → RequestValue → ForwarderValue → Answered
+abbrev pub BeginsBy : pool_asked.Asked → Query → RequestValue → RequestValue → ForwarderValue → Outcome
     → ForwarderValue → Type 0
 BeginsBy (asked.Asker a) q r waiting before = BeginsFetch q r waiting a.number before
 BeginsBy asked.Overloaded q r waiting before = IsPastBound r before
 BeginsBy asked.NoServers q r waiting before = Fails before r reason.NoReachableAuthority
 
-abbrev pub BeginsWith : Query → RequestValue → PoolQuestion → ℕ → ForwarderValue → Answered → ForwarderValue
+abbrev pub BeginsWith : Query → RequestValue → PoolQuestion → ℕ → ForwarderValue → Outcome → ForwarderValue
     → RequestValue → Type 0
 BeginsWith q r question group before answered after waiting =
     BeginsBy (pool_says group question before) q r waiting (after_ask group question before) answered after
 
-abbrev pub BeginsOr : Bool → Query → RequestValue → ℕ → ForwarderValue → Answered → ForwarderValue → Type 0
+abbrev pub BeginsOr : Bool → Query → RequestValue → ℕ → ForwarderValue → Outcome → ForwarderValue → Type 0
 BeginsOr false q r group before answered after = IsPastBound r before answered after
 BeginsOr true q r group before answered after =
     MatchOption (waiting_of r) (Refuses before r refusal.FormErr answered after)
@@ -105,38 +105,38 @@ BeginsOr true q r group before answered after =
     after)
 
 -- where one more may wait
-abbrev pub BeginsLookup : Query → RequestValue → ℕ → ForwarderValue → Answered → ForwarderValue → Type 0
+abbrev pub BeginsLookup : Query → RequestValue → ℕ → ForwarderValue → Outcome → ForwarderValue → Type 0
 BeginsLookup q r group before =
     BeginsOr (admits before.options.limits r.client.address 0 before.counts) q r group before
 
 -- ---- one more waits for a fetch
 
-pub record JoinsFetch (r : RequestValue) (before : ForwarderValue) (answered : Answered) (after : ForwarderValue)
+pub record JoinsFetch (r : RequestValue) (before : ForwarderValue) (answered : Outcome) (after : ForwarderValue)
     (waiting : RequestValue) : Type 0 where
-  pub waits : answered ≡ Waits
+  pub waits : answered ≡ outcome.Waits
   pub joins : ChangesFetch (key_of r) (with_waiting waiting) before.fetches after.fetches
   pub others_are : after ≡ record before {
     counts = added r.client.address before.counts;
     fetches = after.fetches;
   }
 
-abbrev pub JoinsOr : Bool → RequestValue → ForwarderValue → Answered → ForwarderValue → Type 0
+abbrev pub JoinsOr : Bool → RequestValue → ForwarderValue → Outcome → ForwarderValue → Type 0
 JoinsOr false r before answered after = IsPastBound r before answered after
 JoinsOr true r before answered after =
     MatchOption (waiting_of r) (Refuses before r refusal.FormErr answered after) (JoinsFetch r before answered after)
 
 -- One that was asked before and is in flight is dropped, and counts nothing.
-abbrev pub JoinsBy : Bool → FetchValue → RequestValue → ForwarderValue → Answered → ForwarderValue → Type 0
+abbrev pub JoinsBy : Bool → FetchValue → RequestValue → ForwarderValue → Outcome → ForwarderValue → Type 0
 JoinsBy true f r before = Drops before
 JoinsBy false f r before =
     JoinsOr (admits before.options.limits r.client.address (length f.waiting) before.counts) r before
 
-abbrev pub JoinsLookup : RequestValue → ForwarderValue → Answered → ForwarderValue → FetchValue → Type 0
+abbrev pub JoinsLookup : RequestValue → ForwarderValue → Outcome → ForwarderValue → FetchValue → Type 0
 JoinsLookup r before answered after f = JoinsBy (has_request r f) f r before answered after
 
 -- ---- a question is looked up once for all who ask it
 
-abbrev pub LooksUp : RequestValue → Query → ℕ → ForwarderValue → Answered → ForwarderValue → Type 0
+abbrev pub LooksUp : RequestValue → Query → ℕ → ForwarderValue → Outcome → ForwarderValue → Type 0
 LooksUp r q group before answered after =
     MatchOption (fetch_at (key_of r) before.fetches) (BeginsLookup q r group before answered after)
     (JoinsLookup r before answered after)

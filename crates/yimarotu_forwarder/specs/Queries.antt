@@ -1,6 +1,6 @@
 -- What becomes of a query: the rows of a table, from the first to the last.
-use Rattle.std.specs.Prelude.{ℕ, Bool, true, false, List, Option, None, Result, Ok, Err, MatchOption, slice_get}
-use Rattle.std.specs.Option.{option_and_then}
+use Rattle.std.specs.Prelude.{◌≡◌, ℕ, Bool, true, false, ◌&&◌, nat_lt, List, Option, None, Some, Result, Ok, Err, MatchOption, slice_get, if◌then◌else◌}
+use Rattle.std.specs.Option.{is_none, option_and_then, option_map_or}
 use Rattle.hickory_proto_core.specs.declared.query.Query.{Query}
 use Rattle.hickory_proto_wire.specs.Messages.{bit, message_of}
 use Rattle.hickory_proto_wire.specs.declared.wire_error.WireFault.{WireFault}
@@ -19,16 +19,21 @@ use Rattle.yimarotu_forwarder.specs.Local.{IsDecided}
 use Rattle.local_answers.specs.declared.local_data.Decision.{Decision}
 use Rattle.local_answers.specs.declared.local_data.Decision.TheVariants as decision
 use Rattle.second_chance_cache.specs.SecondChance.{CacheValue, told, asked}
-use Rattle.stored_replies.specs.Stored.{StoredValue}
+use Rattle.yimarotu_forwarder.specs.Cached.{CachedValue}
+use Rattle.yimarotu_forwarder.specs.Counting.{answered_as, counted}
 use Rattle.yimarotu_forwarder.specs.Forwarders.{ForwarderValue, at_moment, second_of}
 use Rattle.yimarotu_forwarder.specs.LookingUp.{LooksUp}
 use Rattle.yimarotu_forwarder.specs.Options.{may_ask}
 use Rattle.yimarotu_forwarder.specs.Replying.{Drops, Fails, Refuses, Replies, TellsLocal}
+use Rattle.yimarotu_forwarder.specs.Statistics.{counts_reply, is_loopback}
 use Rattle.yimarotu_forwarder.specs.declared.answered.Answered.{Answered}
+use Rattle.yimarotu_forwarder.specs.declared.answered.Answered.TheVariants.{Dropped}
+use Rattle.yimarotu_forwarder.specs.declared.answered.Outcome.{Outcome}
+use Rattle.yimarotu_forwarder.specs.declared.answered.Outcome.TheVariants as outcome
 
 -- a request is answered so, from one state of the forwarder to another
 abbrev pub Answering : Type 1
-Answering = ForwarderValue → Answered → ForwarderValue → Type 0
+Answering = ForwarderValue → Outcome → ForwarderValue → Type 0
 
 -- ---- the question, read
 
@@ -53,7 +58,7 @@ TellsOr Else r q (decision.Answer kept) before = TellsLocal before r q kept
 TellsOr Else r q (decision.Ask group) before = Else group before
 
 pub record Decides (Else : ℕ → Answering) (r : RequestValue) (q : Query) (before : ForwarderValue)
-    (answered : Answered) (after : ForwarderValue) : Type 0 where
+    (answered : Outcome) (after : ForwarderValue) : Type 0 where
   pub found : Decision
   pub decided : IsDecided before.local q (second_of before) found
   pub goes_on : TellsOr Else r q found before answered after
@@ -72,12 +77,25 @@ abbrev pub with_asked : List ℕ → ForwarderValue → ForwarderValue
 with_asked key s = record s { cache = record s.cache { entries = asked key (second_of s) s.cache.entries } }
 
 -- what is kept under a key, as it has aged
-abbrev pub hit_in : CacheValue StoredValue → RequestValue → List ℕ → Bool → ℕ → Option (List ℕ)
+abbrev pub hit_in : CacheValue CachedValue → RequestValue → List ℕ → Bool → ℕ → Option (List ℕ)
 hit_in cache r key trust now =
-    option_and_then (λ stored. stored_reply r stored trust now) (told key now cache.entries)
+    option_and_then (λ cached. stored_reply r cached.reply trust now) (told key now cache.entries)
 
 abbrev pub hit : RequestValue → ForwarderValue → Option (List ℕ)
 hit r s = hit_in s.cache r (key_of r) s.options.trusts_authentic_data (second_of s)
+
+-- what is kept under a key is in the last tenth of the time for which it is
+abbrev pub is_ageing : List ℕ → ForwarderValue → Bool
+is_ageing key s =
+    option_map_or (λ cached. nat_lt cached.fresh_until (second_of s)) (told key (second_of s) s.cache.entries) false
+
+-- Then its question is to be looked up anew, where that is wanted, and no other is.
+abbrev pub prefetch_after : List ℕ → ForwarderValue → Option (List ℕ)
+prefetch_after key s =
+    if s.options.prefetches && is_none s.prefetch && is_ageing key s then Some key else s.prefetch
+
+abbrev pub with_hit : List ℕ → ForwarderValue → ForwarderValue
+with_hit key s = record (with_asked key s) { prefetch = prefetch_after key s }
 
 -- a failure that is kept is told again
 abbrev pub Misses : RequestValue → Answering
@@ -88,7 +106,7 @@ Misses r before answered after =
 abbrev pub AnswersAsked : RequestValue → Answering
 AnswersAsked r before answered after =
     MatchOption (hit r before) (Misses r before answered after)
-    (λ octets. Replies (with_asked (key_of r) before) octets answered after)
+    (λ octets. Replies (with_hit (key_of r) before) octets outcome.FromCache answered after)
 
 -- all types of a name: one record that says that they are not told (RFC 8482, section 4.2)
 abbrev pub AnswersAny : RequestValue → Answering
@@ -115,18 +133,36 @@ abbrev pub Serves : Answering → RequestValue → Answering
 Serves Then r before =
     ServesBy (bit 256 r.query.flags) (may_ask r.client.address before.options) Then r before
 
--- Its counts are not told to anybody yet.
+-- how many queries came before, and what became of them
+abbrev pub TellsThem : RequestValue → Query → Answering
+TellsThem r q before = TellsLocal before r q (counts_reply q before.counted)
+
+-- A client on this machine is told.
+abbrev pub TellsCounts : Bool → RequestValue → Answering
+TellsCounts false r before = Refuses before r refusal.Refused
+TellsCounts true r before = WithQuery (TellsThem r) r before
+
 abbrev pub AnswersBy : Verdict → RequestValue → Answering
 AnswersBy (verdict.Refused why) r before = Refuses before r why
-AnswersBy verdict.Statistics r before = Refuses before r refusal.Refused
+AnswersBy verdict.Statistics r before = TellsCounts (is_loopback r.client.address) r before
 AnswersBy verdict.Any r before = Serves (AnswersAs true r) r before
 AnswersBy verdict.Asked r before = Serves (AnswersAs false r) r before
 
-abbrev pub AnswersRequest : ForwarderValue → Answered → ForwarderValue → RequestValue → Type 0
-AnswersRequest before answered after r = AnswersBy r.query.verdict r before answered after
+-- ---- what became of it is counted
 
--- Octets of a client come at a moment. What is no query is dropped.
-abbrev pub AnswersQuery : Client → List ℕ → ℕ → Answering
+abbrev pub with_counted : Outcome → ForwarderValue → ForwarderValue
+with_counted became s = record s { counted = counted became s.counted }
+
+pub record AnswersRequest (before : ForwarderValue) (answered : Answered) (after : ForwarderValue) (r : RequestValue)
+    : Type 0 where
+  pub became : Outcome
+  pub uncounted : ForwarderValue
+  pub answers : AnswersBy r.query.verdict r before became uncounted
+  pub answered_is : answered ≡ answered_as became
+  pub counts : after ≡ with_counted became uncounted
+
+-- Octets of a client come at a moment. What is no query has no reply, and counts nothing.
+abbrev pub AnswersQuery : Client → List ℕ → ℕ → ForwarderValue → Answered → ForwarderValue → Type 0
 AnswersQuery c octets now before answered after =
-    MatchOption (request_of c octets) (Drops (at_moment now before) answered after)
+    MatchOption (request_of c octets) ((answered ≡ Dropped) × (after ≡ at_moment now before))
     (AnswersRequest (at_moment now before) answered after)

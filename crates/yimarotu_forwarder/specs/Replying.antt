@@ -12,8 +12,8 @@ use Rattle.failure_replies.specs.declared.failure.FailureReason.TheVariants.{Oth
 use Rattle.stored_replies.specs.Stored.{store_fault, stored_at}
 use Rattle.whole_replies.specs.Kept.{KeptValue}
 use Rattle.yimarotu_forwarder.specs.Forwarders.{ForwarderValue, second_of}
-use Rattle.yimarotu_forwarder.specs.declared.answered.Answered.{Answered}
-use Rattle.yimarotu_forwarder.specs.declared.answered.Answered.TheVariants.{Replied, Dropped}
+use Rattle.yimarotu_forwarder.specs.declared.answered.Outcome.{Outcome}
+use Rattle.yimarotu_forwarder.specs.declared.answered.Outcome.TheVariants as outcome
 
 -- A whole reply as it is stored from a second on. One that cannot be written is none.
 abbrev pub end_of : Query → KeptValue → ℕ → FetchEnd
@@ -22,19 +22,20 @@ end_of q kept second =
 
 module _ (before : ForwarderValue) where
   -- these octets are replied, and nothing else changes
-  abbrev pub Replies : List ℕ → Answered → ForwarderValue → Type 0
-  Replies octets answered after = (answered ≡ Replied) × (after ≡ record before { reply = octets })
+  abbrev pub Replies : List ℕ → Outcome → Outcome → ForwarderValue → Type 0
+  Replies octets became answered after = (answered ≡ became) × (after ≡ record before { reply = octets })
 
-  abbrev pub Drops : Answered → ForwarderValue → Type 0
-  Drops answered after = (answered ≡ Dropped) × (after ≡ before)
+  abbrev pub Drops : Outcome → ForwarderValue → Type 0
+  Drops answered after = (answered ≡ outcome.Dropped) × (after ≡ before)
 
-  abbrev pub Refuses : RequestValue → Refusal → Answered → ForwarderValue → Type 0
-  Refuses r why = Replies (refusal_reply r why)
+  abbrev pub Refuses : RequestValue → Refusal → Outcome → ForwarderValue → Type 0
+  Refuses r why = Replies (refusal_reply r why) outcome.Refused
 
-  abbrev pub Fails : RequestValue → FailureReason → Answered → ForwarderValue → Type 0
-  Fails r why = Replies (failure_reply r why)
+  abbrev pub Fails : RequestValue → FailureReason → Outcome → ForwarderValue → Type 0
+  Fails r why = Replies (failure_reply r why) outcome.Fails
 
   -- what is known here is told, as of this second
-  abbrev pub TellsLocal : RequestValue → Query → KeptValue → Answered → ForwarderValue → Type 0
+  abbrev pub TellsLocal : RequestValue → Query → KeptValue → Outcome → ForwarderValue → Type 0
   TellsLocal r q kept =
       Replies (reply_to r (end_of q kept (second_of before)) before.options.trusts_authentic_data (second_of before))
+      outcome.Local

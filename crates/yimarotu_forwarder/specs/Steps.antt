@@ -20,9 +20,11 @@ use Rattle.local_answers.specs.declared.local_data.Decision.TheVariants as decis
 use Rattle.second_chance_cache.specs.SecondChance.{stored}
 use Rattle.stored_replies.specs.Stored.{StoredValue, saturated, until, weight_of}
 use Rattle.whole_lookups.specs.Lookups.{whole_with}
+use Rattle.yimarotu_forwarder.specs.Cached.{CachedValue, fresh_until}
 use Rattle.yimarotu_forwarder.specs.Fetches.{FetchValue, fetch_at, first_asked, with_asker}
 use Rattle.yimarotu_forwarder.specs.Forwarders.{ForwarderValue, ReplyingValue, TellingValue, second_of}
 use Rattle.yimarotu_forwarder.specs.LookingUp.{after_ask, pool_question, pool_says}
+use Rattle.yimarotu_forwarder.specs.Prefetching.{Prefetches, without_prefetch}
 use Rattle.yimarotu_forwarder.specs.Telling.{EndsFetch, EndsForMemory, Finishes, StopsTelling, Tells, first_telling, whole_end}
 use Rattle.yimarotu_forwarder.specs.declared.steps.ForwarderAction.{ForwarderAction}
 use Rattle.yimarotu_forwarder.specs.declared.steps.ForwarderAction.TheVariants as act
@@ -42,9 +44,14 @@ RepliesTo r before action after w =
 abbrev pub cached_until : StoredValue → ForwarderValue → ℕ
 cached_until s f = min (until s) (saturated (second_of f + f.options.greatest_ttl))
 
+abbrev pub as_cached : StoredValue → ForwarderValue → CachedValue
+as_cached s f = record { reply = s; fresh_until = fresh_until (second_of f) (cached_until s f) }
+
 abbrev pub with_stored : List ℕ → StoredValue → ForwarderValue → ForwarderValue
 with_stored key s f =
-    record f { cache = stored key s (weight_of s) (cached_until s f) (second_of f) f.cache }
+    record f {
+      cache = stored key (as_cached s f) (weight_of s) (cached_until s f) (second_of f) f.cache;
+    }
 
 abbrev pub keeps_end : List ℕ → FetchEnd → ForwarderValue → ForwarderValue
 keeps_end key (Reply s) f = with_stored key s f
@@ -129,9 +136,14 @@ pub record StepsPool (before : ForwarderValue) (action : Option ForwarderAction)
 
 -- ---- a step
 
+abbrev pub PrefetchesFirst : ForwarderValue → Option ForwarderAction → ForwarderValue → Type 0
+PrefetchesFirst before action after =
+    MatchOption before.prefetch (StepsPool before action after)
+    (λ key. (action ≡ Some act.Continue) × Prefetches before after key)
+
 abbrev pub TellsFirst : ForwarderValue → Option ForwarderAction → ForwarderValue → Type 0
 TellsFirst before action after =
-    MatchOption before.telling (StepsPool before action after)
+    MatchOption before.telling (PrefetchesFirst before action after)
     (λ t. (action ≡ Some act.Continue) × Tells before after t)
 
 abbrev pub AsksFirst : ForwarderValue → Option ForwarderAction → ForwarderValue → Type 0
@@ -154,9 +166,15 @@ StopsFetch key before after =
 abbrev pub StopsAsking : ForwarderValue → ForwarderValue → List ℕ → Type 0
 StopsAsking before after key = (after ≡ before) ⊎ StopsFetch key before after
 
+-- What is noted to be looked up anew is noted no more.
+abbrev pub StopsPrefetchingFirst : ForwarderValue → ForwarderValue → Type 0
+StopsPrefetchingFirst before after =
+    MatchOption before.prefetch (after ≡ before) (λ key. after ≡ without_prefetch before)
+
 -- A step that is refused for memory changes nothing, or a look-up that was at its end fails.
 abbrev pub StopsTellingFirst : ForwarderValue → ForwarderValue → Type 0
-StopsTellingFirst before after = MatchOption before.telling (after ≡ before) (StopsTelling before after)
+StopsTellingFirst before after =
+    MatchOption before.telling (StopsPrefetchingFirst before after) (StopsTelling before after)
 
 abbrev pub StopsAskingFirst : ForwarderValue → ForwarderValue → Type 0
 StopsAskingFirst before after =

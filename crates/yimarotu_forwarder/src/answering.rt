@@ -2,16 +2,16 @@
 ghost use Rattle.std.specs.Prelude.{◌≡◌, true, false, IfOk, MatchOption, OnErr, slice_get, unwrap_or};
 ghost use Rattle.std.specs.Option.{is_some};
 ghost use Rattle.second_chance_cache.specs.SecondChance.{asked};
-ghost use Rattle.hickory_proto_wire.specs.Messages.{bit};
+ghost use Rattle.hickory_proto_wire.specs.Messages.{bit, message_of};
 ghost use Rattle.client_requests.specs.Keys.{key_of};
 ghost use Rattle.yimarotu_forwarder.specs.Forwarders.{at_moment, second_of};
 ghost use Rattle.yimarotu_forwarder.specs.Local.{IsDecided};
 ghost use Rattle.yimarotu_forwarder.specs.LookingUp.{LooksUp};
-ghost use Rattle.yimarotu_forwarder.specs.Queries.{AnswersAny, AnswersAs, AnswersAsked, AnswersBy, AnswersQuery, Decides, Misses, Serves, TellsLocalAlone, TellsOrLooksUp, TurnsAway, hit, hit_in, query_in, with_asked};
+ghost use Rattle.yimarotu_forwarder.specs.Queries.{AnswersAny, AnswersAs, AnswersAsked, AnswersBy, AnswersQuery, AnswersRequest, Decides, Misses, Serves, TellsLocalAlone, TellsOrLooksUp, TurnsAway, first_query, hit, hit_in, query_in, with_hit};
 ghost use Rattle.yimarotu_forwarder.specs.Replying.{Refuses};
 ghost use Rattle.client_queries.specs.declared.query.Refusal.TheVariants as refusal;
 
-use crate::answered::Answered;
+use crate::answered::{Answered, Outcome};
 use crate::forwarder::{Cache, Forwarder};
 use crate::local::decide;
 use client_queries::{Refusal, Verdict};
@@ -31,26 +31,36 @@ impl Forwarder {
     {
         self.tick(now);
         match Request::read(client, octets) {
-            Some(request) => self.answer(&request),
+            Some(request) => self.answer_counted(&request),
             None => Ok(Answered::Dropped),
         }
     }
 
-    fn answer(&mut self, request: &Request<'_>) -> Result<Answered, AllocError>
+    // What becomes of a request is counted.
+    fn answer_counted(&mut self, request: &Request<'_>) -> Result<Answered, AllocError>
+        ensures ok { IfOk result (λ answered. AnswersRequest self.old answered self.new request.now) }
+        ensures err { OnErr result (self.new ≡ self.old) }
+    {
+        let outcome = self.answer(request)?;
+        self.counted.count(outcome);
+        Ok(outcome.answered())
+    }
+
+    fn answer(&mut self, request: &Request<'_>) -> Result<Outcome, AllocError>
         ensures ok { IfOk result (λ answered. AnswersBy request.now.query.verdict request.now self.old answered
             self.new) }
         ensures err { OnErr result (self.new ≡ self.old) }
     {
         match request.query().verdict {
             Verdict::Refused(why) => Ok(self.refuse(request, why)),
-            Verdict::Statistics => Ok(self.refuse(request, Refusal::Refused)),
+            Verdict::Statistics => self.tell_counts(request),
             Verdict::Any => self.serve(request, true),
             Verdict::Asked => self.serve(request, false),
         }
     }
 
     // Without RD nobody is asked; then who may not ask is turned away.
-    fn serve(&mut self, request: &Request<'_>, any: bool) -> Result<Answered, AllocError>
+    fn serve(&mut self, request: &Request<'_>, any: bool) -> Result<Outcome, AllocError>
         ensures ok { IfOk result (λ answered. Serves (AnswersAs any request.now) request.now self.old answered
             self.new) }
         ensures err { OnErr result (self.new ≡ self.old) }
@@ -64,18 +74,18 @@ impl Forwarder {
         }
     }
 
-    fn turn_away_stranger(&mut self, request: &Request<'_>) -> Answered
+    fn turn_away_stranger(&mut self, request: &Request<'_>) -> Outcome
         ensures { TurnsAway self.old.options.drops_strangers request.now self.old result self.new }
     {
         if self.options.drops_strangers {
-            Answered::Dropped
+            Outcome::Dropped
         } else {
             self.refuse(request, Refusal::Refused)
         }
     }
 
     // A request for all types of a name, or for one.
-    fn answer_as(&mut self, request: &Request<'_>, any: bool) -> Result<Answered, AllocError>
+    fn answer_as(&mut self, request: &Request<'_>, any: bool) -> Result<Outcome, AllocError>
         ensures ok { IfOk result (λ answered. AnswersAs any request.now self.old answered self.new) }
         ensures err { OnErr result (self.new ≡ self.old) }
     {
@@ -86,7 +96,7 @@ impl Forwarder {
         }
     }
 
-    fn answer_any(&mut self, request: &Request<'_>) -> Result<Answered, AllocError>
+    fn answer_any(&mut self, request: &Request<'_>) -> Result<Outcome, AllocError>
         ensures ok { IfOk result (λ answered. AnswersAny request.now self.old answered self.new) }
         ensures err { OnErr result (self.new ≡ self.old) }
     {
@@ -101,14 +111,14 @@ impl Forwarder {
 
     // ---- local data
 
-    fn decide(&self, query: &Query) -> Result<Decision, AllocError>
+    pub(crate) fn decide(&self, query: &Query) -> Result<Decision, AllocError>
         ensures { IfOk result (λ decision. IsDecided self.now.local query.now (second_of self.now) decision) }
     {
         decide(self.alloc, &self.local, query, self.second())
     }
 
     // Nobody is asked: what is not known here is refused.
-    fn tell_local_alone(&mut self, request: &Request<'_>) -> Result<Answered, AllocError>
+    fn tell_local_alone(&mut self, request: &Request<'_>) -> Result<Outcome, AllocError>
         ensures ok { IfOk result (λ answered. TellsLocalAlone request.now self.old answered self.new) }
         ensures err { OnErr result (self.new ≡ self.old) }
     {
@@ -122,7 +132,7 @@ impl Forwarder {
         &mut self,
         request: &Request<'_>,
         query: &Query,
-    ) -> Result<Answered, AllocError>
+    ) -> Result<Outcome, AllocError>
         ensures ok { IfOk result (λ answered. Decides (λ group before. Refuses before request.now refusal.Refused)
             request.now query.now self.old answered self.new) }
         ensures err { OnErr result (self.new ≡ self.old) }
@@ -134,7 +144,7 @@ impl Forwarder {
     }
 
     // What is known here is told, and else looked up.
-    fn tell_or_look_up(&mut self, request: &Request<'_>) -> Result<Answered, AllocError>
+    fn tell_or_look_up(&mut self, request: &Request<'_>) -> Result<Outcome, AllocError>
         ensures ok { IfOk result (λ answered. TellsOrLooksUp request.now self.old answered self.new) }
         ensures err { OnErr result (self.new ≡ self.old) }
     {
@@ -144,7 +154,7 @@ impl Forwarder {
         }
     }
 
-    fn tell_or_ask(&mut self, request: &Request<'_>, query: Query) -> Result<Answered, AllocError>
+    fn tell_or_ask(&mut self, request: &Request<'_>, query: Query) -> Result<Outcome, AllocError>
         ensures ok { IfOk result (λ answered. Decides (LooksUp request.now query) request.now query self.old answered
             self.new) }
         ensures err { OnErr result (self.new ≡ self.old) }
@@ -157,13 +167,13 @@ impl Forwarder {
 
     // ---- what is kept
 
-    fn answer_asked(&mut self, request: &Request<'_>) -> Result<Answered, AllocError>
+    fn answer_asked(&mut self, request: &Request<'_>) -> Result<Outcome, AllocError>
         ensures ok { IfOk result (λ answered. AnswersAsked request.now self.old answered self.new) }
         ensures err { OnErr result (self.new ≡ self.old) }
     {
         let key = ReplyKey::of(request);
         if self.tell_kept(request, &key) {
-            Ok(Answered::Replied)
+            Ok(Outcome::FromCache)
         } else {
             self.miss(request, &key)
         }
@@ -174,10 +184,11 @@ impl Forwarder {
         requires { key.now ≡ key_of request.now }
         ensures { MatchOption (hit request.now self.old) ((result ≡ false) × (self.new ≡ self.old))
             (λ octets. (result ≡ true)
-            × (self.new ≡ record (with_asked (key_of request.now) self.old) { reply = octets })) }
+            × (self.new ≡ record (with_hit (key_of request.now) self.old) { reply = octets })) }
     {
         let (trust, second) = (self.options.trusts_authentic_data, self.second());
         if put_kept(&self.cache, &mut self.reply, request, key, trust, second) {
+            self.note_prefetch(key);
             mark(&mut self.cache, key, second);
             true
         } else {
@@ -186,7 +197,7 @@ impl Forwarder {
     }
 
     // A failure that is kept is told again.
-    fn miss(&mut self, request: &Request<'_>, key: &ReplyKey) -> Result<Answered, AllocError>
+    fn miss(&mut self, request: &Request<'_>, key: &ReplyKey) -> Result<Outcome, AllocError>
         requires { key.now ≡ key_of request.now }
         ensures ok { IfOk result (λ answered. Misses request.now self.old answered self.new) }
         ensures err { OnErr result (self.new ≡ self.old) }
@@ -218,7 +229,7 @@ fn put_kept(
     ensures reply { reply.new ≡ unwrap_or (hit_in cache.now request.now key.now trust second) reply.old }
 {
     match cache.peek(key.as_slice(), second) {
-        Some(stored) => reply.put_stored(request, stored, trust, second),
+        Some(cached) => reply.put_stored(request, &cached.reply, trust, second),
         None => false,
     }
 }
@@ -233,10 +244,17 @@ fn mark(cache: &mut Cache, key: &ReplyKey, second: u64)
 // ---- the question
 
 // The question of a request, read. None where its octets are no message.
-fn question_of(alloc: Global, request: &Request<'_>) -> Result<Option<Query>, AllocError>
+pub(crate) fn question_of(alloc: Global, request: &Request<'_>) -> Result<Option<Query>, AllocError>
     ensures { IfOk result (λ query. query ≡ query_in request.now) }
 {
-    match WireMessage::from_wire(alloc, request.octets()) {
+    query_of(alloc, request.octets())
+}
+
+// The question of a message, read. None where the octets are no message.
+pub(crate) fn query_of(alloc: Global, octets: &[u8]) -> Result<Option<Query>, AllocError>
+    ensures { IfOk result (λ query. query ≡ first_query (message_of octets.now)) }
+{
+    match WireMessage::from_wire(alloc, octets) {
         Ok(message) => Ok(first_query(message)),
         Err(WireError::OutOfMemory) => Err(AllocError),
         Err(WireError::Fault(_)) => Ok(None),

@@ -1,17 +1,20 @@
 //! A caching forwarder.
-ghost use Rattle.std.specs.Prelude.{◌≡◌, Err, IfOk, IsOkUnless, None, OnErr, OnOk, Some};
+ghost use Rattle.std.specs.Prelude.{◌≡◌, length, Err, IfOk, IsOkUnless, None, OnErr, OnOk, Some};
 ghost use Rattle.hickory_resolver_pool.specs.Pool.{after_failure, after_octets, after_servers};
 ghost use Rattle.hickory_resolver_pool.specs.Servers.{first_fixed};
 ghost use Rattle.hickory_resolver_traffic.specs.Tasks.{next_deadline};
+ghost use Rattle.second_chance_cache.specs.SecondChance.{all_weight};
 ghost use Rattle.yimarotu_forwarder.specs.Forwarders.{at_moment, cleared, moment_passes, new_forwarder, second_of, with_local, with_pool};
 
+use crate::cached::CachedReply;
+use crate::counting::ForwarderCounts;
 use crate::fetches::Fetches;
 use crate::local::Local;
 use crate::options::ForwarderOptions;
 use crate::replying::Replying;
 use crate::telling::Telling;
 use client_limits::ClientCounts;
-use client_requests::ReplyRoom;
+use client_requests::{ReplyKey, ReplyRoom};
 use failure_replies::FailureReason;
 use hickory_resolver_pool::{Failure, NameServerPool, PoolServer, ServersError};
 use kept_failures::FailureCache;
@@ -20,13 +23,12 @@ use second_chance_cache::{CacheBounds, SecondChanceCache};
 use std::alloc::{AllocError, Global};
 use std::hash::RandomState;
 use std::marker::Model;
-use stored_replies::StoredReply;
 
 // The pool that questions go to.
 pub(crate) type Pool = NameServerPool<RandomState>;
 
 // What is kept, under keys that strangers choose.
-pub(crate) type Cache = SecondChanceCache<StoredReply, RandomState>;
+pub(crate) type Cache = SecondChanceCache<CachedReply, RandomState>;
 
 pub(crate) type Failures = FailureCache<FailureReason, RandomState>;
 
@@ -43,9 +45,11 @@ pub struct Forwarder {
     pub(crate) cache: Cache,
     pub(crate) failures: Failures,
     pub(crate) counts: ClientCounts,
+    pub(crate) counted: ForwarderCounts,
     pub(crate) fetches: Fetches,
     pub(crate) telling: Option<Telling>,
     pub(crate) replying: Option<Replying>,
+    pub(crate) prefetch: Option<ReplyKey>,
     pub(crate) generation: u64,
     pub(crate) clock: u64,
     pub(crate) reply: ReplyRoom,
@@ -64,9 +68,11 @@ impl Model for Forwarder {
       cache = f.cache;
       failures = f.failures;
       counts = f.counts;
+      counted = f.counted;
       fetches = fetches_of f.fetches;
       telling = f.telling;
       replying = f.replying;
+      prefetch = f.prefetch;
       generation = f.generation;
       clock = f.clock;
       reply = f.reply;
@@ -96,9 +102,11 @@ impl Forwarder {
             cache: SecondChanceCache::with_hasher(alloc, cache, hasher),
             failures: FailureCache::with_hasher(alloc, failures, hasher),
             counts: ClientCounts::new(alloc),
+            counted: ForwarderCounts::new(),
             fetches: Fetches::new(alloc, hasher),
             telling: None,
             replying: None,
+            prefetch: None,
             generation: 0,
             clock: 0,
             reply: ReplyRoom::new(alloc)?,
@@ -113,6 +121,13 @@ impl Forwarder {
         self.clear();
         self.local = local;
         self.generation = self.generation.wrapping_add(1);
+    }
+
+    /// Other options from now on. What is kept stays, and who waits goes on to.
+    pub fn set_options(&mut self, options: ForwarderOptions)
+        ensures { self.new ≡ record self.old { options = options } }
+    {
+        self.options = options;
     }
 
     /// Lets go of the replies and the failures that are kept. Look-ups go on.
@@ -186,5 +201,41 @@ impl Forwarder {
         ensures { result.now ≡ self.now.reply }
     {
         self.reply.as_slice()
+    }
+    // ---- numbers
+
+    /// How many queries came, and what became of them.
+    pub fn counts(&self) -> ForwarderCounts
+        ensures { result ≡ self.now.counted }
+    {
+        self.counted
+    }
+
+    /// How many requests wait.
+    pub fn waiting(&self) -> u64
+        ensures { result ≡ self.now.counts.all }
+    {
+        self.counts.count() as u64
+    }
+
+    /// How many replies are kept, current or not.
+    pub fn cache_len(&self) -> u64
+        ensures { result ≡ length self.now.cache.entries }
+    {
+        self.cache.len() as u64
+    }
+
+    /// How many octets of memory the replies take that are kept.
+    pub fn cache_octets(&self) -> u64
+        ensures { result ≡ all_weight self.now.cache.entries }
+    {
+        self.cache.octets()
+    }
+
+    /// How many replies are kept at the most, and how many octets of memory they take at the most.
+    pub fn cache_bounds(&self) -> CacheBounds
+        ensures { result ≡ self.now.cache.bounds }
+    {
+        self.cache.bounds()
     }
 }

@@ -4,21 +4,28 @@
 
 mod answered;
 mod answering;
+mod cached;
+mod counting;
 mod ending;
 mod fetch;
 mod fetches;
+mod flushing;
 mod forwarder;
 mod hearing;
+mod leaving;
 mod local;
 mod looking_up;
 mod options;
+mod prefetching;
 mod replying;
+mod statistics;
 mod steps;
 mod telling;
 
 pub use answered::Answered;
 pub use client_limits::ClientLimits;
 pub use client_requests::Client;
+pub use counting::ForwarderCounts;
 pub use forwarder::Forwarder;
 pub use local_answers::{Blocked, DomainRule, LocalData};
 pub use options::ForwarderOptions;

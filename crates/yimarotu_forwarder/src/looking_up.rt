@@ -9,7 +9,7 @@ ghost use Rattle.hickory_resolver_tries.specs.Question as in_tries;
 ghost use Rattle.stored_replies.specs.Told.{asks_dnssec};
 ghost use Rattle.yimarotu_forwarder.specs.LookingUp.{BeginsLookup, BeginsWith, IsPastBound, JoinsFetch, JoinsOr, LooksUp, counts_after, dnssec_of, new_fetch, pool_question};
 
-use crate::answered::Answered;
+use crate::answered::Outcome;
 use crate::fetch::Fetch;
 use crate::forwarder::{Forwarder, Pool};
 use client_limits::ClientCounts;
@@ -31,14 +31,14 @@ impl Forwarder {
         request: &Request<'_>,
         query: Query,
         group: u64,
-    ) -> Result<Answered, AllocError>
+    ) -> Result<Outcome, AllocError>
         ensures ok { IfOk result (λ answered. LooksUp request.now query group self.old answered self.new) }
         ensures err { OnErr result (self.new ≡ self.old) }
     {
         let key = ReplyKey::of(request);
         match self.fetches.get(&key) {
             None => self.begin(request, key, query, group),
-            Some(fetch) if fetch.has_request(request) => Ok(Answered::Dropped),
+            Some(fetch) if fetch.has_request(request) => Ok(Outcome::Dropped),
             Some(fetch) => {
                 let waiting = fetch.waiting_number();
                 self.join(request, &key, waiting)
@@ -53,7 +53,7 @@ impl Forwarder {
         request: &Request<'_>,
         key: &ReplyKey,
         waiting: usize,
-    ) -> Result<Answered, AllocError>
+    ) -> Result<Outcome, AllocError>
         requires { key.now ≡ key_of request.now }
         ensures ok { IfOk result (λ answered.
             JoinsOr (admits self.old.options.limits request.now.client.address waiting self.old.counts)
@@ -74,7 +74,7 @@ impl Forwarder {
         request: &Request<'_>,
         key: &ReplyKey,
         waiting: WaitingRequest,
-    ) -> Result<Answered, AllocError>
+    ) -> Result<Outcome, AllocError>
         requires { key.now ≡ key_of request.now }
         ensures ok { IfOk result (λ answered. JoinsFetch request.now self.old answered self.new waiting) }
         ensures err { OnErr result (self.new ≡ self.old) }
@@ -82,7 +82,7 @@ impl Forwarder {
         let address = request.client().address;
         self.counts.add(address)?;
         match self.fetches.join(key, waiting) {
-            Ok(()) => Ok(Answered::Waits),
+            Ok(()) => Ok(Outcome::Waits),
             Err(error) => {
                 self.counts.remove(address);
                 Err(error)
@@ -98,7 +98,7 @@ impl Forwarder {
         key: ReplyKey,
         query: Query,
         group: u64,
-    ) -> Result<Answered, AllocError>
+    ) -> Result<Outcome, AllocError>
         requires { key ≡ key_of request.now }
         ensures ok { IfOk result (λ answered. BeginsLookup query request.now group self.old answered self.new) }
         ensures err { OnErr result (self.new ≡ self.old) }
@@ -119,7 +119,7 @@ impl Forwarder {
         query: Query,
         group: u64,
         waiting: WaitingRequest,
-    ) -> Result<Answered, AllocError>
+    ) -> Result<Outcome, AllocError>
         requires { key ≡ key_of request.now }
         ensures ok { IfOk result (λ answered. BeginsWith query request.now
             (pool_question query (asks_dnssec request.now.query.edns) (bit 16 request.now.query.flags) self.old) group
@@ -142,7 +142,7 @@ impl Forwarder {
         match asked {
             Asked::Asker(asker) => {
                 self.fetches.begin(key, fetch, asker.number);
-                Ok(Answered::Waits)
+                Ok(Outcome::Waits)
             }
             Asked::Overloaded => Ok(self.turn_away(request)),
             Asked::NoServers => Ok(self.fail(request, FailureReason::NoReachableAuthority)),
@@ -171,13 +171,13 @@ impl Forwarder {
     }
 
     // There is no place for one more.
-    fn turn_away(&mut self, request: &Request<'_>) -> Answered
+    fn turn_away(&mut self, request: &Request<'_>) -> Outcome
         ensures { IsPastBound request.now self.old result self.new }
     {
         if request.client().is_stream {
             self.fail(request, FailureReason::NotReady)
         } else {
-            Answered::Dropped
+            Outcome::Dropped
         }
     }
 }
@@ -264,7 +264,7 @@ pub(crate) fn ask(
     }
 }
 
-fn copy_of(query: &Query) -> Result<Query, AllocError>
+pub(crate) fn copy_of(query: &Query) -> Result<Query, AllocError>
     ensures { IfOk result (λ copy. copy ≡ query.now) }
 {
     Clone::clone(query)

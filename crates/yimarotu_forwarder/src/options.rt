@@ -23,6 +23,8 @@ pub struct ForwarderOptions {
     pub limits: ClientLimits,
     /// For how many seconds a reply is kept at the most.
     pub greatest_ttl: u64,
+    /// Whether what is asked for again shortly before it is let go is looked up anew, while nobody waits for it.
+    pub prefetches: bool,
     /// The networks whose addresses are taken out of replies, so that no name elsewhere leads to addresses within.
     pub denied: Vec<IpNet>,
     /// The networks whose addresses stay all the same.
@@ -40,6 +42,7 @@ impl Model for ForwarderOptions {
       drops_strangers = o.drops_strangers;
       limits = o.limits;
       greatest_ttl = o.greatest_ttl;
+      prefetches = o.prefetches;
       denied = o.denied.items;
       allowed = o.allowed.items;
     } };

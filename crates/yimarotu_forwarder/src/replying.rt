@@ -2,7 +2,7 @@
 ghost use Rattle.std.specs.Prelude.{◌≡◌, IfOk, OnErr};
 ghost use Rattle.yimarotu_forwarder.specs.Replying.{Fails, Refuses, TellsLocal, end_of};
 
-use crate::answered::Answered;
+use crate::answered::Outcome;
 use crate::forwarder::Forwarder;
 use client_queries::Refusal;
 use client_requests::{FetchEnd, ReplyKey, Request, WaitingRequest};
@@ -38,19 +38,19 @@ impl Model for Replying {
 
 impl Forwarder {
     // A request is refused.
-    pub(crate) fn refuse(&mut self, request: &Request<'_>, why: Refusal) -> Answered
+    pub(crate) fn refuse(&mut self, request: &Request<'_>, why: Refusal) -> Outcome
         ensures { Refuses self.old request.now why result self.new }
     {
         self.reply.put_refusal(request, why);
-        Answered::Replied
+        Outcome::Refused
     }
 
     // A request is told that the look-up failed.
-    pub(crate) fn fail(&mut self, request: &Request<'_>, why: FailureReason) -> Answered
+    pub(crate) fn fail(&mut self, request: &Request<'_>, why: FailureReason) -> Outcome
         ensures { Fails self.old request.now why result self.new }
     {
         self.reply.put_failure(request, why);
-        Answered::Replied
+        Outcome::Fails
     }
 
     // What is known here is told, as of this second.
@@ -59,7 +59,7 @@ impl Forwarder {
         request: &Request<'_>,
         query: &Query,
         kept: KeptReply,
-    ) -> Result<Answered, AllocError>
+    ) -> Result<Outcome, AllocError>
         ensures ok { IfOk result (λ answered. TellsLocal self.old request.now query.now kept answered self.new) }
         ensures err { OnErr result (self.new ≡ self.old) }
     {
@@ -67,7 +67,7 @@ impl Forwarder {
         let end = end_of(self.alloc, query, kept, second)?;
         self.reply
             .put_end(request, &end, self.options.trusts_authentic_data, second);
-        Ok(Answered::Replied)
+        Ok(Outcome::Local)
     }
 }
 

@@ -10,6 +10,7 @@ ghost use Rattle.failure_replies.specs.declared.failure.FailureReason.TheVariant
 ghost use Rattle.std.specs.Option.{is_none, option_map};
 ghost use Rattle.whole_lookups.specs.Lookups.{whole_with};
 
+use crate::cached::{CachedReply, fresh_until};
 use crate::fetch::Fetch;
 use crate::forwarder::Forwarder;
 use crate::local::decide;
@@ -43,8 +44,9 @@ pub enum ForwarderAction {
 impl Forwarder {
     /// Does the next step, and answers what the program has to do for it; `None` where nothing is left to be done. Who
     /// waits for what a look-up came to is replied to first; then questions are asked that replies led to; then those
-    /// are told who asked in a transaction that is over; and else the pool does its next step. A refused call changes
-    /// nothing, but that a look-up that was at its end fails, or that its reply is told and not kept.
+    /// are told who asked in a transaction that is over; then what is kept is looked up anew before its end; and else the
+    /// pool does its next step. A refused call changes nothing, but that a look-up that was at its end fails, that its
+    /// reply is told and not kept, or that what is kept is not looked up anew.
     pub fn next_action(&mut self) -> Result<Option<ForwarderAction>, AllocError>
         ensures ok { IfOk result (λ action. ForwarderSteps self.old action self.new) }
         ensures err { OnErr result (StopsStep self.old self.new) }
@@ -58,6 +60,10 @@ impl Forwarder {
         }
         if self.telling.is_some() {
             self.tell()?;
+            return Ok(Some(ForwarderAction::Continue));
+        }
+        if let Some(key) = self.prefetch.take() {
+            self.prefetch(key)?;
             return Ok(Some(ForwarderAction::Continue));
         }
         self.step_pool()
@@ -155,8 +161,12 @@ impl Forwarder {
         let until = stored
             .until()
             .min(second.saturating_add(self.options.greatest_ttl));
+        let cached = CachedReply {
+            reply: stored,
+            fresh_until: fresh_until(second, until),
+        };
         self.cache
-            .store(key.as_slice(), stored, weight, until, second)
+            .store(key.as_slice(), cached, weight, until, second)
     }
 
     // ---- questions that replies led to

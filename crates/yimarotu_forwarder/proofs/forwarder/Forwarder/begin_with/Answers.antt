@@ -10,7 +10,7 @@ use Rattle.yimarotu_forwarder.specs.Fetches.{Begins, FetchesValue}
 use Rattle.yimarotu_forwarder.specs.Forwarders.{ForwarderValue}
 use Rattle.yimarotu_forwarder.specs.LookingUp.{BeginsWith, counts_after, dnssec_of, new_fetch, pool_question}
 use Rattle.yimarotu_forwarder.specs.contracts.forwarder.Forwarder.{the_view}
-use Rattle.yimarotu_forwarder.specs.declared.answered.Answered.TheVariants.{Waits}
+use Rattle.yimarotu_forwarder.specs.declared.answered.Outcome.TheVariants.{Waits}
 use Rattle.yimarotu_forwarder.proofs.Begun.{begins_with}
 use Rattle.yimarotu_forwarder.proofs.forwarder.Forwarder.begin_with.Goals as goal
 
