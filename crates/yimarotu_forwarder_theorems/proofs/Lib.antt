@@ -1,0 +1,14 @@
+pub mod Answering
+pub mod Bounds
+pub mod Counted
+pub mod Cores
+pub mod Events
+pub mod Flushed
+pub mod Keys
+pub mod KeptValues
+pub mod Lookups
+pub mod Networks
+pub mod Octets
+pub mod Replied
+pub mod Stepping
+pub mod Waiting

@@ -1,0 +1,71 @@
+-- The first octets of replies.
+use Rattle.std.proofs.Common.{◌≡◌, ℕ, Bool, true, false, List, [], ◌∷◌, ◌++◌, length, take, refl, ap, subst}
+use Rattle.std.specs.Prelude.{Option, None, Some, nat_le, unwrap_or, if◌then◌else◌}
+use Rattle.std.specs.Option.{option_and_then}
+use Rattle.client_queries.specs.declared.query.Refusal.{Refusal}
+use Rattle.client_requests.specs.Replies.{failure_reply, fits, refusal_reply, reply_to, stored_reply}
+use Rattle.client_requests.specs.Requests.{RequestValue, question_of}
+use Rattle.client_requests.specs.declared.choices.TheConstants.{LONGEST_MESSAGE}
+use Rattle.client_requests.specs.declared.fetch_end.FetchEnd.{FetchEnd}
+use Rattle.client_requests.specs.declared.fetch_end.FetchEnd.TheVariants.{Reply, Failure}
+use Rattle.failure_replies.specs.declared.failure.FailureReason.{FailureReason}
+use Rattle.failure_replies.specs.declared.failure.FailureReason.TheVariants.{Other}
+use Rattle.stored_replies.specs.Stored.{StoredValue, whole_octets}
+use Rattle.stored_replies.specs.Told.{asks_for, bare_octets, cut_octets, cut_within, reply_within, told_message, told_octets, within}
+use Rattle.yimarotu_forwarder_theorems.specs.ReplyOctets.{IsOwnReply}
+
+front : (xs ys : List ℕ) → take (length xs) (xs ++ ys) ≡ xs
+front [] ys = refl
+front (x ∷ xs) ys = ap (λ (l : List ℕ). x ∷ l) (front xs ys)
+
+pub failure-own : (r : RequestValue) (why : FailureReason) → IsOwnReply r (failure_reply r why)
+failure-own r why = record { id = refl; question = front (question_of r) _ }
+
+pub refusal-own : (r : RequestValue) (why : Refusal) → IsOwnReply r (refusal_reply r why)
+refusal-own r why = record { id = refl; question = front (question_of r) _ }
+
+told-own : (r : RequestValue) (s : StoredValue) (trust : Bool) (now : ℕ)
+    → IsOwnReply r (told_octets r.octets r.query s trust now)
+unfolding told_message whole_octets
+told-own r s trust now = record { id = refl; question = front (question_of r) _ }
+
+cut-own : (r : RequestValue) (s : StoredValue) (trust : Bool) (now : ℕ)
+    → IsOwnReply r (cut_octets r.octets r.query s trust now)
+unfolding told_message bare_octets
+cut-own r s trust now = record { id = refl; question = front (question_of r) _ }
+
+-- what is told of an answer, if anything
+told-within : (most : ℕ) (written octets : List ℕ) (asks : Bool)
+    → option_and_then (within most) (if asks then Some written else None) ≡ Some octets → written ≡ octets
+told-within most written octets false h = absurd cc
+told-within most written octets true h = by (nat_le (length written) most) h
+  where
+    by : (b : Bool) → (if b then Some written else None) ≡ Some octets → written ≡ octets
+    by true e = cc
+    by false e = absurd cc
+
+pub stored-own : (r : RequestValue) (s : StoredValue) (trust : Bool) (now : ℕ) (octets : List ℕ)
+    → stored_reply r s trust now ≡ Some octets → IsOwnReply r octets
+stored-own r s trust now octets h = by (fits r s) h
+  where
+    by : (b : Bool)
+        → (if b then reply_within LONGEST_MESSAGE r.octets r.query s trust now
+        else cut_within LONGEST_MESSAGE r.octets r.query s trust now) ≡ Some octets
+        → IsOwnReply r octets
+    by true e =
+        subst (IsOwnReply r)
+        (told-within LONGEST_MESSAGE (told_octets r.octets r.query s trust now) octets
+        (asks_for r.octets r.query s) e)
+        (told-own r s trust now)
+    by false e =
+        subst (IsOwnReply r)
+        (told-within LONGEST_MESSAGE (cut_octets r.octets r.query s trust now) octets (asks_for r.octets r.query s) e)
+        (cut-own r s trust now)
+
+pub reply-own : (r : RequestValue) (end : FetchEnd) (trust : Bool) (now : ℕ) → IsOwnReply r (reply_to r end trust now)
+reply-own r (Failure why) trust now = failure-own r why
+reply-own r (Reply s) trust now = by (stored_reply r s trust now) refl
+  where
+    by : (o : Option (List ℕ)) → stored_reply r s trust now ≡ o → IsOwnReply r (unwrap_or o (failure_reply r Other))
+    by None is = failure-own r Other
+    by (Some octets) is = stored-own r s trust now octets is

@@ -1,0 +1,5 @@
+pub mod Bounds
+pub mod Lookups
+pub mod Replies
+pub mod ReplyOctets
+pub mod Runs

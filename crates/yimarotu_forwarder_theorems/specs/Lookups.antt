@@ -1,0 +1,88 @@
+-- What look-ups come to, and what is kept of it.
+use Rattle.std.specs.Prelude.{◌≡◌, ◌⊎◌, ℕ, ◌+◌, ◌≤◌, Bool, List, [], ◌∷◌, length, Some}
+use Rattle.std.specs.List.{AllByRecursion}
+use Rattle.hickory_proto_core.specs.declared.query.Query.{Query}
+use Rattle.hickory_proto_names.specs.declared.ip.IpNet.{IpNet}
+use Rattle.hickory_proto_wire.specs.declared.wire_message.WireMessage.{WireMessage}
+use Rattle.hickory_resolver_pool.specs.Pool.{PoolState}
+use Rattle.client_requests.specs.declared.fetch_end.FetchEnd.TheVariants.{Reply}
+use Rattle.second_chance_cache.specs.SecondChance.{Entry}
+use Rattle.second_chance_cache.specs.declared.bounds.CacheBounds.{CacheBounds}
+use Rattle.stored_replies.specs.Stored.{StoredValue, stored_at}
+use Rattle.whole_lookups.specs.Denied.{without_denied}
+use Rattle.whole_lookups.specs.Laws.{after_all, whole_of}
+use Rattle.whole_lookups.specs.Lookups.{LookupValue, begun, whole_with}
+use Rattle.whole_lookups.specs.declared.choices.TheConstants.{MOST_QUESTIONS}
+use Rattle.whole_replies.specs.Kept.{KeptValue}
+use Rattle.yimarotu_forwarder.specs.Cached.{CachedValue}
+use Rattle.yimarotu_forwarder.specs.Fetches.{FetchValue, fetch_at}
+use Rattle.yimarotu_forwarder.specs.Forwarders.{ForwarderValue, ReplyingValue, TellingValue, new_forwarder}
+use Rattle.yimarotu_forwarder.specs.Local.{LocalValue}
+use Rattle.yimarotu_forwarder.specs.Options.{OptionsValue}
+use Rattle.yimarotu_forwarder.specs.Telling.{response_of}
+use Rattle.yimarotu_forwarder_theorems.specs.Runs.{Happening, Runs, happened}
+
+-- ---- replies that were told
+
+-- a transaction is told that came to this reply
+abbrev pub IsTelling : ForwarderValue → WireMessage → Type 0
+IsTelling s m = (t : TellingValue) × (s.telling ≡ Some t) × (response_of t.over ≡ Some m)
+
+abbrev pub WasTold : List Happening → WireMessage → Type 0
+WasTold [] m = ⊥
+WasTold (happened event before after ∷ past) m = IsTelling before m ⊎ WasTold past m
+
+-- ---- what they make
+
+-- how far a look-up of this question is: it heard these replies, and asked few questions
+pub record HeardReplies (past : List Happening) (l : LookupValue) : Type 0 where
+  pub question : Query
+  pub dnssec : Bool
+  pub replies : List WireMessage
+  pub told : AllByRecursion (WasTold past) replies
+  pub heard : l ≡ after_all (begun question dnssec) replies
+  pub few : l.count ≤ MOST_QUESTIONS
+
+-- These replies to a question and to what it led to make the whole reply; or they lead to a name of which is known here
+-- what is put behind them.
+pub data IsMadeOf (question : Query) (dnssec : Bool) (replies : List WireMessage) (kept : KeptValue) : Type 0 where
+  by_servers : whole_of (begun question dnssec) replies ≡ Some kept → IsMadeOf question dnssec replies kept
+  by_local_data : (here : KeptValue) → kept ≡ whole_with here (after_all (begun question dnssec) replies)
+      → IsMadeOf question dnssec replies kept
+
+-- what few replies to a question make, without addresses that were denied, as it was stored at a second
+pub record IsAnswer (past : List Happening) (s : StoredValue) : Type 0 where
+  pub question : Query
+  pub dnssec : Bool
+  pub replies : List WireMessage
+  pub told : AllByRecursion (WasTold past) replies
+  pub few : length replies ≤ MOST_QUESTIONS
+  pub kept : KeptValue
+  pub made : IsMadeOf question dnssec replies kept
+  pub allowed : List IpNet
+  pub denied : List IpNet
+  pub second : ℕ
+  pub stored : s ≡ stored_at question (without_denied allowed denied kept) second
+
+-- Up to this second it is no older than the least of its TTLs.
+abbrev pub LastsTo : StoredValue → ℕ → Type 0
+LastsTo s deadline = deadline ≤ s.moment + s.kept.seconds
+
+-- It is an answer, and it is told up to no later second than it lasts.
+pub record IsKeptAnswer (past : List Happening) (cached : CachedValue) (deadline : ℕ) : Type 0 where
+  pub answer : IsAnswer past cached.reply
+  pub lasts : LastsTo cached.reply deadline
+
+-- Look-ups that go on, what those who waited are told of one that is over, and what is kept
+pub record AreOfReplies (past : List Happening) (s : ForwarderValue) : Type 0 where
+  pub going_on : (key : List ℕ) (f : FetchValue) → fetch_at key s.fetches ≡ Some f → HeardReplies past f.lookup
+  pub told : (r : ReplyingValue) (end : StoredValue) → s.replying ≡ Some r → r.end ≡ Reply end → IsAnswer past end
+  pub kept : AllByRecursion (λ (e : Entry CachedValue). IsKeptAnswer past e.value e.deadline) s.cache.entries
+
+-- The answer of a look-up is what at most eight replies that were told make, one after another, and so is all that is
+-- kept, for no longer than the least of its TTLs.
+abbrev pub AnswersAreOfReplies : Type 0
+AnswersAreOfReplies =
+    (options : OptionsValue) (local : LocalValue) (cache failures : CacheBounds) (pool : PoolState)
+    → (past : List Happening) (s : ForwarderValue) → Runs (new_forwarder options local cache failures pool) past s
+    → AreOfReplies past s

@@ -1,0 +1,67 @@
+-- What happened to a forwarder, one thing after another.
+use Rattle.std.specs.Prelude.{◌≡◌, ℕ, Bool, List, [], ◌∷◌, Option, Some}
+use Rattle.hickory_proto_core.specs.Name.{NameValue}
+use Rattle.hickory_resolver_pool.specs.Pool.{after_failure, after_octets, after_servers}
+use Rattle.hickory_resolver_pool.specs.Servers.{PoolServerValue}
+use Rattle.hickory_resolver_traffic.specs.declared.inbox.ChannelFailure.{ChannelFailure}
+use Rattle.client_requests.specs.declared.client.Client.{Client}
+use Rattle.yimarotu_forwarder.specs.Flushing.{flushed}
+use Rattle.yimarotu_forwarder.specs.Forwarders.{ForwarderValue, ReplyingValue, at_moment, cleared, moment_passes, with_local, with_pool}
+use Rattle.yimarotu_forwarder.specs.Leaving.{gone}
+use Rattle.yimarotu_forwarder.specs.Local.{LocalValue}
+use Rattle.yimarotu_forwarder.specs.Options.{OptionsValue}
+use Rattle.yimarotu_forwarder.specs.Queries.{AnswersQuery}
+use Rattle.yimarotu_forwarder.specs.Steps.{ForwarderSteps, StopsStep}
+use Rattle.yimarotu_forwarder.specs.declared.answered.Answered.{Answered}
+use Rattle.yimarotu_forwarder.specs.declared.steps.ForwarderAction.{ForwarderAction}
+
+-- A step is refused for memory. That what a look-up came to is then let go only where all were told of it stands here,
+-- since `StopsStep` does not say it: a step that replies takes no memory.
+pub record IsRefused (before after : ForwarderValue) : Type 0 where
+  pub stops : StopsStep before after
+  pub all_told : (r : ReplyingValue) → before.replying ≡ Some r → r.waiting ≡ []
+
+-- A query of a client, with how it was answered, or refused for memory; a client that waits no more; an event; a change
+-- of what the forwarder was given or keeps; or a step and what the program had to do for it, or one that was refused
+-- for memory. A refused call of another kind changes nothing, and does not stand here.
+pub data ForwarderEvent : Type 0 where
+  query_comes : Client → List ℕ → ℕ → Answered → ForwarderEvent
+  query_is_refused : ℕ → ForwarderEvent
+  client_is_gone : ℕ → ForwarderEvent
+  octets_come : ℕ → List ℕ → ℕ → ForwarderEvent
+  channel_fails : ChannelFailure → ℕ → ForwarderEvent
+  time_passes : ℕ → ForwarderEvent
+  servers_are : ℕ → List PoolServerValue → ForwarderEvent
+  local_data_is : LocalValue → ForwarderEvent
+  options_are : OptionsValue → ForwarderEvent
+  name_is_flushed : NameValue → Bool → ForwarderEvent
+  all_is_cleared : ForwarderEvent
+  is_stepped : Option ForwarderAction → ForwarderEvent
+  step_is_refused : ForwarderEvent
+
+abbrev pub Happens : ForwarderEvent → ForwarderValue → ForwarderValue → Type 0
+Happens (query_comes client octets now answered) before after = AnswersQuery client octets now before answered after
+Happens (query_is_refused now) before after = after ≡ at_moment now before
+Happens (client_is_gone client) before after = after ≡ gone client before
+Happens (octets_come channel octets now) before after =
+    after ≡ moment_passes now (with_pool (after_octets channel octets now before.pool) before)
+Happens (channel_fails failure now) before after =
+    after ≡ moment_passes now (with_pool (after_failure failure now before.pool) before)
+Happens (time_passes now) before after = after ≡ at_moment now before
+Happens (servers_are group servers) before after = after ≡ with_pool (after_servers group servers before.pool) before
+Happens (local_data_is local) before after = after ≡ with_local local before
+Happens (options_are options) before after = after ≡ record before { options = options }
+Happens (name_is_flushed domain below) before after = after ≡ flushed domain below before
+Happens all_is_cleared before after = after ≡ cleared before
+Happens (is_stepped action) before after = ForwarderSteps before action after
+Happens step_is_refused before after = IsRefused before after
+
+-- an event, and the forwarder before and after it
+pub data Happening : Type 0 where
+  happened : ForwarderEvent → ForwarderValue → ForwarderValue → Happening
+
+-- The latest is the first of these. Events and steps come in any order.
+pub data Runs (start : ForwarderValue) : List Happening → ForwarderValue → Type 0 where
+  at_first : Runs start [] start
+  next : (past : List Happening) (event : ForwarderEvent) (before after : ForwarderValue)
+      → Happens event before after → Runs start past before → Runs start (happened event before after ∷ past) after

@@ -1,0 +1,46 @@
+//! What holds of a forwarder after every list of queries, events and steps.
+ghost use Rattle.yimarotu_forwarder_theorems.specs.Bounds.{BoundsAreKept, WhoWaitsIsCounted};
+ghost use Rattle.yimarotu_forwarder_theorems.specs.Lookups.{AnswersAreOfReplies};
+ghost use Rattle.yimarotu_forwarder_theorems.specs.Replies.{EachIsRepliedToOnce, EachReplyIsToItsRequest, QuestionsHaveQueues};
+ghost use Rattle.yimarotu_forwarder_theorems.specs.ReplyOctets.{RepliesAtOnceAreOwn};
+
+/// Those who wait for a question stand in a queue: who is told to wait comes in at its end, who is replied to was its
+/// first, and who is gone leaves it. So none is lost, and none is replied to before another that came earlier.
+pub fn questions_have_queues()
+    ensures { QuestionsHaveQueues }
+{}
+
+/// Each request that was told to wait is replied to once. Of the requests of a client that was never gone, those for
+/// each question that were told to wait are those that were replied to since, in their order, and then those that wait.
+pub fn each_is_replied_to_once()
+    ensures { EachIsRepliedToOnce }
+{}
+
+/// A step that replies does so to the first request that waits for its question: it names the client of that request,
+/// and the octets tell that request what the look-up of its question came to.
+pub fn each_reply_is_to_its_request()
+    ensures { EachReplyIsToItsRequest }
+{}
+
+/// What is replied to a query at once begins with its number, and has its question.
+pub fn replies_at_once_are_own()
+    ensures { RepliesAtOnceAreOwn }
+{}
+
+/// No more count as waiting than the limits say, in all, of each network and for each question, the greatest limits
+/// that there were; and what is kept, replies and failures, keeps to its bounds.
+pub fn bounds_are_kept()
+    ensures { BoundsAreKept }
+{}
+
+/// A look-up asks at most eight questions. What those who wait are told of it is what as few replies that the pool told
+/// make, one after another, and so is all that is kept, for no longer than the least of its TTLs.
+pub fn answers_are_of_replies()
+    ensures { AnswersAreOfReplies }
+{}
+
+/// Where no client is gone, the counts are those of who waits: with those who were replied to they are all who were
+/// told to wait, in all and of each network.
+pub fn who_waits_is_counted()
+    ensures { WhoWaitsIsCounted }
+{}
