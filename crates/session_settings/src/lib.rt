@@ -10,5 +10,8 @@ mod session_option;
 mod settings;
 mod settings_error;
 
+pub use server_line::{file_servers, read_server_line};
+pub use session_line::{SessionLine, SessionSetting, read_session_fields};
+pub use session_option::SessionOption;
 pub use settings::{SessionSettings, read_servers, read_session_settings};
-pub use settings_error::SettingsError;
+pub use settings_error::{SettingsError, line_error};

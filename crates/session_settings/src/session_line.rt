@@ -49,10 +49,14 @@ pub fn read_session_line(alloc: Global, line: &[u8]) -> Result<SessionLine, Line
     }
     let text = read_text(line)?;
     let fields = split(alloc, text)?;
-    read_fields(alloc, &fields)
+    read_session_fields(alloc, &fields)
 }
 
-fn read_fields<'a>(alloc: Global, fields: &[&'a str]) -> Result<SessionLine, LineFault<'a>>
+/// Reads the fields of a line, of which the first says what it is about.
+pub fn read_session_fields<'a>(
+    alloc: Global,
+    fields: &[&'a str],
+) -> Result<SessionLine, LineFault<'a>>
     ensures { AreSaid (texts fields.now) result ⊎ (result ≡ Err out_of_memory) }
 {
     match directive_of(fields) {

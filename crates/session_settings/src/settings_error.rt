@@ -21,8 +21,8 @@ pub enum SettingsError {
     OutOfMemory,
 }
 
-// The error of a line of this number.
-pub(crate) fn line_error(number: usize, fault: ScriptFault) -> SettingsError
+/// The error of a line of this number.
+pub fn line_error(number: usize, fault: ScriptFault) -> SettingsError
     ensures { (result ≡ SettingsError.OutOfMemory)
         ⊎ ((fault ≢ ScriptFault.OutOfMemory)
         × (result ≡ SettingsError.Line (record { line = number; fault = fault }))) }
