@@ -4,7 +4,7 @@ use hickory_proto_core::{Message, Outcome, Query, Record};
 use hickory_proto_wire::WireMessage;
 use replay_script::read_script;
 use std::alloc::Global;
-use whole_replies::{KeptReply, next_question};
+use whole_replies::KeptReply;
 
 /// Each reply of a script.
 pub fn run(rt: &impl Print, alloc: Global, script: &[u8]) -> anyhow::Result<()> {
@@ -47,7 +47,7 @@ fn show_behind(
     message: &Message,
 ) -> anyhow::Result<()> {
     if let Some((first, reply)) = before {
-        if leads_to(first, reply, query)? {
+        if leads_to(alloc, first, reply, query)? {
             let _ = rt.println("  both, 20 seconds later");
             show_both(
                 rt,
@@ -59,8 +59,10 @@ fn show_behind(
     Ok(())
 }
 
-fn leads_to(first: &Query, reply: &Message, query: &Query) -> anyhow::Result<bool> {
-    match next_question(first, reply)? {
+fn leads_to(alloc: Global, first: &Query, reply: &Message, query: &Query) -> anyhow::Result<bool> {
+    let reply = wire_message(false, reply)?;
+    let (_kept, next) = KeptReply::copy_of(alloc, first, false, &reply)?;
+    match next {
         Some(next) => Ok(next == *query),
         None => Ok(false),
     }
@@ -79,21 +81,26 @@ fn show_both(
     Ok(())
 }
 
-fn kept_of(
+/// What is kept of a reply, which is authentic where DNSSEC records were asked.
+pub fn kept_of(
     alloc: Global,
     query: &Query,
     dnssec: bool,
     message: &Message,
 ) -> anyhow::Result<Option<KeptReply>> {
-    let reply = WireMessage {
+    let reply = wire_message(dnssec, message)?;
+    Ok(KeptReply::of(alloc, query, dnssec, reply)?)
+}
+
+fn wire_message(authentic: bool, message: &Message) -> anyhow::Result<WireMessage> {
+    Ok(WireMessage {
         is_response: true,
         reserved: false,
-        authentic_data: dnssec,
+        authentic_data: authentic,
         checking_disabled: false,
         edns: None,
         message: message.clone()?,
-    };
-    Ok(KeptReply::of(alloc, query, dnssec, reply)?)
+    })
 }
 
 fn show_kept(rt: &impl Print, kept: &Option<KeptReply>) {
@@ -105,7 +112,8 @@ fn show_kept(rt: &impl Print, kept: &Option<KeptReply>) {
     }
 }
 
-fn show_lines(rt: &impl Print, kept: &KeptReply) {
+/// A line for the whole, and one for each record.
+pub fn show_lines(rt: &impl Print, kept: &KeptReply) {
     let _ = rt.print("  ");
     let _ = rt.print(kept.code);
     let _ = rt.print(" for ");

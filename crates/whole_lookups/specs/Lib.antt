@@ -1,3 +1,5 @@
+pub mod Capped
 pub mod Denied
+pub mod Hints
 pub mod Laws
 pub mod Lookups

@@ -2,12 +2,15 @@
 //! asked for too. No input or output.
 #![tactic(auto)]
 
+mod capped;
 pub mod choices;
 mod denied;
 mod heard;
+mod hints;
 pub mod laws;
 pub mod whole_lookup;
 
+pub use capped::cap;
 pub use denied::without_denied;
 pub use heard::Heard;
 pub use whole_lookup::WholeLookup;

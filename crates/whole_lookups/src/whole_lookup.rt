@@ -8,7 +8,7 @@ use hickory_proto_core::Query;
 use hickory_proto_wire::WireMessage;
 use std::alloc::{AllocError, Global};
 use std::marker::Model;
-use whole_replies::{KeptReply, next_question};
+use whole_replies::KeptReply;
 
 /// One look-up of a whole reply, as a client asks for it (RFC 1034, section 3.6.2; RFC 6604).
 #[derive(Debug, Drop)]
@@ -60,8 +60,7 @@ impl WholeLookup {
         ensures ok { OnOk result (self.new ≡ after reply.now self.old) }
         ensures err { OnErr result (self.new ≡ self.old) }
     {
-        let kept = KeptReply::copy_of(alloc, &self.next, self.dnssec, reply)?;
-        let next = next_question(&self.next, &reply.message)?;
+        let (kept, next) = KeptReply::copy_of(alloc, &self.next, self.dnssec, reply)?;
         self.go_on(kept, next)
     }
 

@@ -3,14 +3,16 @@ ghost use Rattle.std.specs.Prelude.{◌≡◌, ◌≤◌, ◌++◌, filter, map,
 ghost use Rattle.std.specs.List.{list_any};
 ghost use Rattle.std.specs.Option.{is_some, option_map};
 ghost use Rattle.hickory_proto_core.specs.Records.{lower_ttl};
-ghost use Rattle.hickory_proto_core.specs.ResponseKind.{is_asked, negative_ttl_of};
+ghost use Rattle.hickory_proto_core.specs.ResponseKind.{is_asked};
 ghost use Rattle.hickory_resolver_model.specs.AliasWalk.{walk_of};
 ghost use Rattle.hickory_resolver_model.specs.Bounds.{least_ttl};
 ghost use Rattle.hickory_resolver_tries.specs.Outcome.{at_name, has_code, has_soa, is_answered, leads_on};
 ghost use Rattle.whole_replies.specs.Ways.{is_kept, is_kept_of};
-ghost use Rattle.whole_replies.specs.Kept.{KeptValue, is_negative, kept_answers, is_start_of_zone, is_kept_authority, authorities_kept, within_minimum, kept_authorities, negative_limit, lesser, seconds_of, is_too_long, kept_of, is_unfinished, next_question, joined, aged};
+ghost use Rattle.whole_replies.specs.Received.{received};
+ghost use Rattle.whole_replies.specs.Kept.{KeptValue, is_negative, kept_answers, is_start_of_zone, is_kept_authority, authorities_kept, within_minimum, kept_authorities, negative_limit, lesser, seconds_of, is_too_long, kept_of_received, kept_of, is_unfinished, next_of_received, next_question, joined, aged};
 
 use crate::choices::MOST_NAMES;
+use crate::received::{receive, received_ttl};
 use crate::ways::{count_names, is_kept, names_of};
 use hickory_proto_core::{Message, Name, Query, Record, ResponseCode};
 use hickory_proto_wire::WireMessage;
@@ -88,9 +90,9 @@ fn is_unfinished(query: &Query, message: &Message) -> bool
     !is_answered(query, message) && leads_on(query, message)
 }
 
-/// What is asked next, where aliases lead on and nothing answers where they end.
-pub fn next_question(query: &Query, message: &Message) -> Result<Option<Query>, AllocError>
-    ensures { IfOk result (λ next. next ≡ next_question query.now message.now) }
+// What is asked next, where aliases lead on and nothing answers where they end.
+fn next_of_received(query: &Query, message: &Message) -> Result<Option<Query>, AllocError>
+    ensures { IfOk result (λ next. next ≡ next_of_received query.now message.now) }
 {
     if !is_unfinished(query, message) {
         return Ok(None);
@@ -103,20 +105,12 @@ pub fn next_question(query: &Query, message: &Message) -> Result<Option<Query>, 
     }))
 }
 
-fn negative_ttl(message: &Message) -> Option<u32>
-    ensures { result ≡ negative_ttl_of message.now }
-{
-    let soa = first_soa(&message.authorities)?;
-    let minimum = soa.rdata.soa_minimum()?;
-    Some(soa.ttl.min(minimum))
-}
-
-// For how many seconds a negative answer may be told, by its SOA record.
+// A negative answer without SOA record may be told for no second.
 fn negative_limit(query: &Query, message: &Message) -> Option<u32>
     ensures { result ≡ negative_limit query.now message.now }
 {
-    if is_negative(query, message) {
-        Some(negative_ttl(message).unwrap_or(0))
+    if is_negative(query, message) && !has_soa(message) {
+        Some(0)
     } else {
         None
     }
@@ -189,7 +183,7 @@ fn keep_within_minimum(found: &mut Record)
     ensures { found.new ≡ within_minimum found.old }
 {
     if let Some(minimum) = found.rdata.soa_minimum() {
-        found.ttl = found.ttl.min(minimum);
+        found.ttl = found.ttl.min(received_ttl(minimum));
     }
 }
 
@@ -210,7 +204,9 @@ fn keep_authorities(dnssec: bool, negative: bool, moved: bool, authorities: &mut
 
 impl KeptReply {
     /// What is kept of a believed reply to a question, with what proves it where DNSSEC records were asked (RFC 4035,
-    /// section 3.2.1). None where more than `MOST_NAMES` names are on the way.
+    /// section 3.2.1). Records of another class than the question's count for nothing (RFC 1034, section 3.7.1), and a
+    /// TTL whose top bit is set counts as 0 (RFC 2181, section 8). None where more than `MOST_NAMES` names are on the
+    /// way.
     pub fn of(
         alloc: Global,
         query: &Query,
@@ -219,48 +215,31 @@ impl KeptReply {
     ) -> Result<Option<KeptReply>, AllocError>
         ensures { IfOk result (λ kept. kept ≡ kept_of query.now dnssec reply) }
     {
-        if MOST_NAMES < count_names(query, &reply.message.answers) {
-            return Ok(None);
-        }
         let WireMessage {
             authentic_data,
-            message,
+            mut message,
             ..
         } = reply;
-        let code = message.metadata.response_code;
-        let limit = negative_limit(query, &message);
-        let (answers, authorities) = kept_records(alloc, query, dnssec, message)?;
-        Ok(Some(KeptReply {
-            code,
-            authentic_data,
-            seconds: seconds_of(limit, &answers, &authorities),
-            answers,
-            authorities,
-        }))
+        receive(query, &mut message);
+        of_received(alloc, query, dnssec, authentic_data, message)
     }
 
-    /// As `of`, of a reply that others are told of too: what is kept of it is copied.
+    /// As `of`, of a reply that others are told of too: it is copied. With what is kept comes the question that is
+    /// asked next, where aliases lead on and nothing answers where they end.
     pub fn copy_of(
         alloc: Global,
         query: &Query,
         dnssec: bool,
         reply: &WireMessage,
-    ) -> Result<Option<KeptReply>, AllocError>
-        ensures { IfOk result (λ kept. kept ≡ kept_of query.now dnssec reply.now) }
+    ) -> Result<(Option<KeptReply>, Option<Query>), AllocError>
+        ensures kept { IfOk result (λ heard. heard.0 ≡ kept_of query.now dnssec reply.now) }
+        ensures next { IfOk result (λ heard. heard.1 ≡ next_question query.now reply.now.message) }
     {
-        let message = &reply.message;
-        if MOST_NAMES < count_names(query, &message.answers) {
-            return Ok(None);
-        }
-        let answers = copied_answers(alloc, query, dnssec, &message.answers)?;
-        let authorities = copied_authorities(query, dnssec, message)?;
-        Ok(Some(KeptReply {
-            code: message.metadata.response_code,
-            authentic_data: reply.authentic_data,
-            seconds: seconds_of(negative_limit(query, message), &answers, &authorities),
-            answers,
-            authorities,
-        }))
+        let mut message = Clone::clone(&reply.message)?;
+        receive(query, &mut message);
+        let next = next_of_received(query, &message)?;
+        let kept = of_received(alloc, query, dnssec, reply.authentic_data, message)?;
+        Ok((kept, next))
     }
 
     /// Puts the reply to the question that it leads to behind it (RFC 6604). Where memory is refused nothing changes.
@@ -287,6 +266,31 @@ impl KeptReply {
         age_records(&mut self.authorities, seconds);
         self.seconds = self.seconds.saturating_sub(seconds);
     }
+}
+
+// What is kept of a reply of which everything counts.
+fn of_received(
+    alloc: Global,
+    query: &Query,
+    dnssec: bool,
+    authentic_data: bool,
+    message: Message,
+) -> Result<Option<KeptReply>, AllocError>
+    ensures { IfOk result (λ kept. kept ≡ kept_of_received query.now dnssec authentic_data message) }
+{
+    if MOST_NAMES < count_names(query, &message.answers) {
+        return Ok(None);
+    }
+    let code = message.metadata.response_code;
+    let limit = negative_limit(query, &message);
+    let (answers, authorities) = kept_records(alloc, query, dnssec, message)?;
+    Ok(Some(KeptReply {
+        code,
+        authentic_data,
+        seconds: seconds_of(limit, &answers, &authorities),
+        answers,
+        authorities,
+    }))
 }
 
 // The name where aliases end.
@@ -333,40 +337,6 @@ fn kept_records(
     keep_way(alloc, query, dnssec, &mut answers)?;
     keep_authorities(dnssec, negative, moved, &mut authorities);
     Ok((answers, authorities))
-}
-
-// What is kept of the answers, copied.
-fn copied_answers(
-    alloc: Global,
-    query: &Query,
-    dnssec: bool,
-    answers: &[Record],
-) -> Result<Vec<Record>, AllocError>
-    ensures { IfOk result (λ kept. kept.items ≡ filter (is_kept_of query.now answers.now dnssec) answers.now) }
-{
-    let names = names_of(alloc, query, answers)?;
-    let (last, _) = end_of(query, answers);
-    let mut kept = Vec::new(alloc);
-    for found in answers {
-        if is_kept(query, last, dnssec, &names, found) {
-            kept.push(Clone::clone(found)?)?;
-        }
-    }
-    Ok(kept)
-}
-
-// What is kept of the authorities, copied.
-fn copied_authorities(
-    query: &Query,
-    dnssec: bool,
-    message: &Message,
-) -> Result<Vec<Record>, AllocError>
-    ensures { IfOk result (λ kept. kept.items ≡ kept_authorities query.now dnssec message.now) }
-{
-    let (_, moved) = end_of(query, &message.answers);
-    let mut authorities = message.authorities.clone()?;
-    keep_authorities(dnssec, is_negative(query, message), moved, &mut authorities);
-    Ok(authorities)
 }
 
 fn age_records(records: &mut Vec<Record>, seconds: u32)

@@ -4,7 +4,8 @@
 
 pub mod choices;
 pub mod kept_reply;
+mod received;
 mod signatures;
 mod ways;
 
-pub use kept_reply::{KeptReply, next_question};
+pub use kept_reply::KeptReply;

@@ -1,6 +1,6 @@
 use Rattle.std.proofs.Common.{rules}
 use Rattle.std.proofs.lemmas.Fn.{filter_same}
-use Rattle.hickory_resolver_filters.specs.Filters.{is_kept}
+use Rattle.whole_lookups.specs.Denied.{is_kept}
 use Rattle.whole_lookups.proofs.denied.keep_answers.Goals as goal
 
 pub returns : goal.returns

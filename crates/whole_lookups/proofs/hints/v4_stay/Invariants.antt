@@ -1,0 +1,13 @@
+use Rattle.std.proofs.Common.{◌≡◌, ◌≤◌, ◌+◌, ◌-◌, ◌*◌, ◌&&◌, length}
+use Rattle.std.specs.List.{list_all}
+use Rattle.hickory_proto_core.specs.Records.{a_data}
+use Rattle.whole_lookups.specs.Denied.{is_kept_address}
+use Rattle.whole_lookups.specs.Hints.{addresses_at}
+use Rattle.whole_lookups.proofs.hints.v4_stay.Given as goal
+
+abbrev pub invariant-loop : goal.invariant-loop
+invariant-loop l = record {
+  within : l.at + 4 * (l.count - l.counter) ≤ length l.octets;
+  so_far : (l.stay && list_all (is_kept_address l.allow l.deny) (addresses_at a_data 4 (l.count - l.counter) l.octets l.at))
+      ≡ list_all (is_kept_address l.allow l.deny) (addresses_at a_data 4 l.count l.octets l.fn.at);
+}
