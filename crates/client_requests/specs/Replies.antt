@@ -1,10 +1,11 @@
 -- What a client is told in the end.
-use Rattle.std.specs.Prelude.{ℕ, ◌+◌, Bool, List, length, nat_le, Option, unwrap_or, if◌then◌else◌}
+use Rattle.std.specs.Prelude.{ℕ, ◌+◌, Bool, false, List, length, nat_le, Option, unwrap_or, if◌then◌else◌}
 use Rattle.client_queries.specs.Refusals.{refusal_octets}
 use Rattle.client_queries.specs.declared.query.Refusal.{Refusal}
 use Rattle.failure_replies.specs.Failures.{failure_octets}
 use Rattle.failure_replies.specs.declared.failure.FailureReason.{FailureReason}
 use Rattle.failure_replies.specs.declared.failure.FailureReason.TheVariants.{Other}
+use Rattle.stored_replies.specs.Stale.{stale_of}
 use Rattle.stored_replies.specs.Stored.{StoredValue, stored_octets}
 use Rattle.stored_replies.specs.Told.{opt_length, reply_within, cut_within}
 use Rattle.client_requests.specs.Requests.{RequestValue, limit_of}
@@ -28,6 +29,12 @@ abbrev pub stored_reply : RequestValue → StoredValue → Bool → ℕ → Opti
 stored_reply r s trust now =
     if fits r s then reply_within LONGEST_MESSAGE r.octets r.query s trust now
     else cut_within LONGEST_MESSAGE r.octets r.query s trust now
+
+-- The same of a reply past its end (RFC 8767): each TTL is 30 seconds, and AD is not set.
+abbrev pub stale_reply : RequestValue → StoredValue → Option (List ℕ)
+stale_reply r s =
+    if fits r s then reply_within LONGEST_MESSAGE r.octets r.query (stale_of s) false 0
+    else cut_within LONGEST_MESSAGE r.octets r.query s false 0
 
 -- what a look-up came to: a reply, or a failure
 abbrev pub reply_to : RequestValue → FetchEnd → Bool → ℕ → List ℕ

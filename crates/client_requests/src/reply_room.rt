@@ -4,7 +4,7 @@ ghost use Rattle.std.specs.Option.{is_some, option_map};
 ghost use Rattle.stored_replies.specs.Told.{put_in};
 ghost use Rattle.client_queries.specs.Refusals.{question_octets, refusal_octets};
 ghost use Rattle.failure_replies.specs.Failures.{failure_octets};
-ghost use Rattle.client_requests.specs.Replies.{stored_reply, reply_to, failure_reply, refusal_reply};
+ghost use Rattle.client_requests.specs.Replies.{stored_reply, stale_reply, reply_to, failure_reply, refusal_reply};
 
 use crate::choices::{LONGEST_MESSAGE, LONGEST_QUESTION};
 use crate::fetch_end::FetchEnd;
@@ -73,6 +73,21 @@ impl ReplyRoom {
         }
     }
 
+    /// Writes the reply that is stored, past its end (RFC 8767): each TTL is 30 seconds, and AD is not set. Else as
+    /// `put_stored`.
+    pub fn put_stale(&mut self, request: &Request<'_>, stored: &StoredReply) -> bool
+        ensures told { result ≡ is_some (stale_reply request.now stored.now) }
+        ensures room { self.new ≡ unwrap_or (stale_reply request.now stored.now) self.old }
+    {
+        match write_stale(request, stored, &mut self.octets) {
+            Some(length) => {
+                self.filled = length;
+                true
+            }
+            None => false,
+        }
+    }
+
     /// Writes the reply that refuses a request.
     pub fn put_refusal(&mut self, request: &Request<'_>, refusal: Refusal)
         ensures { self.new ≡ refusal_reply request.now refusal }
@@ -119,6 +134,20 @@ fn write_stored(
         stored.write(octets, query, trust, now, room)
     } else {
         stored.write_cut(octets, query, trust, room)
+    }
+}
+
+// The same past its end.
+fn write_stale(request: &Request<'_>, stored: &StoredReply, room: &mut [u8]) -> Option<usize>
+    requires { length room.old ≡ LONGEST_MESSAGE }
+    ensures length { result ≡ option_map length (stale_reply request.now stored.now) }
+    ensures room { room.new ≡ put_in room.old (stale_reply request.now stored.now) }
+{
+    let (octets, query) = (request.octets(), request.query());
+    if stored.length(query) <= request.limit() {
+        stored.write_stale(octets, query, room)
+    } else {
+        stored.write_cut(octets, query, false, room)
     }
 }
 

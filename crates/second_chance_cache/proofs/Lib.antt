@@ -6,6 +6,7 @@ pub mod Results
 pub mod Rounds
 pub mod Sieves
 pub mod Slots
+pub mod Going
 pub mod Sound
 pub mod Sweeps
 pub mod Updated

@@ -60,6 +60,13 @@ module _ {V : Type 0} where
   abbrev pub asked : List ℕ → ℕ → List (Entry V) → List (Entry V)
   asked key now es = map (λ e. if is_for key e then marked_at now e else e) es
 
+  -- ---- going through
+
+  -- the entries behind that of a key, none where there is none of it
+  abbrev pub behind : List ℕ → List (Entry V) → List (Entry V)
+  behind key [] = []
+  behind key (e ∷ es) = if is_for key e then es else behind key es
+
   -- ---- storing
 
   abbrev pub without : List ℕ → List (Entry V) → List (Entry V)

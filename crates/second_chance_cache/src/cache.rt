@@ -1,8 +1,8 @@
 //! A bounded cache that gives a second chance.
-ghost use Rattle.std.specs.Prelude.{◌≡◌, ◌==◌, false, length, option_copied, IsOk, OnOk, OnErr};
+ghost use Rattle.std.specs.Prelude.{◌≡◌, ◌==◌, false, length, option_copied, slice_get, IsOk, OnOk, OnErr};
 ghost use Rattle.std.specs.Borrow.{sem};
 ghost use Rattle.std.specs.Fn.{FnReturnsAt};
-ghost use Rattle.second_chance_cache.specs.SecondChance.{IsCache, IsLeft, all_weight, asked, is_kept, no_entries, stored, told, without};
+ghost use Rattle.second_chance_cache.specs.SecondChance.{IsCache, IsLeft, all_weight, asked, behind, is_kept, no_entries, stored, told, without};
 ghost use Rattle.second_chance_cache.specs.Lending.{ends_as};
 
 use crate::bounds::CacheBounds;
@@ -104,6 +104,22 @@ impl<V: Drop, S: BuildHasher> SecondChanceCache<V, S> {
         ensures { option_copied result ≡ told key.now now self.now.entries }
     {
         self.clock.told(key, now)
+    }
+
+    /// The first of its entries, current or not, in the order in which the hand comes to them. With `behind` it goes
+    /// through them all, where nothing is changed between. Takes no memory.
+    pub fn first(&self) -> Option<&Kept<V>>
+        ensures { option_copied result ≡ slice_get self.now.entries 0 }
+    {
+        self.clock.first_entry()
+    }
+
+    /// The entry behind that of a key; none behind the last, and none where there is no entry of the key. Takes no
+    /// memory.
+    pub fn behind(&self, key: &[u8]) -> Option<&Kept<V>>
+        ensures { option_copied result ≡ slice_get (behind key.now self.now.entries) 0 }
+    {
+        self.clock.entry_behind(key)
     }
 
     /// Drops the entry of a key. Takes no memory.

@@ -1,10 +1,10 @@
 //! The clock behind a cache: entries in slots, from the hand on, and the number of each entry's slot by its key.
-ghost use Rattle.std.specs.Prelude.{◌≡◌, ◌<◌, ◌+◌, ◌-◌, ◌%◌, ◌^◌, ◌++◌, ◌∷◌, [], true, false, ◌≤◌, Some, find, length, slice_get, option_copied, IfOk, OnErr, OnOk};
+ghost use Rattle.std.specs.Prelude.{◌≡◌, ◌<◌, ◌+◌, ◌-◌, ◌%◌, ◌^◌, ◌++◌, ◌∷◌, [], true, false, ◌≤◌, Some, drop, find, length, slice_get, option_copied, IfOk, OnErr, OnOk};
 ghost use Rattle.std.specs.VecDeque.{deque_capacity, deque_len};
 ghost use Rattle.std.specs.Fn.{FnReturnsAt};
 ghost use Rattle.std.specs.Option.{option_flatten, option_map, option_map_or};
 ghost use Rattle.indexmap.specs.IndexMap.{spare};
-ghost use Rattle.second_chance_cache.specs.SecondChance.{IsLeft, all_weight, asked, has, has_room, is_for, is_kept, make_room, marked_at, told, unmarked, without};
+ghost use Rattle.second_chance_cache.specs.SecondChance.{IsLeft, all_weight, asked, behind, has, has_room, is_for, is_kept, make_room, marked_at, told, unmarked, without};
 ghost use Rattle.second_chance_cache.specs.Clock.{AreSound, FrontAnswers, IsForgotten, IsKept, IsNumbered, IsRenumbered, IsSieved, IsSound, KeepsRoom, HasRoom, SlotAnswers, dropped, emptied, entries_of, front_is_passed_by, live, looked_at, marked_in, number_in, place_of, turned, weight_at, with_front_unmarked};
 
 use crate::bounds::CacheBounds;
@@ -71,6 +71,27 @@ impl<V: Drop, S: BuildHasher> Clock<V, S> {
     {
         match self.place_of(key) {
             Some(place) => entry_at(&self.slots, place),
+            None => None,
+        }
+    }
+
+    // The first entry.
+    pub fn first_entry(&self) -> Option<&Kept<V>>
+        ensures { option_copied result ≡ slice_get (live self.now.slots.items) 0 }
+    {
+        match entry_at(&self.slots, 0) {
+            Some(kept) => Some(kept),
+            None => first_behind(&self.slots, 0),
+        }
+    }
+
+    // The first entry behind that of a key.
+    pub fn entry_behind(&self, key: &[u8]) -> Option<&Kept<V>>
+        requires { IsSound self.now }
+        ensures { option_copied result ≡ slice_get (behind key.now (live self.now.slots.items)) 0 }
+    {
+        match self.place_of(key) {
+            Some(place) => first_behind(&self.slots, place),
             None => None,
         }
     }
@@ -403,6 +424,21 @@ fn entry_at<V>(slots: &Slots<V>, place: usize) -> Option<&Kept<V>>
         Some(Some(kept)) => Some(kept),
         _ => None,
     }
+}
+
+// The first entry behind a place.
+fn first_behind<V>(slots: &Slots<V>, start: usize) -> Option<&Kept<V>>
+    ensures { option_copied result ≡ slice_get (live (drop (start + 1) slots.now.items)) 0 }
+{
+    let mut place = start;
+    while place < slots.len() {
+        place += 1;
+        match entry_at(slots, place) {
+            Some(kept) => return Some(kept),
+            None => {}
+        }
+    }
+    None
 }
 
 fn mark_at<V>(slots: &mut Slots<V>, place: usize, now: u64)

@@ -10,3 +10,4 @@ pub mod laws;
 
 pub use bounds::CacheBounds;
 pub use cache::SecondChanceCache;
+pub use kept::Kept;

@@ -3,7 +3,7 @@
 use Rattle.std.proofs.Common.{◌≡◌, ℕ, ◌+◌, List, [], ◌∷◌, ◌++◌, length, map, refl, sym, ap, ap₂, ◌∙◌, append_assoc, length-append, arith}
 use Rattle.std.proofs.lemmas.List.{append-nil}
 use Rattle.hickory_proto_codes.specs.Codes.{class_code}
-use Rattle.hickory_proto_core.specs.Records.{RecordValue, lower_ttl}
+use Rattle.hickory_proto_core.specs.Records.{RecordValue}
 use Rattle.hickory_proto_wire.specs.Place.{PlaceValue}
 use Rattle.hickory_proto_wire.specs.Writing.{u16_octets, data_code}
 use Rattle.hickory_proto_wire.specs.Written.{Body, name_octets, whole_count, noted, u32_octets, measured, data_octets, record_octets, record_added, records_added}
@@ -65,10 +65,14 @@ around_ttl ps r =
     sym (append_assoc (name_octets ps r.name.labels) (u16_octets (data_code r.rdata) ++ u16_octets (class_code r.dns_class))
     (u32_octets r.ttl ++ behind_ttl ps r))
 
-pub same_length : (ps : List PlaceValue) (r : RecordValue) (seconds : ℕ)
-    → length (record_octets ps (lower_ttl seconds r)) ≡ length (record_octets ps r)
-same_length ps r seconds =
-    let low = lower_ttl seconds r in
+-- the record with its TTL changed
+abbrev pub by_ttl : (ℕ → ℕ) → RecordValue → RecordValue
+by_ttl change r = record r { ttl = change r.ttl }
+
+pub same_length : (ps : List PlaceValue) (r : RecordValue) (change : ℕ → ℕ)
+    → length (record_octets ps (by_ttl change r)) ≡ length (record_octets ps r)
+same_length ps r change =
+    let low = by_ttl change r in
     omega (
       arith,
       ap length (around_ttl ps r),
@@ -77,21 +81,30 @@ same_length ps r seconds =
       length-append (before_ttl ps r) (u32_octets low.ttl ++ behind_ttl ps r),
     )
 
-pub alike_low : (b : Body) (r : RecordValue) (seconds : ℕ) → Alike (record_added b (lower_ttl seconds r)) (record_added b r)
-alike_low b r seconds =
-    alike_next b b (lower_ttl seconds r) r (record { octets = refl; places = refl }) refl (same_length b.places r seconds)
+pub alike_low : (b : Body) (r : RecordValue) (change : ℕ → ℕ) → Alike (record_added b (by_ttl change r)) (record_added b r)
+alike_low b r change =
+    alike_next b b (by_ttl change r) r (record { octets = refl; places = refl }) refl (same_length b.places r change)
+
+pub places_low : (rs : List RecordValue) (b : Body) (change : ℕ → ℕ)
+    → ttl_places b (map (by_ttl change) rs) ≡ ttl_places b rs
+places_low [] b change = refl
+places_low (r ∷ rs) b change =
+    let low = by_ttl change r in
+    ap (λ (ps : List ℕ). (12 + length b.octets + length (name_octets b.places r.name.labels) + 4) ∷ ps)
+    (places_alike (map (by_ttl change) rs) (record_added b low) (record_added b r) (alike_low b r change)
+    ∙ places_low rs (record_added b r) change)
 
 -- so many octets more
-pub added_length : (rs : List RecordValue) (b : Body) (seconds : ℕ)
-    → length (added b (map (lower_ttl seconds) rs)) ≡ length (added b rs)
-added_length [] b seconds = refl
-added_length (r ∷ rs) b seconds =
-    let low = lower_ttl seconds r in
+pub added_length : (rs : List RecordValue) (b : Body) (change : ℕ → ℕ)
+    → length (added b (map (by_ttl change) rs)) ≡ length (added b rs)
+added_length [] b change = refl
+added_length (r ∷ rs) b change =
+    let low = by_ttl change r in
     omega (
       arith,
-      same_length b.places r seconds,
-      ap length (added_alike (map (lower_ttl seconds) rs) (record_added b low) (record_added b r) (alike_low b r seconds)),
-      added_length rs (record_added b r) seconds,
-      length-append (record_octets b.places low) (added (record_added b low) (map (lower_ttl seconds) rs)),
+      same_length b.places r change,
+      ap length (added_alike (map (by_ttl change) rs) (record_added b low) (record_added b r) (alike_low b r change)),
+      added_length rs (record_added b r) change,
+      length-append (record_octets b.places low) (added (record_added b low) (map (by_ttl change) rs)),
       length-append (record_octets b.places r) (added (record_added b r) rs),
     )

@@ -5,6 +5,7 @@ pub mod Named
 pub mod Whole
 pub mod Header
 pub mod Telling
+pub mod Stale
 pub mod Keys
 pub mod Cut
 pub mod Seen

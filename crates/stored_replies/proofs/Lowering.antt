@@ -1,14 +1,14 @@
--- TTLs lowered at their places are those of the aged records.
+-- TTLs changed at their places are those of the records so changed.
 use Rattle.std.proofs.Common.{◌≡◌, ℕ, ◌+◌, ◌-◌, ◌*◌, ◌/◌, ◌%◌, false, List, [], ◌∷◌, ◌++◌, length, drop, map, get_or, refl, sym, ap, ap₂, ◌∙◌, append_assoc, length-append, arith}
 use Rattle.std.specs.Prelude.{nat_lt}
 use Rattle.std.proofs.lemmas.Bool.{le-ltb}
 use Rattle.std.proofs.lemmas.List.{take_at, drop_at, drop-drop, get_or-append-add}
-use Rattle.hickory_proto_core.specs.Records.{RecordValue, lower_ttl}
+use Rattle.hickory_proto_core.specs.Records.{RecordValue}
 use Rattle.hickory_proto_wire.specs.Writing.{u16_octets, data_code}
 use Rattle.hickory_proto_codes.specs.Codes.{class_code}
 use Rattle.hickory_proto_wire.specs.Written.{Body, name_octets, u32_octets, record_octets, record_added}
-use Rattle.stored_replies.specs.Walk.{over, u32_at, lowered_at, lowered, ttl_place, ttl_places}
-use Rattle.stored_replies.proofs.Added.{added, added_alike, alike_low, before_ttl, behind_ttl, around_ttl, same_length}
+use Rattle.stored_replies.specs.Walk.{over, u32_at, changed_at, changed, ttl_place, ttl_places}
+use Rattle.stored_replies.proofs.Added.{added, added_alike, alike_low, before_ttl, behind_ttl, around_ttl, by_ttl, same_length}
 
 -- ---- a part of a room written over
 
@@ -51,21 +51,21 @@ u32_read front rest at n here =
     ap (λ (k : ℕ). get_or (front ++ whole) k 0) step ∙ read_at front whole at 3 here in
     rw (r0, r1, r2, r3) (number_of n)
 
-pub lowered_one : (seconds : ℕ) (front rest : List ℕ) (at ttl : ℕ) → length front ≡ at
-    → lowered_at seconds (front ++ (u32_octets ttl ++ rest)) at ≡ front ++ (u32_octets (ttl - seconds) ++ rest)
-lowered_one seconds front rest at ttl here =
+pub changed_one : (change : ℕ → ℕ) (front rest : List ℕ) (at ttl : ℕ) → length front ≡ at
+    → changed_at change (front ++ (u32_octets ttl ++ rest)) at ≡ front ++ (u32_octets (change ttl) ++ rest)
+changed_one change front rest at ttl here =
     let room = front ++ (u32_octets ttl ++ rest) in
     let fits : nat_lt (length room) (at + 4) ≡ false =
     le-ltb (length room) (at + 4) (omega (arith, here, length-append front (u32_octets ttl ++ rest), length-append (u32_octets ttl) rest)) in
     rw (fits, u32_read front rest at ttl here)
-    (over_at front (u32_octets ttl) (u32_octets (ttl - seconds)) rest at here refl)
+    (over_at front (u32_octets ttl) (u32_octets (change ttl)) rest at here refl)
 
-lowered_record : (seconds : ℕ) (b : Body) (r : RecordValue) (front rest : List ℕ) → length front ≡ 12 + length b.octets
-    → lowered_at seconds (front ++ (record_octets b.places r ++ rest)) (ttl_place b r)
-    ≡ front ++ (record_octets b.places (lower_ttl seconds r) ++ rest)
-lowered_record seconds b r front rest here =
+changed_record : (change : ℕ → ℕ) (b : Body) (r : RecordValue) (front rest : List ℕ) → length front ≡ 12 + length b.octets
+    → changed_at change (front ++ (record_octets b.places r ++ rest)) (ttl_place b r)
+    ≡ front ++ (record_octets b.places (by_ttl change r) ++ rest)
+changed_record change b r front rest here =
     let ps = b.places in
-    let low = lower_ttl seconds r in
+    let low = by_ttl change r in
     let d = front ++ before_ttl ps r in
     let y = behind_ttl ps r ++ rest in
     let parts : (s : RecordValue) → before_ttl ps s ≡ before_ttl ps r → behind_ttl ps s ≡ behind_ttl ps r
@@ -82,30 +82,30 @@ lowered_record seconds b r front rest here =
       length-append front (before_ttl ps r),
       length-append (name_octets ps r.name.labels) (u16_octets (data_code r.rdata) ++ u16_octets (class_code r.dns_class)),
     ) in
-    ap (λ (x : List ℕ). lowered_at seconds x (ttl_place b r)) (parts r refl refl)
-    ∙ lowered_one seconds d y (ttl_place b r) r.ttl at ∙ sym (parts low refl refl)
+    ap (λ (x : List ℕ). changed_at change x (ttl_place b r)) (parts r refl refl)
+    ∙ changed_one change d y (ttl_place b r) r.ttl at ∙ sym (parts low refl refl)
 
 -- ---- all of them
 
-pub lowered_records : (rs : List RecordValue) (seconds : ℕ) (b : Body) (front back : List ℕ)
+pub changed_records : (rs : List RecordValue) (change : ℕ → ℕ) (b : Body) (front back : List ℕ)
     → length front ≡ 12 + length b.octets
-    → lowered seconds (front ++ (added b rs ++ back)) (ttl_places b rs)
-    ≡ front ++ (added b (map (lower_ttl seconds) rs) ++ back)
-lowered_records [] seconds b front back here = refl
-lowered_records (r ∷ rs) seconds b front back here =
-    let low = lower_ttl seconds r in
+    → changed change (front ++ (added b rs ++ back)) (ttl_places b rs)
+    ≡ front ++ (added b (map (by_ttl change) rs) ++ back)
+changed_records [] change b front back here = refl
+changed_records (r ∷ rs) change b front back here =
+    let low = by_ttl change r in
     let next = record_added b r in
     let own = record_octets b.places r in
     let new = record_octets b.places low in
     let rest = added next rs ++ back in
-    let old = map (lower_ttl seconds) rs in
+    let old = map (by_ttl change) rs in
     let long : length (front ++ new) ≡ 12 + length next.octets =
-    omega (arith, here, same_length b.places r seconds, length-append front new, length-append b.octets own) in
-    let one : lowered_at seconds (front ++ ((own ++ added next rs) ++ back)) (ttl_place b r) ≡ (front ++ new) ++ rest =
-    ap (λ (x : List ℕ). lowered_at seconds (front ++ x) (ttl_place b r)) (append_assoc own (added next rs) back)
-    ∙ lowered_record seconds b r front rest here ∙ sym (append_assoc front new rest) in
-    ap (λ (x : List ℕ). lowered seconds x (ttl_places next rs)) one
-    ∙ lowered_records rs seconds next (front ++ new) back long
+    omega (arith, here, same_length b.places r change, length-append front new, length-append b.octets own) in
+    let one : changed_at change (front ++ ((own ++ added next rs) ++ back)) (ttl_place b r) ≡ (front ++ new) ++ rest =
+    ap (λ (x : List ℕ). changed_at change (front ++ x) (ttl_place b r)) (append_assoc own (added next rs) back)
+    ∙ changed_record change b r front rest here ∙ sym (append_assoc front new rest) in
+    ap (λ (x : List ℕ). changed change x (ttl_places next rs)) one
+    ∙ changed_records rs change next (front ++ new) back long
     ∙ append_assoc front new (added next old ++ back)
-    ∙ ap (λ (x : List ℕ). front ++ (new ++ (x ++ back))) (sym (added_alike old (record_added b low) next (alike_low b r seconds)))
+    ∙ ap (λ (x : List ℕ). front ++ (new ++ (x ++ back))) (sym (added_alike old (record_added b low) next (alike_low b r change)))
     ∙ ap (λ (x : List ℕ). front ++ x) (sym (append_assoc new (added (record_added b low) old) back))

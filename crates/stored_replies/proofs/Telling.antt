@@ -20,7 +20,7 @@ use Rattle.stored_replies.specs.Walk.{over, lowered, ttl_places, places_of, IsSt
 use Rattle.stored_replies.specs.declared.choices.TheConstants.{LONGEST}
 use Rattle.stored_replies.proofs.Added.{added, added_length}
 use Rattle.stored_replies.proofs.Keys.{same_length}
-use Rattle.stored_replies.proofs.Lowering.{over_next, lowered_records}
+use Rattle.stored_replies.proofs.Lowering.{over_next, changed_records}
 use Rattle.stored_replies.proofs.Whole.{whole_parts, last_octets, stored_parts, stored_header, stored_length, asked_body, kept_records}
 
 abbrev pub told_header : StoredValue → ClientQuery → Bool → ℕ → List ℕ
@@ -145,7 +145,9 @@ written_room s room header question opt end total now twelve same ends is =
     let front = header ++ question in
     let l0 = length-append header question in
     let l1 = stored_length s.query s.kept in
-    let l2 = added_length (kept_records s.kept) (asked_body s.query) (elapsed s now) in
+    let l2 : length (added (asked_body s.query) (map (lower_ttl (elapsed s now)) (kept_records s.kept)))
+    ≡ length (added (asked_body s.query) (kept_records s.kept)) =
+    added_length (kept_records s.kept) (asked_body s.query) (λ ttl. ttl - elapsed s now) in
     let l3 = length-append front new in
     let n1 : 0 + length header ≡ 12 = omega (arith, twelve) in
     let n2 : 12 + length question ≡ end = omega (arith, same, ends) in
@@ -160,7 +162,7 @@ written_room s room header question opt end total now twelve same ends is =
     over_next front room old end n4 ∙ ap (λ (n : ℕ). (front ++ old) ++ drop n room) n3
     ∙ append_assoc front old (drop total room) in
     let four : lowered (elapsed s now) (front ++ (old ++ drop total room)) (places_of s) ≡ (front ++ new) ++ drop total room =
-    lowered_records (kept_records s.kept) (elapsed s now) (asked_body s.query) front (drop total room) n5
+    changed_records (kept_records s.kept) (λ ttl. ttl - elapsed s now) (asked_body s.query) front (drop total room) n5
     ∙ sym (append_assoc front new (drop total room)) in
     let five : over ((front ++ new) ++ drop total room) total opt ≡ ((front ++ new) ++ opt) ++ drop (total + length opt) room =
     over_next (front ++ new) room opt total n6 in
@@ -181,7 +183,7 @@ opt_counted : (edns : Option ClientEdns) → length (opt_octets (option_map told
 opt_counted None = refl
 opt_counted (Some e) = refl
 
-same_end : (octets : List ℕ) (s : StoredValue) (end : Option ℕ)
+pub same_end : (octets : List ℕ) (s : StoredValue) (end : Option ℕ)
     → option_map_or (λ e. is_same_question (question_octets octets (Some e)) (own_question s)) end false ≡ true
     → length (question_octets octets end) ≡ length (own_question s)
 same_end octets s None e = absurd cc
@@ -194,12 +196,15 @@ told_length octets q s trust now low asked =
     let question = question_octets octets q.question_end in
     let same = same_end octets s q.question_end asked in
     let h = told_header s q trust now in
+    let more : length (added (asked_body s.query) (map (lower_ttl (elapsed s now)) (kept_records s.kept)))
+    ≡ length (added (asked_body s.query) (kept_records s.kept)) =
+    added_length (kept_records s.kept) (asked_body s.query) (λ ttl. ttl - elapsed s now) in
     omega (
       arith,
       same,
       ap length (asked_parts s q trust now question low same),
       stored_length s.query s.kept,
-      added_length (kept_records s.kept) (asked_body s.query) (elapsed s now),
+      more,
       opt_counted q.edns,
       length-append h (question ++ (new_records s now ++ told_opt q)),
       length-append question (new_records s now ++ told_opt q),

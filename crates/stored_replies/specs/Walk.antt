@@ -69,7 +69,7 @@ abbrev pub HaveNames : List RecordValue → Type 0
 HaveNames [] = Unit {0}
 HaveNames (r ∷ rs) = (label_fault r.name.labels ≡ None) × HaveNames rs
 
--- ---- TTLs lowered
+-- ---- TTLs changed
 
 -- a part of a room written over
 abbrev pub over : List ℕ → ℕ → List ℕ → List ℕ
@@ -78,9 +78,23 @@ over room at octets = take at room ++ (octets ++ drop (at + length octets) room)
 abbrev pub u32_at : List ℕ → ℕ → ℕ
 u32_at room at = number_at room at * 65536 + number_at room (at + 2)
 
+abbrev pub changed_at : (ℕ → ℕ) → List ℕ → ℕ → List ℕ
+changed_at change room at =
+    if nat_lt (length room) (at + 4) then room else over room at (u32_octets (change (u32_at room at)))
+
+abbrev pub changed : (ℕ → ℕ) → List ℕ → List ℕ → List ℕ
+changed change room places = fold (changed_at change) room places
+
+-- so many seconds lower
 abbrev pub lowered_at : ℕ → List ℕ → ℕ → List ℕ
-lowered_at seconds room at =
-    if nat_lt (length room) (at + 4) then room else over room at (u32_octets (u32_at room at - seconds))
+lowered_at seconds = changed_at (λ ttl. ttl - seconds)
 
 abbrev pub lowered : ℕ → List ℕ → List ℕ → List ℕ
-lowered seconds room places = fold (lowered_at seconds) room places
+lowered seconds = changed (λ ttl. ttl - seconds)
+
+-- this one
+abbrev pub set_at : ℕ → List ℕ → ℕ → List ℕ
+set_at ttl = changed_at (λ old. ttl)
+
+abbrev pub all_set : ℕ → List ℕ → List ℕ → List ℕ
+all_set ttl = changed (λ old. ttl)

@@ -10,3 +10,6 @@ pub const REPLY: u64 = 136;
 
 /// The place of one TTL.
 pub const PLACE: u64 = 2;
+
+/// The TTL (seconds) of each record of a reply that is told past its end (RFC 8767, section 4).
+pub const STALE_TTL: u32 = 30;

@@ -2,7 +2,7 @@
 ghost use Rattle.std.specs.Prelude.{◌≡◌, ◌≤◌, ◌+◌, ◌-◌, ◌<◌, length};
 ghost use Rattle.hickory_proto_wire.specs.Written.{u32_octets};
 ghost use Rattle.hickory_resolver_tries.specs.Heads.{number_at};
-ghost use Rattle.stored_replies.specs.Walk.{over, u32_at, lowered_at, lowered};
+ghost use Rattle.stored_replies.specs.Walk.{over, u32_at, all_set, lowered_at, lowered, set_at};
 
 // Writes over a part of a room.
 pub(crate) fn put_at(room: &mut [u8], at: usize, octets: &[u8])
@@ -59,5 +59,25 @@ pub(crate) fn lower_ttls(room: &mut [u8], places: &[u16], seconds: u64)
 {
     for place in places {
         lower_at(room, usize::from(*place), seconds);
+    }
+}
+
+// Sets the TTL at a place.
+fn set_at(room: &mut [u8], at: usize, ttl: u32)
+    requires { at < 65536 }
+    ensures { room.new ≡ set_at ttl room.old at }
+{
+    if room.len() < at + 4 {
+        return;
+    }
+    put_u32(room, at, ttl);
+}
+
+// Sets the TTLs at these places.
+pub(crate) fn set_ttls(room: &mut [u8], places: &[u16], ttl: u32)
+    ensures { room.new ≡ all_set ttl room.old places.now }
+{
+    for place in places {
+        set_at(room, usize::from(*place), ttl);
     }
 }

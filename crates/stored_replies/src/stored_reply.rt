@@ -5,12 +5,13 @@ ghost use Rattle.hickory_proto_codes.specs.Codes.{response_code};
 ghost use Rattle.client_queries.specs.Refusals.{count_of};
 ghost use Rattle.stored_replies.specs.Key.{is_same_question};
 ghost use Rattle.stored_replies.specs.Stored.{stored_at, store_fault, Refuses, stored_octets, whole_octets, is_current, until, record_number, weight_of};
+ghost use Rattle.stored_replies.specs.Stale.{stale_of};
 ghost use Rattle.stored_replies.specs.Told.{is_told_authentic, told_flags, header_with, told_message, own_question, asks_for, with_question, told_octets, reply_within, put_in, bare_octets, cut_octets, cut_within, opt_length};
 
-use crate::choices::{PLACE, REPLY};
+use crate::choices::{PLACE, REPLY, STALE_TTL};
 use crate::key::is_same_question;
 use crate::places::{behind, octet_at};
-use crate::room::{lower_ttls, put_at};
+use crate::room::{lower_ttls, put_at, set_ttls};
 use crate::store_error::StoreError;
 use crate::storing::{behind_question, places_of, written};
 use crate::told::{first, header, is_told_authentic, opt_length, put_opt, question_in, told_flags};
@@ -92,6 +93,13 @@ impl StoredReply {
         self.moment.saturating_add(u64::from(self.seconds))
     }
 
+    /// Its response code.
+    pub fn code(&self) -> u16
+        ensures { result ≡ response_code self.now.kept.code }
+    {
+        self.code
+    }
+
     /// How many octets of memory it takes.
     pub fn weight(&self) -> u64
         ensures { result ≡ weight_of self.now }
@@ -156,6 +164,23 @@ impl StoredReply {
         }
         self.fill(question, query, trust, now, room);
         Some(length)
+    }
+
+    /// Writes what a query is told of the reply past its end (RFC 8767, section 4), as `write` does: each TTL is
+    /// `STALE_TTL`, and AD is not set.
+    pub fn write_stale(&self, octets: &[u8], query: &ClientQuery, room: &mut [u8]) -> Option<usize>
+        ensures length { result ≡ option_map length
+            (reply_within (length room.old) octets.now query.now (stale_of self.now) false 0) }
+        ensures room { room.new ≡ put_in room.old
+            (reply_within (length room.old) octets.now query.now (stale_of self.now) false 0) }
+    {
+        match self.write(octets, query, false, self.moment, room) {
+            Some(length) => {
+                set_ttls(room, &self.places, STALE_TTL);
+                Some(length)
+            }
+            None => None,
+        }
     }
 
     /// Writes a reply without records, where the whole of it is too long for a datagram, to the front of a room, and
