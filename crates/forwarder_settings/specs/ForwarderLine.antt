@@ -94,6 +94,14 @@ abbrev pub deny_answers_said : List (List ℕ) → Result ForwarderLine LineFaul
 deny_answers_said (word ∷ []) = denied_named word
 deny_answers_said fields = Err (wrong_line FieldCount)
 
+-- `allow_answers_for` DOMAIN
+abbrev pub exempt_named : List ℕ → Result ForwarderLine LineFaultValue
+exempt_named domain = name_field domain >>= (λ name. Ok (Sets (set.AllowAnswersFor name)))
+
+abbrev pub allow_answers_for_said : List (List ℕ) → Result ForwarderLine LineFaultValue
+allow_answers_for_said (domain ∷ []) = exempt_named domain
+allow_answers_for_said fields = Err (wrong_line FieldCount)
+
 -- ---- lines of a session
 
 -- whether recursion is asked for, and what a session keeps, are none of a forwarder
@@ -132,7 +140,8 @@ directive_named word =
     if is_text (codes "allow") word then directive.Allow else (
     if is_text (codes "deny_answers") word then directive.DenyAnswers else (
     if is_text (codes "allow_answers") word then directive.AllowAnswers else (
-    if is_text (codes "option") word then directive.Option else directive.Session))))))
+    if is_text (codes "allow_answers_for") word then directive.AllowAnswersFor else (
+    if is_text (codes "option") word then directive.Option else directive.Session)))))))
 
 abbrev pub directive_of : List (List ℕ) → Directive
 directive_of [] = directive.Session
@@ -145,6 +154,7 @@ IsDirected directive.Block fields result = result ≡ block_said (values_of fiel
 IsDirected directive.Allow fields result = result ≡ allow_said (values_of fields)
 IsDirected directive.DenyAnswers fields result = result ≡ deny_answers_said (values_of fields)
 IsDirected directive.AllowAnswers fields result = result ≡ allow_answers_said (values_of fields)
+IsDirected directive.AllowAnswersFor fields result = result ≡ allow_answers_for_said (values_of fields)
 IsDirected directive.Option fields result =
     MatchOption (forwarder_option (values_of fields)) (IsSessionLine fields result)
     (λ option. result ≡ (option >>= (λ o. Ok (Sets (set.Option o)))))

@@ -17,12 +17,13 @@ key_named word =
     if is_text (codes "serves_locally") word then Some key.ServesLocally else (
     if is_text (codes "prefetches") word then Some key.Prefetches else (
     if is_text (codes "greatest_ttl") word then Some key.GreatestTtl else (
+    if is_text (codes "serves_stale") word then Some key.ServesStale else (
     if is_text (codes "cache_octets") word then Some key.CacheOctets else (
     if is_text (codes "cache_entries") word then Some key.CacheEntries else (
     if is_text (codes "failures") word then Some key.Failures else (
     if is_text (codes "clients") word then Some key.Clients else (
     if is_text (codes "clients_of_address") word then Some key.ClientsOfAddress else (
-    if is_text (codes "clients_of_question") word then Some key.ClientsOfQuestion else None))))))))))
+    if is_text (codes "clients_of_question") word then Some key.ClientsOfQuestion else None)))))))))))
 
 -- what the value of an option writes: a number of 64 bits, or whether it is wanted
 abbrev pub value_of : ForwarderKey → List ℕ → Result ForwarderOption LineFaultValue
@@ -31,6 +32,7 @@ value_of key.DropsStrangers text = truth_field text >>= (λ t. Ok (to.DropsStran
 value_of key.ServesLocally text = truth_field text >>= (λ t. Ok (to.ServesLocally t))
 value_of key.Prefetches text = truth_field text >>= (λ t. Ok (to.Prefetches t))
 value_of key.GreatestTtl text = number_field 64 text >>= (λ n. Ok (to.GreatestTtl n))
+value_of key.ServesStale text = number_field 64 text >>= (λ n. Ok (to.ServesStale n))
 value_of key.CacheOctets text = number_field 64 text >>= (λ n. Ok (to.CacheOctets n))
 value_of key.CacheEntries text = number_field 64 text >>= (λ n. Ok (to.CacheEntries n))
 value_of key.Failures text = number_field 64 text >>= (λ n. Ok (to.Failures n))

@@ -54,8 +54,10 @@ first_choices = record {
   limits = default_limits;
   greatest_ttl = GREATEST_TTL;
   prefetches = false;
+  serves_stale = 0;
   denied = [];
   allowed = [];
+  exempt = [];
 }
 
 abbrev pub settings_over : OptionsValue → SettingsValue
@@ -120,6 +122,7 @@ with_choices (to.TrustsAuthenticData t) f = record f { trusts_authentic_data = t
 with_choices (to.DropsStrangers t) f = record f { drops_strangers = t }
 with_choices (to.GreatestTtl n) f = record f { greatest_ttl = n }
 with_choices (to.Prefetches t) f = record f { prefetches = t }
+with_choices (to.ServesStale n) f = record f { serves_stale = n }
 with_choices (to.Clients n) f = record f { limits = record f.limits { all = n } }
 with_choices (to.ClientsOfAddress n) f = record f { limits = record f.limits { of_address = n } }
 with_choices (to.ClientsOfQuestion n) f = record f { limits = record f.limits { of_question = n } }
@@ -142,6 +145,9 @@ with_denied nets f = record f { denied = f.denied ++ nets }
 abbrev pub with_allowed : IpNet → ForwarderOptionsValue → ForwarderOptionsValue
 with_allowed net f = record f { allowed = f.allowed ++ net ∷ [] }
 
+abbrev pub with_exempt : NameValue → ForwarderOptionsValue → ForwarderOptionsValue
+with_exempt domain f = record f { exempt = f.exempt ++ domain ∷ [] }
+
 abbrev pub with_setting : ForwarderSetting → SettingsValue → SettingsValue
 with_setting (set.Asking option) s = record s { options = with_option option s.options }
 with_setting (set.Server server) s = record s { servers = s.servers ++ server ∷ [] }
@@ -151,6 +157,7 @@ with_setting (set.Allow net) s = record s { forwarder = with_client net s.forwar
 with_setting (set.DenyAnswers net) s = record s { forwarder = with_denied (net ∷ []) s.forwarder }
 with_setting set.DenyPrivate s = record s { forwarder = with_denied (near_networks ++ hostless_networks) s.forwarder }
 with_setting (set.AllowAnswers net) s = record s { forwarder = with_allowed net s.forwarder }
+with_setting (set.AllowAnswersFor domain) s = record s { forwarder = with_exempt domain s.forwarder }
 with_setting (set.Option option) s = with_forwarder_option option s
 
 -- ---- lines

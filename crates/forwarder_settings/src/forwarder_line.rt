@@ -3,7 +3,7 @@ ghost use Rattle.std.specs.Prelude.{◌≡◌, ◌⊎◌, Err};
 ghost use Rattle.replay_script.specs.Faults.{out_of_memory};
 ghost use Rattle.replay_script.specs.Words.{texts};
 ghost use Rattle.session_settings.specs.SessionLine.{values_of};
-ghost use Rattle.forwarder_settings.specs.ForwarderLine.{AreSaid, IsDirected, IsLine, IsSessionLine, allow_answers_said, allow_said, block_as, block_of, block_said, blocked_field, denied_named, deny_answers_said, directive_named, directive_of, forward_of, forward_said, forward_to, is_asking, option_said, rule_for, serve_said, session_line_said, session_setting_said};
+ghost use Rattle.forwarder_settings.specs.ForwarderLine.{AreSaid, IsDirected, IsLine, IsSessionLine, allow_answers_for_said, allow_answers_said, allow_said, block_as, block_of, block_said, blocked_field, denied_named, deny_answers_said, directive_named, directive_of, exempt_named, forward_of, forward_said, forward_to, is_asking, option_said, rule_for, serve_said, session_line_said, session_setting_said};
 
 use crate::forwarder_option::{ForwarderOption, read_forwarder_option};
 use crate::prefixes::read_prefix;
@@ -36,6 +36,8 @@ pub enum ForwarderSetting {
     DenyPrivate,
     /// One more network whose addresses replies may have all the same.
     AllowAnswers(IpNet),
+    /// One more domain for whose names, and for those below them, replies may have all addresses.
+    AllowAnswersFor(Name),
     /// An option that only a forwarder has.
     Option(ForwarderOption),
 }
@@ -60,6 +62,7 @@ enum Directive {
     Allow,
     DenyAnswers,
     AllowAnswers,
+    AllowAnswersFor,
     Option,
     Session,
 }
@@ -87,6 +90,7 @@ fn read_fields<'a>(alloc: Global, fields: &[&'a str]) -> Result<ForwarderLine, L
         Directive::Allow => read_allow(values),
         Directive::DenyAnswers => read_deny_answers(values),
         Directive::AllowAnswers => read_allow_answers(values),
+        Directive::AllowAnswersFor => read_allow_answers_for(alloc, values),
         Directive::Option => read_option(alloc, fields),
         Directive::Session => read_session_line(alloc, fields),
     }
@@ -112,6 +116,7 @@ fn directive_named(word: &str) -> Directive
         "allow" => Directive::Allow,
         "deny_answers" => Directive::DenyAnswers,
         "allow_answers" => Directive::AllowAnswers,
+        "allow_answers_for" => Directive::AllowAnswersFor,
         "option" => Directive::Option,
         _ => Directive::Session,
     }
@@ -252,6 +257,28 @@ fn read_allow_answers<'a>(values: &[&'a str]) -> Result<ForwarderLine, LineFault
         return Err(LineFault::wrong_line(ScriptFault::FieldCount));
     };
     Ok(ForwarderLine::Sets(ForwarderSetting::AllowAnswers(read_prefix(word)?)))
+}
+
+// DOMAIN
+fn read_allow_answers_for<'a>(
+    alloc: Global,
+    values: &[&'a str],
+) -> Result<ForwarderLine, LineFault<'a>>
+    ensures { (result ≡ allow_answers_for_said (texts values.now)) ⊎ (result ≡ Err out_of_memory) }
+{
+    match values {
+        [domain] => read_exempt(alloc, domain),
+        _ => Err(LineFault::wrong_line(ScriptFault::FieldCount)),
+    }
+}
+
+fn read_exempt(alloc: Global, domain: &str) -> Result<ForwarderLine, LineFault<'_>>
+    ensures { (result ≡ exempt_named domain.now) ⊎ (result ≡ Err out_of_memory) }
+{
+    match read_name(alloc, domain) {
+        Ok(name) => Ok(ForwarderLine::Sets(ForwarderSetting::AllowAnswersFor(name))),
+        Err(fault) => Err(fault),
+    }
 }
 
 // PREFIX, or `private`

@@ -71,8 +71,10 @@ fn first_choices(alloc: Global) -> ForwarderOptions
         limits: ClientLimits::default(),
         greatest_ttl: GREATEST_TTL,
         prefetches: false,
+        serves_stale: 0,
         denied: Vec::new(alloc),
         allowed: Vec::new(alloc),
+        exempt: Vec::new(alloc),
     }
 }
 
@@ -172,6 +174,7 @@ impl ForwarderSettings {
             ForwarderSetting::DenyAnswers(net) => push(&mut self.forwarder.denied, net),
             ForwarderSetting::DenyPrivate => deny_private(&mut self.forwarder.denied),
             ForwarderSetting::AllowAnswers(net) => push(&mut self.forwarder.allowed, net),
+            ForwarderSetting::AllowAnswersFor(domain) => push(&mut self.forwarder.exempt, domain),
             ForwarderSetting::Option(option) => {
                 self.set_option(option);
                 Ok(())
@@ -224,6 +227,7 @@ fn set_choice(forwarder: &mut ForwarderOptions, option: ForwarderOption)
         ForwarderOption::DropsStrangers(wanted) => forwarder.drops_strangers = wanted,
         ForwarderOption::GreatestTtl(seconds) => forwarder.greatest_ttl = seconds,
         ForwarderOption::Prefetches(wanted) => forwarder.prefetches = wanted,
+        ForwarderOption::ServesStale(seconds) => forwarder.serves_stale = seconds,
         ForwarderOption::Clients(count) => forwarder.limits.all = count,
         ForwarderOption::ClientsOfAddress(count) => forwarder.limits.of_address = count,
         ForwarderOption::ClientsOfQuestion(count) => forwarder.limits.of_question = count,

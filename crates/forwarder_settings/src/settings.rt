@@ -29,15 +29,17 @@ use yimarotu_forwarder::ForwarderOptions;
 ///   names below it do not exist, have no records, or have the addresses 0.0.0.0 and :: alone;
 /// - `allow` and a network: its clients may ask. Where no line says so those of loopback, private and link-local
 ///   networks may;
-/// - `deny_answers` and a network, or `private`: its addresses are taken out of replies; `private` is the networks that
-///   are loopback, private, link-local, unspecified, or IPv6 that stands for IPv4. `allow_answers` and a network: its
-///   addresses stay all the same;
+/// - `deny_answers` and a network, or `private`: its addresses are taken out of replies, and HTTPS and SVCB records
+///   that hint at one; `private` is the networks that are loopback, private, link-local, unspecified, or IPv6 that
+///   stands for IPv4. `allow_answers` and a network: its addresses stay all the same. `allow_answers_for` and a domain:
+///   all addresses stay in replies to questions for it and for the names below it;
 /// - `option` and the name of an option and its value. Those that say how servers are asked are as in the settings of a
 ///   session: `timeout` (seconds), `attempts`, `edns0`, `edns_payload_len` (octets), `num_concurrent_reqs`,
 ///   `max_active_requests`, `try_tcp_on_error`, `case_randomization`, `server_ordering_strategy`. Those of a forwarder
 ///   are `trusts_authentic_data` (false), `drops_strangers` (false), `serves_locally` (true), `prefetches` (false),
-///   `greatest_ttl` (seconds; 3600), `cache_octets` (67108864), `cache_entries` (as many as the octets allow),
-///   `failures` (4096), `clients` (4096), `clients_of_address` (256), `clients_of_question` (256).
+///   `greatest_ttl` (seconds; 3600), `serves_stale` (seconds; 0, and a day at the most), `cache_octets` (67108864),
+///   `cache_entries` (as many as the octets allow), `failures` (4096), `clients` (4096), `clients_of_address` (256),
+///   `clients_of_question` (256).
 ///
 /// A network is an address, and behind `/` the number of its leading bits (RFC 4632, section 3.1; RFC 4291, section
 /// 2.3), without which it is the whole address. The first line that is nothing of this is told.

@@ -1,5 +1,5 @@
 -- What a refused call leaves.
-use Rattle.std.proofs.Common.{◌≡◌, ◌∙◌, ap, List, ℕ}
+use Rattle.std.proofs.Common.{◌≡◌, ◌∙◌, ap, refl, List, ℕ}
 use Rattle.std.specs.Prelude.{true, false, IfOk, MatchOption, None, OnErr, OnOk, Option, Some, Result, Ok, Err}
 use Rattle.std.specs.Option.{is_none}
 use Rattle.std.specs.Map.{set_value}
@@ -39,6 +39,13 @@ if_value P Q (Err e) f p = p
 pub at_none : {X : Type 0} (A : Type 0) (P : X → Type 0) (o : Option X) → is_none o ≡ true → A → MatchOption o A P
 at_none A P None is a = a
 at_none A P (Some x) is a = absurd (never is)
+  where
+    never : false ≡ true → ⊥
+    never e = cc
+
+pub none_there : {X : Type 0} (o : Option X) → is_none o ≡ true → o ≡ None
+none_there None is = refl
+none_there (Some x) is = absurd (never is)
   where
     never : false ≡ true → ⊥
     never e = cc

@@ -9,12 +9,14 @@ use Rattle.client_requests.specs.Requests.{RequestValue}
 use Rattle.whole_lookups.specs.Lookups.{LookupValue}
 
 -- How far a look-up is, whether the servers are asked not to check (CD), the second at which the first of its replies
--- came, the generation of local data under which it began, and the requests that wait, first come first.
+-- came, the generation of local data under which it began, the moment at which it did (milliseconds), and the requests
+-- that wait, first come first.
 pub record FetchValue : Type 0 where
   pub lookup : LookupValue
   pub checking_disabled : Bool
   pub heard : Option ℕ
   pub generation : ℕ
+  pub began : ℕ
   pub waiting : List RequestValue
 
 -- The fetches by key; the askers of the pool, each with the key of the fetch that it asks for; and the keys of those

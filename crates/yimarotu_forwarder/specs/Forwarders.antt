@@ -29,8 +29,9 @@ pub record ReplyingValue : Type 0 where
   pub waiting : List RequestValue
 
 -- Options, local data and the servers; what is kept; how many wait, what became of how many queries, and what is looked
--- up; what is told to askers, and replied to clients; the key of what is to be looked up anew; how often local data
--- changed; the latest moment that was told (milliseconds); and the octets of the reply that was written last.
+-- up; what is told to askers, and replied to clients; the key of what is to be looked up anew; the moments at which
+-- look-ups are late, with their keys, in this order; how often local data changed; the latest moment that was told
+-- (milliseconds); and the octets of the reply that was written last.
 pub record ForwarderValue : Type 0 where
   pub options : OptionsValue
   pub local : LocalValue
@@ -43,6 +44,7 @@ pub record ForwarderValue : Type 0 where
   pub telling : Option TellingValue
   pub replying : Option ReplyingValue
   pub prefetch : Option (List ℕ)
+  pub late : List (ℕ × List ℕ)
   pub generation : ℕ
   pub clock : ℕ
   pub reply : List ℕ
@@ -86,6 +88,7 @@ new_forwarder options local cache failures pool = record {
   telling = None;
   replying = None;
   prefetch = None;
+  late = [];
   generation = 0;
   clock = 0;
   reply = [];

@@ -14,4 +14,7 @@ pub mod LookingUp
 pub mod Queries
 pub mod Telling
 pub mod Hearing
+pub mod Stale
+pub mod Listing
+pub mod Late
 pub mod Steps

@@ -1,5 +1,5 @@
 -- Requests that wait for what servers say.
-use Rattle.std.specs.Prelude.{◌≡◌, ℕ, Bool, true, false, [], ◌∷◌, length, None, MatchOption}
+use Rattle.std.specs.Prelude.{◌≡◌, ℕ, Bool, true, false, List, [], ◌∷◌, length, Option, None, MatchOption}
 use Rattle.std.specs.declared.net.IpAddr.{IpAddr}
 use Rattle.hickory_proto_core.specs.declared.query.Query.{Query}
 use Rattle.hickory_proto_wire.specs.Messages.{bit}
@@ -19,7 +19,8 @@ use Rattle.stored_replies.specs.Told.{asks_dnssec}
 use Rattle.whole_lookups.specs.Lookups.{begun}
 use Rattle.yimarotu_forwarder.specs.Fetches.{Begins, ChangesFetch, FetchValue, fetch_at, has_request, with_waiting}
 use Rattle.yimarotu_forwarder.specs.Forwarders.{ForwarderValue, with_pool}
-use Rattle.yimarotu_forwarder.specs.Replying.{Drops, Fails, Refuses}
+use Rattle.yimarotu_forwarder.specs.Late.{late_after, late_hit}
+use Rattle.yimarotu_forwarder.specs.Replying.{Drops, Fails, Refuses, Replies}
 use Rattle.yimarotu_forwarder.specs.declared.answered.Outcome.{Outcome}
 use Rattle.yimarotu_forwarder.specs.declared.answered.Outcome.TheVariants as outcome
 
@@ -67,22 +68,25 @@ counts_after other address counts = counts
 
 -- ---- a fetch begins
 
-abbrev pub new_fetch : Query → RequestValue → RequestValue → ℕ → FetchValue
-new_fetch q r waiting generation = record {
+abbrev pub new_fetch : Query → RequestValue → RequestValue → ℕ → ℕ → FetchValue
+new_fetch q r waiting generation began = record {
   lookup = begun q (asks_dnssec r.query.edns);
   checking_disabled = bit 16 r.query.flags;
   heard = None;
   generation = generation;
+  began = began;
   waiting = waiting ∷ [];
 }
 
 pub record BeginsFetch (q : Query) (r waiting : RequestValue) (asker : ℕ) (before : ForwarderValue)
     (answered : Outcome) (after : ForwarderValue) : Type 0 where
   pub waits : answered ≡ outcome.Waits
-  pub begins : Begins (key_of r) (new_fetch q r waiting before.generation) asker before.fetches after.fetches
+  pub begins :
+      Begins (key_of r) (new_fetch q r waiting before.generation before.clock) asker before.fetches after.fetches
   pub others_are : after ≡ record before {
     counts = added r.client.address before.counts;
     fetches = after.fetches;
+    late = late_after (key_of r) before;
   }
 
 -- as the pool said
@@ -125,11 +129,17 @@ JoinsOr false r before answered after = IsPastBound r before answered after
 JoinsOr true r before answered after =
     MatchOption (waiting_of r) (Refuses before r refusal.FormErr answered after) (JoinsFetch r before answered after)
 
+-- Where the look-up is late, it is told what is kept past its end.
+abbrev pub JoinsOrTold : Option (List ℕ) → ℕ → RequestValue → ForwarderValue → Outcome → ForwarderValue → Type 0
+JoinsOrTold told waiting r before answered after =
+    MatchOption told
+    (JoinsOr (admits before.options.limits r.client.address waiting before.counts) r before answered after)
+    (λ octets. Replies before octets outcome.FromCache answered after)
+
 -- One that was asked before and is in flight is dropped, and counts nothing.
 abbrev pub JoinsBy : Bool → FetchValue → RequestValue → ForwarderValue → Outcome → ForwarderValue → Type 0
 JoinsBy true f r before = Drops before
-JoinsBy false f r before =
-    JoinsOr (admits before.options.limits r.client.address (length f.waiting) before.counts) r before
+JoinsBy false f r before = JoinsOrTold (late_hit f r before) (length f.waiting) r before
 
 abbrev pub JoinsLookup : RequestValue → ForwarderValue → Outcome → ForwarderValue → FetchValue → Type 0
 JoinsLookup r before answered after f = JoinsBy (has_request r f) f r before answered after

@@ -34,12 +34,13 @@ key_unchecked key = bit 2 (get_or key 0 0)
 
 -- ---- its question is asked
 
-abbrev pub lone_fetch : Query → List ℕ → ℕ → FetchValue
-lone_fetch q key generation = record {
+abbrev pub lone_fetch : Query → List ℕ → ℕ → ℕ → FetchValue
+lone_fetch q key generation began = record {
   lookup = begun q (key_dnssec key);
   checking_disabled = key_unchecked key;
   heard = None;
   generation = generation;
+  began = began;
   waiting = [];
 }
 
@@ -48,7 +49,7 @@ one_prefetched s = record s { counted = record s.counted { prefetched = one_more
 
 -- a fetch begins for which nobody waits, and that is counted
 pub record BeginsLone (q : Query) (key : List ℕ) (asker : ℕ) (before after : ForwarderValue) : Type 0 where
-  pub begins : Begins key (lone_fetch q key before.generation) asker before.fetches after.fetches
+  pub begins : Begins key (lone_fetch q key before.generation before.clock) asker before.fetches after.fetches
   pub others_are : after ≡ record (one_prefetched before) { fetches = after.fetches }
 
 -- As the pool said. Where it has no place or no servers nothing is looked up.

@@ -19,12 +19,13 @@ use Rattle.yimarotu_forwarder.specs.Local.{IsDecided}
 use Rattle.local_answers.specs.declared.local_data.Decision.{Decision}
 use Rattle.local_answers.specs.declared.local_data.Decision.TheVariants as decision
 use Rattle.second_chance_cache.specs.SecondChance.{CacheValue, told, asked}
-use Rattle.yimarotu_forwarder.specs.Cached.{CachedValue}
+use Rattle.yimarotu_forwarder.specs.Cached.{CachedValue, if_told}
 use Rattle.yimarotu_forwarder.specs.Counting.{answered_as, counted}
 use Rattle.yimarotu_forwarder.specs.Forwarders.{ForwarderValue, at_moment, second_of}
 use Rattle.yimarotu_forwarder.specs.LookingUp.{LooksUp}
 use Rattle.yimarotu_forwarder.specs.Options.{may_ask}
 use Rattle.yimarotu_forwarder.specs.Replying.{Drops, Fails, Refuses, Replies, TellsLocal}
+use Rattle.yimarotu_forwarder.specs.Stale.{stale_hit}
 use Rattle.yimarotu_forwarder.specs.Statistics.{counts_reply, is_loopback}
 use Rattle.yimarotu_forwarder.specs.declared.answered.Answered.{Answered}
 use Rattle.yimarotu_forwarder.specs.declared.answered.Answered.TheVariants.{Dropped}
@@ -76,10 +77,14 @@ TellsOrLooksUp r = WithQuery (λ q. Decides (LooksUp r q) r q) r
 abbrev pub with_asked : List ℕ → ForwarderValue → ForwarderValue
 with_asked key s = record s { cache = record s.cache { entries = asked key (second_of s) s.cache.entries } }
 
--- what is kept under a key, as it has aged
+-- what is kept under a key, up to its end
+abbrev pub told_in : CacheValue CachedValue → List ℕ → ℕ → Option CachedValue
+told_in cache key now = option_and_then (if_told now) (told key now cache.entries)
+
+-- as it has aged
 abbrev pub hit_in : CacheValue CachedValue → RequestValue → List ℕ → Bool → ℕ → Option (List ℕ)
 hit_in cache r key trust now =
-    option_and_then (λ cached. stored_reply r cached.reply trust now) (told key now cache.entries)
+    option_and_then (λ cached. stored_reply r cached.reply trust now) (told_in cache key now)
 
 abbrev pub hit : RequestValue → ForwarderValue → Option (List ℕ)
 hit r s = hit_in s.cache r (key_of r) s.options.trusts_authentic_data (second_of s)
@@ -97,11 +102,16 @@ prefetch_after key s =
 abbrev pub with_hit : List ℕ → ForwarderValue → ForwarderValue
 with_hit key s = record (with_asked key s) { prefetch = prefetch_after key s }
 
--- a failure that is kept is told again
+-- a failure that is kept is told again, or in its place what is kept past its end
+abbrev pub FailsAgain : RequestValue → Answering
+FailsAgain r before answered after =
+    MatchOption (stale_hit r (key_of r) before) (Fails before r reason.CachedError answered after)
+    (λ octets. Replies before octets outcome.FromCache answered after)
+
 abbrev pub Misses : RequestValue → Answering
 Misses r before answered after =
     MatchOption (failure_at (key_of r) (second_of before) before.failures) (TellsOrLooksUp r before answered after)
-    (λ why. Fails before r reason.CachedError answered after)
+    (λ why. FailsAgain r before answered after)
 
 abbrev pub AnswersAsked : RequestValue → Answering
 AnswersAsked r before answered after =

@@ -1,5 +1,5 @@
--- The steps of a forwarder: who waits is replied to, questions are asked, askers are told, and else what the pool does
--- next.
+-- The steps of a forwarder: who waits is replied to, questions are asked, askers are told, what is kept is looked up
+-- anew, those are told who wait for a look-up that is late, and else what the pool does next.
 use Rattle.std.specs.Prelude.{◌≡◌, ◌==◌, ◌+◌, ◌⊎◌, ℕ, List, Option, None, Some, MatchOption, drop, min, slice_get, if◌then◌else◌}
 use Rattle.hickory_resolver_pool.specs.Pool.{PoolState}
 use Rattle.hickory_resolver_tries.specs.declared.pool_question.PoolQuestion.{PoolQuestion}
@@ -9,7 +9,6 @@ use Rattle.hickory_resolver_pool.specs.declared.pool.Action.TheVariants as does
 use Rattle.hickory_resolver_pool.specs.declared.pool.Asked as pool_asked
 use Rattle.hickory_resolver_pool.specs.declared.pool.Asked.TheVariants as asked
 use Rattle.client_limits.specs.Counts.{removed}
-use Rattle.client_requests.specs.Replies.{reply_to}
 use Rattle.client_requests.specs.Requests.{RequestValue}
 use Rattle.client_requests.specs.declared.fetch_end.FetchEnd.{FetchEnd}
 use Rattle.client_requests.specs.declared.fetch_end.FetchEnd.TheVariants.{Reply, Failure}
@@ -23,8 +22,10 @@ use Rattle.whole_lookups.specs.Lookups.{whole_with}
 use Rattle.yimarotu_forwarder.specs.Cached.{CachedValue, fresh_until}
 use Rattle.yimarotu_forwarder.specs.Fetches.{FetchValue, fetch_at, first_asked, with_asker}
 use Rattle.yimarotu_forwarder.specs.Forwarders.{ForwarderValue, ReplyingValue, TellingValue, second_of}
+use Rattle.yimarotu_forwarder.specs.Late.{TellsLate, first_due}
 use Rattle.yimarotu_forwarder.specs.LookingUp.{after_ask, pool_question, pool_says}
 use Rattle.yimarotu_forwarder.specs.Prefetching.{Prefetches, without_prefetch}
+use Rattle.yimarotu_forwarder.specs.Stale.{kept_until, told_end}
 use Rattle.yimarotu_forwarder.specs.Telling.{EndsFetch, EndsForMemory, Finishes, StopsTelling, Tells, first_telling, whole_end}
 use Rattle.yimarotu_forwarder.specs.declared.steps.ForwarderAction.{ForwarderAction}
 use Rattle.yimarotu_forwarder.specs.declared.steps.ForwarderAction.TheVariants as act
@@ -37,20 +38,26 @@ RepliesTo r before action after w =
     × (after ≡ record before {
       counts = removed w.client.address before.counts;
       replying = Some (record r { waiting = drop 1 r.waiting });
-      reply = reply_to w r.end before.options.trusts_authentic_data (second_of before);
+      reply = told_end w r.key r.end before;
     })
 
--- The last second at which it is told out of the cache.
+-- The last second at which it is told out of the cache, as it has aged.
 abbrev pub cached_until : StoredValue → ForwarderValue → ℕ
 cached_until s f = min (until s) (saturated (second_of f + f.options.greatest_ttl))
 
 abbrev pub as_cached : StoredValue → ForwarderValue → CachedValue
-as_cached s f = record { reply = s; fresh_until = fresh_until (second_of f) (cached_until s f) }
+as_cached s f = record {
+  reply = s;
+  fresh_until = fresh_until (second_of f) (cached_until s f);
+  told_until = cached_until s f;
+}
 
 abbrev pub with_stored : List ℕ → StoredValue → ForwarderValue → ForwarderValue
 with_stored key s f =
     record f {
-      cache = stored key (as_cached s f) (weight_of s) (cached_until s f) (second_of f) f.cache;
+      cache =
+          stored key (as_cached s f) (weight_of s) (kept_until f.options (cached_until s f) (second_of f)) (second_of f)
+          f.cache;
     }
 
 abbrev pub keeps_end : List ℕ → FetchEnd → ForwarderValue → ForwarderValue
@@ -136,9 +143,14 @@ pub record StepsPool (before : ForwarderValue) (action : Option ForwarderAction)
 
 -- ---- a step
 
+abbrev pub TellsLateFirst : ForwarderValue → Option ForwarderAction → ForwarderValue → Type 0
+TellsLateFirst before action after =
+    MatchOption (first_due before) (StepsPool before action after)
+    (λ key. (action ≡ Some act.Continue) × TellsLate before after key)
+
 abbrev pub PrefetchesFirst : ForwarderValue → Option ForwarderAction → ForwarderValue → Type 0
 PrefetchesFirst before action after =
-    MatchOption before.prefetch (StepsPool before action after)
+    MatchOption before.prefetch (TellsLateFirst before action after)
     (λ key. (action ≡ Some act.Continue) × Prefetches before after key)
 
 abbrev pub TellsFirst : ForwarderValue → Option ForwarderAction → ForwarderValue → Type 0
@@ -180,9 +192,10 @@ abbrev pub StopsAskingFirst : ForwarderValue → ForwarderValue → Type 0
 StopsAskingFirst before after =
     MatchOption (slice_get before.fetches.to_ask 0) (StopsTellingFirst before after) (StopsAsking before after)
 
--- What a look-up came to is let go without being kept, once all were told of it.
+-- Where all were told what a look-up came to, it is let go without being kept. While somebody is to be told, no step is
+-- refused.
 abbrev pub IsLetGo : ForwarderValue → ForwarderValue → ReplyingValue → Type 0
-IsLetGo before after r = after ≡ record before { replying = None }
+IsLetGo before after r = (slice_get r.waiting 0 ≡ None) × (after ≡ record before { replying = None })
 
 abbrev pub StopsStep : ForwarderValue → ForwarderValue → Type 0
 StopsStep before after = MatchOption before.replying (StopsAskingFirst before after) (IsLetGo before after)

@@ -1,6 +1,7 @@
 -- What a transaction of the servers came to, and what a fetch makes of it.
 use Rattle.std.specs.Prelude.{◌≡◌, ◌+◌, ◌⊎◌, ℕ, Bool, true, false, List, Option, None, Some, MatchOption, slice_get, if◌then◌else◌}
 use Rattle.std.specs.Option.{option_map_or}
+use Rattle.hickory_proto_names.specs.Name.{NameValue}
 use Rattle.hickory_proto_wire.specs.declared.wire_message.WireMessage.{WireMessage}
 use Rattle.hickory_resolver_pool.specs.Over.{OverValue, message_of}
 use Rattle.hickory_resolver_pool.specs.declared.over.PoolOutcome.{PoolOutcome}
@@ -11,6 +12,7 @@ use Rattle.failure_replies.specs.declared.failure.FailureReason.{FailureReason}
 use Rattle.failure_replies.specs.declared.failure.FailureReason.TheVariants as reason
 use Rattle.kept_failures.specs.Failures.{FailuresValue, noted}
 use Rattle.second_chance_cache.specs.SecondChance.{without}
+use Rattle.whole_lookups.specs.Capped.{capped}
 use Rattle.whole_lookups.specs.Denied.{without_denied}
 use Rattle.whole_lookups.specs.Lookups.{heard}
 use Rattle.whole_lookups.specs.Lookups as whole
@@ -20,6 +22,7 @@ use Rattle.whole_lookups.specs.declared.heard.Heard.TheVariants as heard_as
 use Rattle.whole_replies.specs.Kept.{KeptValue}
 use Rattle.yimarotu_forwarder.specs.Fetches.{Ends, FetchValue, FetchesValue, HoldsFetch, LeadsOn, asked_for, fetch_at, without_asker}
 use Rattle.yimarotu_forwarder.specs.Forwarders.{ForwarderValue, ReplyingValue, TellingValue, second_of}
+use Rattle.yimarotu_forwarder.specs.Options.{OptionsValue, denied_for}
 use Rattle.yimarotu_forwarder.specs.Replying.{end_of}
 use Rattle.yimarotu_forwarder.specs.declared.telling.Told.{Told}
 use Rattle.yimarotu_forwarder.specs.declared.telling.Told.TheVariants as told
@@ -74,10 +77,14 @@ EndsFetch key end f before after = Finishes key end f (with_end key end before) 
 abbrev pub first_second : FetchValue → ForwarderValue → ℕ
 first_second f s = option_map_or (λ second. second) f.heard (second_of s)
 
--- a whole reply, without the addresses that are denied
+-- A whole reply to a question for a name as it is told: without the addresses that are denied, and with no TTL above the
+-- greatest.
+unfoldable pub as_told : NameValue → OptionsValue → KeptValue → KeptValue
+as_told name o kept = capped o.greatest_ttl (without_denied o.allowed (denied_for name o) kept)
+
 abbrev pub whole_end : KeptValue → FetchValue → ForwarderValue → FetchEnd
 whole_end kept f s =
-    end_of f.lookup.asked (without_denied s.options.allowed s.options.denied kept) (first_second f s)
+    end_of f.lookup.asked (as_told f.lookup.asked.name s.options kept) (first_second f s)
 
 -- ---- an asker is told
 

@@ -1,5 +1,5 @@
 //! What becomes of a query.
-ghost use Rattle.std.specs.Prelude.{◌≡◌, true, false, IfOk, MatchOption, OnErr, slice_get, unwrap_or};
+ghost use Rattle.std.specs.Prelude.{◌≡◌, true, false, IfOk, MatchOption, OnErr, option_copied, slice_get, unwrap_or};
 ghost use Rattle.std.specs.Option.{is_some};
 ghost use Rattle.second_chance_cache.specs.SecondChance.{asked};
 ghost use Rattle.hickory_proto_wire.specs.Messages.{bit, message_of};
@@ -7,13 +7,16 @@ ghost use Rattle.client_requests.specs.Keys.{key_of};
 ghost use Rattle.yimarotu_forwarder.specs.Forwarders.{at_moment, second_of};
 ghost use Rattle.yimarotu_forwarder.specs.Local.{IsDecided};
 ghost use Rattle.yimarotu_forwarder.specs.LookingUp.{LooksUp};
-ghost use Rattle.yimarotu_forwarder.specs.Queries.{AnswersAny, AnswersAs, AnswersAsked, AnswersBy, AnswersQuery, AnswersRequest, Decides, Misses, Serves, TellsLocalAlone, TellsOrLooksUp, TurnsAway, first_query, hit, hit_in, query_in, with_hit};
+ghost use Rattle.yimarotu_forwarder.specs.Queries.{AnswersAny, AnswersAs, AnswersAsked, AnswersBy, AnswersQuery, AnswersRequest, Decides, FailsAgain, Misses, Serves, TellsLocalAlone, TellsOrLooksUp, TurnsAway, first_query, hit, hit_in, query_in, told_in, with_hit};
 ghost use Rattle.yimarotu_forwarder.specs.Replying.{Refuses};
+ghost use Rattle.yimarotu_forwarder.specs.Stale.{stale_hit};
 ghost use Rattle.client_queries.specs.declared.query.Refusal.TheVariants as refusal;
 
 use crate::answered::{Answered, Outcome};
+use crate::cached::{CachedReply, if_told};
 use crate::forwarder::{Cache, Forwarder};
 use crate::local::decide;
+use crate::stale::put_stale;
 use client_queries::{Refusal, Verdict};
 use client_requests::{Client, ReplyKey, ReplyRoom, Request};
 use failure_replies::FailureReason;
@@ -196,15 +199,50 @@ impl Forwarder {
         }
     }
 
-    // A failure that is kept is told again.
+    // A failure that is kept is told again, or what is kept past its end.
     fn miss(&mut self, request: &Request<'_>, key: &ReplyKey) -> Result<Outcome, AllocError>
         requires { key.now ≡ key_of request.now }
         ensures ok { IfOk result (λ answered. Misses request.now self.old answered self.new) }
         ensures err { OnErr result (self.new ≡ self.old) }
     {
         match self.failures.failure(key.as_slice(), self.second()) {
-            Some(_) => Ok(self.fail(request, FailureReason::CachedError)),
+            Some(_) => Ok(self.fail_again(request, key)),
             None => self.tell_or_look_up(request),
+        }
+    }
+
+    // What is kept past its end is told. Tells whether there is such a reply.
+    pub(crate) fn tell_stale(&mut self, request: &Request<'_>, key: &ReplyKey) -> bool
+        ensures { MatchOption (stale_hit request.now key.now self.old) ((result ≡ false) × (self.new ≡ self.old))
+            (λ octets. (result ≡ true) × (self.new ≡ record self.old { reply = octets })) }
+    {
+        let second = self.second();
+        put_stale(
+            &mut self.reply,
+            &self.cache,
+            request,
+            key,
+            &self.options,
+            second,
+        )
+    }
+
+    fn fail_again(&mut self, request: &Request<'_>, key: &ReplyKey) -> Outcome
+        requires { key.now ≡ key_of request.now }
+        ensures { FailsAgain request.now self.old result self.new }
+    {
+        let second = self.second();
+        if put_stale(
+            &mut self.reply,
+            &self.cache,
+            request,
+            key,
+            &self.options,
+            second,
+        ) {
+            Outcome::FromCache
+        } else {
+            self.fail(request, FailureReason::CachedError)
         }
     }
 }
@@ -228,9 +266,19 @@ fn put_kept(
     ensures told { result ≡ is_some (hit_in cache.now request.now key.now trust second) }
     ensures reply { reply.new ≡ unwrap_or (hit_in cache.now request.now key.now trust second) reply.old }
 {
-    match cache.peek(key.as_slice(), second) {
+    match told_in(cache, key, second) {
         Some(cached) => reply.put_stored(request, &cached.reply, trust, second),
         None => false,
+    }
+}
+
+// What is kept under a key, up to its end.
+fn told_in<'a>(cache: &'a Cache, key: &ReplyKey, second: u64) -> Option<&'a CachedReply>
+    ensures { option_copied result ≡ told_in cache.now key.now second }
+{
+    match cache.peek(key.as_slice(), second) {
+        Some(cached) => if_told(cached, second),
+        None => None,
     }
 }
 

@@ -4,16 +4,18 @@ ghost use Rattle.client_requests.specs.declared.fetch_end.FetchEnd.TheVariants a
 ghost use Rattle.failure_replies.specs.declared.failure.FailureReason.TheVariants as reason;
 ghost use Rattle.yimarotu_forwarder.specs.Fetches.{fetch_at};
 ghost use Rattle.yimarotu_forwarder.specs.Hearing.{StopsKey};
-ghost use Rattle.yimarotu_forwarder.specs.Telling.{EndsFetch, failures_after, replying_of, whole_end, with_end};
+ghost use Rattle.yimarotu_forwarder.specs.Telling.{EndsFetch, as_told, failures_after, replying_of, whole_end, with_end};
 
 use crate::fetch::Fetch;
 use crate::forwarder::{Failures, Forwarder};
+use crate::options::ForwarderOptions;
 use crate::replying::{Replying, end_of};
 use client_requests::{FetchEnd, ReplyKey};
 use failure_replies::FailureReason;
+use hickory_proto_core::Name;
 use hickory_resolver_filters::AnswerFilter;
 use std::alloc::AllocError;
-use whole_lookups::without_denied;
+use whole_lookups::{cap, without_denied};
 use whole_replies::KeptReply;
 
 impl Forwarder {
@@ -64,17 +66,12 @@ impl Forwarder {
         }
     }
 
-    // The whole reply as it is stored, without the addresses that are denied. It counts from the second at which the
-    // first of its replies came.
+    // The whole reply as it is told and stored. It counts from the second at which the first of its replies came.
     fn whole_end(&self, fetch: &Fetch, kept: KeptReply) -> Result<FetchEnd, AllocError>
         ensures { IfOk result (λ end. end ≡ whole_end kept fetch.now self.now) }
     {
         let mut kept = kept;
-        let by = AnswerFilter {
-            allow: &self.options.allowed,
-            deny: &self.options.denied,
-        };
-        without_denied(&by, &mut kept);
+        tell_as(&self.options, &fetch.lookup.asked.name, &mut kept);
         let second = fetch.first_second(self.second());
         end_of(self.alloc, &fetch.lookup.asked, kept, second)
     }
@@ -115,6 +112,20 @@ impl Forwarder {
             waiting: fetch.waiting,
         });
     }
+}
+
+// A whole reply to a question for a name as it is told: without the addresses that are denied, and with no TTL above the
+// greatest.
+#[tactic(auto, unfolding(crate::specs::Telling::as_told))]
+fn tell_as(options: &ForwarderOptions, name: &Name, kept: &mut KeptReply)
+    ensures { kept.new ≡ as_told name.now options.now kept.old }
+{
+    let by = AnswerFilter {
+        allow: &options.allowed,
+        deny: options.denied_for(name),
+    };
+    without_denied(&by, kept);
+    cap(options.greatest_ttl, kept);
 }
 
 // A failure is noted, and a reply lets go of those before it. A refused call changes nothing.

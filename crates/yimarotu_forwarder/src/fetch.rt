@@ -14,13 +14,15 @@ use std::marker::Model;
 use whole_lookups::WholeLookup;
 
 // A question that is looked up: how far it is, whether the servers are asked not to check, the second at which the
-// first of its replies came, the generation of local data under which it began, and the requests that wait, first come first.
+// first of its replies came, the generation of local data under which it began, the moment at which it did, and the
+// requests that wait, first come first.
 #[derive(Drop)]
 pub struct Fetch {
     pub(crate) lookup: WholeLookup,
     pub(crate) checking_disabled: bool,
     pub(crate) heard: Option<u64>,
     pub(crate) generation: u64,
+    pub(crate) began: u64,
     pub(crate) waiting: VecDeque<WaitingRequest>,
 }
 
@@ -34,6 +36,7 @@ impl Model for Fetch {
       checking_disabled = f.checking_disabled;
       heard = f.heard;
       generation = f.generation;
+      began = f.began;
       waiting = f.waiting.items;
     } };
 }

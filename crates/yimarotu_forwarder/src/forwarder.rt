@@ -2,13 +2,14 @@
 ghost use Rattle.std.specs.Prelude.{◌≡◌, length, Err, IfOk, IsOkUnless, None, OnErr, OnOk, Some};
 ghost use Rattle.hickory_resolver_pool.specs.Pool.{after_failure, after_octets, after_servers};
 ghost use Rattle.hickory_resolver_pool.specs.Servers.{first_fixed};
-ghost use Rattle.hickory_resolver_traffic.specs.Tasks.{next_deadline};
 ghost use Rattle.second_chance_cache.specs.SecondChance.{all_weight};
+ghost use Rattle.yimarotu_forwarder.specs.Late.{deadline_of};
 ghost use Rattle.yimarotu_forwarder.specs.Forwarders.{at_moment, cleared, moment_passes, new_forwarder, second_of, with_local, with_pool};
 
 use crate::cached::CachedReply;
 use crate::counting::ForwarderCounts;
 use crate::fetches::Fetches;
+use crate::late::{earlier, first_moment};
 use crate::local::Local;
 use crate::options::ForwarderOptions;
 use crate::replying::Replying;
@@ -21,6 +22,7 @@ use kept_failures::FailureCache;
 use local_answers::LocalData;
 use second_chance_cache::{CacheBounds, SecondChanceCache};
 use std::alloc::{AllocError, Global};
+use std::collections::VecDeque;
 use std::hash::RandomState;
 use std::marker::Model;
 
@@ -50,6 +52,7 @@ pub struct Forwarder {
     pub(crate) telling: Option<Telling>,
     pub(crate) replying: Option<Replying>,
     pub(crate) prefetch: Option<ReplyKey>,
+    pub(crate) late: VecDeque<(u64, ReplyKey)>,
     pub(crate) generation: u64,
     pub(crate) clock: u64,
     pub(crate) reply: ReplyRoom,
@@ -73,6 +76,7 @@ impl Model for Forwarder {
       telling = f.telling;
       replying = f.replying;
       prefetch = f.prefetch;
+      late = f.late.items;
       generation = f.generation;
       clock = f.clock;
       reply = f.reply;
@@ -107,6 +111,7 @@ impl Forwarder {
             telling: None,
             replying: None,
             prefetch: None,
+            late: VecDeque::new(alloc),
             generation: 0,
             clock: 0,
             reply: ReplyRoom::new(alloc)?,
@@ -189,11 +194,11 @@ impl Forwarder {
         Ok(())
     }
 
-    /// The earliest moment at which time ends something, where nothing is left to be done.
+    /// The earliest moment at which time ends something, or a look-up is late, where nothing is left to be done.
     pub fn next_deadline(&self) -> Option<u64>
-        ensures { result ≡ next_deadline self.now.pool.traffic }
+        ensures { result ≡ deadline_of self.now }
     {
-        self.pool.next_deadline()
+        earlier(self.pool.next_deadline(), first_moment(&self.late))
     }
 
     /// The octets of the reply that was written last.

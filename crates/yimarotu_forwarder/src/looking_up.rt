@@ -1,5 +1,5 @@
 //! Requests that wait for what servers say.
-ghost use Rattle.std.specs.Prelude.{◌≡◌, IfOk, OnErr, OnOk};
+ghost use Rattle.std.specs.Prelude.{◌≡◌, true, false, if◌then◌else◌, IfOk, MatchOption, None, OnErr, OnOk};
 ghost use Rattle.client_requests.specs.Keys.{key_of};
 ghost use Rattle.hickory_proto_wire.specs.Messages.{bit};
 ghost use Rattle.hickory_resolver_model.specs.Options.{request_options_of};
@@ -7,11 +7,13 @@ ghost use Rattle.hickory_resolver_pool.specs.Pool.{after_asking, asking_told, li
 ghost use Rattle.client_limits.specs.Counts.{admits};
 ghost use Rattle.hickory_resolver_tries.specs.Question as in_tries;
 ghost use Rattle.stored_replies.specs.Told.{asks_dnssec};
-ghost use Rattle.yimarotu_forwarder.specs.LookingUp.{BeginsLookup, BeginsWith, IsPastBound, JoinsFetch, JoinsOr, LooksUp, counts_after, dnssec_of, new_fetch, pool_question};
+ghost use Rattle.yimarotu_forwarder.specs.Stale.{stale_hit};
+ghost use Rattle.yimarotu_forwarder.specs.LookingUp.{BeginsLookup, BeginsWith, IsPastBound, JoinsFetch, JoinsOr, JoinsOrTold, LooksUp, counts_after, dnssec_of, new_fetch, pool_question};
 
 use crate::answered::Outcome;
 use crate::fetch::Fetch;
 use crate::forwarder::{Forwarder, Pool};
+use crate::late::{is_late, note_late, reserve_late};
 use client_limits::ClientCounts;
 use client_queries::{ClientQuery, Refusal};
 use client_requests::{ReplyKey, Request, WaitingRequest};
@@ -40,13 +42,42 @@ impl Forwarder {
             None => self.begin(request, key, query, group),
             Some(fetch) if fetch.has_request(request) => Ok(Outcome::Dropped),
             Some(fetch) => {
-                let waiting = fetch.waiting_number();
-                self.join(request, &key, waiting)
+                let (waiting, is_late) = (fetch.waiting_number(), is_late(fetch, self.clock));
+                self.join_or_tell(request, &key, waiting, is_late)
             }
         }
     }
 
     // ---- one more waits for a fetch
+
+    // Where it is late, what is kept past its end is told. Tells whether it was.
+    fn tell_if_late(&mut self, request: &Request<'_>, key: &ReplyKey, is_late: bool) -> bool
+        ensures { MatchOption (if is_late then stale_hit request.now key.now self.old else None)
+            ((result ≡ false) × (self.new ≡ self.old))
+            (λ octets. (result ≡ true) × (self.new ≡ record self.old { reply = octets })) }
+    {
+        is_late && self.tell_stale(request, key)
+    }
+
+    fn join_or_tell(
+        &mut self,
+        request: &Request<'_>,
+        key: &ReplyKey,
+        waiting: usize,
+        is_late: bool,
+    ) -> Result<Outcome, AllocError>
+        requires { key.now ≡ key_of request.now }
+        ensures ok { IfOk result (λ answered.
+            JoinsOrTold (if is_late then stale_hit request.now key.now self.old else None) waiting request.now self.old
+            answered self.new) }
+        ensures err { OnErr result (self.new ≡ self.old) }
+    {
+        if self.tell_if_late(request, key, is_late) {
+            Ok(Outcome::FromCache)
+        } else {
+            self.join(request, key, waiting)
+        }
+    }
 
     fn join(
         &mut self,
@@ -128,8 +159,17 @@ impl Forwarder {
     {
         let dnssec = self.dnssec_of(asks_dnssec(request.query()), is_unchecked(request.query()));
         let copy = copy_of(&query)?;
-        let fetch = new_fetch(self.alloc, copy, request, waiting, self.generation)?;
+        let fetch = new_fetch(
+            self.alloc,
+            copy,
+            request,
+            waiting,
+            self.generation,
+            self.clock,
+        )?;
+        let is_kept = self.has_stale(&key);
         self.fetches.reserve()?;
+        reserve_late(&mut self.late)?;
         let asked = ask_counted(
             &mut self.counts,
             &mut self.pool,
@@ -141,6 +181,7 @@ impl Forwarder {
         )?;
         match asked {
             Asked::Asker(asker) => {
+                note_late(&mut self.late, is_kept, &key, self.clock);
                 self.fetches.begin(key, fetch, asker.number);
                 Ok(Outcome::Waits)
             }
@@ -189,8 +230,9 @@ fn new_fetch(
     request: &Request<'_>,
     waiting: WaitingRequest,
     generation: u64,
+    began: u64,
 ) -> Result<Fetch, AllocError>
-    ensures { IfOk result (λ fetch. fetch ≡ new_fetch query request.now waiting generation) }
+    ensures { IfOk result (λ fetch. fetch ≡ new_fetch query request.now waiting generation began) }
 {
     let dnssec = asks_dnssec(request.query());
     let lookup = WholeLookup::new(query, dnssec)?;
@@ -201,6 +243,7 @@ fn new_fetch(
         checking_disabled: is_unchecked(request.query()),
         heard: None,
         generation,
+        began,
         waiting: list,
     })
 }

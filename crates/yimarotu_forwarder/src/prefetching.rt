@@ -78,7 +78,7 @@ impl Forwarder {
         let (dnssec_ok, unchecked) = (is_dnssec(&key), is_unchecked(&key));
         let dnssec = self.dnssec_of(dnssec_ok, unchecked);
         let copy = copy_of(&query)?;
-        let fetch = lone_fetch(self.alloc, copy, &key, self.generation)?;
+        let fetch = lone_fetch(self.alloc, copy, &key, self.generation, self.clock)?;
         self.fetches.reserve()?;
         let asked = ask(&mut self.pool, group, query, dnssec, self.clock)?;
         match asked {
@@ -110,8 +110,9 @@ fn lone_fetch(
     query: Query,
     key: &ReplyKey,
     generation: u64,
+    began: u64,
 ) -> Result<Fetch, AllocError>
-    ensures { IfOk result (λ fetch. fetch ≡ lone_fetch query key.now generation) }
+    ensures { IfOk result (λ fetch. fetch ≡ lone_fetch query key.now generation began) }
 {
     let lookup = WholeLookup::new(query, is_dnssec(key))?;
     Ok(Fetch {
@@ -119,6 +120,7 @@ fn lone_fetch(
         checking_disabled: is_unchecked(key),
         heard: None,
         generation,
+        began,
         waiting: VecDeque::new(alloc),
     })
 }

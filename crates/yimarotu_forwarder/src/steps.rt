@@ -3,7 +3,7 @@ ghost use Rattle.std.specs.Prelude.{◌≡◌, IfOk, MatchOption, None, OnErr, O
 ghost use Rattle.yimarotu_forwarder.specs.Fetches.{FetchValue, fetch_at};
 ghost use Rattle.yimarotu_forwarder.specs.Forwarders.{ReplyingValue};
 ghost use Rattle.yimarotu_forwarder.specs.LookingUp.{next_question};
-ghost use Rattle.yimarotu_forwarder.specs.Steps.{AsksFor, AsksOr, AsksPool, ForwarderSteps, IsDecidedNext, RepliesNext, RepliesTo, StepsPool, StopsAsking, StopsFetch, StopsStep, action_of, has_turn, keeps, keeps_end, lets_go, with_stored};
+ghost use Rattle.yimarotu_forwarder.specs.Steps.{AsksFor, AsksOr, AsksPool, ForwarderSteps, IsDecidedNext, IsLetGo, RepliesNext, RepliesTo, StepsPool, StopsAsking, StopsFetch, StopsStep, TellsLateFirst, action_of, has_turn, keeps, keeps_end, lets_go, with_stored};
 ghost use Rattle.yimarotu_forwarder.specs.Telling.{EndsFetch, Finishes, replying_of, whole_end, with_end};
 ghost use Rattle.client_requests.specs.declared.fetch_end.FetchEnd.TheVariants as fetch_end;
 ghost use Rattle.failure_replies.specs.declared.failure.FailureReason.TheVariants as reason;
@@ -16,6 +16,7 @@ use crate::forwarder::Forwarder;
 use crate::local::decide;
 use crate::looking_up::ask;
 use crate::replying::Replying;
+use crate::stale::{kept_until, put_end};
 use crate::telling::Telling;
 use client_requests::{FetchEnd, ReplyKey};
 use failure_replies::FailureReason;
@@ -44,9 +45,10 @@ pub enum ForwarderAction {
 impl Forwarder {
     /// Does the next step, and answers what the program has to do for it; `None` where nothing is left to be done. Who
     /// waits for what a look-up came to is replied to first; then questions are asked that replies led to; then those
-    /// are told who asked in a transaction that is over; then what is kept is looked up anew before its end; and else the
-    /// pool does its next step. A refused call changes nothing, but that a look-up that was at its end fails, that its
-    /// reply is told and not kept, or that what is kept is not looked up anew.
+    /// are told who asked in a transaction that is over; then what is kept is looked up anew before its end; then those
+    /// who wait for a look-up that is late are told what is kept past its end; and else the pool does its next step. A
+    /// refused call changes nothing, but that a look-up that was at its end fails, that its reply is not kept, once all
+    /// were told of it, or that what is kept is not looked up anew.
     pub fn next_action(&mut self) -> Result<Option<ForwarderAction>, AllocError>
         ensures ok { IfOk result (λ action. ForwarderSteps self.old action self.new) }
         ensures err { OnErr result (StopsStep self.old self.new) }
@@ -66,7 +68,7 @@ impl Forwarder {
             self.prefetch(key)?;
             return Ok(Some(ForwarderAction::Continue));
         }
-        self.step_pool()
+        self.tell_late_or_step()
     }
 
     // ---- who waits
@@ -75,7 +77,7 @@ impl Forwarder {
     fn reply_next(&mut self) -> Result<ForwarderAction, AllocError>
         ensures ok { (r : ReplyingValue) → self.old.replying ≡ Some r
             → IfOk result (λ action. RepliesNext self.old (Some action) self.new r) }
-        ensures err { OnErr result (self.new ≡ record self.old { replying = None }) }
+        ensures err { (r : ReplyingValue) → self.old.replying ≡ Some r → OnErr result (IsLetGo self.old self.new r) }
     {
         if self.all_are_told() {
             self.let_go()
@@ -98,15 +100,22 @@ impl Forwarder {
         ensures { (r : ReplyingValue) → self.old.replying ≡ Some r
             → MatchOption (slice_get r.waiting 0) (self.new ≡ self.old) (RepliesTo r self.old (Some result) self.new) }
     {
-        let (trust, second) = (self.options.trusts_authentic_data, self.second());
+        let second = self.second();
         let Some(replying) = &mut self.replying else {
             return ForwarderAction::Continue;
         };
         match replying.waiting.pop_front() {
             Some(waiting) => {
                 let client = waiting.client();
-                self.reply
-                    .put_end(&waiting.request(), &replying.end, trust, second);
+                put_end(
+                    &mut self.reply,
+                    &self.cache,
+                    &waiting.request(),
+                    &replying.key,
+                    &replying.end,
+                    &self.options,
+                    second,
+                );
                 self.counts.remove(client.address);
                 ForwarderAction::Reply(client.number)
             }
@@ -161,12 +170,14 @@ impl Forwarder {
         let until = stored
             .until()
             .min(second.saturating_add(self.options.greatest_ttl));
+        let deadline = kept_until(&self.options, until, second);
         let cached = CachedReply {
             reply: stored,
             fresh_until: fresh_until(second, until),
+            told_until: until,
         };
         self.cache
-            .store(key.as_slice(), cached, weight, until, second)
+            .store(key.as_slice(), cached, weight, deadline, second)
     }
 
     // ---- questions that replies led to
@@ -294,6 +305,20 @@ impl Forwarder {
     }
 
     // ---- the pool
+
+    // Those who wait for a look-up that is late are told from then on, or the pool does its next step.
+    fn tell_late_or_step(&mut self) -> Result<Option<ForwarderAction>, AllocError>
+        ensures ok { self.old.telling ≡ None → IfOk result (λ action. TellsLateFirst self.old action self.new) }
+        ensures err { OnErr result (self.new ≡ self.old) }
+    {
+        match self.first_due() {
+            Some(key) => {
+                self.tell_late(key);
+                Ok(Some(ForwarderAction::Continue))
+            }
+            None => self.step_pool(),
+        }
+    }
 
     // The pool does its next step, where nobody is told.
     fn step_pool(&mut self) -> Result<Option<ForwarderAction>, AllocError>

@@ -1,6 +1,6 @@
 -- What a query changes.
 use Rattle.std.proofs.Common.{◌≡◌, ◌∙◌, ℕ, ◌-◌, inl, inr, Bool, true, false, zero, suc, ◌+◌, List, [], ◌∷◌, ◌++◌, length, take, drop, refl, sym, ap, subst, arith}
-use Rattle.std.specs.Prelude.{Option, None, Some, MatchOption, nat_le}
+use Rattle.std.specs.Prelude.{Option, None, Some, MatchOption, nat_le, if◌then◌else◌}
 use Rattle.std.specs.Option.{option_map, option_and_then}
 use Rattle.std.proofs.lemmas.Bool.{leb-false, leb-true}
 use Rattle.std.proofs.lemmas.List.{drop-take}
@@ -25,7 +25,6 @@ use Rattle.local_answers.specs.Told.{any_reply}
 use Rattle.local_answers.specs.declared.local_data.Decision.{Decision}
 use Rattle.local_answers.specs.declared.local_data.Decision.TheVariants as decision
 use Rattle.second_chance_cache.specs.Laws.{asks}
-use Rattle.second_chance_cache.specs.SecondChance.{told}
 use Rattle.stored_replies.specs.Key.{question_key}
 use Rattle.stored_replies.specs.Told.{asks_dnssec}
 use Rattle.whole_replies.specs.Kept.{KeptValue}
@@ -33,16 +32,18 @@ use Rattle.yimarotu_forwarder.specs.Cached.{CachedValue}
 use Rattle.yimarotu_forwarder.specs.Counting.{answered_as}
 use Rattle.yimarotu_forwarder.specs.Fetches.{FetchValue, fetch_at, has_request, with_waiting}
 use Rattle.yimarotu_forwarder.specs.Forwarders.{ForwarderValue, at_moment, second_of}
+use Rattle.yimarotu_forwarder.specs.Late.{is_late, late_hit}
 use Rattle.yimarotu_forwarder.specs.LookingUp.{BeginsBy, BeginsFetch, BeginsLookup, BeginsOr, BeginsWith, IsPastBound, IsPastBoundBy, JoinsBy, JoinsFetch, JoinsLookup, JoinsOr, LooksUp, after_ask, new_fetch, pool_question, pool_says}
 use Rattle.yimarotu_forwarder.specs.Options.{may_ask}
-use Rattle.yimarotu_forwarder.specs.Queries.{Answering, AnswersAs, AnswersAsked, AnswersBy, AnswersQuery, AnswersRequest, Decides, Misses, Serves, ServesBy, TellsCounts, TellsLocalAlone, TellsOr, TellsOrLooksUp, TurnsAway, WithQuery, hit, query_in, with_hit}
+use Rattle.yimarotu_forwarder.specs.Queries.{Answering, AnswersAs, AnswersAsked, AnswersBy, AnswersQuery, AnswersRequest, Decides, FailsAgain, Misses, Serves, ServesBy, TellsCounts, TellsLocalAlone, TellsOr, TellsOrLooksUp, TurnsAway, WithQuery, hit, query_in, told_in, with_hit}
 use Rattle.yimarotu_forwarder.specs.Replying.{Fails, Refuses, TellsLocal, end_of}
+use Rattle.yimarotu_forwarder.specs.Stale.{stale_hit}
 use Rattle.yimarotu_forwarder.specs.Statistics.{counts_reply, is_loopback}
 use Rattle.yimarotu_forwarder.specs.declared.answered.Answered.{Answered}
 use Rattle.yimarotu_forwarder.specs.declared.answered.Answered.TheVariants.{Dropped, Replied, Waits}
 use Rattle.yimarotu_forwarder_theorems.specs.ReplyOctets.{IsOwnReply, IsReplyToOctets, RepliesAtOnceAreOwn}
 use Rattle.yimarotu_forwarder_theorems.proofs.Cores.{Nothing, Core, Joins, Puts, Stills, as_before, cache_changes, core, more, waiting_for}
-use Rattle.yimarotu_forwarder_theorems.proofs.Octets.{failure-own, refusal-own, reply-own, stored-own}
+use Rattle.yimarotu_forwarder_theorems.proofs.Octets.{failure-own, refusal-own, reply-own, stale-hit-own, stored-own}
 
 -- ---- a request that waits has its question still
 
@@ -129,8 +130,17 @@ dropped-so r b a answered dropped h = stays never not-replied (as_before (core b
     never : answered ≡ Waits → ⊥
     never is = let clash : Dropped ≡ Waits = sym dropped ∙ is in cc
 
+late-is : (f : FetchValue) (r : RequestValue) (b : ForwarderValue) (octets : List ℕ) → late_hit f r b ≡ Some octets
+    → stale_hit r (key_of r) b ≡ Some octets
+late-is f r b octets h = by (is_late f b.clock) h
+  where
+    by : (late : Bool) → (if late then stale_hit r (key_of r) b else None) ≡ Some octets
+        → stale_hit r (key_of r) b ≡ Some octets
+    by true e = e
+    by false e = absurd cc
+
 hit-own : (r : RequestValue) (b : ForwarderValue) (octets : List ℕ) → hit r b ≡ Some octets → IsOwnReply r octets
-hit-own r b octets h = by (told (key_of r) (second_of b) b.cache.entries) h
+hit-own r b octets h = by (told_in b.cache (key_of r) (second_of b)) h
   where
     by : (o : Option CachedValue)
         → option_and_then (λ cached.
@@ -172,7 +182,7 @@ module _ {b0 : ForwarderValue} {answered : Answered} {a0 : ForwarderValue} {r0 :
       joins w (ap answered_as h.waits) is (record {
         key = key_of r;
         own = key-kept r w is;
-        fetch = new_fetch q r w b.generation;
+        fetch = new_fetch q r w b.generation b.clock;
         puts = h.begins.puts;
         others_are =
             ap core h.others_are
@@ -245,6 +255,12 @@ module _ {b0 : ForwarderValue} {answered : Answered} {a0 : ForwarderValue} {r0 :
       by false is h = past-bound r b a h
       by true is h = waits (waiting_of r) refl is h
 
+  told-stale : (r : RequestValue) (octets : List ℕ) (b a : ForwarderValue) → stale_hit r (key_of r) b ≡ Some octets
+      → answered_as x.became ≡ Replied → a ≡ record b { reply = octets } → Moves r b a (answered_as x.became)
+  told-stale r octets b a is replied h =
+      replied-so r b a (answered_as x.became) octets replied
+      (stale-hit-own b.cache r (key_of r) b.options (second_of b) octets is) h
+
   joins-lookup : (r : RequestValue) (f : FetchValue) (b a : ForwarderValue)
       → fetch_at (key_of r) b.fetches ≡ Some f → JoinsLookup r b x.became a f → Moves r b a (answered_as x.became)
   joins-lookup r f b a found h = by (has_request r f) h
@@ -263,7 +279,15 @@ module _ {b0 : ForwarderValue} {answered : Answered} {a0 : ForwarderValue} {r0 :
 
       by : (there : Bool) → JoinsBy there f r b x.became a → Moves r b a (answered_as x.became)
       by true h = dropped-so r b a (answered_as x.became) (ap answered_as h.0) h.1
-      by false h = if-room (admits b.options.limits r.client.address (length f.waiting) b.counts) refl h
+      by false h = if-told (late_hit f r b) refl
+        where
+          if-told : (o : Option (List ℕ)) → late_hit f r b ≡ o → Moves r b a (answered_as x.became)
+          if-told None is =
+              let m = rw is at h in
+              if-room (admits b.options.limits r.client.address (length f.waiting) b.counts) refl m
+          if-told (Some octets) is =
+              let m = rw is at h in
+              told-stale r octets b a (late-is f r b octets is) (ap answered_as m.0) m.1
 
   looks-up : (r : RequestValue) (q : Query) (group : ℕ) (b a : ForwarderValue)
       → LooksUp r q group b x.became a → Moves r b a (answered_as x.became)
@@ -294,12 +318,12 @@ module _ {b0 : ForwarderValue} {answered : Answered} {a0 : ForwarderValue} {r0 :
   with-query : (Then : Query → Answering) (r : RequestValue) (b a : ForwarderValue)
       → ((q : Query) → Then q b x.became a → Moves r b a (answered_as x.became)) → WithQuery Then r b x.became a
       → Moves r b a (answered_as x.became)
-  with-query Then r b a then h = by (query_in r) h
+  with-query Then r b a next h = by (query_in r) h
     where
       by : (o : Option Query) → MatchOption o (Refuses b r refusal.FormErr x.became a) (λ q. Then q b x.became a)
           → Moves r b a (answered_as x.became)
       by None h = refuses r refusal.FormErr b a h
-      by (Some q) h = then q h
+      by (Some q) h = next q h
 
   local-alone : (r : RequestValue) (b a : ForwarderValue) → TellsLocalAlone r b x.became a
       → Moves r b a (answered_as x.became)
@@ -317,15 +341,23 @@ module _ {b0 : ForwarderValue} {answered : Answered} {a0 : ForwarderValue} {r0 :
 
   -- ---- what is kept
 
+  fails-again : (r : RequestValue) (b a : ForwarderValue) → FailsAgain r b x.became a
+      → Moves r b a (answered_as x.became)
+  fails-again r b a h = by (stale_hit r (key_of r) b) refl
+    where
+      by : (o : Option (List ℕ)) → stale_hit r (key_of r) b ≡ o → Moves r b a (answered_as x.became)
+      by None is = let m = rw is at h in fails r reason.CachedError b a m
+      by (Some octets) is = let m = rw is at h in told-stale r octets b a is (ap answered_as m.0) m.1
+
   misses : (r : RequestValue) (b a : ForwarderValue) → Misses r b x.became a
       → Moves r b a (answered_as x.became)
   misses r b a h = by (failure_at (key_of r) (second_of b) b.failures) h
     where
       by : (o : Option FailureReason)
-          → MatchOption o (TellsOrLooksUp r b x.became a) (λ why. Fails b r reason.CachedError x.became a)
+          → MatchOption o (TellsOrLooksUp r b x.became a) (λ why. FailsAgain r b x.became a)
           → Moves r b a (answered_as x.became)
       by None h = local-or-asked r b a h
-      by (Some why) h = fails r reason.CachedError b a h
+      by (Some why) h = fails-again r b a h
 
   marks : (r : RequestValue) (octets : List ℕ) (b a : ForwarderValue) → hit r b ≡ Some octets
       → answered_as x.became ≡ Replied → a ≡ record (with_hit (key_of r) b) { reply = octets }

@@ -26,13 +26,14 @@ use Rattle.yimarotu_forwarder.specs.Cached.{CachedValue}
 use Rattle.yimarotu_forwarder.specs.Fetches.{FetchValue, fetch_in, is_of_client}
 use Rattle.yimarotu_forwarder.specs.Flushing.{is_flushed as is_flushed_key}
 use Rattle.yimarotu_forwarder.specs.Forwarders.{ForwarderValue, ReplyingValue, new_forwarder}
+use Rattle.yimarotu_forwarder.specs.Late.{late_replying, with_nobody}
 use Rattle.yimarotu_forwarder.specs.Leaving.{counts_without, counts_without_fetches, counts_without_replying, counts_without_request, entry_without, fetch_without, replying_without}
 use Rattle.yimarotu_forwarder.specs.Local.{LocalValue}
 use Rattle.yimarotu_forwarder.specs.Options.{OptionsValue}
 use Rattle.yimarotu_forwarder.specs.Telling.{replying_of}
 use Rattle.yimarotu_forwarder_theorems.specs.Bounds.{AllowNoMore, BoundsAreKept, SetsNoMore}
 use Rattle.yimarotu_forwarder_theorems.specs.Runs.{ForwarderEvent, Happening, Runs, at_first, happened, next}
-use Rattle.yimarotu_forwarder_theorems.proofs.Cores.{Core, Fetching, Joins, Leaves, Puts, Still, Stills, as_before, begins_alone, cache_changes, core, failures_change, is_flushed, is_heard, is_let_go, is_over, left_by, more, waiting_for}
+use Rattle.yimarotu_forwarder_theorems.proofs.Cores.{Core, Fetching, Joins, Leaves, Puts, Still, Stills, as_before, begins_alone, cache_changes, core, failures_change, is_flushed, is_heard, is_let_go, is_over, is_told_late, left_by, more, waiting_for}
 use Rattle.yimarotu_forwarder_theorems.proofs.Events.{EventMoves, event_goes, event_joins, event_leaves, event_options, event_stays, moves}
 use Rattle.yimarotu_forwarder_theorems.proofs.Flushed.{fewer, let-go}
 
@@ -187,6 +188,9 @@ module _ (limits : ClientLimits) (cache failures : CacheBounds) where
   still-bounded c d (is_over c' d' k end f g none found same is puts e) h =
       subst IsBounded (sym e) (others-wait c c.counts d.fetches (Some (replying_of k end g)) h h.counted
       (few-put k None c.fetches d.fetches puts (omega arith) h.few))
+  still-bounded c d (is_told_late c' d' k f none found puts e) h =
+      subst IsBounded (sym e) (others-wait c c.counts d.fetches (Some (late_replying k f)) h h.counted
+      (few-put k (Some (with_nobody f)) c.fetches d.fetches puts (omega arith) h.few))
   still-bounded c d (is_let_go c' d' r was none e) h =
       subst IsBounded (sym e) (others-wait c c.counts c.fetches None h h.counted h.few)
   still-bounded c d (is_flushed c' d' labels below e) h =

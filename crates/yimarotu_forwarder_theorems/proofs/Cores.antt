@@ -1,5 +1,5 @@
 -- What of a forwarder decides who is replied to and what is kept, and how that changes.
-use Rattle.std.proofs.Common.{◌≡◌, ℕ, ◌⊎◌, Bool, List, [], ◌∷◌, ◌++◌, true, if◌then◌else◌, length, refl, subst}
+use Rattle.std.proofs.Common.{◌≡◌, ℕ, ◌+◌, ◌≤◌, ◌⊎◌, Bool, List, [], ◌∷◌, ◌++◌, true, if◌then◌else◌, length, refl, subst}
 use Rattle.std.specs.Prelude.{Option, None, Some, map}
 use Rattle.std.specs.Option.{option_map, option_map_or}
 use Rattle.hickory_proto_core.specs.declared.query.Query.{Query}
@@ -14,6 +14,7 @@ use Rattle.failure_replies.specs.declared.failure.FailureReason.{FailureReason}
 use Rattle.kept_failures.specs.declared.failure.KeptFailure.{KeptFailure}
 use Rattle.second_chance_cache.specs.Laws.{CacheEvent, after_event, stores}
 use Rattle.second_chance_cache.specs.SecondChance.{CacheValue}
+use Rattle.whole_lookups.specs.Capped.{capped}
 use Rattle.whole_lookups.specs.Denied.{without_denied}
 use Rattle.whole_lookups.specs.Lookups.{LookupValue, begun, heard, whole_with}
 use Rattle.whole_lookups.specs.declared.heard.Heard.TheVariants.{Asks, Whole}
@@ -23,10 +24,12 @@ use Rattle.yimarotu_forwarder.specs.Cached.{CachedValue}
 use Rattle.yimarotu_forwarder.specs.Fetches.{FetchValue, fetch_in}
 use Rattle.yimarotu_forwarder.specs.Flushing.{entries_flushed}
 use Rattle.yimarotu_forwarder.specs.Forwarders.{ForwarderValue, ReplyingValue}
+use Rattle.yimarotu_forwarder.specs.Late.{late_replying, with_nobody}
 use Rattle.yimarotu_forwarder.specs.Leaving.{counts_without_fetches, counts_without_replying, entry_without, replying_without}
 use Rattle.yimarotu_forwarder.specs.Options.{OptionsValue}
 use Rattle.yimarotu_forwarder.specs.Replying.{end_of}
 use Rattle.yimarotu_forwarder.specs.Telling.{replying_of}
+use Rattle.yimarotu_forwarder.specs.declared.choices.TheConstants.{LONGEST_STALE}
 use Rattle.yimarotu_forwarder_theorems.specs.Lookups.{LastsTo}
 
 abbrev pub Fetching : Type 0
@@ -80,15 +83,17 @@ pub record IsLed (said : WireMessage → Type 0) (before after : LookupValue) : 
 pub data IsEndOf (said : WireMessage → Type 0) (l : LookupValue) (end : FetchEnd) : Type 0 where
   has_failed : (why : FailureReason) → end ≡ Failure why → IsEndOf said l end
   has_heard : (m : WireMessage) (kept : KeptValue) → said m → heard m l ≡ Whole kept
-      → (allowed denied : List IpNet) (second : ℕ)
-      → end ≡ end_of l.asked (without_denied allowed denied kept) second → IsEndOf said l end
-  is_known : (here : KeptValue) (allowed denied : List IpNet) (second : ℕ)
-      → end ≡ end_of l.asked (without_denied allowed denied (whole_with here l)) second → IsEndOf said l end
+      → (allowed denied : List IpNet) (greatest second : ℕ)
+      → end ≡ end_of l.asked (capped greatest (without_denied allowed denied kept)) second → IsEndOf said l end
+  is_known : (here : KeptValue) (allowed denied : List IpNet) (greatest second : ℕ)
+      → end ≡ end_of l.asked (capped greatest (without_denied allowed denied (whole_with here l))) second
+      → IsEndOf said l end
 
 -- only what those who waited were told of a look-up is stored, for as long as it may be
 abbrev pub StoresEnd : Core → CacheEvent CachedValue → Type 0
 StoresEnd c (stores key s weight deadline now) =
-    (r : ReplyingValue) × (c.replying ≡ Some r) × (r.end ≡ Reply s.reply) × LastsTo s.reply deadline
+    (r : ReplyingValue) × (c.replying ≡ Some r) × (r.end ≡ Reply s.reply) × LastsTo s.reply s.told_until
+    × (deadline ≤ s.told_until + LONGEST_STALE)
 StoresEnd c other = Unit {0}
 
 -- where these replies may be heard
@@ -104,6 +109,9 @@ pub data Still (said : WireMessage → Type 0) : Core → Core → Type 0 where
   is_over : (c d : Core) (key : List ℕ) (end : FetchEnd) (f g : FetchValue) → c.replying ≡ None
       → fetch_in key c.fetches ≡ Some f → IsSame f g → IsEndOf said f.lookup end → Puts key None c.fetches d.fetches
       → d ≡ record c { fetches = d.fetches; replying = Some (replying_of key end g) } → Still said c d
+  is_told_late : (c d : Core) (key : List ℕ) (f : FetchValue) → c.replying ≡ None → fetch_in key c.fetches ≡ Some f
+      → Puts key (Some (with_nobody f)) c.fetches d.fetches
+      → d ≡ record c { fetches = d.fetches; replying = Some (late_replying key f) } → Still said c d
   is_let_go : (c d : Core) (r : ReplyingValue) → c.replying ≡ Some r → r.waiting ≡ []
       → d ≡ record c { replying = None } → Still said c d
   is_flushed : (c d : Core) (labels : List (List ℕ)) (below : Bool)
@@ -172,8 +180,8 @@ Nothing m = ⊥
 
 end-said : {said : WireMessage → Type 0} (l : LookupValue) (end : FetchEnd) → IsEndOf Nothing l end → IsEndOf said l end
 end-said l end (has_failed why is) = has_failed why is
-end-said l end (has_heard m kept told how allowed denied second is) = absurd told
-end-said l end (is_known here allowed denied second is) = is_known here allowed denied second is
+end-said l end (has_heard m kept told how allowed denied greatest second is) = absurd told
+end-said l end (is_known here allowed denied greatest second is) = is_known here allowed denied greatest second is
 
 still-said : {said : WireMessage → Type 0} (c d : Core) → Still Nothing c d → Still said c d
 still-said c d (cache_changes c' d' event such e) = cache_changes c d event such e
@@ -181,6 +189,7 @@ still-said c d (failures_change c' d' event e) = failures_change c d event e
 still-said c d (is_heard c' d' k f g found same led puts e) = absurd led.told
 still-said c d (is_over c' d' k end f g none found same is puts e) =
     is_over c d k end f g none found same (end-said f.lookup end is) puts e
+still-said c d (is_told_late c' d' k f none found puts e) = is_told_late c d k f none found puts e
 still-said c d (is_let_go c' d' r was none e) = is_let_go c d r was none e
 still-said c d (is_flushed c' d' labels below e) = is_flushed c d labels below e
 still-said c d (begins_alone c' d' k f none waits begins puts e) = begins_alone c d k f none waits begins puts e

@@ -18,7 +18,7 @@ use Rattle.yimarotu_forwarder.specs.Options.{OptionsValue}
 use Rattle.yimarotu_forwarder_theorems.specs.Bounds.{NobodyGoes, WhoWaitsIsCounted, number_of, of_network}
 use Rattle.yimarotu_forwarder_theorems.specs.Replies.{is_under, replied_in, replied_to, told_to_wait, under, waited_in}
 use Rattle.yimarotu_forwarder_theorems.specs.Runs.{ForwarderEvent, Happening, Runs, at_first, happened, next}
-use Rattle.yimarotu_forwarder_theorems.proofs.Cores.{Core, Joins, Leaves, Still, Stills, as_before, begins_alone, cache_changes, core, failures_change, is_flushed, is_heard, is_let_go, is_over, more}
+use Rattle.yimarotu_forwarder_theorems.proofs.Cores.{Core, Joins, Leaves, Still, Stills, as_before, begins_alone, cache_changes, core, failures_change, is_flushed, is_heard, is_let_go, is_over, is_told_late, more}
 use Rattle.yimarotu_forwarder_theorems.proofs.Events.{EventMoves, Says, event_goes, event_joins, event_leaves, event_options, event_stays, moves}
 use Rattle.yimarotu_forwarder_theorems.proofs.Keys.{same-key}
 use Rattle.yimarotu_forwarder_theorems.proofs.Networks.{Ascends, ascends-inserted, ascends-less, count-added, count-less, is, is-own, is-same}
@@ -174,6 +174,7 @@ still-counts c d (cache_changes c' d' event such e) = ap (λ (x : Core). x.count
 still-counts c d (failures_change c' d' event e) = ap (λ (x : Core). x.counts) e
 still-counts c d (is_heard c' d' k f g found same led puts e) = ap (λ (x : Core). x.counts) e
 still-counts c d (is_over c' d' k end f g none found same is puts e) = ap (λ (x : Core). x.counts) e
+still-counts c d (is_told_late c' d' k f none found puts e) = ap (λ (x : Core). x.counts) e
 still-counts c d (is_let_go c' d' r was none e) = ap (λ (x : Core). x.counts) e
 still-counts c d (is_flushed c' d' labels below e) = ap (λ (x : Core). x.counts) e
 still-counts c d (begins_alone c' d' k f none waits begins puts e) = ap (λ (x : Core). x.counts) e

@@ -1,9 +1,10 @@
 -- What holds of each value that is stored, and of its deadline, holds of each that is kept.
-use Rattle.std.proofs.Common.{ℕ, Bool, true, false, not, List, [], ◌∷◌, ◌++◌}
-use Rattle.std.specs.Prelude.{filter, if◌then◌else◌}
+use Rattle.std.proofs.Common.{◌≡◌, ℕ, Bool, true, false, not, List, [], ◌∷◌, ◌++◌, subst}
+use Rattle.std.specs.Prelude.{filter, find, None, Some, if◌then◌else◌}
+use Rattle.std.specs.Option.{option_and_then, option_map}
 use Rattle.std.specs.List.{AllByRecursion}
 use Rattle.second_chance_cache.specs.Laws.{CacheEvent, after_event, asks, clears, removes, stores}
-use Rattle.second_chance_cache.specs.SecondChance.{CacheValue, Entry, asked, first_round, has_room, is_current, is_for, is_kept, is_passed_by, make_room, marked_at, second_round, stored, unmarked, without}
+use Rattle.second_chance_cache.specs.SecondChance.{CacheValue, Entry, asked, first_round, has_room, if_current, is_current, is_for, is_kept, is_passed_by, make_room, marked_at, second_round, stored, told, unmarked, without}
 use Rattle.second_chance_cache.specs.declared.bounds.CacheBounds.{CacheBounds}
 
 module _ {V : Type 0} (P : V → ℕ → Type 0) where
@@ -14,6 +15,27 @@ module _ {V : Type 0} (P : V → ℕ → Type 0) where
   abbrev pub StoresSuch : CacheEvent V → Type 0
   StoresSuch (stores key value weight deadline now) = P value deadline
   StoresSuch other = Unit {0}
+
+  -- and so of the value that is told
+  pub told-kept : (key : List ℕ) (now : ℕ) (es : List (Entry V)) (v : V) → AllKept es → told key now es ≡ Some v
+      → (deadline : ℕ) × P v deadline
+  told-kept key now [] v all is = absurd cc
+  told-kept key now (e ∷ es) v all is = by (is_for key e) is (told-kept key now es v all.1)
+    where
+      by : (own : Bool)
+          → option_map (λ x. x.value) (option_and_then (if_current now)
+          (if own then Some e else find (is_for key) es)) ≡ Some v
+          → (told key now es ≡ Some v → (deadline : ℕ) × P v deadline) → (deadline : ℕ) × P v deadline
+      by false is' more = more is'
+      by true is' more = current-kept (is_current now e) is'
+        where
+          same : Some e.value ≡ Some v → e.value ≡ v
+          same h = cc
+
+          current-kept : (b : Bool)
+              → option_map (λ x. x.value) (if b then Some e else None) ≡ Some v → (deadline : ℕ) × P v deadline
+          current-kept true h = (e.deadline, subst (λ (x : V). P x e.deadline) (same h) all.0)
+          current-kept false h = absurd cc
 
   all-append : (es fs : List (Entry V)) → AllKept es → AllKept fs → AllKept (es ++ fs)
   all-append [] fs all more = more

@@ -1,10 +1,12 @@
 -- What look-ups come to, and what is kept of it.
-use Rattle.std.proofs.Common.{◌≡◌, ◌∙◌, ℕ, ◌+◌, ◌≤◌, Bool, true, false, not, List, [], ◌∷◌, ◌++◌, length, refl, sym, ap, subst, arith, ◌⊎◌, inl, inr}
-use Rattle.std.specs.Prelude.{Option, None, Some, if◌then◌else◌}
+use Rattle.std.proofs.Common.{◌≡◌, ◌∙◌, ℕ, ◌+◌, ◌-◌, ◌<◌, ◌≤◌, Bool, true, false, not, List, [], ◌∷◌, ◌++◌, length, refl, sym, ap, subst, arith, ◌⊎◌, inl, inr}
+use Rattle.std.specs.Prelude.{Option, None, Some, map, nat_le, nat_lt, ◌&&◌, if◌then◌else◌}
 use Rattle.std.specs.List.{AllByRecursion}
-use Rattle.std.specs.Option.{is_none, option_map}
+use Rattle.std.specs.Option.{is_none, option_and_then, option_map}
+use Rattle.std.proofs.lemmas.Bool.{leb-true, ltb-true}
 use Rattle.std.proofs.lemmas.List.Sums.{fold-append}
 use Rattle.std.proofs.lemmas.Map.Made.{lookup-map_values}
+use Rattle.hickory_proto_core.specs.Records.{RecordValue}
 use Rattle.hickory_proto_core.specs.declared.query.Query.{Query}
 use Rattle.hickory_proto_wire.specs.declared.wire_message.WireMessage.{WireMessage}
 use Rattle.hickory_resolver_pool.specs.Pool.{PoolState}
@@ -14,10 +16,13 @@ use Rattle.client_requests.specs.declared.fetch_end.FetchEnd.{FetchEnd}
 use Rattle.client_requests.specs.declared.fetch_end.FetchEnd.TheVariants.{Failure, Reply}
 use Rattle.failure_replies.specs.declared.failure.FailureReason.TheVariants as reason
 use Rattle.second_chance_cache.specs.Laws.{CacheEvent, asks, clears, removes, stores}
-use Rattle.second_chance_cache.specs.SecondChance.{Entry}
+use Rattle.second_chance_cache.specs.SecondChance.{Entry, told}
 use Rattle.second_chance_cache.specs.declared.bounds.CacheBounds.{CacheBounds}
+use Rattle.stored_replies.specs.Stale.{with_ttl}
 use Rattle.stored_replies.specs.Stored.{StoredValue, store_fault, stored_at}
+use Rattle.stored_replies.specs.declared.choices.TheConstants.{STALE_TTL}
 use Rattle.whole_lookups.proofs.InOrder.{asks_few_questions, whole_replies_are_all_in_order}
+use Rattle.whole_lookups.specs.Capped.{capped}
 use Rattle.whole_lookups.specs.Denied.{without_denied}
 use Rattle.whole_lookups.specs.Laws.{after_all, told_by, whole_of}
 use Rattle.whole_lookups.specs.Lookups.{LookupValue, after, after_of, begun, gone_on, heard, may_go_on, outcome_of, whole_with}
@@ -28,16 +33,18 @@ use Rattle.whole_replies.specs.Kept.{KeptValue, kept_of, next_question}
 use Rattle.yimarotu_forwarder.specs.Cached.{CachedValue}
 use Rattle.yimarotu_forwarder.specs.Fetches.{FetchValue, fetch_in}
 use Rattle.yimarotu_forwarder.specs.Flushing.{is_flushed as is_flushed_key}
-use Rattle.yimarotu_forwarder.specs.Forwarders.{ForwarderValue, ReplyingValue, new_forwarder}
+use Rattle.yimarotu_forwarder.specs.Forwarders.{ForwarderValue, ReplyingValue, new_forwarder, second_of}
+use Rattle.yimarotu_forwarder.specs.Late.{late_replying, with_nobody}
 use Rattle.yimarotu_forwarder.specs.Leaving.{fetch_without, replying_without}
 use Rattle.yimarotu_forwarder.specs.Local.{LocalValue}
-use Rattle.yimarotu_forwarder.specs.Options.{OptionsValue}
+use Rattle.yimarotu_forwarder.specs.Options.{OptionsValue, stale_seconds}
 use Rattle.yimarotu_forwarder.specs.Replying.{end_of}
-use Rattle.yimarotu_forwarder_theorems.specs.Lookups.{AnswersAreOfReplies, HeardReplies, IsAnswer, IsKeptAnswer, IsTelling, WasTold, by_local_data, by_servers}
+use Rattle.yimarotu_forwarder.specs.Stale.{if_stale}
+use Rattle.yimarotu_forwarder_theorems.specs.Lookups.{AnswersAreOfReplies, HasShortTtl, HeardReplies, IsAnswer, IsKeptAnswer, IsStaleAnswer, IsTelling, LastsTo, StaleAnswersAreOfReplies, WasTold, by_local_data, by_servers}
 use Rattle.yimarotu_forwarder_theorems.specs.Runs.{ForwarderEvent, Happening, Runs, at_first, happened, next}
-use Rattle.yimarotu_forwarder_theorems.proofs.Cores.{Core, Fetching, IsBegun, IsEndOf, IsLed, IsThatOf, Joins, Leaves, Puts, Still, Stills, StoresEnd, as_before, begins_alone, cache_changes, core, failures_change, has_failed, has_heard, is_flushed, is_heard, is_known, is_let_go, is_over, left_by, more}
+use Rattle.yimarotu_forwarder_theorems.proofs.Cores.{Core, Fetching, IsBegun, IsEndOf, IsLed, IsThatOf, Joins, Leaves, Puts, Still, Stills, StoresEnd, as_before, begins_alone, cache_changes, core, failures_change, has_failed, has_heard, is_flushed, is_heard, is_known, is_let_go, is_over, is_told_late, left_by, more}
 use Rattle.yimarotu_forwarder_theorems.proofs.Events.{EventMoves, event_goes, event_joins, event_leaves, event_options, event_stays, moves}
-use Rattle.yimarotu_forwarder_theorems.proofs.KeptValues.{AllKept, StoresSuch, all-after, all-filtered}
+use Rattle.yimarotu_forwarder_theorems.proofs.KeptValues.{AllKept, StoresSuch, all-after, all-filtered, told-kept}
 
 abbrev Messages : Type 0
 Messages = List WireMessage
@@ -147,7 +154,7 @@ module _ (past : List Happening) where
       → ((m : WireMessage) → said m → WasTold past m) → IsReached l → IsEndOf said l end → end ≡ Reply s
       → IsAnswer past s
   ended-so l end s tells r (has_failed why is) h = let clash : Failure why ≡ Reply s = sym is ∙ h in absurd cc
-  ended-so l end s tells r (has_heard m kept said-so how allowed denied second is) h =
+  ended-so l end s tells r (has_heard m kept said-so how allowed denied greatest second is) h =
       let how-again : heard m (after_all (begun r.question r.dnssec) r.replies) ≡ Whole kept =
       ap (heard m) (sym r.reached) ∙ how in
       let whole = whole-behind (begun r.question r.dnssec) r.replies m kept r.lead how-again in
@@ -161,12 +168,13 @@ module _ (past : List Happening) where
         made = by_servers whole;
         allowed = allowed;
         denied = denied;
+        greatest = greatest;
         second = second;
         stored =
-            stored-so l.asked (without_denied allowed denied kept) second s (sym is ∙ h)
-            ∙ ap (λ (q : Query). stored_at q (without_denied allowed denied kept) second) r.asked;
+            stored-so l.asked (capped greatest (without_denied allowed denied kept)) second s (sym is ∙ h)
+            ∙ ap (λ (q : Query). stored_at q (capped greatest (without_denied allowed denied kept)) second) r.asked;
       }
-  ended-so l end s tells r (is_known here allowed denied second is) h =
+  ended-so l end s tells r (is_known here allowed denied greatest second is) h =
       let count = all-asked r.replies (begun r.question r.dnssec) r.lead in
       let few = asks_few_questions r.question r.dnssec r.replies in
       record {
@@ -179,10 +187,12 @@ module _ (past : List Happening) where
         made = by_local_data here (ap (whole_with here) r.reached);
         allowed = allowed;
         denied = denied;
+        greatest = greatest;
         second = second;
         stored =
-            stored-so l.asked (without_denied allowed denied (whole_with here l)) second s (sym is ∙ h)
-            ∙ ap (λ (q : Query). stored_at q (without_denied allowed denied (whole_with here l)) second) r.asked;
+            stored-so l.asked (capped greatest (without_denied allowed denied (whole_with here l))) second s (sym is ∙ h)
+            ∙ ap (λ (q : Query). stored_at q (capped greatest (without_denied allowed denied (whole_with here l))) second)
+            r.asked;
       }
 
   -- ---- all of it
@@ -214,8 +224,8 @@ module _ (past : List Happening) where
 
   stored-such : (c : Core) (event : CacheEvent CachedValue) → StoresEnd c event → IsToldOf c.replying
       → StoresSuch (IsKeptAnswer past) event
-  stored-such c (stores key s weight deadline now) (r, was, end, lasts) told =
-      record { answer = told r s.reply was end; lasts = lasts }
+  stored-such c (stores key s weight deadline now) (r, was, end, lasts, a_day) told =
+      record { answer = told r s.reply was end; lasts = lasts; a_day = a_day }
   stored-such c (asks key now) such told = tt
   stored-such c (removes key) such told = tt
   stored-such c clears such told = tt
@@ -248,6 +258,18 @@ module _ (past : List Happening) where
     where
       same-replying : (r q : ReplyingValue) → Some r ≡ Some q → r ≡ q
       same-replying r q is' = cc
+  still-sound c d tells (is_told_late c' d' k f none found puts e) h =
+      subst IsSound (sym e) (record {
+        going_on = put-reached k (Some (with_nobody f)) c.fetches d.fetches puts h.going_on
+            (λ x is. subst (λ (y : FetchValue). IsReached y.lookup) (same-put (with_nobody f) x is)
+            (h.going_on k f found));
+        told = λ r s was ends. failed r s was ends;
+        kept = h.kept;
+      })
+    where
+      failed : (r : ReplyingValue) (s : StoredValue) → Some (late_replying k f) ≡ Some r → r.end ≡ Reply s
+          → IsAnswer past s
+      failed r s is ends = let clash : Failure reason.NoReachableAuthority ≡ Reply s = cc in absurd cc
   still-sound c d tells (is_let_go c' d' r was none e) h =
       subst IsSound (sym e) (record { going_on = h.going_on; told = none-told; kept = h.kept })
   still-sound c d tells (is_flushed c' d' labels below e) h =
@@ -356,6 +378,7 @@ answer-later h past s x = record {
   made = x.made;
   allowed = x.allowed;
   denied = x.denied;
+  greatest = x.greatest;
   second = x.second;
   stored = x.stored;
 }
@@ -364,7 +387,11 @@ kept-later : (h : Happening) (past : List Happening) (es : List (Entry CachedVal
     → AllKept (IsKeptAnswer (h ∷ past)) es
 kept-later h past [] all = tt
 kept-later h past (e ∷ es) all = (
-  record { answer = answer-later h past e.value.reply all.0.answer; lasts = all.0.lasts },
+  record {
+    answer = answer-later h past e.value.reply all.0.answer;
+    lasts = all.0.lasts;
+    a_day = all.0.a_day;
+  },
   kept-later h past es all.1,
 )
 
@@ -402,3 +429,48 @@ answers_are_of_replies options local cache failures pool past s runs =
       told = λ r end is ends. h.told r end is ends;
       kept = h.kept;
     }
+
+-- ---- what is told past its end
+
+short-ttls : (rs : List RecordValue) → AllByRecursion HasShortTtl (map (with_ttl STALE_TTL) rs)
+short-ttls [] = tt
+short-ttls (r ∷ rs) = (refl, short-ttls rs)
+
+stale-so : (past : List Happening) (cached : CachedValue) (deadline : ℕ) (o : OptionsValue) (now : ℕ) (s : StoredValue)
+    → IsKeptAnswer past cached deadline → if_stale o now cached ≡ Some s → IsStaleAnswer past s o now
+stale-so past cached deadline o now s kept is =
+    by (nat_lt cached.told_until now) refl (nat_le (now - cached.told_until) (stale_seconds o)) refl is
+  where
+    by : (over : Bool) → nat_lt cached.told_until now ≡ over → (late : Bool)
+        → nat_le (now - cached.told_until) (stale_seconds o) ≡ late
+        → (if over && late then Some cached.reply else None) ≡ Some s → IsStaleAnswer past s o now
+    by false over late days h = absurd cc
+    by true over false days h = absurd cc
+    by true over true days h =
+        let same : cached.reply ≡ s = cc in
+        let before : cached.told_until < now = ltb-true cached.told_until now over in
+        let within : now - cached.told_until ≤ stale_seconds o =
+        leb-true (now - cached.told_until) (stale_seconds o) days in
+        record {
+          answer = subst (IsAnswer past) same kept.answer;
+          told_until = cached.told_until;
+          lasts = subst (λ (x : StoredValue). LastsTo x cached.told_until) same kept.lasts;
+          over = before;
+          late = omega (arith, before, within);
+          a_day = omega arith;
+          answers = short-ttls s.kept.answers;
+          authorities = short-ttls s.kept.authorities;
+        }
+
+pub stale_answers_are_of_replies : StaleAnswersAreOfReplies
+stale_answers_are_of_replies options local cache failures pool past s runs key stored is =
+    by (told key (second_of s) s.cache.entries) refl is
+  where
+    by : (o : Option CachedValue) → told key (second_of s) s.cache.entries ≡ o
+        → option_and_then (if_stale s.options (second_of s)) o ≡ Some stored
+        → IsStaleAnswer past stored s.options (second_of s)
+    by None there h = absurd cc
+    by (Some cached) there h =
+        let kept = told-kept (IsKeptAnswer past) key (second_of s) s.cache.entries cached
+        (sound options local cache failures pool past s runs).kept there in
+        stale-so past cached kept.0 s.options (second_of s) stored kept.1 h

@@ -3,14 +3,19 @@ use Rattle.std.proofs.Common.{◌≡◌, ℕ, Bool, true, false, List, [], ◌�
 use Rattle.std.specs.Prelude.{Option, None, Some, nat_le, unwrap_or, if◌then◌else◌}
 use Rattle.std.specs.Option.{option_and_then}
 use Rattle.client_queries.specs.declared.query.Refusal.{Refusal}
-use Rattle.client_requests.specs.Replies.{failure_reply, fits, refusal_reply, reply_to, stored_reply}
+use Rattle.client_requests.specs.Replies.{failure_reply, fits, refusal_reply, reply_to, stale_reply, stored_reply}
 use Rattle.client_requests.specs.Requests.{RequestValue, question_of}
 use Rattle.client_requests.specs.declared.choices.TheConstants.{LONGEST_MESSAGE}
 use Rattle.client_requests.specs.declared.fetch_end.FetchEnd.{FetchEnd}
 use Rattle.client_requests.specs.declared.fetch_end.FetchEnd.TheVariants.{Reply, Failure}
 use Rattle.failure_replies.specs.declared.failure.FailureReason.{FailureReason}
 use Rattle.failure_replies.specs.declared.failure.FailureReason.TheVariants.{Other}
+use Rattle.second_chance_cache.specs.SecondChance.{CacheValue}
+use Rattle.stored_replies.specs.Stale.{stale_of}
 use Rattle.stored_replies.specs.Stored.{StoredValue, whole_octets}
+use Rattle.yimarotu_forwarder.specs.Cached.{CachedValue}
+use Rattle.yimarotu_forwarder.specs.Options.{OptionsValue}
+use Rattle.yimarotu_forwarder.specs.Stale.{stale_hit_in, stale_in, told_end_in}
 use Rattle.stored_replies.specs.Told.{asks_for, bare_octets, cut_octets, cut_within, reply_within, told_message, told_octets, within}
 use Rattle.yimarotu_forwarder_theorems.specs.ReplyOctets.{IsOwnReply}
 
@@ -69,3 +74,38 @@ reply-own r (Reply s) trust now = by (stored_reply r s trust now) refl
     by : (o : Option (List ℕ)) → stored_reply r s trust now ≡ o → IsOwnReply r (unwrap_or o (failure_reply r Other))
     by None is = failure-own r Other
     by (Some octets) is = stored-own r s trust now octets is
+
+-- ---- past its end
+
+stale-own : (r : RequestValue) (s : StoredValue) (octets : List ℕ) → stale_reply r s ≡ Some octets → IsOwnReply r octets
+stale-own r s octets h = by (fits r s) h
+  where
+    by : (b : Bool)
+        → (if b then reply_within LONGEST_MESSAGE r.octets r.query (stale_of s) false 0
+        else cut_within LONGEST_MESSAGE r.octets r.query s false 0) ≡ Some octets
+        → IsOwnReply r octets
+    by true e =
+        subst (IsOwnReply r)
+        (told-within LONGEST_MESSAGE (told_octets r.octets r.query (stale_of s) false 0) octets
+        (asks_for r.octets r.query s) e)
+        (told-own r (stale_of s) false 0)
+    by false e =
+        subst (IsOwnReply r)
+        (told-within LONGEST_MESSAGE (cut_octets r.octets r.query s false 0) octets (asks_for r.octets r.query s) e)
+        (cut-own r s false 0)
+
+module _ (cache : CacheValue CachedValue) (r : RequestValue) (key : List ℕ) (o : OptionsValue) (now : ℕ) where
+  pub stale-hit-own : (octets : List ℕ) → stale_hit_in cache r key o now ≡ Some octets → IsOwnReply r octets
+  stale-hit-own octets h = by (stale_in cache key o now) h
+    where
+      by : (s : Option StoredValue) → option_and_then (stale_reply r) s ≡ Some octets → IsOwnReply r octets
+      by None e = absurd cc
+      by (Some s) e = stale-own r s octets e
+
+  pub told-end-own : (end : FetchEnd) → IsOwnReply r (told_end_in cache r key o now end)
+  told-end-own (Reply s) = reply-own r (Reply s) o.trusts_authentic_data now
+  told-end-own (Failure why) = by (stale_hit_in cache r key o now) refl
+    where
+      by : (h : Option (List ℕ)) → stale_hit_in cache r key o now ≡ h → IsOwnReply r (unwrap_or h (failure_reply r why))
+      by None is = failure-own r why
+      by (Some octets) is = stale-hit-own octets is

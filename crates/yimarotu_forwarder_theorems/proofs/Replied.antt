@@ -20,7 +20,7 @@ use Rattle.yimarotu_forwarder_theorems.specs.Runs.{ForwarderEvent, Happening, Ru
 use Rattle.yimarotu_forwarder_theorems.proofs.Cores.{Core, Leaves, core, waiting_for}
 use Rattle.yimarotu_forwarder_theorems.proofs.Events.{EventMoves, Says, event_goes, event_joins, event_leaves, event_options, event_stays, moves}
 use Rattle.yimarotu_forwarder_theorems.proofs.Keys.{own-key, same-key}
-use Rattle.yimarotu_forwarder_theorems.proofs.Octets.{reply-own}
+use Rattle.yimarotu_forwarder_theorems.proofs.Octets.{told-end-own}
 use Rattle.yimarotu_forwarder_theorems.proofs.Stepping.{StepMoves, step_replies, step_stays, steps}
 use Rattle.yimarotu_forwarder_theorems.proofs.Waiting.{gone-waits, join-waits, leave-waits, stills-wait, waiting}
 
@@ -295,7 +295,7 @@ to-first s after client are (step_replies w l does reply) =
       reply_is = reply;
       own =
           subst (IsOwnReply w) (sym reply)
-          (reply-own w l.replying.end s.options.trusts_authentic_data (second_of s));
+          (told-end-own s.cache w l.replying.key s.options (second_of s) l.replying.end);
       others_wait =
           ap (waiting key) l.others_are ∙ ap (λ (b : Bool). (if b then l.others else []) ++ rest) own-again;
     }

@@ -1,6 +1,6 @@
 -- What a step changes.
-use Rattle.std.proofs.Common.{◌≡◌, ◌∙◌, ◌==◌, ℕ, inl, inr, Bool, true, false, List, [], ◌∷◌, drop, refl, sym, ap, subst, arith}
-use Rattle.std.specs.Prelude.{Option, None, Some, MatchOption, slice_get, if◌then◌else◌}
+use Rattle.std.proofs.Common.{◌≡◌, ◌∙◌, ◌==◌, ◌+◌, ◌≤◌, ℕ, inl, inr, Bool, true, false, List, [], ◌∷◌, drop, refl, sym, ap, subst, arith}
+use Rattle.std.specs.Prelude.{Option, None, Some, MatchOption, nat_lt, slice_get, if◌then◌else◌}
 use Rattle.std.specs.Option.{option_map_or}
 use Rattle.hickory_proto_core.specs.declared.query.Query.{Query}
 use Rattle.hickory_proto_wire.specs.declared.wire_message.WireMessage.{WireMessage}
@@ -9,7 +9,6 @@ use Rattle.hickory_resolver_pool.specs.declared.pool.Action.{Action}
 use Rattle.hickory_resolver_pool.specs.declared.pool.Action.TheVariants as does
 use Rattle.hickory_resolver_pool.specs.declared.pool.Asked as pool_asked
 use Rattle.hickory_resolver_pool.specs.declared.pool.Asked.TheVariants as asked
-use Rattle.client_requests.specs.Replies.{reply_to}
 use Rattle.client_requests.specs.Requests.{RequestValue}
 use Rattle.client_requests.specs.declared.fetch_end.FetchEnd.{FetchEnd}
 use Rattle.client_requests.specs.declared.fetch_end.FetchEnd.TheVariants.{Reply, Failure}
@@ -21,7 +20,8 @@ use Rattle.local_answers.specs.declared.local_data.Decision.{Decision}
 use Rattle.local_answers.specs.declared.local_data.Decision.TheVariants as decision
 use Rattle.second_chance_cache.specs.Laws.{removes, stores}
 use Rattle.second_chance_cache.specs.SecondChance.{told}
-use Rattle.stored_replies.specs.Stored.{StoredValue, weight_of}
+use Rattle.stored_replies.specs.Stored.{StoredValue, saturated, weight_of}
+use Rattle.whole_lookups.specs.Capped.{capped}
 use Rattle.whole_lookups.specs.Denied.{without_denied}
 use Rattle.whole_lookups.specs.Lookups as whole
 use Rattle.whole_lookups.specs.Lookups.{LookupValue, after_of, gone_on, heard, may_go_on, whole_with}
@@ -30,16 +30,19 @@ use Rattle.whole_lookups.specs.declared.heard.Heard.TheVariants as heard_as
 use Rattle.whole_replies.specs.Kept.{KeptValue, kept_of, next_question}
 use Rattle.yimarotu_forwarder.specs.Fetches.{FetchValue, asked_for, fetch_at}
 use Rattle.yimarotu_forwarder.specs.Forwarders.{ForwarderValue, ReplyingValue, TellingValue, second_of}
-use Rattle.yimarotu_forwarder.specs.Steps.{AsksBy, AsksFirst, AsksFor, AsksNext, AsksOr, ForwarderSteps, IsLetGo, PrefetchesFirst, RepliesNext, RepliesTo, StepsPool, StopsAsking, StopsAskingFirst, StopsPrefetchingFirst, StopsTellingFirst, TellsFirst, action_of, as_cached, asks_with, cached_until, has_turn, keeps_end, lets_go, with_stored}
+use Rattle.yimarotu_forwarder.specs.Steps.{AsksBy, AsksFirst, AsksFor, AsksNext, AsksOr, ForwarderSteps, IsLetGo, PrefetchesFirst, RepliesNext, RepliesTo, StepsPool, StopsAsking, StopsAskingFirst, StopsPrefetchingFirst, StopsStep, StopsTellingFirst, TellsFirst, TellsLateFirst, action_of, as_cached, asks_with, cached_until, has_turn, keeps_end, lets_go, with_stored}
+use Rattle.yimarotu_forwarder.specs.Late.{TellsLate, TellsLateIf, TellsWaiting, TellsWaitingOf, first_due, is_told_late as is_late_key, passed_over}
 use Rattle.yimarotu_forwarder.specs.LookingUp.{after_ask, pool_question, pool_says}
 use Rattle.yimarotu_forwarder.specs.Prefetching.{AsksLone, BeginsLoneBy, DecidesLone, Prefetches, PrefetchesUnasked, key_dnssec, key_query, key_unchecked, lone_fetch, without_prefetch}
+use Rattle.yimarotu_forwarder.specs.Options.{OptionsValue, denied_for, stale_seconds}
 use Rattle.yimarotu_forwarder.specs.Replying.{end_of}
-use Rattle.yimarotu_forwarder.specs.Telling.{EndsFetch, EndsForMemory, Finishes, Hears, StopsNext, StopsTelling, Tells, TellsAsker, TellsFetch, TellsKey, TellsNext, first_second, forgets_asker, heard_so, is_kept_failure, lookup_after, one_more, reason_of, response_of, told_of, whole_end, with_end}
+use Rattle.yimarotu_forwarder.specs.Stale.{kept_until, told_end}
+use Rattle.yimarotu_forwarder.specs.Telling.{EndsFetch, EndsForMemory, Finishes, Hears, StopsNext, StopsTelling, Tells, TellsAsker, TellsFetch, TellsKey, TellsNext, as_told, first_second, forgets_asker, heard_so, is_kept_failure, lookup_after, one_more, reason_of, response_of, told_of, whole_end, with_end}
+use Rattle.yimarotu_forwarder.specs.declared.choices.TheConstants.{LONGEST_STALE}
 use Rattle.yimarotu_forwarder.specs.declared.steps.ForwarderAction.{ForwarderAction}
 use Rattle.yimarotu_forwarder.specs.declared.steps.ForwarderAction.TheVariants as act
 use Rattle.yimarotu_forwarder_theorems.specs.Lookups.{IsTelling, LastsTo}
-use Rattle.yimarotu_forwarder_theorems.specs.Runs.{IsRefused}
-use Rattle.yimarotu_forwarder_theorems.proofs.Cores.{IsEndOf, IsSame, Leaves, Still, Stills, as_before, begins_alone, cache_changes, core, failures_change, has_failed, has_heard, is_heard, is_known, is_let_go, is_over, more, still-one, stills-then}
+use Rattle.yimarotu_forwarder_theorems.proofs.Cores.{IsEndOf, IsSame, Leaves, Still, Stills, as_before, begins_alone, cache_changes, core, failures_change, has_failed, has_heard, is_heard, is_known, is_let_go, is_over, is_told_late, more, still-one, stills-then}
 
 -- ---- lists
 
@@ -120,6 +123,7 @@ hears-so : {said : WireMessage → Type 0}
     (over : OverValue) (key : List ℕ) (f g : FetchValue) (b a : ForwarderValue) → b.replying ≡ None
     → fetch_at key b.fetches ≡ Some f → IsSame f g → g.lookup ≡ lookup_after over f
     → ((m : WireMessage) → response_of over ≡ Some m → said m) → Hears (told_of over f) key g b a → Stills said (core b) (core a)
+unfolding as_told
 hears-so {said} over key f g b a none found same led says h = by (response_of over) refl
   where
     by-heard : (m : WireMessage) → response_of over ≡ Some m → (what : Heard) → heard m f.lookup ≡ what
@@ -134,9 +138,11 @@ hears-so {said} over key f g b a none found same led says h = by (response_of ov
     by-heard m is (heard_as.Whole kept) how =
         let ends = rw (is, how) at h in
         ends-fetch key (whole_end kept g b) f g b a none found same
-        (has_heard m kept (says m is) how b.options.allowed b.options.denied (first_second g b)
-        (ap (λ (q : Query).
-        end_of q (without_denied b.options.allowed b.options.denied kept) (first_second g b)) same.asked))
+        (has_heard m kept (says m is) how b.options.allowed (denied_for g.lookup.asked.name b.options)
+        b.options.greatest_ttl (first_second g b) (ap (λ (q : Query).
+        end_of q (capped b.options.greatest_ttl
+        (without_denied b.options.allowed (denied_for g.lookup.asked.name b.options) kept)) (first_second g b))
+        same.asked))
         ends
     by-heard m is heard_as.Fails how =
         let ends = rw (is, how) at h in
@@ -190,9 +196,11 @@ asks-by {said} asked.NoServers key f b a none found h =
 asks-or : {said : WireMessage → Type 0}
     (what : Decision) (key : List ℕ) (f : FetchValue) (b a : ForwarderValue) → b.replying ≡ None
     → fetch_at key b.fetches ≡ Some f → AsksOr what key f b a → Stills said (core b) (core a)
+unfolding as_told
 asks-or {said} (decision.Answer kept) key f b a none found h =
     ends-fetch key (whole_end (whole_with kept f.lookup) f b) f f b a none found (same-fetch f)
-    (is_known kept b.options.allowed b.options.denied (first_second f b) refl) h
+    (is_known kept b.options.allowed (denied_for f.lookup.asked.name b.options) b.options.greatest_ttl
+    (first_second f b) refl) h
 asks-or {said} (decision.Ask group) key f b a none found h =
     asks-by (pool_says group (asks_with f b) b) key f (after_ask group (asks_with f b) b) a none found h
 
@@ -210,6 +218,13 @@ asks-for {said} key b a none h = by (fetch_at key b.fetches) refl h
 lasts : (s : StoredValue) (b : ForwarderValue) → LastsTo s (cached_until s b)
 lasts s b = omega arith
 
+a-day : (o : OptionsValue) (until now : ℕ) → kept_until o until now ≤ until + LONGEST_STALE
+a-day o until now = by (nat_lt now until)
+  where
+    by : (b : Bool) → (if b then saturated (until + stale_seconds o) else until) ≤ until + LONGEST_STALE
+    by true = omega arith
+    by false = omega arith
+
 -- a reply is stored, and then let go
 let-go-by : {said : WireMessage → Type 0}
     (same : Bool) (end : FetchEnd) (r : ReplyingValue) (b : ForwarderValue) → b.replying ≡ Some r
@@ -220,8 +235,9 @@ let-go-by {said} true (Reply s) r b was none is =
     let gone = record b { replying = None } in
     let kept = core (with_stored r.key s b) in
     more (core b) kept (core (with_stored r.key s gone))
-    (cache_changes (core b) kept (stores r.key (as_cached s b) (weight_of s) (cached_until s b) (second_of b))
-    (r, was, is, lasts s b) refl)
+    (cache_changes (core b) kept
+    (stores r.key (as_cached s b) (weight_of s) (kept_until b.options (cached_until s b) (second_of b)) (second_of b))
+    (r, was, is, lasts s b, a-day b.options (cached_until s b) (second_of b)) refl)
     (still-one kept (core (with_stored r.key s gone))
     (is_let_go kept (core (with_stored r.key s gone)) r was none refl))
 let-go-by {said} true (Failure why) r b was none is =
@@ -249,7 +265,7 @@ pub data StepMoves (before after : ForwarderValue) (action : Option ForwarderAct
   step_stays : (IsReply action → ⊥) → Stills (IsTelling before) (core before) (core after) → StepMoves before after action
   step_replies : (w : RequestValue) (leaves : Leaves w (core before) (core after))
       → action ≡ Some (act.Reply w.client.number)
-      → after.reply ≡ reply_to w leaves.replying.end before.options.trusts_authentic_data (second_of before)
+      → after.reply ≡ told_end w leaves.replying.key leaves.replying.end before
       → StepMoves before after action
 
 continues : (action : Option ForwarderAction) → action ≡ Some act.Continue → IsReply action → ⊥
@@ -275,7 +291,7 @@ lone : {said : WireMessage → Type 0}
     → BeginsLoneBy what q key b a → Stills said (core b) (core a)
 lone {said} (asked.Asker x) q key b a none h =
     still-one (core b) (core a)
-    (begins_alone (core b) (core a) key (lone_fetch q key b.generation) none refl (q, key_dnssec key, refl)
+    (begins_alone (core b) (core a) key (lone_fetch q key b.generation b.clock) none refl (q, key_dnssec key, refl)
     h.begins.puts (ap core h.others_are))
 lone {said} asked.Overloaded q key b a none h = as_before (core b) (core a) (ap core h)
 lone {said} asked.NoServers q key b a none h = as_before (core b) (core a) (ap core h)
@@ -303,14 +319,44 @@ prefetches {said} key b a h = by (fetch_at key b.fetches) refl h
     by None is h = by-query (key_query key) is h
     by (Some f) is h = as_before (core b) (core a) (ap core h)
 
-prefetches-first : (b a : ForwarderValue) (action : Option ForwarderAction) → PrefetchesFirst b action a
-    → StepMoves b a action
-prefetches-first b a action h = by b.prefetch h
+-- ---- who waits for a look-up that is late
+
+tells-waiting : {said : WireMessage → Type 0}
+    (key : List ℕ) (b a : ForwarderValue) → b.replying ≡ None → TellsWaitingOf key b a → Stills said (core b) (core a)
+tells-waiting {said} key b a none h = by (fetch_at key b.fetches) refl h
+  where
+    by : (o : Option FetchValue) → fetch_at key b.fetches ≡ o → MatchOption o (a ≡ b) (TellsWaiting key b a)
+        → Stills said (core b) (core a)
+    by None is h = as_before (core b) (core a) (ap core h)
+    by (Some f) is h =
+        still-one (core b) (core a) (is_told_late (core b) (core a) key f none is h.holds.puts (ap core h.others_are))
+
+tells-late : {said : WireMessage → Type 0}
+    (key : List ℕ) (b a : ForwarderValue) → b.replying ≡ None → TellsLate b a key → Stills said (core b) (core a)
+tells-late {said} key b a none h = by (is_late_key key b) h
+  where
+    by : (told : Bool) → TellsLateIf told key (passed_over b) a → Stills said (core b) (core a)
+    by true h = tells-waiting key (passed_over b) a none h
+    by false h = as_before (core b) (core a) (ap core h)
+
+tells-late-first : (b a : ForwarderValue) (action : Option ForwarderAction) → b.replying ≡ None
+    → TellsLateFirst b action a → StepMoves b a action
+tells-late-first b a action none h = by (first_due b) h
   where
     by : (o : Option (List ℕ))
-        → MatchOption o (StepsPool b action a) (λ key. (action ≡ Some act.Continue) × Prefetches b a key)
+        → MatchOption o (StepsPool b action a) (λ key. (action ≡ Some act.Continue) × TellsLate b a key)
         → StepMoves b a action
     by None h = steps-pool b a action h
+    by (Some key) h = step_stays (continues action h.0) (tells-late key b a none h.1)
+
+prefetches-first : (b a : ForwarderValue) (action : Option ForwarderAction) → b.replying ≡ None
+    → PrefetchesFirst b action a → StepMoves b a action
+prefetches-first b a action none h = by b.prefetch h
+  where
+    by : (o : Option (List ℕ))
+        → MatchOption o (TellsLateFirst b action a) (λ key. (action ≡ Some act.Continue) × Prefetches b a key)
+        → StepMoves b a action
+    by None h = tells-late-first b a action none h
     by (Some key) h = step_stays (continues action h.0) (prefetches key b a h.1)
 
 tells-first : (b a : ForwarderValue) (action : Option ForwarderAction) → b.replying ≡ None → TellsFirst b action a
@@ -320,7 +366,7 @@ tells-first b a action none h = by b.telling refl h
     by : (o : Option TellingValue) → b.telling ≡ o
         → MatchOption o (PrefetchesFirst b action a) (λ t. (action ≡ Some act.Continue) × Tells b a t)
         → StepMoves b a action
-    by None is h = prefetches-first b a action h
+    by None is h = prefetches-first b a action none h
     by (Some t) is h = step_stays (continues action h.0) (tells t b a none (λ m told. (t, is, told)) h.1)
 
 asks-first : (b a : ForwarderValue) (action : Option ForwarderAction) → b.replying ≡ None → AsksFirst b action a
@@ -436,11 +482,11 @@ stops-first {said} b a none h = by (slice_get b.fetches.to_ask 0) h
     by None h = stops-telling-first b a none h
     by (Some key) h = stops-asking key b a none h
 
-pub is-refused : {said : WireMessage → Type 0} (b a : ForwarderValue) → IsRefused b a → Stills said (core b) (core a)
-is-refused {said} b a h = by b.replying refl h.stops
+pub is-refused : {said : WireMessage → Type 0} (b a : ForwarderValue) → StopsStep b a → Stills said (core b) (core a)
+is-refused {said} b a h = by b.replying refl h
   where
     by : (o : Option ReplyingValue) → b.replying ≡ o → MatchOption o (StopsAskingFirst b a) (IsLetGo b a)
         → Stills said (core b) (core a)
     by None is stop = stops-first b a is stop
     by (Some r) is stop =
-        still-one (core b) (core a) (is_let_go (core b) (core a) r is (h.all_told r is) (ap core stop))
+        still-one (core b) (core a) (is_let_go (core b) (core a) r is (none-first r.waiting stop.0) (ap core stop.1))

@@ -11,10 +11,11 @@ use Rattle.client_requests.specs.Requests.{RequestValue}
 use Rattle.client_requests.specs.declared.fetch_end.FetchEnd.{FetchEnd}
 use Rattle.yimarotu_forwarder.specs.Fetches.{FetchValue, fetch_in, is_of_client, without_client}
 use Rattle.yimarotu_forwarder.specs.Forwarders.{ReplyingValue}
+use Rattle.yimarotu_forwarder.specs.Late.{late_replying, with_nobody}
 use Rattle.yimarotu_forwarder.specs.Leaving.{fetch_without, replying_without}
 use Rattle.yimarotu_forwarder.specs.Telling.{replying_of}
 use Rattle.yimarotu_forwarder_theorems.specs.Replies.{under, untold_under}
-use Rattle.yimarotu_forwarder_theorems.proofs.Cores.{Core, Fetching, Joins, Leaves, Puts, Still, Stills, as_before, begins_alone, cache_changes, failures_change, is_flushed, is_heard, is_let_go, is_over, left_by, more, waiting_for}
+use Rattle.yimarotu_forwarder_theorems.proofs.Cores.{Core, Fetching, Joins, Leaves, Puts, Still, Stills, as_before, begins_alone, cache_changes, failures_change, is_flushed, is_heard, is_let_go, is_over, is_told_late, left_by, more, waiting_for}
 use Rattle.yimarotu_forwarder_theorems.proofs.Keys.{own-key, put-waits, same-key, turned}
 
 abbrev pub waiting : List ℕ → Core → List RequestValue
@@ -40,6 +41,23 @@ over-waits k key end f g c d found same puts =
         ∙ ap (λ (x : List ℕ). waiting_for (fetch_in x c)) (same-key k key e)
     by false e = refl
 
+-- and so are those who wait for one that is late, for which nobody waits then
+late-waits : (k key : List ℕ) (f : FetchValue) (c d : Fetching) → fetch_in k c ≡ Some f → Puts k (Some (with_nobody f)) c d
+    → untold_under key (Some (late_replying k f)) ++ waiting_for (fetch_in key d) ≡ waiting_for (fetch_in key c)
+late-waits k key f c d found puts =
+    ap (λ (held : Option FetchValue). (if key_eq key k then f.waiting else []) ++ waiting_for held) (puts key)
+    ∙ ap (λ (b : Bool). (if b then f.waiting else [])
+    ++ waiting_for (if key_eq k key then Some (with_nobody f) else fetch_in key c)) (turned key k)
+    ∙ by (key_eq k key) refl
+  where
+    by : (b : Bool) → key_eq k key ≡ b
+        → (if b then f.waiting else []) ++ waiting_for (if b then Some (with_nobody f) else fetch_in key c)
+        ≡ waiting_for (fetch_in key c)
+    by true e =
+        append-nil f.waiting ∙ sym (ap waiting_for found)
+        ∙ ap (λ (x : List ℕ). waiting_for (fetch_in x c)) (same-key k key e)
+    by false e = refl
+
 none-untold : (key : List ℕ) (r : ReplyingValue) → r.waiting ≡ [] → untold_under key (Some r) ≡ []
 none-untold key r none = by (key_eq key r.key)
   where
@@ -56,6 +74,9 @@ still-waits key c d (is_heard c' d' k f g found same led puts e) =
     (put-waits k key (Some g) c.fetches d.fetches puts (same.waiting ∙ sym (ap waiting_for found)))
 still-waits key c d (is_over c' d' k end f g none found same is puts e) =
     ap (waiting key) e ∙ over-waits k key end f g c.fetches d.fetches found same.waiting puts
+    ∙ sym (ap (λ (r : Option ReplyingValue). untold_under key r ++ waiting_for (fetch_in key c.fetches)) none)
+still-waits key c d (is_told_late c' d' k f none found puts e) =
+    ap (waiting key) e ∙ late-waits k key f c.fetches d.fetches found puts
     ∙ sym (ap (λ (r : Option ReplyingValue). untold_under key r ++ waiting_for (fetch_in key c.fetches)) none)
 still-waits key c d (is_let_go c' d' r was none e) =
     ap (waiting key) e

@@ -1,6 +1,7 @@
 -- What look-ups come to, and what is kept of it.
-use Rattle.std.specs.Prelude.{◌≡◌, ◌⊎◌, ℕ, ◌+◌, ◌≤◌, Bool, List, [], ◌∷◌, length, Some}
+use Rattle.std.specs.Prelude.{◌≡◌, ◌⊎◌, ℕ, ◌+◌, ◌<◌, ◌≤◌, Bool, List, [], ◌∷◌, length, Some}
 use Rattle.std.specs.List.{AllByRecursion}
+use Rattle.hickory_proto_core.specs.Records.{RecordValue}
 use Rattle.hickory_proto_core.specs.declared.query.Query.{Query}
 use Rattle.hickory_proto_names.specs.declared.ip.IpNet.{IpNet}
 use Rattle.hickory_proto_wire.specs.declared.wire_message.WireMessage.{WireMessage}
@@ -8,7 +9,9 @@ use Rattle.hickory_resolver_pool.specs.Pool.{PoolState}
 use Rattle.client_requests.specs.declared.fetch_end.FetchEnd.TheVariants.{Reply}
 use Rattle.second_chance_cache.specs.SecondChance.{Entry}
 use Rattle.second_chance_cache.specs.declared.bounds.CacheBounds.{CacheBounds}
+use Rattle.stored_replies.specs.Stale.{stale_of}
 use Rattle.stored_replies.specs.Stored.{StoredValue, stored_at}
+use Rattle.whole_lookups.specs.Capped.{capped}
 use Rattle.whole_lookups.specs.Denied.{without_denied}
 use Rattle.whole_lookups.specs.Laws.{after_all, whole_of}
 use Rattle.whole_lookups.specs.Lookups.{LookupValue, begun, whole_with}
@@ -16,10 +19,12 @@ use Rattle.whole_lookups.specs.declared.choices.TheConstants.{MOST_QUESTIONS}
 use Rattle.whole_replies.specs.Kept.{KeptValue}
 use Rattle.yimarotu_forwarder.specs.Cached.{CachedValue}
 use Rattle.yimarotu_forwarder.specs.Fetches.{FetchValue, fetch_at}
-use Rattle.yimarotu_forwarder.specs.Forwarders.{ForwarderValue, ReplyingValue, TellingValue, new_forwarder}
+use Rattle.yimarotu_forwarder.specs.Forwarders.{ForwarderValue, ReplyingValue, TellingValue, new_forwarder, second_of}
 use Rattle.yimarotu_forwarder.specs.Local.{LocalValue}
-use Rattle.yimarotu_forwarder.specs.Options.{OptionsValue}
+use Rattle.yimarotu_forwarder.specs.Options.{OptionsValue, stale_seconds}
+use Rattle.yimarotu_forwarder.specs.Stale.{stale_in}
 use Rattle.yimarotu_forwarder.specs.Telling.{response_of}
+use Rattle.yimarotu_forwarder.specs.declared.choices.TheConstants.{LONGEST_STALE}
 use Rattle.yimarotu_forwarder_theorems.specs.Runs.{Happening, Runs, happened}
 
 -- ---- replies that were told
@@ -50,7 +55,8 @@ pub data IsMadeOf (question : Query) (dnssec : Bool) (replies : List WireMessage
   by_local_data : (here : KeptValue) → kept ≡ whole_with here (after_all (begun question dnssec) replies)
       → IsMadeOf question dnssec replies kept
 
--- what few replies to a question make, without addresses that were denied, as it was stored at a second
+-- What few replies to a question make, without addresses that were denied, and with no TTL above the greatest, as it
+-- was stored at a second.
 pub record IsAnswer (past : List Happening) (s : StoredValue) : Type 0 where
   pub question : Query
   pub dnssec : Bool
@@ -61,17 +67,20 @@ pub record IsAnswer (past : List Happening) (s : StoredValue) : Type 0 where
   pub made : IsMadeOf question dnssec replies kept
   pub allowed : List IpNet
   pub denied : List IpNet
+  pub greatest : ℕ
   pub second : ℕ
-  pub stored : s ≡ stored_at question (without_denied allowed denied kept) second
+  pub stored : s ≡ stored_at question (capped greatest (without_denied allowed denied kept)) second
 
 -- Up to this second it is no older than the least of its TTLs.
 abbrev pub LastsTo : StoredValue → ℕ → Type 0
 LastsTo s deadline = deadline ≤ s.moment + s.kept.seconds
 
--- It is an answer, and it is told up to no later second than it lasts.
+-- It is an answer; as it ages it is told up to no later second than it lasts; and it is kept for a day after that at
+-- the most.
 pub record IsKeptAnswer (past : List Happening) (cached : CachedValue) (deadline : ℕ) : Type 0 where
   pub answer : IsAnswer past cached.reply
-  pub lasts : LastsTo cached.reply deadline
+  pub lasts : LastsTo cached.reply cached.told_until
+  pub a_day : deadline ≤ cached.told_until + LONGEST_STALE
 
 -- Look-ups that go on, what those who waited are told of one that is over, and what is kept
 pub record AreOfReplies (past : List Happening) (s : ForwarderValue) : Type 0 where
@@ -80,9 +89,34 @@ pub record AreOfReplies (past : List Happening) (s : ForwarderValue) : Type 0 wh
   pub kept : AllByRecursion (λ (e : Entry CachedValue). IsKeptAnswer past e.value e.deadline) s.cache.entries
 
 -- The answer of a look-up is what at most eight replies that were told make, one after another, and so is all that is
--- kept, for no longer than the least of its TTLs.
+-- kept; what is told of it as it ages is told for no longer than the least of its TTLs.
 abbrev pub AnswersAreOfReplies : Type 0
 AnswersAreOfReplies =
     (options : OptionsValue) (local : LocalValue) (cache failures : CacheBounds) (pool : PoolState)
     → (past : List Happening) (s : ForwarderValue) → Runs (new_forwarder options local cache failures pool) past s
     → AreOfReplies past s
+
+-- ---- what is told past its end
+
+abbrev pub HasShortTtl : RecordValue → Type 0
+HasShortTtl r = r.ttl ≡ 30
+
+-- It was an answer up to a second that is over, by no more seconds than the options say, and a day at the most. What is
+-- told in place of it has TTLs of 30 seconds (RFC 8767, section 4).
+pub record IsStaleAnswer (past : List Happening) (s : StoredValue) (options : OptionsValue) (now : ℕ) : Type 0 where
+  pub answer : IsAnswer past s
+  pub told_until : ℕ
+  pub lasts : LastsTo s told_until
+  pub over : told_until < now
+  pub late : now ≤ told_until + stale_seconds options
+  pub a_day : stale_seconds options ≤ 86400
+  pub answers : AllByRecursion HasShortTtl (stale_of s).kept.answers
+  pub authorities : AllByRecursion HasShortTtl (stale_of s).kept.authorities
+
+-- What is told where a look-up failed, if not that.
+abbrev pub StaleAnswersAreOfReplies : Type 0
+StaleAnswersAreOfReplies =
+    (options : OptionsValue) (local : LocalValue) (cache failures : CacheBounds) (pool : PoolState)
+    → (past : List Happening) (s : ForwarderValue) → Runs (new_forwarder options local cache failures pool) past s
+    → (key : List ℕ) (stored : StoredValue) → stale_in s.cache key s.options (second_of s) ≡ Some stored
+    → IsStaleAnswer past stored s.options (second_of s)

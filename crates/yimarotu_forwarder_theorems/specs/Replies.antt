@@ -5,13 +5,13 @@ use Rattle.std.specs.Option.{option_and_then, option_map_or, option_to_list}
 use Rattle.hickory_resolver_pool.specs.Pool.{PoolState}
 use Rattle.second_chance_cache.specs.declared.bounds.CacheBounds.{CacheBounds}
 use Rattle.client_requests.specs.Keys.{key_eq, key_of}
-use Rattle.client_requests.specs.Replies.{reply_to}
 use Rattle.client_requests.specs.Requests.{RequestValue, request_of, waiting_of}
 use Rattle.client_requests.specs.declared.client.Client.{Client}
 use Rattle.yimarotu_forwarder.specs.Fetches.{FetchesValue, fetch_at, is_of_client, without_client}
-use Rattle.yimarotu_forwarder.specs.Forwarders.{ForwarderValue, ReplyingValue, new_forwarder, second_of}
+use Rattle.yimarotu_forwarder.specs.Forwarders.{ForwarderValue, ReplyingValue, new_forwarder}
 use Rattle.yimarotu_forwarder.specs.Local.{LocalValue}
 use Rattle.yimarotu_forwarder.specs.Options.{OptionsValue}
+use Rattle.yimarotu_forwarder.specs.Stale.{told_end}
 use Rattle.yimarotu_forwarder.specs.Steps.{ForwarderSteps}
 use Rattle.yimarotu_forwarder.specs.declared.answered.Answered.TheVariants.{Waits}
 use Rattle.yimarotu_forwarder.specs.declared.steps.ForwarderAction.{ForwarderAction}
@@ -119,7 +119,8 @@ EachIsRepliedToOnce =
 -- ---- each reply is to its request
 
 -- A step replies to the first request that waits for its question: the number is that of its client, and the octets are
--- those that tell this request what the look-up of its question came to, with its number and its question.
+-- those that tell this request what the look-up of its question came to, with its number and its question; or, where it
+-- failed, what is kept past its end.
 pub record RepliesToFirst (before : ForwarderValue) (client : ℕ) (after : ForwarderValue) : Type 0 where
   pub request : RequestValue
   pub others : List RequestValue
@@ -128,7 +129,7 @@ pub record RepliesToFirst (before : ForwarderValue) (client : ℕ) (after : Forw
   pub client_is : client ≡ request.client.number
   pub looked_up : before.replying ≡ Some came
   pub same_key : came.key ≡ key_of request
-  pub reply_is : after.reply ≡ reply_to request came.end before.options.trusts_authentic_data (second_of before)
+  pub reply_is : after.reply ≡ told_end request came.key came.end before
   pub own : IsOwnReply request after.reply
   pub others_wait : waiting_under (key_of request) after ≡ others
 

@@ -1,12 +1,12 @@
 -- What happened to a forwarder, one thing after another.
-use Rattle.std.specs.Prelude.{◌≡◌, ℕ, Bool, List, [], ◌∷◌, Option, Some}
+use Rattle.std.specs.Prelude.{◌≡◌, ℕ, Bool, List, [], ◌∷◌, Option}
 use Rattle.hickory_proto_core.specs.Name.{NameValue}
 use Rattle.hickory_resolver_pool.specs.Pool.{after_failure, after_octets, after_servers}
 use Rattle.hickory_resolver_pool.specs.Servers.{PoolServerValue}
 use Rattle.hickory_resolver_traffic.specs.declared.inbox.ChannelFailure.{ChannelFailure}
 use Rattle.client_requests.specs.declared.client.Client.{Client}
 use Rattle.yimarotu_forwarder.specs.Flushing.{flushed}
-use Rattle.yimarotu_forwarder.specs.Forwarders.{ForwarderValue, ReplyingValue, at_moment, cleared, moment_passes, with_local, with_pool}
+use Rattle.yimarotu_forwarder.specs.Forwarders.{ForwarderValue, at_moment, cleared, moment_passes, with_local, with_pool}
 use Rattle.yimarotu_forwarder.specs.Leaving.{gone}
 use Rattle.yimarotu_forwarder.specs.Local.{LocalValue}
 use Rattle.yimarotu_forwarder.specs.Options.{OptionsValue}
@@ -14,12 +14,6 @@ use Rattle.yimarotu_forwarder.specs.Queries.{AnswersQuery}
 use Rattle.yimarotu_forwarder.specs.Steps.{ForwarderSteps, StopsStep}
 use Rattle.yimarotu_forwarder.specs.declared.answered.Answered.{Answered}
 use Rattle.yimarotu_forwarder.specs.declared.steps.ForwarderAction.{ForwarderAction}
-
--- A step is refused for memory. That what a look-up came to is then let go only where all were told of it stands here,
--- since `StopsStep` does not say it: a step that replies takes no memory.
-pub record IsRefused (before after : ForwarderValue) : Type 0 where
-  pub stops : StopsStep before after
-  pub all_told : (r : ReplyingValue) → before.replying ≡ Some r → r.waiting ≡ []
 
 -- A query of a client, with how it was answered, or refused for memory; a client that waits no more; an event; a change
 -- of what the forwarder was given or keeps; or a step and what the program had to do for it, or one that was refused
@@ -54,7 +48,7 @@ Happens (options_are options) before after = after ≡ record before { options =
 Happens (name_is_flushed domain below) before after = after ≡ flushed domain below before
 Happens all_is_cleared before after = after ≡ cleared before
 Happens (is_stepped action) before after = ForwarderSteps before action after
-Happens step_is_refused before after = IsRefused before after
+Happens step_is_refused before after = StopsStep before after
 
 -- an event, and the forwarder before and after it
 pub data Happening : Type 0 where

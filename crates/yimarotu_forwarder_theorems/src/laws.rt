@@ -1,6 +1,6 @@
 //! What holds of a forwarder after every list of queries, events and steps.
 ghost use Rattle.yimarotu_forwarder_theorems.specs.Bounds.{BoundsAreKept, WhoWaitsIsCounted};
-ghost use Rattle.yimarotu_forwarder_theorems.specs.Lookups.{AnswersAreOfReplies};
+ghost use Rattle.yimarotu_forwarder_theorems.specs.Lookups.{AnswersAreOfReplies, StaleAnswersAreOfReplies};
 ghost use Rattle.yimarotu_forwarder_theorems.specs.Replies.{EachIsRepliedToOnce, EachReplyIsToItsRequest, QuestionsHaveQueues};
 ghost use Rattle.yimarotu_forwarder_theorems.specs.ReplyOctets.{RepliesAtOnceAreOwn};
 
@@ -34,9 +34,15 @@ pub fn bounds_are_kept()
 {}
 
 /// A look-up asks at most eight questions. What those who wait are told of it is what as few replies that the pool told
-/// make, one after another, and so is all that is kept, for no longer than the least of its TTLs.
+/// make, one after another, and so is all that is kept. As it ages it is told for no longer than the least of its TTLs.
 pub fn answers_are_of_replies()
     ensures { AnswersAreOfReplies }
+{}
+
+/// What is told past its end, where a look-up failed or is late, was such an answer up to a second that is over: by no
+/// more seconds than the options say, and a day at the most. It is told with TTLs of 30 seconds.
+pub fn stale_answers_are_of_replies()
+    ensures { StaleAnswersAreOfReplies }
 {}
 
 /// Where no client is gone, the counts are those of who waits: with those who were replied to they are all who were

@@ -1,5 +1,6 @@
 -- A fetch begins, once its question is on its way.
-use Rattle.std.proofs.Common.{◌≡◌, ◌∙◌, Bool, ap, ap₂, sym, subst}
+use Rattle.std.proofs.Common.{◌≡◌, ◌∙◌, ◌++◌, ◌∷◌, [], ℕ, List, Bool, ap, ap₂, sym, subst}
+use Rattle.std.specs.Prelude.{if◌then◌else◌}
 use Rattle.client_queries.specs.declared.query.ClientQuery.{ClientQuery}
 use Rattle.client_requests.specs.declared.client.Client.{Client}
 use Rattle.hickory_proto_core.specs.declared.query.Query.{Query}
@@ -8,6 +9,8 @@ use Rattle.stored_replies.specs.Told.{asks_dnssec}
 use Rattle.yimarotu_forwarder.specs.FetchTables.{fetches_of}
 use Rattle.yimarotu_forwarder.specs.Fetches.{Begins, FetchesValue}
 use Rattle.yimarotu_forwarder.specs.Forwarders.{ForwarderValue}
+use Rattle.client_requests.specs.Keys.{key_of}
+use Rattle.yimarotu_forwarder.specs.Late.{has_stale, late_after, late_at}
 use Rattle.yimarotu_forwarder.specs.LookingUp.{BeginsWith, counts_after, dnssec_of, new_fetch, pool_question}
 use Rattle.yimarotu_forwarder.specs.contracts.forwarder.Forwarder.{the_view}
 use Rattle.yimarotu_forwarder.specs.declared.answered.Outcome.TheVariants.{Waits}
@@ -28,6 +31,12 @@ returns-in-Asker-clause-ok c =
     ∙ ap₂ (λ (a : Bool) (b : Bool). dnssec_of a b c.args.self.now) asks unchecked
     ∙ ap (λ (s : ForwarderValue). dnssec_of (asks_dnssec c.args.request.now.query.edns)
     (bit 16 c.args.request.now.query.flags) s) (sym c.self.view_is) in
+    let late_is : c.note_late.new.late.items ≡ late_after (key_of c.args.request.now) was =
+    c.note_late.ensures
+    ∙ ap₂ (λ (b : Bool) (l : List (ℕ × List ℕ)). if b then l ++ (late_at was.clock, c.args.key) ∷ [] else l)
+    (c.has_stale-is_kept.ensures ∙ ap (λ (s : ForwarderValue). has_stale c.args.key s) (sym c.self.view_is))
+    c.reserve_late.ensures.same
+    ∙ ap (λ (k : List ℕ). late_after k was) c.requires in
     subst (λ (s : ForwarderValue). BeginsWith c.args.query c.args.request.now
     (pool_question c.args.query (asks_dnssec c.args.request.now.query.edns)
     (bit 16 c.args.request.now.query.flags) s) c.args.group s Waits
@@ -35,13 +44,14 @@ returns-in-Asker-clause-ok c =
       pool = c.ask_counted.new.pool;
       counts = c.ask_counted.new.counts;
       fetches = fetches_of c.begin.new.self;
+      late = c.note_late.new.late.items;
     }) c.args.waiting) c.self.view_is
     (begins_with c.args.query c.args.request.now c.args.waiting c.args.group was c.in_ok-asked.asked c.in-Asker.asker
     c.dnssec_of-dnssec.result c.in_ok-fetch.fetch c.args.key c.ask_counted.new.pool c.ask_counted.new.counts
-    (fetches_of c.begin.new.self) dnssec_is c.in_ok-asked.ensures.told c.in-Asker.is c.in_ok-asked.ensures.pool
+    (fetches_of c.begin.new.self) c.note_late.new.late.items dnssec_is c.in_ok-asked.ensures.told c.in-Asker.is c.in_ok-asked.ensures.pool
     (c.in_ok-asked.ensures.counts
     ∙ ap (λ (x : Client). counts_after c.in_ok-asked.asked x.address was.counts) c.client.ensures)
-    (c.in_ok-fetch.ensures ∙ ap (λ (q : Query). new_fetch q c.args.request.now c.args.waiting was.generation)
-    c.in_ok-copy.ensures) c.requires
+    (c.in_ok-fetch.ensures ∙ ap (λ (q : Query). new_fetch q c.args.request.now c.args.waiting was.generation was.clock)
+    c.in_ok-copy.ensures) c.requires late_is
     (subst (λ (f : FetchesValue). Begins c.args.key c.in_ok-fetch.fetch c.in-Asker.asker.number f
     (fetches_of c.begin.new.self)) c.reserve.ensures.same c.begin.ensures))

@@ -1,0 +1,7 @@
+//! Numbers that are choices.
+
+/// For how many seconds past its end a reply is told at the most: a day, the least that RFC 8767, section 5, suggests.
+pub const LONGEST_STALE: u64 = 86_400;
+
+/// After how many milliseconds those who wait for a look-up are told what is kept past its end (RFC 8767, section 5).
+pub const LATE: u64 = 1_800;
