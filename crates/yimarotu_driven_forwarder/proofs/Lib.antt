@@ -1,0 +1,3 @@
+pub mod Fixed
+pub mod Groups
+pub mod Same

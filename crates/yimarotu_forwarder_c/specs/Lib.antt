@@ -1,0 +1,11 @@
+pub mod Calls
+pub mod Doing
+pub mod Happening
+pub mod Insides
+pub mod Keeping
+pub mod Knowing
+pub mod Listing
+pub mod Openings
+pub mod Querying
+pub mod Rooms
+pub mod Statuses

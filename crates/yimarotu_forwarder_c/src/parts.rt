@@ -1,0 +1,36 @@
+//! What a box is made of: its pointer and its allocator.
+ghost use Rattle.std.specs.Prelude.{◌≡◌};
+ghost use Rattle.std.specs.Box.Ownership.{box_owns};
+
+use std::alloc::Allocator;
+use std::marker::Model;
+
+pub(crate) struct Parts<T, A: Allocator> {
+    pub(crate) at: *mut T,
+    pub(crate) alloc: A,
+    pub(crate) ghost value: { T },
+}
+
+impl<T, A: Allocator> Model for Parts<T, A> {
+    ghost use Rattle.std.specs.Box.Ownership.{box_owns};
+
+    ghost also_owns = { λ p. box_owns (A.dealloc_token p.alloc) T.row p.at p.value };
+}
+
+impl<T: Drop, A: Allocator> Parts<T, A> {
+    // Takes a box apart.
+    pub(crate) fn of(whole: Box<T, A>) -> Parts<T, A>
+        ensures { result.value ≡ whole.value }
+    {
+        let (at, alloc) = Box::into_raw_with_allocator(whole);
+        Parts { at, alloc }
+    }
+
+    // Puts the box together again.
+    pub(crate) fn into_box(self) -> Box<T, A>
+        ensures { result.value ≡ self.value }
+    {
+        let Parts { at, alloc } = self;
+        unsafe { Box::from_raw(alloc, at) }
+    }
+}
