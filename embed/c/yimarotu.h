@@ -1,9 +1,11 @@
-/* Yimarotu, a stub resolver, for C.
+/* Yimarotu, a stub resolver and a caching forwarder, for C.
  *
  * The library does no input or output and knows no clock. A program opens a session, starts look-ups in it, hands in what
  * happens, and does what yimarotu_next says until it says nothing: it opens a channel to a name server, sends octets, closes
  * a channel, or reads an answer. Who is asked, which reply is believed and when it is asked again is decided inside. A
- * program with a transport of its own feeds a session by hand instead: "sessions that are fed by hand" below.
+ * program with a transport of its own feeds a session by hand instead: "sessions that are fed by hand" below. A forwarder
+ * ("forwarders" below) is used as a session is: a program opens one, hands in what happens, and does what
+ * yimarotu_forwarder_next says until it says nothing. What is said here of sessions holds of forwarders, too.
  *
  * Bytes cross as a pointer and a length; the library reads or writes so many bytes there, keeps no pointer to them, and
  * frees none. No pointer may be null, not even where its length is 0. A length is at most PTRDIFF_MAX. A room overlaps
@@ -40,14 +42,14 @@ enum {
     YIMAROTU_ROOM = 5,       /* the room is too small: nothing was written, and the length says how much is wanted */
     YIMAROTU_MESSAGE = 6,    /* the bytes are no DNS message; the fault says why */
     YIMAROTU_UNWRITABLE = 7, /* the message cannot be written; the fault says why */
-    YIMAROTU_CLOSED = 8,     /* the session is not open */
-    YIMAROTU_IS_OPEN = 9,    /* the session is open already */
+    YIMAROTU_CLOSED = 8,     /* the session, or the forwarder, is not open */
+    YIMAROTU_IS_OPEN = 9,    /* the session, or the forwarder, is open already */
     YIMAROTU_IN_USE = 10,    /* another look-up has this number */
     YIMAROTU_NO_LOOKUP = 11, /* no look-up has this number */
-    YIMAROTU_WAITS = 12,     /* the look-up waits for an outcome, and has no answer yet */
+    YIMAROTU_WAITS = 12,     /* the look-up waits, and has no answer yet; or a reply is to be told first */
     YIMAROTU_DONE = 13,      /* the look-up is done, and has no question any more */
     YIMAROTU_TEXT = 14,      /* the name is not UTF-8 */
-    YIMAROTU_KIND = 15,      /* no failure has this number */
+    YIMAROTU_KIND = 15,      /* no failure has this number, or no address this length */
     YIMAROTU_ASKS_ITSELF = 16, /* the session asks by itself: it is not fed */
     YIMAROTU_IS_FED = 17,    /* the session is fed by hand: it asks nothing */
     YIMAROTU_SEED = 18       /* the seed has not 32 octets */
@@ -111,7 +113,8 @@ enum {
     YIMAROTU_OPEN = 2,     /* it opens a channel: a socket of its own, connected to this server */
     YIMAROTU_SEND = 3,     /* it sends octets on a channel */
     YIMAROTU_CLOSE = 4,    /* it closes a channel */
-    YIMAROTU_LOOKED_UP = 5 /* it may read the answer of a look-up, which is done */
+    YIMAROTU_LOOKED_UP = 5, /* of sessions: it may read the answer of a look-up, which is done */
+    YIMAROTU_REPLY = 6     /* of forwarders: it sends octets to a client */
 };
 
 /* What goes over a channel. */
@@ -183,7 +186,7 @@ typedef struct yimarotu_action {
     uint8_t family;   /* of a channel that is to be opened: 4 or 6, as the address of its server is; else 0 */
     uint16_t port;    /* of a channel that is to be opened: the port of its server; else 0 */
     uint64_t channel; /* the number of the channel, never used twice; 0 where there is none */
-    uint64_t number;  /* the number of the look-up that is done; else 0 */
+    uint64_t number;  /* the number of the look-up that is done, or of the client that is replied to; else 0 */
     size_t length;    /* of the octets: those that were put in the room, and those that are wanted there; else 0 */
 } yimarotu_action;
 
@@ -377,6 +380,155 @@ typedef struct yimarotu_replayed {
  * text stays, and where the status is not YIMAROTU_OK all of the room does. */
 yimarotu_replayed yimarotu_replay(const uint8_t *script, size_t script_length, const uint8_t *hosts, size_t hosts_length,
                                   uint8_t *room, size_t room_length);
+
+/* ---- forwarders */
+
+/* A caching forwarder: it replies to queries of clients out of local data and out of what it keeps, and asks servers for
+ * all else. A program hands in the queries that come, and what happens on its channels, and does what
+ * yimarotu_forwarder_next says until it says nothing, after each other call that changes a forwarder. The fields are the
+ * library's; an open forwarder may be moved, but makes no copy. Before it is opened it is closed: `yimarotu_forwarder
+ * forwarder = YIMAROTU_FORWARDER;`. */
+typedef struct yimarotu_forwarder {
+    bool is_open;
+    void *inside;
+} yimarotu_forwarder;
+
+#define YIMAROTU_FORWARDER { false, NULL }
+
+/* What becomes of a query. */
+enum {
+    YIMAROTU_DROPPED = 0,    /* it has no reply */
+    YIMAROTU_REPLIED = 1,    /* it has its reply */
+    YIMAROTU_QUERY_WAITS = 2 /* it waits for what servers say: YIMAROTU_REPLY says when it has its reply */
+};
+
+/* Opens a forwarder: as a file resolv.conf says on a host of this name (its servers, and how they are asked), and over it
+ * settings, which are lines (yimarotu-forward.conf(5), from `server` on); over what a file of hosts says; and over a file
+ * of blocked names. A file of no octets says as much as one without lines. No resolv.conf is refused, and no file of
+ * blocked names. The seed is 32 octets that nobody knows (getrandom). Where the status is not YIMAROTU_OK the forwarder
+ * stays as it was. */
+yimarotu_opened yimarotu_forwarder_open(yimarotu_forwarder *forwarder, const uint8_t *conf, size_t conf_length,
+                                        const uint8_t *hostname, size_t hostname_length, const uint8_t *settings,
+                                        size_t settings_length, const uint8_t *hosts, size_t hosts_length,
+                                        const uint8_t *blocked, size_t blocked_length, const uint8_t *seed,
+                                        size_t seed_length, uint64_t moment);
+
+/* Closes the forwarder, with all that it keeps and all that wait, and gives its memory back. Channels that are open are
+ * the program's to close. Of a forwarder that is closed nothing changes. */
+void yimarotu_forwarder_close(yimarotu_forwarder *forwarder);
+
+/* Reads the files and the settings anew, as yimarotu_forwarder_open reads them. Where each of the five says what it said,
+ * octet for octet, nothing changes. Else all that is kept is let go; what comes of look-ups in flight is told to those who
+ * wait, and not kept; and they go on with the servers that they began with. How servers are asked (the options that a
+ * session has, too), and how much is kept at the most, stay as the forwarder was opened. Where the status is none of
+ * YIMAROTU_OK and YIMAROTU_NO_MEMORY nothing changes; where it is YIMAROTU_NO_MEMORY the general servers, and those of the
+ * first domains, may be the new ones, of which nothing is known yet, and nothing else changes. */
+yimarotu_opened yimarotu_forwarder_reload(yimarotu_forwarder *forwarder, const uint8_t *conf, size_t conf_length,
+                                          const uint8_t *hostname, size_t hostname_length, const uint8_t *settings,
+                                          size_t settings_length, const uint8_t *hosts, size_t hosts_length,
+                                          const uint8_t *blocked, size_t blocked_length, uint64_t moment);
+
+typedef struct yimarotu_queried {
+    uint8_t status;
+    uint8_t answered; /* what becomes of it; 0 where the status is none of YIMAROTU_OK and YIMAROTU_ROOM */
+    size_t length;    /* of the reply: where it was written, and where the room is too small for it; else 0 */
+} yimarotu_queried;
+
+/* Octets of a query came from a client. Its number is the program's, and says whom a reply goes to: of a stream that of
+ * the connection; of datagrams one for each socket, address and port, as long as something of it waits, so that the same
+ * query sent twice is dropped the second time. Its address is 4 or 16 octets (an address of any other length is
+ * YIMAROTU_KIND); one of IPv4 within IPv6 (::ffff:0:0/96) counts with that of IPv4 where is bounded how many wait. A
+ * message of a stream stands here without its length.
+ *
+ * The reply, where there is one at once, is put at the front of the room. No clause bounds its length: a DNS message has at
+ * most 65,535 octets. Where the room is too small (YIMAROTU_ROOM) the query is taken in all the same, and
+ * yimarotu_forwarder_reply puts its reply into a larger one. What is behind the reply stays, and where none is put all of
+ * the room does.
+ *
+ * While yimarotu_forwarder_next has a reply to tell, for which its room was too small, no query is taken in
+ * (YIMAROTU_WAITS), since its reply would take the place of that one. Where the status is YIMAROTU_WAITS, YIMAROTU_KIND or
+ * YIMAROTU_CLOSED nothing changes; where it is YIMAROTU_NO_MEMORY nothing changes but that the moment passed, as by
+ * yimarotu_forwarder_tick, and the query has no reply. */
+yimarotu_queried yimarotu_forwarder_query(yimarotu_forwarder *forwarder, uint64_t client, const uint8_t *address,
+                                          size_t address_length, bool is_stream, const uint8_t *octets,
+                                          size_t octets_length, uint64_t moment, uint8_t *room, size_t room_length);
+
+/* Puts the reply that was written last, by yimarotu_forwarder_query or yimarotu_forwarder_next, at the front of the room:
+ * no octets where none was. What is behind it stays, and where the status is not YIMAROTU_OK all of the room does. The
+ * fault is 0. */
+yimarotu_written yimarotu_forwarder_reply(yimarotu_forwarder *forwarder, uint8_t *room, size_t room_length);
+
+/* The client of this number is gone: none of its requests is replied to any more, and the places that they had are free.
+ * Look-ups go on. The number may be given to another client from then on. A program need not call it: a reply to a number
+ * that it does not know is passed over, and until then the place stays taken, so that no client begins look-ups past its
+ * bounds by coming and going. Gives a status. */
+uint8_t yimarotu_forwarder_gone(yimarotu_forwarder *forwarder, uint64_t client);
+
+/* Tells what the program has to do next, as yimarotu_next does it, and besides YIMAROTU_REPLY: the octets in the room are
+ * the reply to the client of `number`, of a stream without its length. None is YIMAROTU_LOOKED_UP. Where the room is too
+ * small (YIMAROTU_ROOM) it says the same again in a larger one; where memory runs out it may be called again, and at most
+ * a look-up that was at its end has failed, its reply is not kept, or what is kept is not looked up anew before its end. */
+yimarotu_action yimarotu_forwarder_next(yimarotu_forwarder *forwarder, uint8_t *room, size_t room_length);
+
+/* Octets came on a channel: a datagram, or a piece of a stream, cut anywhere. On a channel that is not open they change
+ * nothing but that the moment passed for what is kept. Where the status is YIMAROTU_NO_MEMORY nothing changed, and they may
+ * be handed in again. Gives a status. */
+uint8_t yimarotu_forwarder_came(yimarotu_forwarder *forwarder, uint64_t channel, const uint8_t *octets,
+                                size_t octets_length, uint64_t moment);
+
+/* A channel failed, in a way that has this number (YIMAROTU_KIND: none has). Where the status is not YIMAROTU_OK nothing
+ * changed. Gives a status. */
+uint8_t yimarotu_forwarder_failed(yimarotu_forwarder *forwarder, uint64_t channel, uint8_t failure, uint64_t moment);
+
+/* Time passed. A moment before one that was told counts as that one. Gives a status. */
+uint8_t yimarotu_forwarder_tick(yimarotu_forwarder *forwarder, uint64_t moment);
+
+/* Tells for how many milliseconds from a moment on a program may wait for its channels and its clients, where nothing is
+ * left to be done; behind them it calls yimarotu_forwarder_tick. */
+yimarotu_waits yimarotu_forwarder_wait(yimarotu_forwarder *forwarder, uint64_t moment);
+
+typedef struct yimarotu_forwarder_counts {
+    uint8_t status;
+    uint64_t queries;       /* octets that were a query; each is one of the six that follow */
+    uint64_t from_cache;    /* queries that were told what is kept */
+    uint64_t local;         /* queries that were told local data, these numbers, or that asked for all types */
+    uint64_t failures_told; /* queries that were told at once that the look-up fails */
+    uint64_t refused;       /* queries that were refused */
+    uint64_t dropped;       /* queries that have no reply */
+    uint64_t waited;        /* queries that waited for what servers say */
+    uint64_t prefetched;    /* look-ups that nobody waited for as they began */
+    uint64_t sent;          /* messages that were to be sent to servers */
+    uint64_t waiting;       /* queries that wait */
+    uint64_t entries;       /* replies that are kept, current or not */
+    uint64_t octets;        /* how many octets of memory they weigh */
+} yimarotu_forwarder_counts;
+
+/* Tells what a forwarder did and holds. A number that is the greatest stays. */
+yimarotu_forwarder_counts yimarotu_forwarder_statistics(yimarotu_forwarder *forwarder);
+
+/* Lets go of the replies and the failures that are kept of a name, UTF-8, or, where the flag says so, of all names at and
+ * below it. What comes of look-ups in flight is kept. Where the status is not YIMAROTU_OK nothing changes; a text that is
+ * no name is YIMAROTU_TEXT. Gives a status. */
+uint8_t yimarotu_forwarder_flush(yimarotu_forwarder *forwarder, const uint8_t *name, size_t name_length, bool below);
+
+/* Lets go of all replies and failures that are kept. What comes of look-ups in flight is kept. Gives a status. */
+uint8_t yimarotu_forwarder_clear(yimarotu_forwarder *forwarder);
+
+typedef struct yimarotu_kept {
+    uint8_t status;
+    bool is_there;    /* whether there is one; else what follows is 0 */
+    uint16_t code;    /* its response code */
+    uint64_t seconds; /* for how many seconds more it is told; 0 where it is past its end */
+    uint64_t weight;  /* how many octets of memory it weighs */
+    size_t length;    /* of its key: where it was written, and where the room is too small for it */
+} yimarotu_kept;
+
+/* Goes through the replies that are kept: tells of the one behind that of a key, and puts its own key at the front of the
+ * room. Behind a key of no octets is the first; behind the last, and behind a key that is not kept, is none. A key is an
+ * octet, of which DO is 1 and CD is 2, and the question with its name in lower case. It and the room do not overlap. Nothing
+ * of the forwarder changes; where the status is not YIMAROTU_OK all of the room stays. */
+yimarotu_kept yimarotu_forwarder_kept(yimarotu_forwarder *forwarder, const uint8_t *key, size_t key_length, uint8_t *room,
+                                      size_t room_length);
 
 #ifdef __cplusplus
 }

@@ -83,13 +83,26 @@ def resolved(unpacked):
     return words
 
 
-def forwarder(port, upstream, folder):
-    """The example for C, as `make -C embed` builds it."""
-    return [str(TOP / "embed/out/forwarder"), ADDRESS, str(port), ADDRESS, str(upstream)]
+FORWARD = """listen {address} {port}
+server {address} {upstream}
+hosts none
+control none
+{more}
+"""
+
+
+def forwarder(*more):
+    """yimarotu-forward, as `make -C embed` builds it."""
+    def words(port, upstream, folder):
+        file = folder / f"forward{port}.conf"
+        file.write_text(FORWARD.format(address=ADDRESS, port=port, upstream=upstream, more="\n".join(more)))
+        return [str(TOP / "embed/out/yimarotu-forward"), "--config", str(file)]
+
+    return words
 
 
 # This product, which has to be without a finding.
-OWN = "the forwarder for C, as it is"
+OWN = "yimarotu-forward, as it is"
 # Each product with a setting, by the words of docs/JUDGED.md.
 SETTINGS = {
     "unbound, as it is": unbound(),
@@ -102,7 +115,7 @@ SETTINGS = {
     "knot-resolver, serve_stale": knot("modules.load('serve_stale < cache')"),
     "pdns-recursor, as it is": recursor(),
     "pdns-recursor, --serve-stale-extensions=10": recursor("--serve-stale-extensions=10"),
-    OWN: forwarder,
+    OWN: forwarder(),
 }
 # Settings that serve on purpose what ran out: it is found.
 SERVES_STALE = ("unbound, serve-expired: yes", "dnsmasq, --min-cache-ttl=10", "dnsmasq, --use-stale-cache",

@@ -14,6 +14,8 @@ from . import zone
 
 ADDRESS = "127.0.0.1"
 SECONDS_TO_START = 60
+# How many ports are tried.
+TRIES = 3
 
 UNBOUND = """server:
   interface: {address}
@@ -32,8 +34,9 @@ remote-control:
 """
 
 
-def free_port():
-    """A port that is free for UDP and TCP."""
+@contextmanager
+def both_sockets():
+    """A socket for datagrams and one for streams, at one port that was free for both."""
     while True:
         with socket.socket(socket.AF_INET, socket.SOCK_DGRAM) as datagrams, socket.socket() as streams:
             datagrams.bind((ADDRESS, 0))
@@ -41,7 +44,14 @@ def free_port():
                 streams.bind(datagrams.getsockname())
             except OSError:
                 continue
-            return datagrams.getsockname()[1]
+            yield datagrams, streams
+            return
+
+
+def free_port():
+    """A port that is free for UDP and TCP."""
+    with both_sockets() as (datagrams, _):
+        return datagrams.getsockname()[1]
 
 
 @contextmanager
@@ -94,18 +104,37 @@ class Server:
             os.kill(self._process.pid, signal.SIGCONT)
 
 
-@contextmanager
 def running(name, folder):
-    """The server of this name, once it answers. It is ended by its id."""
-    port = free_port()
-    with open(folder / f"{name}.log", "wb") as log:
-        process = subprocess.Popen(SERVERS[name](port, folder), stdin=subprocess.DEVNULL, stdout=log, stderr=log)
+    """The server of this name, once it answers."""
+    return running_by(name, SERVERS[name], folder)
+
+
+@contextmanager
+def running_by(name, words, folder):
+    """A server whose command is made of its port and a folder, once it answers. It is ended by its id."""
+    process, port = started(name, words, folder)
     try:
-        wait_for(port, process)
         yield Server(process, port)
     finally:
         process.terminate()
         process.wait()
+
+
+def started(name, words, folder):
+    """A server that answers, and its port. Where it ended, as another had its port by then, the next one is tried."""
+    for tries_left in reversed(range(TRIES)):
+        port = free_port()
+        with open(folder / f"{name}.log", "wb") as log:
+            process = subprocess.Popen(words(port, folder), stdin=subprocess.DEVNULL, stdout=log, stderr=log)
+        try:
+            wait_for(port, process)
+            return process, port
+        except RuntimeError:
+            has_ended = process.poll() is not None
+            process.kill()
+            process.wait()
+            if not has_ended or not tries_left:
+                raise
 
 
 def wait_for(port, process):

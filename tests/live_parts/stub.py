@@ -15,7 +15,7 @@ import dns.rdatatype
 import dns.rrset
 
 from . import zone
-from .servers import ADDRESS, free_port
+from .servers import ADDRESS, both_sockets
 
 # How long it is quiet behind a flood, in seconds.
 PAUSE = 0.5
@@ -32,7 +32,7 @@ STRAY, STRAY_SERIAL = dns.name.from_text("stray.other.test."), 666
 class Stub:
     """Answers out of a list of records. An alias is answered alone: nothing is said of its target."""
 
-    def __init__(self, records):
+    def __init__(self, records, port):
         self._records = collections.defaultdict(list)
         self._names = set()
         for record in records:
@@ -44,7 +44,7 @@ class Stub:
         self.floods = 0
         # Each question that came, with its id, the port that it came from, and whether it was by TCP.
         self.asked = []
-        self.port = free_port()
+        self.port = port
         self.text = f"{ADDRESS}:{self.port}"
 
     def reply(self, query):
@@ -157,12 +157,10 @@ class Stub:
 @contextmanager
 def running(records=tuple(zone.RECORDS)):
     """A stub with these records, in a thread of its own."""
-    stub = Stub(records)
     wake, woken = socket.socketpair()
-    with socket.socket(socket.AF_INET, socket.SOCK_DGRAM) as datagrams, socket.socket() as streams, wake, woken:
+    with both_sockets() as (datagrams, streams), wake, woken:
+        stub = Stub(records, datagrams.getsockname()[1])
         datagrams.setsockopt(socket.SOL_SOCKET, socket.SO_RCVBUF, 1 << 20)
-        datagrams.bind((ADDRESS, stub.port))
-        streams.bind((ADDRESS, stub.port))
         streams.listen()
         thread = threading.Thread(target=serve, args=(stub, datagrams, streams, woken))
         thread.start()

@@ -1,29 +1,28 @@
-"""Cases of the forwarder for C: clients that ask for more than it has, answers that are cut, and files that run out."""
+"""Clients that ask for more than it has, and answers that are cut."""
 import contextlib
 import functools
 import os
-import resource
 import socket
 import struct
 import time
 from pathlib import Path
 
-import dns.flags
 import dns.message
 import dns.rcode
 import dns.rrset
 
-from . import servers
+from live_parts import servers
 
-SECONDS = 30
+SECONDS = 120
+# For how many seconds a question is asked, where a server is to be silent meanwhile, and where it is given up soon.
+PATIENT, QUICK = 60, 1
 # For how long a server hears nothing until all questions have come.
 QUIET = 0.3
 KEPT = "kept.example.test."
 # What one connection asks at once, of which it may have so many under way.
-PIPELINED, MOST_UNDER_WAY = 3000, 500
-# How many clients ask for one name at once, of which so many may be kept waiting, and for how many seconds: then they
-# are told that nobody answers, and as many may wait anew.
-CROWD, MOST_WAITING, WAIT = 20_000, 10_000, 3
+PIPELINED, MOST_UNDER_WAY = 3000, 128
+# How many queries one address sends for one name at once, of which so many may wait.
+CROWD, MOST_WAITING = 20_000, 256
 # How many queries are sent before it is seen to that they have been taken.
 STEP = 400
 # More names than are looked up at once.
@@ -32,8 +31,6 @@ NAMES = 2_500
 LARGE, UNREAD, READ, MOST_GROWTH = 60_000, 2_000, 300, 16 << 20
 # Queries of a datagram full of questions, and the seconds of a processor that they may take.
 DATAGRAM, FULL, MOST_SECONDS = 4096, 100, 0.5
-# More connections than files, and the seconds of a processor that a second with them may take.
-FILES, CONNECTIONS, MOST_AT_REST = 30, 60, 0.1
 
 
 class Upstream:
@@ -41,7 +38,7 @@ class Upstream:
 
     def __init__(self, sock):
         self._sock = sock
-        self.text = f"{servers.ADDRESS}:{sock.getsockname()[1]}"
+        self.text = f"{servers.ADDRESS} {sock.getsockname()[1]}"
 
     def hear(self, seconds=SECONDS):
         """The next question with whom it came from, or None."""
@@ -60,8 +57,8 @@ class Upstream:
                 return asked
 
     def hear_all(self):
-        """How many questions come until none does."""
-        count = 0
+        """How many questions come until none does for a while."""
+        count = int(self.hear() is not None)
         while self.hear(QUIET):
             count += 1
         return count
@@ -157,31 +154,24 @@ def datagrams():
 
 
 @contextlib.contextmanager
-def running(forwarder, **how):
-    """An upstream, a client, the port of a forwarder between them, and its process; a name is kept already."""
-    port = servers.free_port()
+def running(daemon, timeout=PATIENT):
+    """An upstream, a client, the port of the program between them, and its process; a name is kept already."""
     with contextlib.ExitStack() as stack:
         socks = [stack.enter_context(datagrams()) for _ in range(2)]
         socks[0].bind((servers.ADDRESS, 0))
-        upstream, client = Upstream(socks[0]), Client(socks[1], port)
-        process = stack.enter_context(forwarder.forwarding(upstream.text, port, **how))
+        upstream = Upstream(socks[0])
+        lines = [f"server {upstream.text}", f"option timeout {timeout}", "option attempts 2"]
+        running = stack.enter_context(daemon.saying_nothing(*lines))
+        client = Client(socks[1], running.port)
         client.send(KEPT)
         upstream.answer(upstream.hear(), (3600, "IN", "A", "192.0.2.1"))
         client.hear()
-        yield upstream, client, port, process
+        yield upstream, client, running.port, running.process
 
 
-def run(cases, forwarder, is_measured):
-    """All cases. The memory of a program under a sanitizer is not measured."""
-    parts = (one_connection, one_name, no_place, many_questions, no_files, cut_answer, all_that_is_read)
-    for part in parts + ((nothing_is_read,) if is_measured else ()):
-        with cases.guard(part.__doc__):
-            part(cases, forwarder)
-
-
-def one_connection(cases, forwarder):
+def one_connection(cases, daemon):
     """One connection cannot take all places."""
-    with running(forwarder) as (upstream, client, port, _), stream(port) as sock:
+    with running(daemon) as (upstream, client, port, _), stream(port) as sock:
         sock.sendall(pipelined(*(query(f"n{number}.example.test.") for number in range(PIPELINED))))
         count = upstream.hear_all()
         cases.tell(f"of {PIPELINED} queries of one connection a part is under way", 0 < count <= MOST_UNDER_WAY, count)
@@ -192,22 +182,28 @@ def one_connection(cases, forwarder):
         cases.equal("another client is answered meanwhile", client.hear().rcode(), dns.rcode.NOERROR)
 
 
-def one_name(cases, forwarder):
-    """Of a crowd that asks for one name, some are refused."""
-    with running(forwarder) as (_, client, port, _), datagrams() as sock:
-        crowd, refused, began = Client(sock, port), 0, time.monotonic()
-        for _ in range(CROWD // STEP):
-            crowd.send(*["slow.example.test."] * STEP)
-            client.ask(KEPT)
-            refused += crowd.count()
-        turns = 1 + int((time.monotonic() - began) / WAIT)
-        is_bounded = CROWD - refused <= turns * MOST_WAITING
-        cases.tell(f"of {CROWD} clients that ask for one name not all wait", is_bounded, f"{refused} were refused")
+def one_name(cases, daemon):
+    """Of a crowd that asks for one name, not all wait, and those that do are all answered."""
+    with running(daemon) as (upstream, client, port, _), datagrams() as sock:
+        crowd, codes = Client(sock, port), set()
+        for number in range(CROWD):
+            crowd.send_bytes(struct.pack(">H", number) + query("slow.example.test.")[2:])
+            if number % STEP == 0:
+                codes.add(client.ask(KEPT))
+        cases.equal(f"a name in the cache, while {CROWD} ask for another", codes, {dns.rcode.NOERROR})
+        count = 0
+        if asked := upstream.hear_of("slow.example.test.", SECONDS):
+            upstream.answer(asked, (60, "IN", "A", "192.0.2.2"))
+            while crowd.hear().rcode() == dns.rcode.NOERROR:
+                count += 1
+                if count == MOST_WAITING:
+                    break
+        cases.equal(f"of {CROWD} clients that ask for one name so many wait", count, MOST_WAITING)
 
 
-def no_place(cases, forwarder):
+def no_place(cases, daemon):
     """A name in the cache needs no place."""
-    with running(forwarder) as (_, client, port, _), datagrams() as sock:
+    with running(daemon) as (_, client, port, _), datagrams() as sock:
         crowd, codes = Client(sock, port), set()
         for at in range(0, NAMES, STEP):
             crowd.send(*(f"s{number}.example.test." for number in range(at, at + STEP)))
@@ -215,11 +211,11 @@ def no_place(cases, forwarder):
         cases.equal(f"a name in the cache, while {NAMES} others wait", codes, {dns.rcode.NOERROR})
 
 
-def many_questions(cases, forwarder):
+def many_questions(cases, daemon):
     """A message of many questions is refused by its header."""
     count = (DATAGRAM - 12) // 5
     wire = struct.pack(">6H", 7, 0x100, count, 0, 0, 0) + b"\0\0\1\0\1" * count
-    with running(forwarder) as (_, client, _, process):
+    with running(daemon) as (_, client, _, process):
         before, codes = processor_seconds(process), set()
         for _ in range(FULL):
             client.send_bytes(wire)
@@ -229,39 +225,21 @@ def many_questions(cases, forwarder):
         cases.tell(f"{FULL} messages of {count} questions", taken < MOST_SECONDS, f"took {taken} s of a processor")
 
 
-def no_files(cases, forwarder):
-    """It rests where there are more connections than files, and goes on when there are fewer."""
-    limit = functools.partial(resource.setrlimit, resource.RLIMIT_NOFILE, (FILES, FILES))
-    with running(forwarder, preexec_fn=limit) as (_, client, port, process):
-        with contextlib.ExitStack() as stack:
-            for _ in range(CONNECTIONS):
-                stack.enter_context(stream(port))
-            client.ask(KEPT)
-            before = processor_seconds(process)
-            time.sleep(1)
-            taken = processor_seconds(process) - before
-            cases.tell(f"{CONNECTIONS} connections, and {FILES} files", taken < MOST_AT_REST, f"{taken} s in a second")
-            cases.equal("a name in the cache, without files", client.ask(KEPT), dns.rcode.NOERROR)
-        with stream(port) as sock:
-            sock.sendall(pipelined(query(KEPT)))
-            cases.equal("a connection, with files again", len(read_replies(sock, 1)), 1)
-
-
-def cut_answer(cases, forwarder):
-    """An answer that had no room says so."""
+def cut_answer(cases, daemon):
+    """An answer that no message has room for is a failure."""
     name, count = "_many._tcp.example.test.", 3000
     # The target of each is the name that was asked, by a pointer: written whole they are more than a message holds.
     head, target = b"\xc0\x0c\0\x21\0\1\0\0\x0e\x10\0\x08", b"\xc0\x0c"
     records = b"".join(head + struct.pack(">3H", 0, 0, port) + target for port in range(count))
-    with running(forwarder) as (upstream, _, port, _):
+    with running(daemon, QUICK) as (upstream, _, port, _):
         for turn in ("first", "second"):
             with stream(port) as sock:
                 sock.sendall(pipelined(query(name, "SRV")))
                 if turn == "first":
                     upstream.answer_bytes(upstream.hear(), count, records)
                 (reply,) = read_replies(sock, 1)
-            found = (bool(reply[2] & 2), 0 < int.from_bytes(reply[6:8], "big") < count)
-            cases.equal(f"an answer that is cut, {turn} time", found, (True, True))
+            found = dns.rcode.to_text(dns.rcode.from_flags(reply[3], 0)), int.from_bytes(reply[6:8], "big")
+            cases.equal(f"an answer that no message has room for, {turn} time", found, ("SERVFAIL", 0))
 
 
 def ask_for_large(upstream, sock, times):
@@ -275,9 +253,11 @@ def ask_for_large(upstream, sock, times):
     upstream.answer_bytes(asked, LARGE // len(record), record * (LARGE // len(record)))
 
 
-def nothing_is_read(cases, forwarder):
-    """Answers for a client that reads none take a bounded room."""
-    with running(forwarder) as (upstream, client, port, process), stream(port) as sock:
+def nothing_is_read(cases, daemon):
+    """Answers for a client that reads none take a bounded room. Under the sanitizers that is not measured."""
+    if daemon.name.endswith(".sanitized"):
+        return
+    with running(daemon) as (upstream, client, port, process), stream(port) as sock:
         before = most_memory(process)
         ask_for_large(upstream, sock, UNREAD)
         client.ask(KEPT)
@@ -286,9 +266,9 @@ def nothing_is_read(cases, forwarder):
         cases.tell(f"{UNREAD} answers of {LARGE} octets that nobody reads", grown <= MOST_GROWTH, f"{grown} octets")
 
 
-def all_that_is_read(cases, forwarder):
+def all_that_is_read(cases, daemon):
     """A client that reads late gets all answers, however many it asked for at once."""
-    with running(forwarder) as (upstream, _, port, _):
+    with running(daemon) as (upstream, _, port, _):
         with stream(port) as sock:
             ask_for_large(upstream, sock, 1)
             (first,) = read_replies(sock, 1)
@@ -298,3 +278,6 @@ def all_that_is_read(cases, forwarder):
             replies = read_replies(sock, READ)
         found = len(replies), {len(reply) for reply in replies}
         cases.equal(f"{READ} answers of {LARGE} octets that are read late", found, (READ, {len(first)}))
+
+
+ALL = (one_connection, one_name, no_place, many_questions, cut_answer, all_that_is_read, nothing_is_read)

@@ -1,4 +1,4 @@
-"""Cases of a forwarder: many clients at once, over a server that counts."""
+"""Many clients at once, over a server that counts, and what each is told."""
 import asyncio
 import contextlib
 import os
@@ -15,12 +15,14 @@ import dns.query
 import dns.rcode
 import dns.rdatatype
 
-from . import lookups, servers, stub, zone
+from live_parts import lookups, servers, stub, zone
 
 CLIENTS, ADDRESSES, ALIASES, ABSENT = 20, 120, 60, 20
 # How many clients ask for each name.
 ASKERS = 2
-SECONDS = 30
+SECONDS = 120
+# A server that is silent is given up soon.
+QUICK = ("option timeout 1", "option attempts 2")
 # Types whose codes are those of a letter, large and small; the first is HTTPS (RFC 9460, section 14.1).
 TYPES = (65, 97)
 SOA = dns.rdatatype.SOA
@@ -47,11 +49,11 @@ def wanted():
     return {dns.name.from_text(f"{name}.example.test."): address for name, address in names.items()}
 
 
-def run(cases, forwarder, folder):
-    """The forwarder is one that `forwarder.forwarding(SERVER, PORT)` runs."""
-    with cases.guard("forward"), stub.running(list(zone_records())) as server:
-        port = servers.free_port()
-        with forwarder.forwarding(server.text, port) as process:
+def many_at_once(cases, daemon):
+    """Many clients at once, over a server that counts."""
+    with stub.running(list(zone_records())) as server:
+        with daemon.saying_nothing(f"server 127.0.0.1 {server.port}", *QUICK) as running:
+            port, process = running.port, running.process
             one_name(cases, server, port)
             many_clients(cases, server, port)
             replies(cases, server, port)
@@ -60,21 +62,7 @@ def run(cases, forwarder, folder):
             types(cases, port, process)
             zones(cases, port)
             malformed(cases, port)
-            cases.equal("forward is still there", process.poll(), None)
-        cases.equal("forward is ended by a signal", process.returncode, 0)
-    over_real_servers(cases, forwarder, folder)
-
-
-def over_real_servers(cases, forwarder, folder):
-    """What a client is told is what the server itself says."""
-    questions = [question for question in zone.QUESTIONS if question[1]]
-    for name in servers.SERVERS:
-        port = servers.free_port()
-        with cases.guard(f"forward over {name}"), servers.running(name, folder) as server:
-            with forwarder.forwarding(server.text, port):
-                for question in questions:
-                    found, told = said(port, *question), said(server.port, *question)
-                    cases.equal(f"forward over {name}, {' '.join(question)}", found, told)
+            cases.equal("the program is still there", process.poll(), None)
 
 
 def said(port, name, rdtype):
@@ -214,7 +202,7 @@ def texts(cases, port):
     reply = ask(port, "big.example.test", "TXT", payload=1232)
     cases.equal("larger than 1232 bytes: truncated", (bool(reply.flags & dns.flags.TC), reply.edns), (True, 0))
     reply = ask(port, "big.example.test", "TXT", payload=4096)
-    cases.equal("not larger than 4096 bytes", reply.answer[0][0].strings, whole)
+    cases.equal("larger than goes by UDP: truncated", (bool(reply.flags & dns.flags.TC), reply.edns), (True, 0))
     query = dns.message.make_query("big.example.test", "TXT")
     reply = dns.query.tcp(query, servers.ADDRESS, timeout=SECONDS, port=port)
     cases.equal("by TCP", reply.answer[0][0].strings, whole)
@@ -282,7 +270,7 @@ def malformed(cases, port):
         "a question cut off": (good[:-3], dns.rcode.FORMERR),
         "a label that is too long": (good[:12] + b"\x7f" + good[13:], dns.rcode.FORMERR),
         "a name that points at itself": (good[:12] + b"\xc0\x0c\0\1\0\1", dns.rcode.FORMERR),
-        "more behind the question, passed over": (good + b"more", dns.rcode.NOERROR),
+        "more behind the question": (good + b"more", dns.rcode.FORMERR),
         "two questions": (good[:4] + b"\0\2" + good[6:] + good[12:], dns.rcode.FORMERR),
         "another opcode": (good[:2] + b"\x11" + good[3:], dns.rcode.NOTIMP),
         "a transfer": (good[:-4] + b"\0\xfc\0\1", dns.rcode.NOTIMP),
@@ -306,3 +294,6 @@ def exchange(port, *wires):
         for wire in wires:
             sock.send(wire)
         return sock.recv(65535)
+
+
+ALL = (many_at_once,)

@@ -1,0 +1,295 @@
+/* yimarotu-forward: a caching forwarder of DNS for the hosts of a network: yimarotu-forward(8). */
+#include "forward.h"
+
+#include <errno.h>
+#include <getopt.h>
+#include <signal.h>
+#include <stdio.h>
+#include <stdlib.h>
+#include <string.h>
+#include <sys/prctl.h>
+#include <sys/resource.h>
+#include <sys/signalfd.h>
+#include <sys/wait.h>
+#include <time.h>
+#include <unistd.h>
+
+enum { SECOND = 1000, WITHOUT_MEMORY = 50 }; /* milliseconds */
+enum { ENDED = 0, FAULTS = 1, USAGE = 2, NO_SOCKETS = 3, NOT_CONFINED = 4 }; /* how the program ends */
+
+yimarotu_forwarder forwarder = YIMAROTU_FORWARDER;
+uint64_t moment;
+uint8_t room[MESSAGE];
+struct counts counts;
+
+static const char *settings_path;
+static struct settings settings;
+static struct files files;
+static struct listeners all[PROCESSES];
+static const struct listeners *own; /* of this process */
+static int epoll, signals;
+static bool is_paused, is_ended, lacks_memory;
+
+/* By a clock that counts while the machine sleeps: else answers would be used for longer than they may be. */
+static uint64_t now(void) {
+    struct timespec time;
+    clock_gettime(CLOCK_BOOTTIME, &time);
+    return (uint64_t)time.tv_sec * 1000 + (uint64_t)time.tv_nsec / 1000000;
+}
+
+/* ---- what is watched */
+
+bool watch(int change, int fd, uint32_t events, uint64_t what) {
+    struct epoll_event event = {events, {.u64 = what}};
+    return epoll_ctl(epoll, change, fd, &event) == 0;
+}
+
+static void watch_streams(uint32_t events) {
+    for (size_t at = 0; at < own->count; at++)
+        if (own->at[at].is_stream) watch(EPOLL_CTL_MOD, own->at[at].fd, events, at);
+}
+
+/* Where there is no file for another connection those that wait are not told of: they would be again and again. */
+void pause_accepting(void) {
+    is_paused = true;
+    watch_streams(0);
+}
+
+void accept_again(void) {
+    if (is_paused) watch_streams(EPOLLIN);
+    is_paused = false;
+}
+
+/* ---- what happens, and what is to be done */
+
+bool reload(void) { return reload_forwarder(settings_path); }
+
+static void on_signal(void) {
+    struct signalfd_siginfo signal;
+    char text[1024];
+    if (read(signals, &signal, sizeof signal) != sizeof signal) return;
+    if (signal.ssi_signo == SIGHUP) reload();
+    if (signal.ssi_signo == SIGUSR1) {
+        write_counts(text, sizeof text, ' ');
+        fprintf(stderr, "yimarotu-forward: %s\n", text);
+    }
+    is_ended = signal.ssi_signo == SIGTERM || signal.ssi_signo == SIGINT;
+}
+
+static void on_event(const struct epoll_event *event) {
+    uint64_t what = event->data.u64;
+    if (what >> FROM_STREAM & 1) on_connection(what, event->events);
+    else if (what >> FROM_CHANNEL & 1) on_channel(what ^ 1ull << FROM_CHANNEL, event->events);
+    else if (what >> FROM_SIGNAL & 1) on_signal();
+    else if (own->at[what].is_stream) on_connecting(&own->at[what]);
+    else on_datagrams(own->at[what].fd);
+}
+
+static void do_next(const yimarotu_action *next) {
+    if (next->kind == YIMAROTU_OPEN) open_channel(next);
+    if (next->kind == YIMAROTU_SEND) send_on_channel(next->channel, room, next->length);
+    if (next->kind == YIMAROTU_CLOSE) close_channel(next->channel);
+    if (next->kind != YIMAROTU_REPLY) return;
+    if (next->number >> FROM_STREAM & 1) on_stream_reply(next->number, room, next->length);
+    else on_datagram_reply(next->number, room, next->length);
+}
+
+/* Does what is to be done. Where memory runs out that is said again a little later. */
+static void act(void) {
+    yimarotu_action next;
+    do {
+        next = yimarotu_forwarder_next(&forwarder, room, sizeof room);
+        lacks_memory = next.status != YIMAROTU_OK;
+        if (!lacks_memory) do_next(&next);
+    } while (!lacks_memory && next.kind != YIMAROTU_NOTHING);
+}
+
+static int wait_time(void) {
+    yimarotu_waits waits = yimarotu_forwarder_wait(&forwarder, now());
+    uint64_t most = lacks_memory ? WITHOUT_MEMORY : counts.connections > 0 || is_paused ? SECOND : 60 * SECOND;
+    return (int)(waits.has_deadline && waits.milliseconds < most ? waits.milliseconds + 1 : most);
+}
+
+static void serve(void) {
+    struct epoll_event events[BATCH];
+    uint64_t looked_at = 0;
+    while (!is_ended) {
+        int count = epoll_wait(epoll, events, BATCH, wait_time());
+        moment = now();
+        for (int at = 0; at < count; at++) on_event(&events[at]), act();
+        yimarotu_forwarder_tick(&forwarder, moment);
+        act();
+        send_datagrams();
+        write_log();
+        if (moment - looked_at < SECOND) continue;
+        looked_at = moment;
+        expire_connections();
+        accept_again();
+    }
+}
+
+/* ---- a process */
+
+static void block_signals(sigset_t *set) {
+    static const int numbers[] = {SIGHUP, SIGUSR1, SIGTERM, SIGINT, SIGCHLD};
+    sigemptyset(set);
+    for (size_t at = 0; at < sizeof numbers / sizeof *numbers; at++) sigaddset(set, numbers[at]);
+    sigprocmask(SIG_BLOCK, set, NULL);
+}
+
+static bool watch_all(void) {
+    sigset_t set;
+    block_signals(&set);
+    epoll = epoll_create1(EPOLL_CLOEXEC);
+    signals = signalfd(-1, &set, SFD_NONBLOCK | SFD_CLOEXEC);
+    bool is_right = epoll >= 0 && signals >= 0 && watch(EPOLL_CTL_ADD, signals, EPOLLIN, 1ull << FROM_SIGNAL);
+    for (size_t at = 0; is_right && at < own->count; at++) is_right = watch(EPOLL_CTL_ADD, own->at[at].fd, EPOLLIN, at);
+    return is_right;
+}
+
+static void tell_that_it_listens(void) { fputs("yimarotu-forward: it listens\n", stderr); }
+
+/* Serves with the sockets of a process. */
+static int run(const struct listeners *listeners) {
+    own = listeners;
+    moment = now();
+    bool is_open = open_forwarder(settings_path, &settings, &files);
+    free_files(&files);
+    if (!is_open) return FAULTS;
+    if (!watch_all() || !confine()) return NOT_CONFINED;
+    if (settings.processes == 1) tell_that_it_listens();
+    serve();
+    close_connections();
+    yimarotu_forwarder_close(&forwarder);
+    close_channels();
+    return ENDED;
+}
+
+/* ---- many processes */
+
+static pid_t children[PROCESSES];
+static time_t begun[PROCESSES];
+
+/* The files may have changed since the parent read them. Where they have a fault, what that read counts. */
+static void read_again(void) {
+    static struct settings changed;
+    struct files read;
+    bool is_right = read_settings(settings_path, &changed, &read) == 0;
+    free_files(is_right ? &files : &read);
+    if (is_right) files = read;
+}
+
+/* One that died within its first second begins a second later: one that cannot begin does not take a processor. */
+static void start(size_t process) {
+    bool is_again = begun[process] != 0, is_late = is_again && time(NULL) - begun[process] <= 1;
+    pid_t parent = getpid();
+    begun[process] = time(NULL);
+    children[process] = fork();
+    if (children[process] != 0) return;
+    prctl(PR_SET_PDEATHSIG, SIGTERM);
+    if (getppid() != parent) exit(ENDED);
+    if (is_late) sleep(1);
+    if (is_again) read_again();
+    exit(run(&all[process]));
+}
+
+/* Notes which processes died. */
+static void bury(void) {
+    pid_t died;
+    int how;
+    while ((died = waitpid(-1, &how, WNOHANG)) > 0)
+        for (size_t at = 0; at < settings.processes; at++) {
+            if (children[at] != died) continue;
+            children[at] = 0;
+            fprintf(stderr, "yimarotu-forward: process %d died (%s %d), and is started again\n", (int)died,
+                    WIFSIGNALED(how) ? "signal" : "status", WIFSIGNALED(how) ? WTERMSIG(how) : WEXITSTATUS(how));
+        }
+}
+
+static void signal_all(int number) {
+    for (size_t at = 0; at < settings.processes; at++)
+        if (children[at] > 0) kill(children[at], number);
+}
+
+/* Passes signals on, and starts a process again that died, or could not be started. */
+static int supervise(void) {
+    static const struct timespec second = {.tv_sec = 1};
+    sigset_t set;
+    int number = 0;
+    block_signals(&set);
+    tell_that_it_listens();
+    while (number != SIGTERM && number != SIGINT) {
+        for (size_t at = 0; at < settings.processes; at++)
+            if (children[at] <= 0) start(at);
+        number = sigtimedwait(&set, NULL, &second);
+        if (number == SIGCHLD) bury();
+        else if (number > 0) signal_all(number == SIGINT ? SIGTERM : number);
+    }
+    while (wait(NULL) > 0 || errno == EINTR);
+    return ENDED;
+}
+
+/* ---- the beginning */
+
+static bool prepare(void) {
+    uid_t user = getuid();
+    gid_t group = getgid();
+    struct rlimit files;
+    if (settings.user.line > 0 && !find_user(settings.user.text, &user, &group))
+        return fprintf(stderr, "yimarotu-forward: there is no user %s\n", settings.user.text), false;
+    if (getrlimit(RLIMIT_NOFILE, &files) == 0) files.rlim_cur = files.rlim_max, setrlimit(RLIMIT_NOFILE, &files);
+    if (!take_activated(&all[0])) return false;
+    bool is_activated = all[0].count > 0;
+    for (size_t at = 0; at < settings.processes; at++) {
+        if (is_activated && at > 0) all[at] = all[0];
+        if (!is_activated && !listen_at(&settings, &all[at])) return false;
+    }
+    for (size_t at = 0; at < settings.processes && !is_none(&settings.control); at++) {
+        char path[PATH_MAX + 32];
+        control_path(&settings, at + 1, path);
+        if (!listen_for_control(path, &all[at], user, group) && settings.control.line > 0) return false;
+    }
+    if (!drop_rights(user, group)) return false;
+    return is_none(&settings.log) || open_log(settings.log.text) || (perror(settings.log.text), false);
+}
+
+/* Of many processes each would find a fault of the settings, again and again: they are checked before. */
+static int begin(void) {
+    sigset_t set;
+    moment = now();
+    block_signals(&set);
+    signal(SIGPIPE, SIG_IGN);
+    if (read_settings(settings_path, &settings, &files) > 0) return FAULTS;
+    if (settings.processes > 1 && check(settings_path) > 0) return FAULTS;
+    if (!prepare()) return NO_SOCKETS;
+    int ended = settings.processes > 1 ? supervise() : run(&all[0]);
+    for (size_t at = 0; at < settings.processes && !is_none(&settings.control); at++) {
+        char path[PATH_MAX + 32];
+        control_path(&settings, at + 1, path);
+        unlink(path);
+    }
+    return ended;
+}
+
+static void tell_version(void) { printf("yimarotu-forward %s, %s\n", VERSION, confines); }
+
+static const char usage[] = "usage: yimarotu-forward --config FILE [--check] | --version\n";
+
+int main(int count, char **words) {
+    static const struct option options[] = {
+        {"config", required_argument, NULL, 'c'}, {"check", no_argument, NULL, 'k'},
+        {"version", no_argument, NULL, 'v'}, {"help", no_argument, NULL, 'h'}, {0},
+    };
+    bool is_check = false;
+    int option;
+    while ((option = getopt_long(count, words, "", options, NULL)) != -1) {
+        if (option == 'v') return tell_version(), ENDED;
+        if (option == 'h') return fputs(usage, stdout), ENDED;
+        if (option == 'k') is_check = true;
+        else if (option == 'c') settings_path = optarg;
+        else return USAGE;
+    }
+    if (settings_path == NULL || optind < count) return fputs(usage, stderr), USAGE;
+    if (is_check) return check(settings_path) > 0 ? FAULTS : ENDED;
+    return begin();
+}

@@ -1,0 +1,147 @@
+/* Channels to name servers: a socket of its own for each, connected to its server. */
+#include "forward.h"
+
+#include <errno.h>
+#include <net/if.h>
+#include <netinet/tcp.h>
+#include <stdio.h>
+#include <stdlib.h>
+#include <string.h>
+#include <unistd.h>
+
+/* So many octets wait to be sent on a stream at the most. */
+enum { BUCKETS = 1024, MOST_KEPT = 1 << 21 };
+
+struct channel {
+    uint64_t number;
+    int fd;
+    bool is_stream, has_failed; /* a stream that failed waits to be closed */
+    struct octets out;
+    struct channel *next; /* in its bucket */
+};
+
+static struct channel *channels[BUCKETS];
+
+static struct channel **link_of(uint64_t number) {
+    struct channel **link = &channels[number % BUCKETS];
+    while (*link != NULL && (*link)->number != number) link = &(*link)->next;
+    return link;
+}
+
+static uint64_t what(uint64_t number) { return 1ull << FROM_CHANNEL | number; }
+
+/* A channel failed with this error; where that is 0, its stream was closed. */
+static void tell_failure(uint64_t number, int error) {
+    bool is_local = error == EMFILE || error == ENFILE || error == ENOBUFS || error == ENOMEM || error == EADDRNOTAVAIL;
+    uint8_t of_server = error == ECONNREFUSED ? YIMAROTU_CHANNEL_REFUSED : YIMAROTU_CHANNEL_UNREACHABLE;
+    uint8_t why = is_local ? YIMAROTU_CHANNEL_LOCAL : error == 0 ? YIMAROTU_CHANNEL_CLOSED : of_server;
+    yimarotu_forwarder_failed(&forwarder, number, why, moment);
+}
+
+/* A socket for datagrams is kept after an error, which ICMP told. */
+static void fail(struct channel *channel, int error) {
+    if (channel->is_stream && !channel->has_failed) watch(EPOLL_CTL_DEL, channel->fd, 0, what(channel->number));
+    channel->has_failed = channel->is_stream;
+    tell_failure(channel->number, error);
+}
+
+/* The number of a scope, which is the name of an interface or that number. */
+static uint32_t scope_of(const char *text, size_t length) {
+    char scope[IF_NAMESIZE];
+    snprintf(scope, sizeof scope, "%.*s", (int)length, text);
+    uint32_t number = if_nametoindex(scope);
+    return number != 0 ? number : (uint32_t)strtoul(scope, NULL, 10);
+}
+
+/* The address of the server stands in front, and the scope of a link-local one behind it. */
+static socklen_t read_server(const yimarotu_action *open, union address *server) {
+    if (open->family == 4) {
+        server->v4 = (struct sockaddr_in){.sin_family = AF_INET, .sin_port = htons(open->port)};
+        memcpy(&server->v4.sin_addr, room, 4);
+        return sizeof server->v4;
+    }
+    server->v6 = (struct sockaddr_in6){.sin6_family = AF_INET6, .sin6_port = htons(open->port)};
+    memcpy(&server->v6.sin6_addr, room, 16);
+    if (open->length > 16) server->v6.sin6_scope_id = scope_of((const char *)room + 16, open->length - 16);
+    return sizeof server->v6;
+}
+
+static int socket_for(const union address *server, bool is_stream) {
+    int on = 1, type = (is_stream ? SOCK_STREAM : SOCK_DGRAM) | SOCK_NONBLOCK | SOCK_CLOEXEC;
+    int fd = socket(server->any.sa_family, type, 0);
+    if (fd < 0) return fd;
+    if (is_stream) setsockopt(fd, IPPROTO_TCP, TCP_NODELAY, &on, sizeof on);
+    else ignore_path_mtu(fd, server->any.sa_family);
+    return fd;
+}
+
+void open_channel(const yimarotu_action *open) {
+    union address server;
+    socklen_t length = read_server(open, &server);
+    bool is_stream = open->protocol == YIMAROTU_STREAM;
+    struct channel *channel = malloc(sizeof *channel), **link = link_of(open->channel);
+    int fd = channel != NULL ? socket_for(&server, is_stream) : -1;
+    if (fd < 0 || !watch(EPOLL_CTL_ADD, fd, EPOLLIN, what(open->channel))) {
+        tell_failure(open->channel, errno);
+        if (fd >= 0) close(fd);
+        return free(channel);
+    }
+    *channel = (struct channel){.number = open->channel, .fd = fd, .is_stream = is_stream, .next = *link};
+    *link = channel;
+    if (connect(fd, &server.any, length) != 0 && errno != EINPROGRESS) fail(channel, errno);
+}
+
+/* Sends what waits on a stream as far as it goes; before it is connected nothing does. That it was closed is told when
+ * all was received that had come before. */
+static void send_kept(struct channel *channel) {
+    ssize_t sent = send(channel->fd, channel->out.at, channel->out.length, MSG_NOSIGNAL);
+    if (sent < 0 && (errno == ENOBUFS || errno == ENOMEM)) return fail(channel, errno);
+    bool is_closed = sent < 0 && errno != EAGAIN && errno != EINTR;
+    if (sent > 0 || is_closed) drop(&channel->out, is_closed ? channel->out.length : (size_t)sent);
+    watch(EPOLL_CTL_MOD, channel->fd, EPOLLIN | (channel->out.length > 0 ? EPOLLOUT : 0), what(channel->number));
+}
+
+void send_on_channel(uint64_t number, const uint8_t *octets, size_t length) {
+    struct channel *channel = *link_of(number);
+    if (channel == NULL || channel->has_failed) return;
+    if (!channel->is_stream) {
+        ssize_t sent = send(channel->fd, octets, length, MSG_NOSIGNAL);
+        if (sent < 0 && errno != EAGAIN && errno != EINTR) fail(channel, errno);
+    } else if (channel->out.length > MOST_KEPT || !keep(&channel->out, octets, length)) {
+        fail(channel, ENOBUFS);
+    } else {
+        send_kept(channel);
+    }
+}
+
+/* Hands in a datagram, or a piece of a stream. More is read when what is to be done about it was done: a stream that is
+ * closed takes what is not looked at with it. A piece for which there was no memory would lack. */
+static void receive(struct channel *channel) {
+    ssize_t got = recv(channel->fd, room, sizeof room, 0);
+    if (got < 0 && (errno == EAGAIN || errno == EINTR)) return;
+    if (got < 0 || (got == 0 && channel->is_stream)) return fail(channel, got == 0 ? 0 : errno);
+    uint8_t status = yimarotu_forwarder_came(&forwarder, channel->number, room, (size_t)got, moment);
+    if (status == YIMAROTU_NO_MEMORY && channel->is_stream) fail(channel, ENOMEM);
+}
+
+void on_channel(uint64_t number, uint32_t events) {
+    struct channel *channel = *link_of(number);
+    if (channel == NULL || channel->has_failed) return;
+    if (events & ~(uint32_t)EPOLLOUT) receive(channel);
+    else send_kept(channel);
+}
+
+void close_channel(uint64_t number) {
+    struct channel **link = link_of(number), *channel = *link;
+    if (channel == NULL) return;
+    *link = channel->next;
+    close(channel->fd);
+    drop(&channel->out, channel->out.length);
+    free(channel);
+    accept_again();
+}
+
+void close_channels(void) {
+    for (size_t at = 0; at < BUCKETS; at++)
+        while (channels[at] != NULL) close_channel(channels[at]->number);
+}

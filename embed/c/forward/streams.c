@@ -1,0 +1,211 @@
+/* Clients by TCP, and those of the control socket. None waits for another: what a client does not take waits with its
+ * connection, and past a bound the connection is closed (RFC 7766, section 6.2.3). */
+#include "forward.h"
+
+#include <errno.h>
+#include <netinet/tcp.h>
+#include <stdlib.h>
+#include <string.h>
+#include <unistd.h>
+
+/* How many connections there may be, and for how many milliseconds one may be idle. */
+enum { CONNECTIONS = 1024, IDLE = 10000 };
+/* How many octets wait to be sent on one; how many may, while more of its queries are taken; how many of these wait. */
+enum { MOST_KEPT = 1 << 18, FEW_KEPT = 1 << 16, MOST_WAITING = 128 };
+enum { LONGEST_LINE = 1100, ANSWER = 65536 };
+
+struct connection {
+    uint64_t number; /* 0 where the place is free */
+    int fd;
+    bool is_control, is_over; /* the client sends no more */
+    uint32_t events;
+    uint64_t since; /* when the last query was taken, or octets were sent */
+    size_t waiting; /* queries */
+    union address client;
+    struct octets in, out;
+};
+
+static struct connection connections[CONNECTIONS];
+
+static struct connection *connection_of(uint64_t number) {
+    struct connection *connection = &connections[number % CONNECTIONS];
+    return connection->number == number ? connection : NULL;
+}
+
+/* What its queries wait for is not ended by that: so their places stay taken until it is there, and nobody begins look-ups
+ * past the bounds by coming and going. Their replies find no connection of its number. */
+static void close_connection(struct connection *connection) {
+    close(connection->fd);
+    drop(&connection->in, connection->in.length);
+    drop(&connection->out, connection->out.length);
+    connection->number = 0;
+    counts.connections--;
+    accept_again();
+}
+
+void close_connections(void) {
+    for (struct connection *at = connections; at < connections + CONNECTIONS; at++)
+        if (at->number != 0) close_connection(at);
+}
+
+/* ---- what is watched for */
+
+static size_t length_at(const struct octets *in, size_t at) { return (size_t)in->at[at] << 8 | in->at[at + 1]; }
+
+static bool is_whole(const struct octets *in, size_t at) {
+    return in->length - at >= 2 && in->length - at - 2 >= length_at(in, at);
+}
+
+static bool may_ask(const struct connection *connection) {
+    return connection->out.length <= FEW_KEPT && connection->waiting < MOST_WAITING;
+}
+
+/* Queries that are held go on when they may: this is told at once, since the connection can be written to. One that is
+ * over is closed when all was sent. */
+static void settle(struct connection *connection) {
+    bool may = may_ask(connection), is_held = !connection->is_control && is_whole(&connection->in, 0);
+    if (connection->is_over && connection->waiting == 0 && connection->out.length == 0 && !is_held)
+        return close_connection(connection);
+    uint32_t events = (may && !is_held && !connection->is_over ? EPOLLIN : 0)
+        | (connection->out.length > 0 || (may && is_held) ? EPOLLOUT : 0);
+    if (events != connection->events) watch(EPOLL_CTL_MOD, connection->fd, events, connection->number);
+    connection->events = events;
+}
+
+/* ---- replies */
+
+/* Sends as much as goes; gives whether the connection is still there. */
+static bool send_now(struct connection *connection) {
+    if (connection->out.length == 0) return true;
+    ssize_t sent = send(connection->fd, connection->out.at, connection->out.length, MSG_NOSIGNAL);
+    if (sent < 0 && errno != EAGAIN && errno != EINTR) return close_connection(connection), false;
+    if (sent > 0) drop(&connection->out, (size_t)sent), connection->since = moment;
+    return true;
+}
+
+/* The reply behind its length (RFC 1035, section 4.2.2); gives whether the connection is still there. */
+static bool reply_on(struct connection *connection, const uint8_t *reply, size_t length) {
+    uint8_t prefix[2] = {(uint8_t)(length >> 8), (uint8_t)length};
+    bool is_first = connection->out.length == 0;
+    bool is_full = connection->out.length > MOST_KEPT;
+    if (is_full || !keep(&connection->out, prefix, 2) || !keep(&connection->out, reply, length))
+        return counts.closed_full++, close_connection(connection), false;
+    log_reply(&connection->client, true, reply, length);
+    return !is_first || send_now(connection);
+}
+
+void on_stream_reply(uint64_t number, const uint8_t *reply, size_t length) {
+    struct connection *connection = connection_of(number);
+    if (connection == NULL) return;
+    connection->waiting--;
+    connection->since = moment;
+    if (reply_on(connection, reply, length)) settle(connection);
+}
+
+/* ---- what comes */
+
+/* Hands in the queries that came whole, as long as more may; gives whether the connection is still there. */
+static bool take_queries(struct connection *connection) {
+    const uint8_t *address;
+    size_t address_length = octets_of_address(&connection->client, &address), at = 0;
+    while (may_ask(connection) && is_whole(&connection->in, at)) {
+        size_t length = length_at(&connection->in, at);
+        const uint8_t *query = connection->in.at + at + 2;
+        yimarotu_queried queried = yimarotu_forwarder_query(&forwarder, connection->number, address, address_length,
+                                                            true, query, length, moment, room, sizeof room);
+        at += 2 + length;
+        connection->since = moment;
+        if (queried.status == YIMAROTU_OK && queried.answered == YIMAROTU_QUERY_WAITS) connection->waiting++;
+        if (queried.status == YIMAROTU_OK && queried.answered == YIMAROTU_REPLIED
+            && !reply_on(connection, room, queried.length))
+            return false;
+    }
+    drop(&connection->in, at);
+    return true;
+}
+
+/* One line, and what is answered to it ends the connection. */
+static bool take_line(struct connection *connection) {
+    static char answer[ANSWER];
+    char line[LONGEST_LINE];
+    struct octets *in = &connection->in;
+    uint8_t *end = in->length > 0 ? memchr(in->at, '\n', in->length) : NULL;
+    if (end == NULL && in->length < LONGEST_LINE) return true;
+    if (end == NULL || end - in->at >= LONGEST_LINE) return close_connection(connection), false;
+    memcpy(line, in->at, (size_t)(end - in->at));
+    line[end - in->at] = 0;
+    drop(in, in->length);
+    connection->is_over = true;
+    size_t length = obey(line, answer, sizeof answer);
+    if (!keep(&connection->out, (uint8_t *)answer, length)) return close_connection(connection), false;
+    return send_now(connection);
+}
+
+/* Reads what is there, but no more than one message behind its length; gives whether the connection is still there. */
+static bool read_some(struct connection *connection) {
+    static uint8_t octets[2 + MESSAGE];
+    if (connection->in.length == sizeof octets) return true;
+    ssize_t got = recv(connection->fd, octets, sizeof octets - connection->in.length, 0);
+    if (got == 0) connection->is_over = true;
+    bool has_failed = got < 0 && errno != EAGAIN && errno != EINTR;
+    if (has_failed || (got > 0 && !keep(&connection->in, octets, (size_t)got)))
+        return close_connection(connection), false;
+    return true;
+}
+
+void on_connection(uint64_t number, uint32_t events) {
+    struct connection *connection = connection_of(number);
+    if (connection == NULL) return;
+    if (events & (EPOLLERR | EPOLLHUP)) return close_connection(connection);
+    if (!send_now(connection) || ((events & EPOLLIN) && !read_some(connection))) return;
+    if (connection->is_control ? take_line(connection) : take_queries(connection)) settle(connection);
+}
+
+/* ---- connections come and go */
+
+/* The connection that has been idle for the longest time, or NULL. */
+static struct connection *longest_idle(void) {
+    struct connection *found = NULL;
+    for (struct connection *at = connections; at < connections + CONNECTIONS; at++)
+        if (at->number != 0 && at->waiting == 0 && (found == NULL || at->since < found->since)) found = at;
+    return found;
+}
+
+/* A free place; where all are taken, that of the connection that was idle for the longest time. */
+static struct connection *free_place(void) {
+    struct connection *at = connections;
+    if (counts.connections == CONNECTIONS) close_connection(longest_idle());
+    while (at->number != 0) at++;
+    return at;
+}
+
+static void begin(struct connection *connection, const struct listener *listener, int fd, const union address *client) {
+    static uint64_t turn;
+    int on = 1;
+    uint64_t number = 1ull << FROM_STREAM | ++turn * CONNECTIONS | (uint64_t)(connection - connections);
+    if (!watch(EPOLL_CTL_ADD, fd, EPOLLIN, number)) return (void)close(fd);
+    if (!listener->is_control) setsockopt(fd, IPPROTO_TCP, TCP_NODELAY, &on, sizeof on);
+    *connection = (struct connection){
+        .number = number, .fd = fd, .is_control = listener->is_control, .events = EPOLLIN,
+        .since = moment, .client = *client,
+    };
+    counts.connections++;
+}
+
+/* Without a file, or a place, for another connection, those that come wait until one is closed. */
+void on_connecting(const struct listener *listener) {
+    for (int turn = 0; turn < BATCH; turn++) {
+        union address client = {0};
+        socklen_t length = sizeof client;
+        if (counts.connections == CONNECTIONS && longest_idle() == NULL) return pause_accepting();
+        int fd = accept4(listener->fd, &client.any, &length, SOCK_NONBLOCK | SOCK_CLOEXEC);
+        if (fd >= 0) begin(free_place(), listener, fd, &client);
+        else if (errno == EAGAIN) return;
+        else if (errno != ECONNABORTED && errno != EINTR) return pause_accepting();
+    }
+}
+
+void expire_connections(void) {
+    for (struct connection *at = connections; at < connections + CONNECTIONS; at++)
+        if (at->number != 0 && at->waiting == 0 && moment - at->since >= IDLE) close_connection(at);
+}

@@ -1,0 +1,147 @@
+"""Octets that are no messages, from clients and from servers; and memory that runs out."""
+import contextlib
+import functools
+import random
+import resource
+import socket
+import threading
+
+import dns.message
+import dns.rrset
+
+from live_parts import stub
+
+from . import asking
+from .daemon import wait_until
+
+DATAGRAMS, CONNECTIONS, NAMES = 5_000, 100, 100
+# Memory that a program is out of whose cache may take more, after so many rounds of questions at the most; how many
+# rounds are a part of them; the questions of a round; and for how many seconds a reply is waited for, as none may come
+# where there is no memory for it.
+MEMORY, ROUNDS, PART, EACH, PATIENCE = 16 << 20, 1_000, 10, 40, 3
+
+
+def spoiled(chance, wire):
+    """Octets with some changed, cut, or put in."""
+    wire = bytearray(wire)
+    for _ in range(chance.randint(1, 4)):
+        at = chance.randrange(len(wire)) if wire else 0
+        what = chance.randrange(3)
+        if what == 0 and wire:
+            wire[at] = chance.randrange(256)
+        elif what == 1:
+            del wire[at:]
+        else:
+            wire[at:at] = chance.randbytes(chance.randint(1, 20))
+    return bytes(wire)
+
+
+def clients(cases, daemon):
+    """Clients that send anything."""
+    chance = random.Random(7)
+    wires = [asking.query("four.example.test", rdtype).to_wire() for rdtype in ("A", "MX", "TXT")]
+    with stub.running() as server, daemon.over(server, "option timeout 1", "option attempts 1") as running:
+        with asking.datagrams(running.port) as sock:
+            for number in range(DATAGRAMS):
+                sock.send(spoiled(chance, chance.choice(wires)))
+                if number % 50 == 0:
+                    found = asking.addresses(asking.by_udp(running.port, "four.example.test"))
+                    if found != ["192.0.2.4"]:
+                        cases.equal(f"behind {number} datagrams of anything", found, ["192.0.2.4"])
+        for _ in range(CONNECTIONS):
+            with asking.stream(running.port) as sock, contextlib.suppress(ConnectionError):
+                for _ in range(20):
+                    wire = spoiled(chance, asking.pipelined(asking.query("four.example.test")))
+                    sock.sendall(wire)
+        found = [asking.addresses(how(running.port, "four.example.test")) for how in (asking.by_udp, asking.by_tcp)]
+        cases.equal("behind clients that send anything", found, [["192.0.2.4"]] * 2)
+        wait_until(lambda: running.counts()["waiting"] == 0, "none waits")
+
+
+@contextlib.contextmanager
+def upstream(answer, address="127.0.0.1", port=0):
+    """A server by UDP, whose replies to a query are what is made of it."""
+    with socket.socket(asking.family_of(address), socket.SOCK_DGRAM) as sock:
+        sock.bind(asking.place(address, port))
+
+        def serve():
+            while True:
+                wire, peer = sock.recvfrom(65535)
+                if wire == b"end":
+                    return
+                for reply in answer(dns.message.from_wire(wire)):
+                    sock.sendto(reply, peer)
+
+        thread = threading.Thread(target=serve)
+        thread.start()
+        try:
+            yield sock.getsockname()[1]
+        finally:
+            with socket.socket(sock.family, socket.SOCK_DGRAM) as other:
+                other.sendto(b"end", sock.getsockname())
+            thread.join()
+
+
+def answered(query, *records):
+    response = dns.message.make_response(query)
+    response.answer = [dns.rrset.from_text(query.question[0].name, *record) for record in records]
+    return response.to_wire()
+
+
+def servers(cases, daemon):
+    """A server that replies with anything, and at last with the answer."""
+    chance = random.Random(8)
+
+    def answer(query):
+        wire = answered(query, (60, "IN", "A", "192.0.2.4"))
+        return [spoiled(chance, wire) for _ in range(chance.randint(0, 5))] + [wire]
+
+    with upstream(answer) as port, daemon.running(f"server 127.0.0.1 {port} udp", "option timeout 1") as running:
+        with asking.datagrams(running.port) as sock:
+            for number in range(NAMES):
+                sock.send(asking.query(f"n{number}.example.test").to_wire())
+            codes = {dns.message.from_wire(sock.recv(2048)).rcode() for _ in range(NAMES)}
+        cases.tell(f"{NAMES} names of a server that replies with anything", codes <= {0, 2, 3}, codes)
+        cases.equal("the program is there", running.process.poll(), None)
+
+
+def fill(sock, number):
+    """Asks for names that nobody asked for so far, and waits for what is told of them, as long as something comes."""
+    for each in range(EACH):
+        sock.send(asking.query(f"n{number}x{each}.example.test", "TXT", payload=1232).to_wire())
+    sock.settimeout(PATIENCE)
+    with contextlib.suppress(TimeoutError):
+        for _ in range(EACH):
+            sock.recv(2048)
+
+
+def keeps_all(sock, running, rounds):
+    """Whether all that was asked is kept once these rounds of new names were asked, too. The cache may take more than
+    that, so a name that is not kept is one for which there was no memory."""
+    for number in rounds:
+        fill(sock, number)
+    return running.counts()["entries"] == 1 + EACH * rounds.stop
+
+
+def without_memory(cases, daemon):
+    """Where memory runs out it goes on, and tells what is kept."""
+    if daemon.name.endswith(".sanitized"):
+        return
+    text = " ".join(['"' + "x" * 250 + '"'] * 4)
+    limit = functools.partial(resource.setrlimit, resource.RLIMIT_AS, (MEMORY, MEMORY))
+    with upstream(lambda query: [answered(query, (3600, "IN", "TXT", text))]) as port:
+        lines = [f"server 127.0.0.1 {port} udp", "option attempts 1"]
+        lines += ["option cache_octets 1073741824", "option greatest_ttl 86400"]
+        with daemon.running(*lines, preexec_fn=limit) as running, asking.datagrams(running.port) as sock:
+            first = asking.by_udp(running.port, "first.example.test", "TXT", payload=1232)
+            cases.equal("before memory runs out", len(first.answer), 1)
+            parts = (range(at, at + PART) for at in range(0, ROUNDS, PART))
+            cases.tell("there is memory at first", keeps_all(sock, running, next(parts)), running.counts())
+            cases.tell("memory runs out", not all(keeps_all(sock, running, part) for part in parts), running.counts())
+            keeps_all(sock, running, range(ROUNDS, ROUNDS + PART))
+            cases.equal("the program is there", running.process.poll(), None)
+            again = asking.by_udp(running.port, "first.example.test", "TXT", payload=1232)
+            cases.tell("it goes on", again.rcode() in (0, 2), again)
+
+
+ALL = (clients, servers, without_memory)

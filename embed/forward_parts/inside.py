@@ -1,0 +1,197 @@
+#!/usr/bin/python3
+"""inside.py OUT FOLDER PROGRAM: run in a network and mounts of their own, which hold nothing. The last line is
+`N passed, M failed`."""
+import contextlib
+import email.utils
+import hashlib
+import http.server
+import os
+import socket
+import subprocess
+import sys
+import tempfile
+import threading
+from pathlib import Path
+
+sys.dont_write_bytecode = True
+EMBED = Path(__file__).resolve().parent.parent
+sys.path[:0] = [str(EMBED), str(EMBED.parent / "tests")]
+from forward_parts import asking, daemon, hostile
+from live_parts import stub
+from live_parts.cases import Cases
+
+ADDRESSES = ("fd00::1", "fd00::2", "10.9.0.1", "10.9.0.2", "fe80::53")
+SCOPED = "fe80::53%lo"
+RECORDS = [
+    "example.test. 300 IN SOA ns.example.test. admin.example.test. 1 7200 900 1209600 240",
+    "web.example.test. 60 IN A 10.9.0.1", "web.example.test. 60 IN AAAA fd00::1",
+    "alias.example.test. 60 IN CNAME web.example.test.", "four.example.test. 60 IN A 192.0.2.4",
+    "mirror.example.test. 60 IN CNAME web.example.test.",
+]
+PAGES, SHELLS = 8080, 2222
+# The one package of a small repository, for every machine.
+PACKAGE = b"""Package: from-the-tests
+Version: 1.0
+Architecture: all
+Maintainer: nobody <nobody@example.test>
+Filename: ./from-the-tests_1.0_all.deb
+Size: 0
+Description: what the repository of the tests has
+
+"""
+
+
+def run(*words):
+    return subprocess.run([str(word) for word in words], capture_output=True, text=True, timeout=daemon.SECONDS)
+
+
+def set_up():
+    for words in (["link", "set", "lo", "up"], *(["address", "add", address, "dev", "lo"] for address in ADDRESSES)):
+        done = run("ip", *words)
+        if done.returncode:
+            raise RuntimeError(done.stderr)
+
+
+def lay_over(text, path):
+    """A file with this text lies over another one, in the mounts of this program alone."""
+    place = Path(path).resolve()
+    if not place.exists():
+        above = next(folder for folder in place.parents if folder.exists())
+        subprocess.run(["mount", "-t", "tmpfs", "none", above], check=True)
+        place.parent.mkdir(parents=True, exist_ok=True)
+        place.touch()
+    file = Path(tempfile.mkdtemp()) / "file"
+    file.write_text(text)
+    subprocess.run(["mount", "--bind", file, place], check=True)
+
+
+def sources(cases, running):
+    """The reply comes from the address that was asked, which a connected socket tells."""
+    for address in (*ADDRESSES[:-1], SCOPED, "127.0.0.1", "127.0.0.2", "::1"):
+        for how in (asking.by_udp, asking.by_tcp):
+            with cases.guard(f"{how.__name__} from {address}"):
+                found = asking.addresses(how(53, "four.example.test", address=address))
+                cases.equal(f"{how.__name__} from {address}, of all of the machine", found, ["192.0.2.4"])
+
+
+def scoped(cases, run_daemon):
+    """A server with a link-local address, out of a file resolv.conf."""
+    file = run_daemon.folder / "resolv.conf"
+    file.write_text(f"nameserver {SCOPED}\n")
+    with hostile.upstream(lambda query: [hostile.answered(query, (60, "IN", "A", "192.0.2.5"))], SCOPED, 53):
+        with run_daemon.running(f"resolv_conf {file}", port=53) as running:
+            found = asking.addresses(asking.by_udp(53, "five.example.test"))
+            cases.equal("a server with a link-local address", found, ["192.0.2.5"])
+
+
+def release():
+    """What a repository says of itself (apt-secure(8))."""
+    lines = ["Origin: tests", "Suite: stable", f"Date: {email.utils.formatdate(usegmt=True)}", "SHA256:"]
+    return "\n".join([*lines, f" {hashlib.sha256(PACKAGE).hexdigest()} {len(PACKAGE)} Packages", ""]).encode()
+
+
+class Page(http.server.BaseHTTPRequestHandler):
+    pages = {"/": b"hello\n", "/debian/./Release": release(), "/debian/./Packages": PACKAGE}
+
+    def do_GET(self):
+        page = self.pages.get(self.path)
+        self.send_response(404 if page is None else 200)
+        self.send_header("Content-Length", str(len(page or b"")))
+        self.end_headers()
+        self.wfile.write(page or b"")
+
+    def log_message(self, *words):
+        pass
+
+
+@contextlib.contextmanager
+def web():
+    server = http.server.ThreadingHTTPServer(("10.9.0.1", PAGES), Page)
+    thread = threading.Thread(target=server.serve_forever)
+    thread.start()
+    try:
+        yield
+    finally:
+        server.shutdown()
+        thread.join()
+        server.server_close()
+
+
+def by_ssh(cases):
+    """It comes to the machine of the name, and is heard there."""
+    heard = []
+
+    def listen(listener):
+        connection, _ = listener.accept()
+        with connection, connection.makefile("rb") as file:
+            heard.append(file.readline())
+
+    with socket.create_server(("10.9.0.1", SHELLS)) as listener:
+        thread = threading.Thread(target=listen, args=(listener,))
+        thread.start()
+        settings = ["BatchMode=yes", "StrictHostKeyChecking=no", "UserKnownHostsFile=/dev/null", "AddressFamily=inet"]
+        options = [word for it in settings for word in ("-o", it)]
+        done = run("ssh", "-F", "none", *options, "-p", SHELLS, "alias.example.test", "true")
+        with contextlib.suppress(OSError):
+            # (where ssh never came, this ends the thread)
+            socket.create_connection(("10.9.0.1", SHELLS), daemon.SECONDS).close()
+        thread.join()
+    cases.tell("ssh", heard and heard[0].startswith(b"SSH-2.0-"), f"{heard}, {done.stderr}")
+
+
+def by_apt(cases, folder):
+    """apt-get update, from a repository whose name the zone of the tests has, and nobody else."""
+    top = Path(tempfile.mkdtemp(dir=folder))
+    for name in ("lists/partial", "archives/partial", "parts"):
+        (top / name).mkdir(parents=True)
+    (top / "sources.list").write_text(f"deb [trusted=yes] http://mirror.example.test:{PAGES}/debian ./\n")
+    (top / "status").touch()
+    settings = {
+        "Dir::Etc::SourceList": top / "sources.list", "Dir::Etc::SourceParts": top / "parts",
+        "Dir::State::Lists": top / "lists", "Dir::State::status": top / "status", "Dir::Cache": top,
+        "Acquire::http::Proxy": "DIRECT", "Acquire::Languages": "none", "APT::Sandbox::User": "root",
+    }
+    options = [word for name, value in settings.items() for word in ("-o", f"{name}={value}")]
+    done = run("apt-get", *options, "update")
+    cases.tell("apt-get update", done.returncode == 0 and "mirror.example.test" in done.stdout, done.stdout + done.stderr)
+    done = run("apt-cache", *options, "show", "from-the-tests")
+    cases.tell("apt-cache show", "what the repository of the tests has" in done.stdout, done.stdout + done.stderr)
+
+
+def programs(cases, folder):
+    """Programs over the system's own resolver."""
+    done = run("getent", "hosts", "four.example.test")
+    cases.equal("getent hosts", (done.returncode, done.stdout.split()), (0, ["192.0.2.4", "four.example.test"]))
+    done = run("getent", "ahosts", "alias.example.test")
+    found = {line.split()[0] for line in done.stdout.splitlines()}
+    cases.equal("getent ahosts", (done.returncode, found), (0, {"10.9.0.1", "fd00::1"}))
+    cases.equal("getent hosts, no such name", run("getent", "hosts", "nowhere.example.test").returncode, 2)
+    done = run("ping", "-c", 1, "-W", daemon.SECONDS, "web.example.test")
+    cases.tell("ping", done.returncode == 0 and " 1 received" in done.stdout, done.stdout + done.stderr)
+    words = ["-c", f"import urllib.request as it; print(it.urlopen('http://alias.example.test:{PAGES}/').read())"]
+    with web():
+        cases.equal("urllib", run(sys.executable, *words).stdout, "b'hello\\n'\n")
+        done = run("curl", "--silent", "--show-error", "--noproxy", "*", "--ipv4", f"http://web.example.test:{PAGES}/")
+        cases.equal("curl", (done.stdout, done.stderr), ("hello\n", ""))
+        by_apt(cases, folder)
+    by_ssh(cases)
+
+
+def main(out, folder, name):
+    cases, run_daemon = Cases(), daemon.Daemon(Path(out), Path(folder), name)
+    with cases.guard("a network of its own"):
+        set_up()
+        lay_over("nameserver 127.0.0.1\noptions timeout:20\n", "/etc/resolv.conf")
+        lay_over("hosts: files dns\n", "/etc/nsswitch.conf")
+        with stub.running(RECORDS) as server:
+            lines = [f"server 127.0.0.1 {server.port}", "user nobody"]
+            os.chmod(folder, 0o755)
+            with run_daemon.running(*lines, port=53, listens=("0.0.0.0", "::")) as running:
+                sources(cases, running)
+                programs(cases, folder)
+        with cases.guard("a server with a link-local address"):
+            scoped(cases, run_daemon)
+    print(f"{cases.passed} passed, {cases.failed} failed")
+
+
+main(*sys.argv[1:])

@@ -1,0 +1,294 @@
+"""How it is run: settings and their faults, signals, yimarotu-control, the log, rights, many processes, activation."""
+import contextlib
+import os
+import pwd
+import re
+import signal
+import socket
+import stat
+import time
+from pathlib import Path
+
+from live_parts import servers, stub, zone
+
+from . import asking
+from .daemon import SECONDS, wait_until
+
+OTHER_USER = "nobody"
+
+
+def checked(cases, daemon):
+    """--check tells each fault with its line, and ends with 1; with 0 where there is none."""
+    path = daemon.write("# a comment", "", "listen 127.0.0.1 5353", "server 192.0.2.53", "control none")
+    cases.equal("no fault", daemon.end_of("--config", path, "--check"), (0, "", ""))
+    path = daemon.write("listen nowhere", "server 192.0.2.53", "serve..", "processes 0", "server of nothing",
+                        "hosts /nowhere/hosts", "user", "log a b", "listen 127.0.0.1 70000", "allow 10.0.0.0/8",
+                        "user no-such-user")
+    status, told, error = daemon.end_of("--config", path, "--check")
+    lines = sorted(int(number) for number in re.findall(r"line (\d+): ", error))
+    cases.equal("a fault in each of these lines", (status, told, lines), (1, "", [1, 3, 4, 5, 6, 7, 8, 9, 11]))
+    cases.equal("it does not begin with them", daemon.end_of("--config", path)[0], 1)
+    status, _, error = daemon.end_of("--config", daemon.folder / "nowhere", "--check")
+    cases.tell("no such file", status == 1 and "No such file" in error, (status, error))
+    for words in ([], ["--nothing"], ["--config"], ["--config", path, "more"]):
+        cases.equal(f"words {words[:1]}", daemon.end_of(*words)[0], 2)
+    status, told, _ = daemon.end_of("--version")
+    cases.tell("--version", status == 0 and re.match(r"yimarotu-forward \d+\.\d+\.\d+, .*seccomp", told), told)
+
+
+def in_use(cases, daemon):
+    """Where another program has the address it says so, and ends."""
+    with socket.socket(socket.AF_INET, socket.SOCK_DGRAM) as sock:
+        sock.bind(("127.0.0.1", 0))
+        path = daemon.write(f"listen 127.0.0.1 {sock.getsockname()[1]}", "server 192.0.2.53", "control none")
+        status, _, error = daemon.end_of("--config", path)
+        cases.tell("an address that is in use", status == 3 and "Address already in use" in error, (status, error))
+
+
+def reloaded(cases, daemon):
+    """SIGHUP and `reload` read the files again; where they have a fault it is told, and all stays."""
+    records = [*zone.RECORDS, "only.example.test. 60 IN A 192.0.2.7"]
+    with stub.running() as first, stub.running(records) as second:
+        with daemon.running(f"server 127.0.0.1 {first.port}") as running:
+            lines = running.path.read_text()
+            found = asking.addresses(asking.by_udp(running.port, "only.example.test"))
+            cases.equal("over the first server", found, "NXDOMAIN")
+            running.path.write_text(lines + "what is this\n")
+            count = len(lines.splitlines()) + 1
+            os.kill(running.pid, signal.SIGHUP)
+            running.wait_for(f"line {count}: ")
+            status, _, error = running.control("reload")
+            cases.tell("reload with a fault", status == 1 and error.startswith("error: "), (status, error))
+            found = asking.addresses(asking.by_udp(running.port, "four.example.test"))
+            cases.equal("with a fault all stays", found, ["192.0.2.4"])
+            running.path.write_text(lines.replace(f"1 {first.port}", f"1 {second.port}"))
+            os.kill(running.pid, signal.SIGHUP)
+            wait_until(lambda: asking.addresses(asking.by_udp(running.port, "only.example.test")) == ["192.0.2.7"],
+                       "the second server is asked")
+            cases.tell("SIGHUP reads the files again", True, "")
+            running.path.write_text(lines)
+            cases.equal("reload", running.control("reload")[0], 0)
+            found = asking.addresses(asking.by_udp(running.port, "only.example.test"))
+            cases.equal("reload reads the files again", found, "NXDOMAIN")
+
+
+def hosts(cases, daemon):
+    """Files that the settings name: hosts, and blocked names."""
+    for name, text in (("hosts", "192.0.2.77 printer.lan\n"), ("blocked", "0.0.0.0 ads.example.test\n")):
+        (daemon.folder / name).write_text(text)
+    lines = [f"hosts {daemon.folder}/hosts", f"blocked {daemon.folder}/blocked"]
+    with stub.running() as server, daemon.over(server, *lines) as running:
+        found = [asking.addresses(asking.by_udp(running.port, name)) for name in ("printer.lan", "ads.example.test")]
+        cases.equal("hosts and blocked names", found, [["192.0.2.77"], "NXDOMAIN"])
+        (daemon.folder / "hosts").write_text("192.0.2.78 printer.lan\n")
+        running.control("reload")
+        found = asking.addresses(asking.by_udp(running.port, "printer.lan"))
+        cases.equal("hosts are read again", found, ["192.0.2.78"])
+        cases.equal("no server was asked", server.asked, [])
+
+
+def controlled(cases, daemon):
+    """yimarotu-control: flush, clear, dump, statistics; and a socket for its user alone."""
+    with stub.running() as server, daemon.over(server) as running:
+        def asked():
+            asking.by_udp(running.port, "www.example.test"), asking.by_udp(running.port, "four.example.test")
+            return [len(server.questions_for(f"{name}.example.test.")) for name in ("www", "four")]
+
+        cases.equal("asked once", [asked(), asked()], [[1, 1], [1, 1]])
+        kept = [["four.example.test.", "A", "NOERROR"], ["www.example.test.", "A", "NOERROR"]]
+        cases.equal("dump", sorted(line[:3] for line in dumped(running)), kept)
+        cases.equal("flush", running.control("flush", "www.example.test"), (0, "", ""))
+        cases.equal("dump, of what is left", [line[:3] for line in dumped(running)], kept[:1])
+        cases.equal("flush: what is asked anew", asked(), [2, 1])
+        cases.equal("flush of another name", (running.control("flush", "test"), asked()), ((0, "", ""), [2, 1]))
+        cases.equal("flush below", (running.control("flush", "test", "below"), asked()), ((0, "", ""), [3, 2]))
+        cases.equal("clear", (running.control("clear"), asked()), ((0, "", ""), [4, 3]))
+        counts = running.counts()
+        cases.equal("statistics", (counts["queries"], counts["waiting"], counts["sent"]), (12, 0, 7))
+        status, _, error = running.control("flush", "a..b")
+        cases.tell("flush of no name", status == 1 and error.startswith("error: "), (status, error))
+        for words in (["nothing"], ["flush"], ["clear", "more"], ["dump", "all"], ["flush", "a", "b"], []):
+            cases.equal(f"words {words}", running.control(*words)[0], 2)
+        answered(cases, running)
+    cases.equal("nobody there", running.control("statistics")[0], 3)
+
+
+def dumped(running):
+    """The words of each line of what is kept."""
+    status, told, error = running.control("dump")
+    if status:
+        raise RuntimeError(error)
+    return [line.split(" ") for line in told.splitlines()]
+
+
+def dumped_whole(cases, daemon):
+    """More is kept than one piece of a dump has room for. None of these names is there, which is kept (RFC 2308)."""
+    names = {f"n{number}.{'.'.join(['x' * 60] * 3)}.example.test." for number in range(700)}
+    with stub.running() as server, daemon.over(server) as running:
+        for name in names:
+            asking.by_udp(running.port, name, want_dnssec=True)
+        found = dumped(running)
+    cases.equal("each is told once", sorted(line[0] for line in found), sorted(names))
+    kinds = {(*line[1:3], *line[5:]) for line in found}
+    cases.equal("type, code and DO", kinds, {("A", "NXDOMAIN", "do")})
+    cases.tell("seconds and octets", all(0 < int(line[3]) <= 300 and int(line[4]) > 200 for line in found), found[:3])
+
+
+def answered(cases, running):
+    """What is said on the control socket by other programs."""
+    path = running._control[1]
+    cases.equal("the mode of the socket", stat.S_IMODE(path.stat().st_mode), 0o600)
+    for said, answer in ((b"nothing\n", b"error: "), (b"\n", b"error: "), (b"a" * 2000, b""), (b"clear", b"")):
+        with socket.socket(socket.AF_UNIX) as sock:
+            sock.settimeout(SECONDS)
+            sock.connect(str(path))
+            with contextlib.suppress(ConnectionError):
+                sock.sendall(said)
+                sock.shutdown(socket.SHUT_WR)
+            found = b""
+            with contextlib.suppress(ConnectionError):
+                while piece := sock.recv(4096):
+                    found += piece
+        cases.tell(f"a line {said[:10]}", found.startswith(answer) and bool(found) == bool(answer), found)
+
+
+def counted(cases, daemon):
+    """SIGUSR1 writes the counts to standard error."""
+    with stub.running() as server, daemon.over(server) as running:
+        for _ in range(3):
+            asking.by_udp(running.port, "four.example.test")
+        os.kill(running.pid, signal.SIGUSR1)
+        running.wait_for("queries=")
+        found = dict(re.findall(r"(\w+)=(\d+)", running.said()))
+        cases.equal("SIGUSR1", (found["queries"], found["from_cache"], found["waited"]), ("3", "2", "1"))
+
+
+LINE = re.compile(r"\d{4}-\d\d-\d\dT\d\d:\d\d:\d\d\.\d{3}Z (\S+)#\d+ (udp|tcp) (\S+) (\S+) (\S+)")
+
+
+def logged(cases, daemon):
+    """A line for each reply. What a pipe does not take at once is dropped and counted."""
+    log = daemon.folder / f"log{time.monotonic_ns()}"
+    with stub.running() as server:
+        with daemon.over(server, f"log {log}", listens=("127.0.0.1", "::1")) as running:
+            asking.by_udp(running.port, "four.example.test")
+            asking.by_tcp(running.port, "Nowhere.example.test", "AAAA", address="::1")
+            asking.by_udp(running.port, "refused.example.test", 65280)
+            with asking.datagrams(running.port) as sock:
+                sock.send(bytes(2) + b"\1\0\0\0" + bytes(6))
+                sock.recv(512)
+            wanted = [("127.0.0.1", "udp", "four.example.test.", "A", "NOERROR"),
+                      ("::1", "tcp", "Nowhere.example.test.", "AAAA", "NXDOMAIN"),
+                      ("127.0.0.1", "udp", "refused.example.test.", "TYPE65280", "SERVFAIL"),
+                      ("127.0.0.1", "udp", "-", "-", "FORMERR")]
+            wait_until(lambda: log.read_text().count("\n") == len(wanted), "all lines are there")
+            cases.equal("the log", [LINE.fullmatch(line).groups() for line in log.read_text().splitlines()], wanted)
+            log.rename(f"{log}.1")
+            running.control("reload")
+            asking.by_udp(running.port, "four.example.test")
+            wait_until(lambda: "four.example.test" in log.read_text(), "the log is opened again")
+        log.unlink()
+        os.mkfifo(log)
+        with daemon.over(server, f"log {log}") as running:
+            for _ in range(2000):
+                asking.by_udp(running.port, "four.example.test")
+            lost = running.counts()["log_lines_lost"]
+            cases.tell("a pipe that nobody reads", 0 < lost < 2000, f"{lost} lines were lost")
+            with log.open("rb", buffering=0) as reader:
+                got = reader.read(1 << 16)
+                cases.tell("whole lines are in it", LINE.fullmatch(got.decode().splitlines()[-1]), got[-200:])
+                asking.by_udp(running.port, "www.example.test")
+                wait_until(lambda: b"www.example.test" in reader.read(1 << 16), "the log goes on")
+
+
+def status_of(pid):
+    return dict(line.split(":\t", 1) for line in Path(f"/proc/{pid}/status").read_text().splitlines() if ":\t" in line)
+
+
+def unprivileged(cases, daemon):
+    """It drops its rights: its user, its groups, new privileges, and calls of the system that it does not need."""
+    user = pwd.getpwnam(OTHER_USER)
+    os.chmod(daemon.folder, 0o755)
+    with stub.running() as server, daemon.over(server, f"user {OTHER_USER}") as running:
+        found = asking.addresses(asking.by_udp(running.port, "four.example.test"))
+        cases.equal("as another user", found, ["192.0.2.4"])
+        status = status_of(running.pid)
+        cases.equal("its user", status["Uid"].split(), [str(user.pw_uid)] * 4)
+        cases.equal("its group", status["Gid"].split(), [str(user.pw_gid)] * 4)
+        cases.equal("its groups", status["Groups"].split(), [str(user.pw_gid)])
+        cases.equal("its capabilities", {status[f"Cap{name}"].strip("0") for name in ("Prm", "Eff", "Inh")}, {""})
+        cases.equal("no new privileges", status["NoNewPrivs"], "1")
+        if "confined" in daemon.end_of("--version")[1]:
+            cases.equal("seccomp", status["Seccomp"], "2")
+        cases.equal("the control socket is its own", running._control[1].stat().st_uid, user.pw_uid)
+        cases.equal("it reads its files as that user", running.control("reload")[0], 0)
+        cases.equal("statistics", running.counts()["queries"], 1)
+    listen = f"listen 127.0.0.1 {servers.free_port()}"
+    path = daemon.write("user no-such-user", listen, "server 192.0.2.53", "control none")
+    cases.equal("no such user", daemon.end_of("--config", path)[0], 3)
+
+
+def children_of(pid):
+    return [int(child) for child in Path(f"/proc/{pid}/task/{pid}/children").read_text().split()]
+
+
+def many_processes(cases, daemon):
+    """Processes with a cache each; one that dies is started again."""
+    count = 3
+    with socket.socket(socket.AF_UNIX) as left_over:
+        left_over.bind(str(daemon.next_control()))
+    with stub.running() as server, daemon.over(server, f"processes {count}") as running:
+        children = wait_until(lambda: len(found := children_of(running.pid)) == count and found, "all are there")
+        for number in range(60):
+            asking.by_udp(running.port, "four.example.test")
+        asked = len(server.questions_for("four.example.test."))
+        cases.tell("each process has a cache of its own", 2 <= asked <= count, f"asked {asked} times")
+        cases.equal("statistics of all", (running.counts()["queries"], running.counts()["entries"]), (60, asked))
+        cases.equal("clear of all", (running.control("clear")[0], running.counts()["entries"]), (0, 0))
+        os.kill(children[1], signal.SIGKILL)
+        running.wait_for("is started again")
+        wait_until(lambda: len(children_of(running.pid)) == count, "it is started again")
+        found = [asking.addresses(asking.by_udp(running.port, "four.example.test")) for _ in range(30)]
+        cases.equal("after one was killed", found, [["192.0.2.4"]] * 30)
+        os.kill(running.pid, signal.SIGUSR1)
+        wait_until(lambda: running.said().count("queries=") == count, "each process writes its counts")
+        running.path.write_text(running.path.read_text() + "block example.test\n")
+        os.kill(running.pid, signal.SIGHUP)
+        wait_until(lambda: [asking.addresses(asking.by_udp(running.port, "four.example.test")) for _ in range(30)]
+                   == ["NXDOMAIN"] * 30, "each process has read its files again")
+        children = children_of(running.pid)
+    wait_until(lambda: not any(Path(f"/proc/{child}").exists() for child in children), "the processes end with it")
+    cases.tell("the processes end with it", True, "")
+
+
+def activated(cases, daemon):
+    """Sockets that systemd opened, of which it is told by the environment, count in place of its own."""
+    with contextlib.ExitStack() as stack:
+        server = stack.enter_context(stub.running())
+        datagrams = stack.enter_context(socket.socket(socket.AF_INET, socket.SOCK_DGRAM))
+        streams = stack.enter_context(socket.socket())
+        port = servers.free_port()
+        datagrams.bind(("127.0.0.1", port))
+        streams.bind(("127.0.0.1", port))
+        streams.listen()
+        given = [os.dup(sock.fileno()) for sock in (datagrams, streams)]
+
+        def pass_on():
+            for place, fd in enumerate([os.dup2(fd, 50 + at) for at, fd in enumerate(given)]):
+                os.dup2(fd, 3 + place)
+
+        shell = ["/bin/sh", "-c", 'LISTEN_PID=$$ LISTEN_FDS=2 exec "$@"', "sh"]
+        for processes in (1, 3):
+            lines = [f"processes {processes}"]
+            with daemon.over(server, *lines, before=shell, preexec_fn=pass_on, close_fds=False) as running:
+                for how in (asking.by_udp, asking.by_tcp) * processes:
+                    found = asking.addresses(how(port, "four.example.test"))
+                    cases.equal(f"activated, {how.__name__}, processes: {processes}", found, ["192.0.2.4"])
+                with contextlib.suppress(ConnectionRefusedError):
+                    asking.stream(running.port).close()
+                    cases.tell("nothing else is listened to", False, running.port)
+        for fd in given:
+            os.close(fd)
+
+
+ALL = (checked, in_use, reloaded, hosts, controlled, dumped_whole, counted, logged, unprivileged, many_processes, activated)
