@@ -1,5 +1,5 @@
 -- Look-ups that are late: those who wait are told what is kept past its end (RFC 8767, section 5).
-use Rattle.std.specs.Prelude.{◌≡◌, true, false, ℕ, ◌+◌, ◌&&◌, Bool, min, nat_le, List, [], ◌∷◌, ◌++◌, drop, Option, None, Some, MatchOption, slice_get, if◌then◌else◌}
+use Rattle.std.specs.Prelude.{◌≡◌, true, false, ℕ, ◌+◌, ◌&&◌, Bool, nat_le, nat_lt, List, [], ◌∷◌, ◌++◌, drop, length, Option, None, Some, MatchOption, slice_get, if◌then◌else◌}
 use Rattle.std.specs.Option.{is_some, option_and_then, option_map, option_map_or}
 use Rattle.hickory_resolver_traffic.specs.Tasks.{next_deadline}
 use Rattle.client_requests.specs.Keys.{key_of}
@@ -7,6 +7,7 @@ use Rattle.client_requests.specs.Requests.{RequestValue}
 use Rattle.client_requests.specs.declared.fetch_end.FetchEnd.TheVariants.{Failure}
 use Rattle.failure_replies.specs.declared.failure.FailureReason.TheVariants.{NoReachableAuthority}
 use Rattle.stored_replies.specs.Stored.{saturated}
+use Rattle.whole_replies.specs.Kept.{lesser}
 use Rattle.yimarotu_forwarder.specs.Fetches.{FetchValue, HoldsFetch, fetch_at}
 use Rattle.yimarotu_forwarder.specs.Forwarders.{ForwarderValue, ReplyingValue, second_of}
 use Rattle.yimarotu_forwarder.specs.Stale.{stale_hit, stale_in}
@@ -21,26 +22,24 @@ has_stale key s = is_some (stale_in s.cache key s.options (second_of s))
 abbrev pub late_at : ℕ → ℕ
 late_at began = saturated (began + LATE)
 
--- A look-up begins: where something is kept past its end, the moment is noted at which it is late.
+-- A look-up begins: the moment is noted at which it is late where something is kept past its end, and no more are noted
+-- than clients may wait. (The moment of a look-up that ended earlier stands there, too.)
+abbrev pub is_noted_late : List ℕ → ForwarderValue → Bool
+is_noted_late key s = has_stale key s && nat_lt (length s.late) s.options.limits.all
+
 abbrev pub late_after : List ℕ → ForwarderValue → List (ℕ × List ℕ)
 late_after key s =
-    if has_stale key s then s.late ++ (late_at s.clock, key) ∷ [] else s.late
+    if is_noted_late key s then s.late ++ (late_at s.clock, key) ∷ [] else s.late
 
 abbrev pub is_late : FetchValue → ℕ → Bool
 is_late f now = nat_le (late_at f.began) now
-
--- the earlier of two moments, where there are two
-abbrev pub earlier : Option ℕ → Option ℕ → Option ℕ
-earlier None b = b
-earlier (Some a) None = Some a
-earlier (Some a) (Some b) = Some (min a b)
 
 abbrev pub first_moment : List (ℕ × List ℕ) → Option ℕ
 first_moment late = option_map (λ l. l.0) (slice_get late 0)
 
 -- the earliest moment at which time ends something, or a look-up is late
 abbrev pub deadline_of : ForwarderValue → Option ℕ
-deadline_of s = earlier (next_deadline s.pool.traffic) (first_moment s.late)
+deadline_of s = lesser (next_deadline s.pool.traffic) (first_moment s.late)
 
 -- ---- who comes later
 

@@ -2,9 +2,10 @@
 ghost use Rattle.std.specs.Prelude.{◌≡◌, ◌<◌, ◌++◌, ◌∷◌, [], if◌then◌else◌, slice_get, MatchOption, OnOk};
 ghost use Rattle.std.specs.Option.{option_and_then, option_map};
 ghost use Rattle.std.specs.VecDeque.{deque_capacity, deque_len};
+ghost use Rattle.whole_replies.specs.Kept.{lesser};
 ghost use Rattle.yimarotu_forwarder.specs.Fetches.{HoldsFetch, fetch_at};
 ghost use Rattle.yimarotu_forwarder.specs.FetchTables.{fetches_of};
-ghost use Rattle.yimarotu_forwarder.specs.Late.{TellsLate, TellsWaitingOf, earlier, first_due, first_moment, if_due, has_stale, is_late, is_told_late, late_at, late_replying, with_nobody};
+ghost use Rattle.yimarotu_forwarder.specs.Late.{TellsLate, TellsWaitingOf, first_due, first_moment, if_due, has_stale, is_late, is_noted_late, is_told_late, late_at, late_replying, with_nobody};
 
 use crate::choices::LATE;
 use crate::fetch::Fetch;
@@ -27,6 +28,13 @@ impl Forwarder {
         ensures { result ≡ has_stale key.now self.now }
     {
         is_kept_stale(&self.cache, key, &self.options, self.second())
+    }
+
+    // Whether the moment is noted at which a look-up is late that begins.
+    pub(crate) fn is_noted_late(&self, key: &ReplyKey) -> bool
+        ensures { result ≡ is_noted_late key.now self.now }
+    {
+        self.has_stale(key) && self.late.len() < self.options.limits.all
     }
 
     // The key of the first look-up whose moment has come.
@@ -123,7 +131,7 @@ pub(crate) fn late_at(began: u64) -> u64
 
 // The earlier of two moments, where there are two.
 pub(crate) fn earlier(one: Option<u64>, other: Option<u64>) -> Option<u64>
-    ensures { result ≡ earlier one other }
+    ensures { result ≡ lesser one other }
 {
     match (one, other) {
         (Some(one), Some(other)) => Some(one.min(other)),
@@ -148,12 +156,12 @@ pub(crate) fn is_late(fetch: &Fetch, now: u64) -> bool
     late_at(fetch.began) <= now
 }
 
-// A look-up begins at a moment: where something is kept past its end, that at which it is late is noted.
-pub(crate) fn note_late(late: &mut Lates, is_kept: bool, key: &ReplyKey, now: u64)
+// A look-up begins at a moment: where that is to be noted, so is the moment at which it is late.
+pub(crate) fn note_late(late: &mut Lates, is_noted: bool, key: &ReplyKey, now: u64)
     requires { deque_len late.old < deque_capacity late.old }
-    ensures { late.new.items ≡ (if is_kept then late.old.items ++ (late_at now, key.now) ∷ [] else late.old.items) }
+    ensures { late.new.items ≡ (if is_noted then late.old.items ++ (late_at now, key.now) ∷ [] else late.old.items) }
 {
-    if is_kept {
+    if is_noted {
         late.push_back_reserved((late_at(now), key.copied()));
     }
 }

@@ -167,7 +167,7 @@ impl Forwarder {
             self.generation,
             self.clock,
         )?;
-        let is_kept = self.has_stale(&key);
+        let is_noted = self.is_noted_late(&key);
         self.fetches.reserve()?;
         reserve_late(&mut self.late)?;
         let asked = ask_counted(
@@ -181,7 +181,7 @@ impl Forwarder {
         )?;
         match asked {
             Asked::Asker(asker) => {
-                note_late(&mut self.late, is_kept, &key, self.clock);
+                note_late(&mut self.late, is_noted, &key, self.clock);
                 self.fetches.begin(key, fetch, asker.number);
                 Ok(Outcome::Waits)
             }

@@ -10,7 +10,7 @@ use Rattle.yimarotu_forwarder.specs.FetchTables.{fetches_of}
 use Rattle.yimarotu_forwarder.specs.Fetches.{Begins, FetchesValue}
 use Rattle.yimarotu_forwarder.specs.Forwarders.{ForwarderValue}
 use Rattle.client_requests.specs.Keys.{key_of}
-use Rattle.yimarotu_forwarder.specs.Late.{has_stale, late_after, late_at}
+use Rattle.yimarotu_forwarder.specs.Late.{is_noted_late, late_after, late_at}
 use Rattle.yimarotu_forwarder.specs.LookingUp.{BeginsWith, counts_after, dnssec_of, new_fetch, pool_question}
 use Rattle.yimarotu_forwarder.specs.contracts.forwarder.Forwarder.{the_view}
 use Rattle.yimarotu_forwarder.specs.declared.answered.Outcome.TheVariants.{Waits}
@@ -34,7 +34,7 @@ returns-in-Asker-clause-ok c =
     let late_is : c.note_late.new.late.items ≡ late_after (key_of c.args.request.now) was =
     c.note_late.ensures
     ∙ ap₂ (λ (b : Bool) (l : List (ℕ × List ℕ)). if b then l ++ (late_at was.clock, c.args.key) ∷ [] else l)
-    (c.has_stale-is_kept.ensures ∙ ap (λ (s : ForwarderValue). has_stale c.args.key s) (sym c.self.view_is))
+    (c.is_noted_late-is_noted.ensures ∙ ap (λ (s : ForwarderValue). is_noted_late c.args.key s) (sym c.self.view_is))
     c.reserve_late.ensures.same
     ∙ ap (λ (k : List ℕ). late_after k was) c.requires in
     subst (λ (s : ForwarderValue). BeginsWith c.args.query c.args.request.now
