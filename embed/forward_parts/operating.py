@@ -70,6 +70,16 @@ def reloaded(cases, daemon):
             cases.equal("reload", running.control("reload")[0], 0)
             found = asking.addresses(asking.by_udp(running.port, "only.example.test"))
             cases.equal("reload reads the files again", found, "NXDOMAIN")
+            asking.by_udp(running.port, "four.example.test")
+            entries = running.counts()["entries"]
+            cases.tell("something is kept", entries > 0, entries)
+            for what, more, left in (
+                ("where only clients are others what is kept stays", "# all\nallow ::/0\noption clients 9", entries),
+                ("where a name is blocked what is kept is let go", "block nowhere.example.test", 0),
+            ):
+                running.path.write_text(f"{lines}{more}\n")
+                cases.equal("reload", running.control("reload")[0], 0)
+                cases.equal(what, running.counts()["entries"], left)
 
 
 def hosts(cases, daemon):
@@ -187,6 +197,12 @@ def logged(cases, daemon):
             running.control("reload")
             asking.by_udp(running.port, "four.example.test")
             wait_until(lambda: "four.example.test" in log.read_text(), "the log is opened again")
+            written = log.read_text()
+            running.path.write_text(running.path.read_text().replace(f"log {log}\n", "log none\n"))
+            running.control("reload")
+            asking.by_udp(running.port, "four.example.test")
+            running.counts()
+            cases.equal("log none ends the log", log.read_text(), written)
         log.unlink()
         os.mkfifo(log)
         with daemon.over(server, f"log {log}") as running:

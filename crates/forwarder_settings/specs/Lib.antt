@@ -3,6 +3,7 @@ pub mod ForwarderLine
 pub mod ForwarderOption
 pub mod Laws
 pub mod LocalRules
+pub mod OfClients
 pub mod Prefixes
 pub mod Reading
 pub mod Settings

@@ -10,12 +10,14 @@ mod forwarder_line;
 mod forwarder_option;
 pub mod laws;
 mod local_rules;
+mod of_clients;
 mod prefixes;
 mod reading;
 mod settings;
 
 pub use blocked::read_blocked;
 pub use domains::{DomainGroup, RuleLine};
+pub use of_clients::differ_at_most_in_clients;
 pub use reading::ForwarderSettings;
 pub use session_settings::SettingsError;
 pub use settings::read_forwarder_settings;

@@ -1,5 +1,5 @@
 -- What a forwarder was opened with is read anew.
-use Rattle.std.specs.Prelude.{◌≡◌, ◌⊎◌, ◌/◌, ℕ, Result, Ok, Err, MatchBool, MatchResult}
+use Rattle.std.specs.Prelude.{◌≡◌, ◌⊎◌, ◌/◌, ℕ, Result, Ok, Err, MatchBool, MatchResult, if◌then◌else◌}
 use Rattle.session_settings.specs.declared.settings_error.SettingsError.{SettingsError}
 use Rattle.forwarder_settings.specs.Reading.{SettingsValue}
 use Rattle.forwarder_settings.specs.Settings.{IsSettingsRead}
@@ -9,7 +9,7 @@ use Rattle.yimarotu_forwarder.specs.Options.{OptionsValue}
 use Rattle.yimarotu_driven_forwarder.specs.Driven.{DrivenValue, over_forwarder}
 use Rattle.yimarotu_driven_forwarder.specs.Opening.{IsLocalRead}
 use Rattle.yimarotu_driven_forwarder.specs.Servers.{AsksServers}
-use Rattle.yimarotu_driven_forwarder.specs.Texts.{TextsValue, is_same}
+use Rattle.yimarotu_driven_forwarder.specs.Texts.{TextsValue, is_same, says_same_of_replies}
 use Rattle.yimarotu_driven_forwarder.specs.declared.open_error.ForwarderOpenError.{ForwarderOpenError}
 use Rattle.yimarotu_driven_forwarder.specs.declared.open_error.ForwarderOpenError.TheVariants.{Settings, OutOfMemory}
 
@@ -20,10 +20,14 @@ Reloading = DrivenValue → Result (Unit {0}) ForwarderOpenError → DrivenValue
 abbrev pub Refuses : ForwarderOpenError → Reloading
 Refuses error before result after = (result ≡ Err error) × (after ≡ before)
 
+-- What is kept stays, and local data with it, where the texts differ at most in what the settings say of clients.
+abbrev pub with_local_of : TextsValue → TextsValue → LocalValue → ForwarderValue → ForwarderValue
+with_local_of texts kept local f = if says_same_of_replies texts kept then f else with_local local f
+
 -- a forwarder with these options, this local data and these texts
 abbrev pub turned_to : OptionsValue → LocalValue → TextsValue → ForwarderValue → DrivenValue → DrivenValue
 turned_to options local texts asking d =
-    record d { forwarder = with_local local (record asking { options = options }); texts = texts }
+    record d { forwarder = with_local_of texts d.texts local (record asking { options = options }); texts = texts }
 
 -- Each group gets its servers, and then they count. Where memory runs out, the first of the groups have theirs.
 abbrev pub Replaces : SettingsValue → LocalValue → TextsValue → Reloading

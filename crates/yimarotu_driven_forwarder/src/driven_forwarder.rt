@@ -101,9 +101,9 @@ impl DrivenForwarder {
     // ---- the texts are read anew
 
     /// What these texts say counts from this moment (milliseconds) on. Where each says what it said, nothing changes.
-    /// Else what is kept is let go, and look-ups in flight go on; how servers are asked, and the bounds of what is
-    /// kept, stay. Where a text has a fault nothing changes; where memory runs out the servers of the first groups
-    /// may be others.
+    /// Where they differ at most in what the settings say of clients, what is kept stays; else it is let go. Look-ups in
+    /// flight go on; how servers are asked, and the bounds of what is kept, stay. Where a text has a fault nothing
+    /// changes; where memory runs out the servers of the first groups may be others.
     pub fn reload(
         &mut self,
         alloc: Global,
@@ -201,7 +201,9 @@ impl DrivenForwarder {
             self.old.forwarder self.old }
     {
         self.forwarder.set_options(options);
-        self.forwarder.set_local(local);
+        if !self.texts.says_same_of_replies(&texts) {
+            self.forwarder.set_local(local);
+        }
         self.texts = texts;
     }
 

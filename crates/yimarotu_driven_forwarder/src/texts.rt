@@ -1,7 +1,8 @@
 //! What a forwarder is opened with, in octets.
 ghost use Rattle.std.specs.Prelude.{◌≡◌, IfOk};
-ghost use Rattle.yimarotu_driven_forwarder.specs.Texts.{is_same};
+ghost use Rattle.yimarotu_driven_forwarder.specs.Texts.{is_same, says_same_of_replies};
 
+use forwarder_settings::differ_at_most_in_clients;
 use std::alloc::{AllocError, Global};
 use std::marker::Model;
 
@@ -80,5 +81,16 @@ impl KeptTexts {
             && self.settings.as_slice() == texts.settings
             && self.hosts.as_slice() == texts.hosts
             && self.blocked.as_slice() == texts.blocked
+    }
+
+    // Whether they differ at most in what the settings say of clients.
+    pub(crate) fn says_same_of_replies(&self, texts: &KeptTexts) -> bool
+        ensures { result ≡ says_same_of_replies texts.now self.now }
+    {
+        self.conf.as_slice() == texts.conf.as_slice()
+            && self.hostname.as_slice() == texts.hostname.as_slice()
+            && differ_at_most_in_clients(&self.settings, &texts.settings)
+            && self.hosts.as_slice() == texts.hosts.as_slice()
+            && self.blocked.as_slice() == texts.blocked.as_slice()
     }
 }

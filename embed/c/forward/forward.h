@@ -110,6 +110,7 @@ void close_channels(void);
 /* ---- log.c, control.c, dump.c, rights.c */
 
 bool open_log(const char *path);
+void close_log(void);
 void log_reply(const union address *client, bool is_stream, const uint8_t *reply, size_t length);
 void write_log(void);
 /* Does what a line of yimarotu-control says, and writes what is answered; gives its length. */

@@ -24,10 +24,15 @@ bool open_log(const char *path) {
     bool is_pipe = stat(path, &found) == 0 && S_ISFIFO(found.st_mode);
     int fd = open(path, (is_pipe ? O_RDWR : O_WRONLY) | O_APPEND | O_CREAT | O_NONBLOCK | O_CLOEXEC | O_NOCTTY, 0640);
     if (fd < 0) return false;
-    write_log();
-    if (file >= 0) close(file);
+    close_log();
     file = fd;
     return true;
+}
+
+void close_log(void) {
+    write_log();
+    if (file >= 0) close(file);
+    file = -1;
 }
 
 void write_log(void) {

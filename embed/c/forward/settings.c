@@ -192,8 +192,8 @@ bool reload_forwarder(const char *path) {
     struct files files;
     bool is_right = read_settings(path, &settings, &files) == 0
         && tell_opened(path, &settings, yimarotu_forwarder_reload(&forwarder, FILES(&files), moment));
-    if (is_right && !is_none(&settings.log) && !open_log(settings.log.text))
-        tell(settings.log.text, 0, strerror(errno));
+    if (is_right && is_none(&settings.log)) close_log();
+    else if (is_right && !open_log(settings.log.text)) tell(settings.log.text, 0, strerror(errno));
     free_files(&files);
     return is_right;
 }
