@@ -45,10 +45,10 @@ pub record SettingsValue : Type 0 where
 abbrev pub most_failures : ℕ → CacheBounds
 most_failures entries = record { entries = entries; octets = 2 ^ 64 - 1 }
 
--- before any line: no client may ask yet
-abbrev pub first_choices : ForwarderOptionsValue
-first_choices = record {
-  trusts_authentic_data = false;
+-- before any line: no client may ask yet; with or without the option `trust-ad` of a file
+abbrev pub first_choices : Bool → ForwarderOptionsValue
+first_choices trust_ad = record {
+  trusts_authentic_data = trust_ad;
   may_ask = [];
   drops_strangers = false;
   limits = default_limits;
@@ -60,13 +60,13 @@ first_choices = record {
   exempt = [];
 }
 
-abbrev pub settings_over : OptionsValue → SettingsValue
-settings_over options = record {
+abbrev pub settings_over : OptionsValue → Bool → SettingsValue
+settings_over options trust_ad = record {
   options = options;
   servers = [];
   groups = [];
   rules = [];
-  forwarder = first_choices;
+  forwarder = first_choices trust_ad;
   cache = record { entries = CACHE_ENTRIES; octets = CACHE_OCTETS };
   failures = most_failures FAILURES;
   serves_locally = true;

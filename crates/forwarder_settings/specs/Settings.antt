@@ -2,7 +2,6 @@
 use Rattle.std.specs.Prelude.{◌≡◌, ◌⊎◌, ◌==◌, ℕ, List, length, Result, Ok, Err, MatchResult, if◌then◌else◌}
 use Rattle.std.specs.Str.Lines.{lines}
 use Rattle.hickory_proto_core.specs.names.ip.IpNet.{IpNet}
-use Rattle.hickory_resolver_config.specs.ResolverConfig.{OptionsValue}
 use Rattle.hickory_resolver_pool.specs.Servers.{PoolServerValue}
 use Rattle.resolv_conf.specs.ResolvConf.{ResolvConfValue, resolv_conf}
 use Rattle.session_settings.specs.Reading.{IsNoMemoryFault}
@@ -27,25 +26,26 @@ finished servers s =
     record s { servers = servers_or s.servers servers; forwarder = with_clients s.forwarder }
 
 -- each line is a setting
-abbrev pub AreSettings : OptionsValue → List PoolServerValue → List (List ℕ) → SettingsValue → Type 0
-AreSettings options servers all_lines settings =
-    (read : SettingsValue) × AreRead (settings_over options) 1 all_lines (Ok read)
+abbrev pub AreSettings : SettingsValue → List PoolServerValue → List (List ℕ) → SettingsValue → Type 0
+AreSettings first servers all_lines settings =
+    (read : SettingsValue) × AreRead first 1 all_lines (Ok read)
     × (settings ≡ finished servers read)
 
 -- the first line that has a fault or is no setting; or no memory is left
-abbrev pub IsRefused : OptionsValue → List (List ℕ) → SettingsError → Type 0
-IsRefused options all_lines error =
+abbrev pub IsRefused : SettingsValue → List (List ℕ) → SettingsError → Type 0
+IsRefused first all_lines error =
     (error ≡ OutOfMemory)
-    ⊎ (AreRead (settings_over options) 1 all_lines (Err error) × IsNoMemoryFault error)
+    ⊎ (AreRead first 1 all_lines (Err error) × IsNoMemoryFault error)
 
--- the settings of these lines over the options and the servers of a file
-abbrev pub AreSettingsBehind : OptionsValue → List PoolServerValue → List (List ℕ)
+-- the settings of these lines over the first ones and the servers of a file
+abbrev pub AreSettingsBehind : SettingsValue → List PoolServerValue → List (List ℕ)
     → Result SettingsValue SettingsError → Type 0
-AreSettingsBehind options servers all_lines result =
-    MatchResult result (AreSettings options servers all_lines) (IsRefused options all_lines)
+AreSettingsBehind first servers all_lines result =
+    MatchResult result (AreSettings first servers all_lines) (IsRefused first all_lines)
 
 abbrev pub AreSettingsOver : ResolvConfValue → List (List ℕ) → Result SettingsValue SettingsError → Type 0
-AreSettingsOver conf all_lines result = AreSettingsBehind conf.options (file_servers conf) all_lines result
+AreSettingsOver conf all_lines result =
+    AreSettingsBehind (settings_over conf.options conf.trust_ad) (file_servers conf) all_lines result
 
 -- the settings of these lines over a file, on a host of this name
 abbrev pub IsSettingsRead : List ℕ → List ℕ → List ℕ → Result SettingsValue SettingsError → Type 0

@@ -61,11 +61,11 @@ impl Model for ForwarderSettings {
 }
 
 // What a forwarder is told to do, before any line.
-fn first_choices(alloc: Global) -> ForwarderOptions
-    ensures { result ≡ first_choices }
+fn first_choices(alloc: Global, trust_ad: bool) -> ForwarderOptions
+    ensures { result ≡ first_choices trust_ad }
 {
     ForwarderOptions {
-        trusts_authentic_data: false,
+        trusts_authentic_data: trust_ad,
         may_ask: Vec::new(alloc),
         drops_strangers: false,
         limits: ClientLimits::default(),
@@ -88,16 +88,16 @@ fn most_failures(entries: usize) -> CacheBounds
 }
 
 impl ForwarderSettings {
-    /// These options of a pool, and nothing is set yet by a line.
-    pub(crate) fn over(alloc: Global, options: ResolverOpts) -> ForwarderSettings
-        ensures { result ≡ settings_over options }
+    /// These options of a pool, whether its servers are trusted with AD, and nothing is set yet by a line.
+    pub(crate) fn over(alloc: Global, options: ResolverOpts, trust_ad: bool) -> ForwarderSettings
+        ensures { result ≡ settings_over options trust_ad }
     {
         ForwarderSettings {
             options,
             servers: Vec::new(alloc),
             groups: Vec::new(alloc),
             rules: Vec::new(alloc),
-            forwarder: first_choices(alloc),
+            forwarder: first_choices(alloc, trust_ad),
             cache: CacheBounds {
                 entries: CACHE_ENTRIES,
                 octets: CACHE_OCTETS,

@@ -2,6 +2,7 @@
 ghost use Rattle.std.specs.Prelude.{◌≡◌, MatchResult, OnOk};
 ghost use Rattle.std.specs.Str.Lines.{lines};
 ghost use Rattle.session_settings.specs.Settings.{servers_or};
+ghost use Rattle.forwarder_settings.specs.Reading.{settings_over};
 ghost use Rattle.forwarder_settings.specs.Settings.{AreSettingsBehind, AreSettingsOver, IsSettingsRead, finished, with_clients};
 
 use crate::prefixes::push_near_networks;
@@ -36,10 +37,10 @@ use yimarotu_forwarder::ForwarderOptions;
 /// - `option` and the name of an option and its value. Those that say how servers are asked are as in the settings of a
 ///   session: `timeout` (seconds), `attempts`, `edns0`, `edns_payload_len` (octets), `num_concurrent_reqs`,
 ///   `max_active_requests`, `try_tcp_on_error`, `case_randomization`, `server_ordering_strategy`. Those of a forwarder
-///   are `trusts_authentic_data` (false), `drops_strangers` (false), `serves_locally` (true), `prefetches` (false),
-///   `greatest_ttl` (seconds; 3600), `serves_stale` (seconds; 0, and a day at the most), `cache_octets` (67108864),
-///   `cache_entries` (as many as the octets allow), `failures` (4096), `clients` (4096), `clients_of_address` (256),
-///   `clients_of_question` (256).
+///   are `trusts_authentic_data` (as `trust-ad` of the file says), `drops_strangers` (false), `serves_locally` (true),
+///   `prefetches` (false), `greatest_ttl` (seconds; 3600), `serves_stale` (seconds; 0, and a day at the most),
+///   `cache_octets` (67108864), `cache_entries` (as many as the octets allow), `failures` (4096), `clients` (4096),
+///   `clients_of_address` (256), `clients_of_question` (256).
 ///
 /// A network is an address, and behind `/` the number of its leading bits (RFC 4632, section 3.1; RFC 4291, section
 /// 2.3), without which it is the whole address. The first line that is nothing of this is told.
@@ -78,10 +79,12 @@ fn read_behind(
     servers: Vec<PoolServer>,
     settings: &[u8],
 ) -> Result<ForwarderSettings, SettingsError>
-    ensures { AreSettingsBehind conf.options servers.items (lines settings.now) result }
+    ensures { AreSettingsBehind (settings_over conf.options conf.trust_ad) servers.items (lines settings.now) result }
 {
-    let ResolvConf { options, .. } = conf;
-    match ForwarderSettings::over(alloc, options).read_lines(alloc, settings) {
+    let ResolvConf {
+        options, trust_ad, ..
+    } = conf;
+    match ForwarderSettings::over(alloc, options, trust_ad).read_lines(alloc, settings) {
         Ok(read) => finish(read, servers),
         Err(error) => Err(error),
     }
