@@ -23,11 +23,13 @@ def place(address, port):
 
 
 @contextlib.contextmanager
-def datagrams(port, address="127.0.0.1"):
+def datagrams(port, address="127.0.0.1", source=None):
     """A socket that hears what comes from this address alone."""
     with socket.socket(family_of(address), socket.SOCK_DGRAM) as sock:
         sock.setsockopt(socket.SOL_SOCKET, socket.SO_RCVBUF, 1 << 20)
         sock.settimeout(SECONDS)
+        if source:
+            sock.bind((source, 0))
         sock.connect(place(address, port))
         yield sock
 
@@ -38,8 +40,8 @@ def by_udp(port, name, rdtype="A", address="127.0.0.1", **how):
         return dns.message.from_wire(sock.recv(65535))
 
 
-def stream(port, address="127.0.0.1"):
-    return socket.create_connection((address, port), SECONDS)
+def stream(port, address="127.0.0.1", source=None):
+    return socket.create_connection((address, port), SECONDS, source and (source, 0))
 
 
 def pipelined(*queries):

@@ -13,6 +13,8 @@ import tempfile
 import threading
 from pathlib import Path
 
+import dns.message
+
 sys.dont_write_bytecode = True
 EMBED = Path(__file__).resolve().parent.parent
 sys.path[:0] = [str(EMBED), str(EMBED.parent / "tests")]
@@ -72,6 +74,10 @@ def sources(cases, running):
             with cases.guard(f"{how.__name__} from {address}"):
                 found = asking.addresses(how(53, "four.example.test", address=address))
                 cases.equal(f"{how.__name__} from {address}, of all of the machine", found, ["192.0.2.4"])
+    with cases.guard("a client with a global address"), asking.datagrams(53, SCOPED, source=ADDRESSES[1]) as sock:
+        sock.send(asking.query("four.example.test").to_wire())
+        found = asking.addresses(dns.message.from_wire(sock.recv(512)))
+        cases.equal("by UDP from a link-local address, to a global one", found, ["192.0.2.4"])
 
 
 def scoped(cases, run_daemon):

@@ -12,7 +12,7 @@ from pathlib import Path
 from live_parts import servers, stub, zone
 
 from . import asking
-from .daemon import SECONDS, wait_until
+from .daemon import ROOT, SECONDS, wait_until
 
 OTHER_USER = "nobody"
 
@@ -272,9 +272,60 @@ def many_processes(cases, daemon):
         os.kill(running.pid, signal.SIGHUP)
         wait_until(lambda: [asking.addresses(asking.by_udp(running.port, "four.example.test")) for _ in range(30)]
                    == ["NXDOMAIN"] * 30, "each process has read its files again")
+        running.path.write_text(running.path.read_text() + "sever 192.0.2.1\n")
+        died = children_of(running.pid)[0]
+        os.kill(died, signal.SIGKILL)
+        wait_until(lambda: len(found := children_of(running.pid)) == count and died not in found, "it comes again")
+        found = [asking.addresses(asking.by_udp(running.port, "four.example.test")) for _ in range(30)]
+        cases.equal("after one was killed, and the settings have a fault", found, ["NXDOMAIN"] * 30)
         children = children_of(running.pid)
     wait_until(lambda: not any(Path(f"/proc/{child}").exists() for child in children), "the processes end with it")
     cases.tell("the processes end with it", True, "")
+
+
+def many_logs(cases, daemon):
+    """Each of many processes opens the log by its name, also one that is started again, and their parent has none."""
+    log, count = daemon.folder / f"log{time.monotonic_ns()}", 2
+    with stub.running() as server, daemon.over(server, f"processes {count}", f"log {log}") as running:
+        children = wait_until(lambda: len(found := children_of(running.pid)) == count and found, "all are there")
+        wait_until(log.exists, "the log is opened")
+        log.rename(f"{log}.1")
+        for died in children:
+            os.kill(died, signal.SIGKILL)
+        wait_until(lambda: len(found := children_of(running.pid)) == count and not {*found} & {*children}, "they come")
+        asking.by_udp(running.port, "four.example.test")
+        wait_until(lambda: log.exists() and "four.example.test" in log.read_text(), "the log is opened anew")
+        held = [os.readlink(path) for path in Path(f"/proc/{running.pid}/fd").iterdir()]
+        cases.tell("the parent holds no log", not any(str(log) in path for path in held), held)
+
+
+def one_control(cases, daemon):
+    """The control socket of another program stays, and so does a file that is none; one that was left over goes."""
+    with stub.running() as server, daemon.over(server) as running:
+        path = running._control[1]
+        lines = [f"listen 127.0.0.1 {servers.free_port()}", "server 192.0.2.53", "hosts none"]
+        status, _, error = daemon.end_of("--config", daemon.write(*lines, f"control {path}"))
+        cases.tell("a control socket in use", status == 3 and "Address already in use" in error, (status, error))
+        cases.equal("it is still the first one's", running.control("statistics")[0], 0)
+        file = daemon.write("# no socket")
+        status, _, error = daemon.end_of("--config", daemon.write(*lines, f"control {file}"))
+        cases.tell("a file where the control socket is to be", status == 3 and "File exists" in error, (status, error))
+        cases.equal("it stays", file.read_text(), "# no socket\n")
+        status, _, error = daemon.end_of("--config", daemon.write(*lines, "control /proc/nowhere/control"))
+        cases.tell("no folder for it", status == 3 and "No such file" in error, (status, error))
+
+
+def notified(cases, daemon):
+    """Whoever started it is told when it listens (sd_notify(3))."""
+    path = daemon.folder / f"notify{time.monotonic_ns()}"
+    with socket.socket(socket.AF_UNIX, socket.SOCK_DGRAM) as sock, stub.running() as server:
+        sock.bind(str(path))
+        sock.settimeout(SECONDS)
+        for processes in (1, 2):
+            how = {"env": {**os.environ, "NOTIFY_SOCKET": str(path)}}
+            with daemon.over(server, f"processes {processes}", **how) as running:
+                cases.equal(f"it is ready, processes: {processes}", sock.recv(64), b"READY=1")
+                cases.equal("root is told", ROOT in running.said(), os.getuid() == 0)
 
 
 def activated(cases, daemon):
@@ -307,4 +358,5 @@ def activated(cases, daemon):
             os.close(fd)
 
 
-ALL = (checked, in_use, reloaded, hosts, controlled, dumped_whole, counted, logged, unprivileged, many_processes, activated)
+ALL = (checked, in_use, reloaded, hosts, controlled, dumped_whole, counted, logged, unprivileged, many_processes,
+       many_logs, one_control, notified, activated)

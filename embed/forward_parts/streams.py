@@ -3,6 +3,7 @@ import contextlib
 import functools
 import resource
 import socket
+import threading
 import time
 
 from live_parts import stub, zone
@@ -16,6 +17,9 @@ DRIBBLERS, IDLE = 200, 10
 # More connections than files, and the seconds of a processor that a second with them may take.
 FILES, CONNECTIONS, MOST_AT_REST = 40, 80, 0.2
 PIPELINED = 1_000
+# How many connections one client has. How many always have something to be told, and for how many seconds a reply is
+# waited for beside them at the most.
+SHARE, GREEDY, MOST_WAITED = 256, 64, 0.5
 
 
 def slow(cases, daemon):
@@ -169,13 +173,57 @@ def no_files(cases, daemon):
 
 
 def many_connections(cases, daemon):
-    """Where all places are taken, the connection that was idle for the longest time gives way."""
+    """A client has its share of the places. Where all are taken, the connection that was idle for longest gives way."""
     with stub.running() as server, daemon.over(server) as running, contextlib.ExitStack() as stack:
-        for _ in range(1100):
+        for _ in range(SHARE + 44):
             stack.enter_context(asking.stream(running.port))
+        # (one is that by which the counts are asked for)
+        wait_until(lambda: running.counts()["connections"] >= SHARE + 1, "all are taken in")
+        found = asking.addresses(asking.by_tcp(running.port, "four.example.test"))
+        cases.equal("a connection more than its share", found, ["192.0.2.4"])
+        cases.equal("a client has no more than its share", running.counts()["connections"], SHARE + 1)
+        for client in range(2, 7):
+            for _ in range(160):
+                stack.enter_context(asking.stream(running.port, source=f"127.0.0.{client}"))
         found = asking.addresses(asking.by_tcp(running.port, "four.example.test"))
         cases.equal("a connection more than there are places", found, ["192.0.2.4"])
-        cases.tell("there are no more than places", running.counts()["connections"] <= 1024, running.counts())
+        cases.tell("there are no more than places", 1000 < running.counts()["connections"] <= 1024, running.counts())
 
 
-ALL = (slow, in_pieces, not_kept, unread, dribbling, half_closed, gone, no_files, many_connections)
+def write_and_read(socks, is_over):
+    """Writes queries without a question to each connection, and reads what is told of them, without end."""
+    wire = (b"\0\x0c" + bytes(12)) * 2_000
+    sent = [0] * len(socks)
+    while not is_over.is_set():
+        for at, sock in enumerate(socks):
+            with contextlib.suppress(BlockingIOError, ConnectionError):
+                sent[at] = (sent[at] + sock.send(wire[sent[at]:])) % len(wire)
+            with contextlib.suppress(BlockingIOError, ConnectionError):
+                sock.recv(1 << 16)
+
+
+def greedy(cases, daemon):
+    """Connections that always have something to be told keep nobody out."""
+    with stub.running() as server, daemon.over(server) as running, contextlib.ExitStack() as stack:
+        socks = [stack.enter_context(asking.stream(running.port)) for _ in range(GREEDY)]
+        for sock in socks:
+            sock.setblocking(False)
+        is_over = threading.Event()
+        writer = threading.Thread(target=write_and_read, args=(socks, is_over))
+        writer.start()
+        try:
+            waited = []
+            for number in range(100):
+                began = time.monotonic()
+                found = asking.addresses(asking.by_udp(running.port, "four.example.test"))
+                waited.append(time.monotonic() - began)
+                if found != ["192.0.2.4"]:
+                    cases.equal(f"beside {GREEDY} connections that are greedy", found, ["192.0.2.4"])
+            told = f"the longest of {len(waited)} took {max(waited):.3f} s"
+            cases.tell(f"beside {GREEDY} connections that are greedy", max(waited) < MOST_WAITED, told)
+        finally:
+            is_over.set()
+            writer.join()
+
+
+ALL = (slow, in_pieces, not_kept, unread, dribbling, half_closed, gone, no_files, many_connections, greedy)

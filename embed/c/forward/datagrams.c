@@ -165,7 +165,8 @@ static struct way way_of(int fd, struct msghdr *header) {
         }
         if (part->cmsg_level == IPPROTO_IPV6 && part->cmsg_type == IPV6_PKTINFO) {
             memcpy(&way.asked.v6, CMSG_DATA(part), sizeof way.asked.v6);
-            if (!IN6_IS_ADDR_LINKLOCAL(&way.client.v6.sin6_addr)) way.asked.v6.ipi6_ifindex = 0;
+            if (!IN6_IS_ADDR_LINKLOCAL(&way.client.v6.sin6_addr) && !IN6_IS_ADDR_LINKLOCAL(&way.asked.v6.ipi6_addr))
+                way.asked.v6.ipi6_ifindex = 0;
         }
     }
     return way;

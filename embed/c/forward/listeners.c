@@ -112,7 +112,18 @@ static bool make_folder(const char *path, uid_t user, gid_t group) {
     char *slash = strrchr(folder, '/');
     if (slash == NULL || slash == folder) return true;
     *slash = 0;
-    return mkdir(folder, 0755) != 0 || chown(folder, user, group) == 0;
+    return mkdir(folder, 0755) != 0 ? errno == EEXIST : lchown(folder, user, group) == 0;
+}
+
+/* Takes away a socket that nobody listens at any more. */
+static bool make_room(const struct sockaddr_un *at) {
+    struct stat found;
+    if (lstat(at->sun_path, &found) != 0) return errno == ENOENT;
+    if (!S_ISSOCK(found.st_mode)) return errno = EEXIST, false;
+    int fd = socket(AF_UNIX, SOCK_STREAM | SOCK_NONBLOCK | SOCK_CLOEXEC, 0);
+    bool is_used = fd >= 0 && (connect(fd, (const struct sockaddr *)at, sizeof *at) == 0 || errno == EAGAIN);
+    if (fd >= 0) close(fd);
+    return is_used ? errno = EADDRINUSE, false : unlink(at->sun_path) == 0;
 }
 
 /* A socket of its user alone. */
@@ -120,12 +131,11 @@ bool listen_for_control(const char *path, struct listeners *listeners, uid_t use
     struct sockaddr_un at = {.sun_family = AF_UNIX};
     strcpy(at.sun_path, path);
     int fd = socket(AF_UNIX, SOCK_STREAM | SOCK_NONBLOCK | SOCK_CLOEXEC, 0);
-    bool is_made = make_folder(path, user, group);
-    unlink(path);
+    bool is_made = fd >= 0 && make_folder(path, user, group) && make_room(&at);
     mode_t before = umask(0177);
-    bool is_bound = fd >= 0 && is_made && bind(fd, (struct sockaddr *)&at, sizeof at) == 0 && listen(fd, BACKLOG) == 0;
+    bool is_bound = is_made && bind(fd, (struct sockaddr *)&at, sizeof at) == 0 && listen(fd, BACKLOG) == 0;
     umask(before);
-    if (is_bound && chown(path, user, group) == 0) return add(listeners, fd, true, true), true;
+    if (is_bound && lchown(path, user, group) == 0) return add(listeners, fd, true, true), true;
     fprintf(stderr, "yimarotu-forward: cannot listen at %s: %s\n", path, strerror(errno));
     if (fd >= 0) close(fd);
     return false;

@@ -4,12 +4,15 @@
 #include <errno.h>
 #include <getopt.h>
 #include <signal.h>
+#include <stddef.h>
 #include <stdio.h>
 #include <stdlib.h>
 #include <string.h>
 #include <sys/prctl.h>
 #include <sys/resource.h>
 #include <sys/signalfd.h>
+#include <sys/socket.h>
+#include <sys/un.h>
 #include <sys/wait.h>
 #include <time.h>
 #include <unistd.h>
@@ -110,13 +113,20 @@ static int wait_time(void) {
     return (int)(waits.has_deadline && waits.milliseconds < most ? waits.milliseconds + 1 : most);
 }
 
+/* Of many streams that always have something epoll tells in turn: datagrams would wait for all of them. */
+static void hear_datagrams(void) {
+    for (size_t at = 0; at < own->count; at++)
+        if (!own->at[at].is_stream) on_datagrams(own->at[at].fd), act();
+}
+
 static void serve(void) {
     struct epoll_event events[BATCH];
     uint64_t looked_at = 0;
     while (!is_ended) {
         int count = epoll_wait(epoll, events, BATCH, wait_time());
         moment = now();
-        for (int at = 0; at < count; at++) on_event(&events[at]), act();
+        for (int at = 0; at < count; at++) moment = now(), on_event(&events[at]), act();
+        if (count == BATCH) hear_datagrams();
         yimarotu_forwarder_tick(&forwarder, moment);
         act();
         send_datagrams();
@@ -149,6 +159,20 @@ static bool watch_all(void) {
 
 static void tell_that_it_listens(void) { fputs("yimarotu-forward: it listens\n", stderr); }
 
+/* Tells whoever started it, as systemd wants (sd_notify(3)). */
+static void tell_that_it_is_ready(void) {
+    static const char text[] = "READY=1";
+    struct sockaddr_un at = {.sun_family = AF_UNIX};
+    const char *path = getenv("NOTIFY_SOCKET");
+    if (path == NULL || path[0] == 0 || strlen(path) >= sizeof at.sun_path) return;
+    strcpy(at.sun_path, path);
+    if (path[0] == '@') at.sun_path[0] = 0;
+    socklen_t length = (socklen_t)(offsetof(struct sockaddr_un, sun_path) + strlen(path));
+    int fd = socket(AF_UNIX, SOCK_DGRAM | SOCK_CLOEXEC, 0);
+    if (fd >= 0) sendto(fd, text, sizeof text - 1, MSG_NOSIGNAL, (struct sockaddr *)&at, length);
+    if (fd >= 0) close(fd);
+}
+
 /* Serves with the sockets of a process. */
 static int run(const struct listeners *listeners) {
     own = listeners;
@@ -156,7 +180,9 @@ static int run(const struct listeners *listeners) {
     bool is_open = open_forwarder(settings_path, &settings, &files);
     free_files(&files);
     if (!is_open) return FAULTS;
-    if (!watch_all() || !confine()) return NOT_CONFINED;
+    if (!watch_all()) return perror("yimarotu-forward: epoll, or signalfd"), NO_SOCKETS;
+    if (settings.processes == 1) tell_that_it_is_ready();
+    if (!confine()) return NOT_CONFINED;
     if (settings.processes == 1) tell_that_it_listens();
     serve();
     close_connections();
@@ -168,15 +194,20 @@ static int run(const struct listeners *listeners) {
 /* ---- many processes */
 
 static pid_t children[PROCESSES];
+static int hopeless; /* how a process ended that would end so each time */
 static time_t begun[PROCESSES];
 
 /* The files may have changed since the parent read them. Where they have a fault, what that read counts. */
 static void read_again(void) {
     static struct settings changed;
     struct files read;
+    if (check(settings_path) > 0) return;
     bool is_right = read_settings(settings_path, &changed, &read) == 0;
     free_files(is_right ? &files : &read);
-    if (is_right) files = read;
+    if (!is_right) return;
+    files = read;
+    if (is_none(&changed.log)) close_log();
+    else open_log(changed.log.text);
 }
 
 /* One that died within its first second begins a second later: one that cannot begin does not take a processor. */
@@ -185,10 +216,12 @@ static void start(size_t process) {
     pid_t parent = getpid();
     begun[process] = time(NULL);
     children[process] = fork();
+    if (children[process] < 0) perror("yimarotu-forward: fork");
     if (children[process] != 0) return;
     prctl(PR_SET_PDEATHSIG, SIGTERM);
     if (getppid() != parent) exit(ENDED);
     if (is_late) sleep(1);
+    if (!is_none(&settings.log)) open_log(settings.log.text);
     if (is_again) read_again();
     exit(run(&all[process]));
 }
@@ -201,6 +234,7 @@ static void bury(void) {
         for (size_t at = 0; at < settings.processes; at++) {
             if (children[at] != died) continue;
             children[at] = 0;
+            if (WIFEXITED(how) && WEXITSTATUS(how) == NOT_CONFINED) hopeless = NOT_CONFINED;
             fprintf(stderr, "yimarotu-forward: process %d died (%s %d), and is started again\n", (int)died,
                     WIFSIGNALED(how) ? "signal" : "status", WIFSIGNALED(how) ? WTERMSIG(how) : WEXITSTATUS(how));
         }
@@ -217,16 +251,19 @@ static int supervise(void) {
     sigset_t set;
     int number = 0;
     block_signals(&set);
+    close_log(); /* each process opens it */
+    tell_that_it_is_ready();
     tell_that_it_listens();
-    while (number != SIGTERM && number != SIGINT) {
+    while (hopeless == ENDED && number != SIGTERM && number != SIGINT) {
         for (size_t at = 0; at < settings.processes; at++)
             if (children[at] <= 0) start(at);
         number = sigtimedwait(&set, NULL, &second);
         if (number == SIGCHLD) bury();
         else if (number > 0) signal_all(number == SIGINT ? SIGTERM : number);
     }
+    if (hopeless != ENDED) signal_all(SIGTERM);
     while (wait(NULL) > 0 || errno == EINTR);
-    return ENDED;
+    return hopeless;
 }
 
 /* ---- the beginning */
@@ -237,6 +274,7 @@ static bool prepare(void) {
     struct rlimit files;
     if (settings.user.line > 0 && !find_user(settings.user.text, &user, &group))
         return fprintf(stderr, "yimarotu-forward: there is no user %s\n", settings.user.text), false;
+    if (user == 0) fputs("yimarotu-forward: it keeps all rights of root: a line `user` is wanted\n", stderr);
     if (getrlimit(RLIMIT_NOFILE, &files) == 0) files.rlim_cur = files.rlim_max, setrlimit(RLIMIT_NOFILE, &files);
     if (!take_activated(&all[0])) return false;
     bool is_activated = all[0].count > 0;

@@ -3,10 +3,12 @@
 
 #include <errno.h>
 #include <grp.h>
+#include <linux/capability.h>
 #include <pwd.h>
 #include <stdio.h>
 #include <string.h>
 #include <sys/prctl.h>
+#include <sys/syscall.h>
 #include <unistd.h>
 
 bool find_user(const char *name, uid_t *user, gid_t *group) {
@@ -27,10 +29,18 @@ static bool are_dropped(uid_t user, gid_t group) {
     return is_user && is_group && (user == 0 || setuid(0) != 0);
 }
 
+/* Also that for ports below 1024, which systemd gives: the sockets are bound by now. */
+static bool drop_capabilities(void) {
+    struct __user_cap_header_struct header = {.version = _LINUX_CAPABILITY_VERSION_3};
+    struct __user_cap_data_struct none[2] = {0};
+    return syscall(SYS_capset, &header, none) == 0;
+}
+
 bool drop_rights(uid_t user, gid_t group) {
     bool changes = user != getuid() || group != getgid();
     if (changes && (setgroups(1, &group) != 0 || setgid(group) != 0 || setuid(user) != 0 || !are_dropped(user, group)))
         return perror("yimarotu-forward: the rights were not dropped"), false;
+    if (user != 0 && !drop_capabilities()) return perror("yimarotu-forward: capset"), false;
     return prctl(PR_SET_NO_NEW_PRIVS, 1, 0, 0, 0) == 0;
 }
 
@@ -43,9 +53,9 @@ const char *const confines = "calls of the system are confined by seccomp";
 static const int NEEDED[] = {
     SCMP_SYS(epoll_wait), SCMP_SYS(epoll_pwait), SCMP_SYS(epoll_ctl), SCMP_SYS(recvmmsg), SCMP_SYS(sendmmsg),
     SCMP_SYS(recvfrom), SCMP_SYS(sendto), SCMP_SYS(recv), SCMP_SYS(send), SCMP_SYS(accept4), SCMP_SYS(connect),
-    SCMP_SYS(setsockopt), SCMP_SYS(close), SCMP_SYS(read), SCMP_SYS(write), SCMP_SYS(openat), SCMP_SYS(open),
-    SCMP_SYS(fstat), SCMP_SYS(stat), SCMP_SYS(newfstatat), SCMP_SYS(fstatat64), SCMP_SYS(statx), SCMP_SYS(lseek),
-    SCMP_SYS(ioctl), SCMP_SYS(uname), SCMP_SYS(getpid), SCMP_SYS(gettid), SCMP_SYS(getppid), SCMP_SYS(unlink),
+    SCMP_SYS(setsockopt), SCMP_SYS(close), SCMP_SYS(read), SCMP_SYS(write), SCMP_SYS(writev), SCMP_SYS(openat),
+    SCMP_SYS(open), SCMP_SYS(fstat), SCMP_SYS(stat), SCMP_SYS(newfstatat), SCMP_SYS(fstatat64), SCMP_SYS(statx),
+    SCMP_SYS(lseek), SCMP_SYS(ioctl), SCMP_SYS(uname), SCMP_SYS(getpid), SCMP_SYS(gettid), SCMP_SYS(getppid), SCMP_SYS(unlink),
     SCMP_SYS(unlinkat), SCMP_SYS(mmap), SCMP_SYS(mmap2), SCMP_SYS(munmap), SCMP_SYS(mremap), SCMP_SYS(mprotect),
     SCMP_SYS(madvise), SCMP_SYS(brk), SCMP_SYS(futex), SCMP_SYS(getrandom), SCMP_SYS(clock_gettime),
     SCMP_SYS(clock_gettime64), SCMP_SYS(gettimeofday), SCMP_SYS(rt_sigreturn), SCMP_SYS(rt_sigprocmask),

@@ -32,7 +32,8 @@ static uint64_t what(uint64_t number) { return 1ull << FROM_CHANNEL | number; }
 
 /* A channel failed with this error; where that is 0, its stream was closed. */
 static void tell_failure(uint64_t number, int error) {
-    bool is_local = error == EMFILE || error == ENFILE || error == ENOBUFS || error == ENOMEM || error == EADDRNOTAVAIL;
+    bool is_local = error == EMFILE || error == ENFILE || error == ENOBUFS || error == ENOMEM || error == EADDRNOTAVAIL
+        || error == EAGAIN || error == ENOSPC; /* connect(2) of a datagram socket: no port; epoll_ctl(2): no watch */
     uint8_t of_server = error == ECONNREFUSED ? YIMAROTU_CHANNEL_REFUSED : YIMAROTU_CHANNEL_UNREACHABLE;
     uint8_t why = is_local ? YIMAROTU_CHANNEL_LOCAL : error == 0 ? YIMAROTU_CHANNEL_CLOSED : of_server;
     yimarotu_forwarder_failed(&forwarder, number, why, moment);

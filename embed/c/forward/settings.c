@@ -125,7 +125,10 @@ static bool read_file(const char *path, struct octets *file) {
     int fd = open(path, O_RDONLY | O_CLOEXEC);
     ssize_t got = -1;
     while (fd >= 0 && (got = read(fd, piece, sizeof piece)) > 0)
-        if (!keep(file, piece, (size_t)got)) errno = ENOMEM, got = -1;
+        if (!keep(file, piece, (size_t)got)) {
+            errno = ENOMEM, got = -1;
+            break;
+        }
     int error = errno;
     if (fd >= 0) close(fd);
     errno = error;

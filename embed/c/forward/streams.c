@@ -13,6 +13,8 @@ enum { CONNECTIONS = 1024, IDLE = 10000 };
 /* How many octets wait to be sent on one; how many may, while more of its queries are taken; how many of these wait. */
 enum { MOST_KEPT = 1 << 18, FEW_KEPT = 1 << 16, MOST_WAITING = 128 };
 enum { LONGEST_LINE = 1100, ANSWER = 65536 };
+/* How many queries of one connection are taken before others have their turn; how many connections one client has. */
+enum { MOST_AT_ONCE = 16, MOST_OF_CLIENT = 256 };
 
 struct connection {
     uint64_t number; /* 0 where the place is free */
@@ -108,7 +110,7 @@ void on_stream_reply(uint64_t number, const uint8_t *reply, size_t length) {
 static bool take_queries(struct connection *connection) {
     const uint8_t *address;
     size_t address_length = octets_of_address(&connection->client, &address), at = 0;
-    while (may_ask(connection) && is_whole(&connection->in, at)) {
+    for (int turn = 0; turn < MOST_AT_ONCE && may_ask(connection) && is_whole(&connection->in, at); turn++) {
         size_t length = length_at(&connection->in, at);
         const uint8_t *query = connection->in.at + at + 2;
         yimarotu_queried queried = yimarotu_forwarder_query(&forwarder, connection->number, address, address_length,
@@ -163,18 +165,28 @@ void on_connection(uint64_t number, uint32_t events) {
 
 /* ---- connections come and go */
 
-/* The connection that has been idle for the longest time, or NULL. */
-static struct connection *longest_idle(void) {
+/* Whether both are of one client, as the library counts them: of IPv6 a network of 64 bits is one. */
+static bool is_of(const struct connection *connection, const union address *client) {
+    const uint8_t *one, *other;
+    size_t length = octets_of_address(&connection->client, &one);
+    return !connection->is_control && length == octets_of_address(client, &other)
+        && memcmp(one, other, length == 4 ? 4 : 8) == 0;
+}
+
+/* The connection, of this client or (NULL) of all, that has been idle for the longest time, or NULL. */
+static struct connection *longest_idle(const union address *client) {
     struct connection *found = NULL;
     for (struct connection *at = connections; at < connections + CONNECTIONS; at++)
-        if (at->number != 0 && at->waiting == 0 && (found == NULL || at->since < found->since)) found = at;
+        if (at->number != 0 && at->waiting == 0 && (client == NULL || is_of(at, client))
+            && (found == NULL || at->since < found->since))
+            found = at;
     return found;
 }
 
 /* A free place; where all are taken, that of the connection that was idle for the longest time. */
 static struct connection *free_place(void) {
     struct connection *at = connections;
-    if (counts.connections == CONNECTIONS) close_connection(longest_idle());
+    if (counts.connections == CONNECTIONS) close_connection(longest_idle(NULL));
     while (at->number != 0) at++;
     return at;
 }
@@ -192,14 +204,25 @@ static void begin(struct connection *connection, const struct listener *listener
     counts.connections++;
 }
 
+/* One client has no more than its share: one connection more takes the place of another of its own. */
+static bool has_share(const union address *client) {
+    size_t count = 0;
+    for (struct connection *at = connections; at < connections + CONNECTIONS; at++)
+        if (at->number != 0 && is_of(at, client)) count++;
+    struct connection *idle = count < MOST_OF_CLIENT ? NULL : longest_idle(client);
+    if (idle != NULL) close_connection(idle);
+    return count < MOST_OF_CLIENT || idle != NULL;
+}
+
 /* Without a file, or a place, for another connection, those that come wait until one is closed. */
 void on_connecting(const struct listener *listener) {
     for (int turn = 0; turn < BATCH; turn++) {
         union address client = {0};
         socklen_t length = sizeof client;
-        if (counts.connections == CONNECTIONS && longest_idle() == NULL) return pause_accepting();
+        if (counts.connections == CONNECTIONS && longest_idle(NULL) == NULL) return pause_accepting();
         int fd = accept4(listener->fd, &client.any, &length, SOCK_NONBLOCK | SOCK_CLOEXEC);
-        if (fd >= 0) begin(free_place(), listener, fd, &client);
+        if (fd >= 0 && !listener->is_control && !has_share(&client)) close(fd);
+        else if (fd >= 0) begin(free_place(), listener, fd, &client);
         else if (errno == EAGAIN) return;
         else if (errno != ECONNABORTED && errno != EINTR) return pause_accepting();
     }

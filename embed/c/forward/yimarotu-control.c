@@ -5,6 +5,7 @@
 #include <stdio.h>
 #include <string.h>
 #include <sys/socket.h>
+#include <sys/time.h>
 #include <sys/un.h>
 #include <unistd.h>
 
@@ -21,6 +22,8 @@ static int connect_to(const char *path) {
     int fd = socket(AF_UNIX, SOCK_STREAM | SOCK_CLOEXEC, 0);
     if (strlen(path) >= sizeof at.sun_path) return errno = ENAMETOOLONG, -1;
     strcpy(at.sun_path, path);
+    struct timeval most = {.tv_sec = 60};
+    if (fd >= 0) setsockopt(fd, SOL_SOCKET, SO_RCVTIMEO, &most, sizeof most);
     if (fd >= 0 && connect(fd, (struct sockaddr *)&at, sizeof at) == 0) return fd;
     int error = errno;
     if (fd >= 0) close(fd);
