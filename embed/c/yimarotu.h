@@ -7,7 +7,7 @@
  * ("forwarders" below) is used as a session is: a program opens one, hands in what happens, and does what
  * yimarotu_forwarder_next says until it says nothing. What is said here of sessions holds of forwarders, too.
  *
- * Bytes cross as a pointer and a length; the library reads or writes so many bytes there, keeps no pointer to them, and
+ * Octets cross as a pointer and a length; the library reads or writes so many octets there, keeps no pointer to them, and
  * frees none. No pointer may be null, not even where its length is 0. A length is at most PTRDIFF_MAX. A room overlaps
  * nothing else that the call is given. A moment is in milliseconds, from whatever start the program takes, of a clock that
  * does not go back and counts while the machine sleeps (CLOCK_BOOTTIME): else answers are used for longer than they were
@@ -40,7 +40,7 @@ enum {
     YIMAROTU_NO_MEMORY = 3,  /* no memory was left */
     YIMAROTU_HOSTS = 4,      /* a line of the hosts is not UTF-8 */
     YIMAROTU_ROOM = 5,       /* the room is too small: nothing was written, and the length says how much is wanted */
-    YIMAROTU_MESSAGE = 6,    /* the bytes are no DNS message; the fault says why */
+    YIMAROTU_MESSAGE = 6,    /* the octets are no DNS message; the fault says why */
     YIMAROTU_UNWRITABLE = 7, /* the message cannot be written; the fault says why */
     YIMAROTU_CLOSED = 8,     /* the session, or the forwarder, is not open */
     YIMAROTU_IS_OPEN = 9,    /* the session, or the forwarder, is open already */
@@ -55,9 +55,9 @@ enum {
     YIMAROTU_SEED = 18       /* the seed has not 32 octets */
 };
 
-/* Why bytes are no message, or a message cannot be written: a fault; 0 where there is none. */
+/* Why octets are no message, or a message cannot be written: a fault; 0 where there is none. */
 enum {
-    YIMAROTU_SHORT = 1,              /* the bytes, or a record's data, end within a field */
+    YIMAROTU_SHORT = 1,              /* the octets, or a record's data, end within a field */
     YIMAROTU_BAD_LABEL = 2,          /* a name goes on with neither a label nor a pointer */
     YIMAROTU_NAME_TOO_LONG = 3,      /* a name of more than 255 octets */
     YIMAROTU_TOO_MANY_POINTERS = 4,  /* a name with more than 128 pointers */
@@ -136,7 +136,7 @@ typedef struct yimarotu_written {
     size_t length; /* of the message: where it was written, and where the room is too small for it; else 0 */
 } yimarotu_written;
 
-/* Reads a DNS message, bytes behind it passed over, and writes it at the front of the room, in at most `limit` bytes:
+/* Reads a DNS message, octets behind it passed over, and writes it at the front of the room, in at most `limit` octets:
  * where it is longer, records are left out from the end, whole, and the message says that it is truncated. What is
  * behind the message stays, and where the status is not YIMAROTU_OK all of the room does. */
 yimarotu_written yimarotu_rewrite(const uint8_t *message, size_t message_length, size_t limit, uint8_t *room,
@@ -162,7 +162,7 @@ typedef struct yimarotu_opened {
 
 /* Opens a session that asks by itself: as a file resolv.conf says on a host of this name (whom it asks and how, which names
  * it tries), over what a file of hosts says. A file of no octets says as much as one without lines; no resolv.conf is
- * refused. The settings are lines (docs/EMBED.md, "Settings"): what they set counts in place of what resolv.conf says, but
+ * refused. The settings are lines (yimarotu(3), SETTINGS): what they set counts in place of what resolv.conf says, but
  * domains of lines `search` come behind its. Set `option cache_octets N` where answers come from strangers.
  * The seed is 32 octets that nobody knows (getrandom): ids of messages, letters and the keys by which names are hashed come
  * from it, so that a stranger can neither guess a message nor make a session slow. The addresses that the hosts answer are
@@ -255,16 +255,17 @@ typedef struct yimarotu_progress {
 
 /* Starts a look-up of records of a type (RFC 1035, section 3.2.2) for a name, UTF-8, at this moment, under a number that
  * no other look-up of the session has. Where the status is not YIMAROTU_OK none was started. Of the questions of a session
- * 4,096 are in flight at most, and as many wait for a place: a question past them fails at once (YIMAROTU_UPSTREAM). */
+ * 4,096 are in flight at most, and as many wait for a place: a question past them fails at once (YIMAROTU_UPSTREAM). Each
+ * question comes to an end, but a look-up has no time limit of its own: it may be cancelled. */
 yimarotu_progress yimarotu_start(yimarotu_session *session, uint64_t number, const uint8_t *name, size_t name_length,
                                  uint16_t record_type, uint64_t moment);
 
-/* The same of the addresses of a host, whose questions are of the families that the settings say. A reply counts with all
- * its answers: a server may have put addresses of the other family there, or of other names. Where both families fail the
- * error of one is told, so that a negative answer can hide a timeout (docs/QUESTIONS.md, "Which error is a timeout?"). A
- * text that is an address is its own answer: a record under the text as an absolute name, or under the root where it is no
- * name, as with IPv6. But with `ndots` above 4 a text that is an IPv4 address is first looked up as a name, and is the
- * answer where that has none. */
+/* Starts a look-up of the addresses of a host, whose questions are of the families that the settings say. A reply counts
+ * with all its answers: a server may have put addresses of the other family there, or of other names. Where both families
+ * fail the error of one is told, that of the first, or with `then` in the strategy that of the second: so a negative
+ * answer can hide a timeout. A text that is an address is its own answer: a record under the text as an absolute name, or
+ * under the root where it is no name, as with IPv6. But with `ndots` above 4 a text that is an IPv4 address is first
+ * looked up as a name, and is the answer where that has none. */
 yimarotu_progress yimarotu_start_ip(yimarotu_session *session, uint64_t number, const uint8_t *host, size_t host_length,
                                     uint64_t moment);
 
@@ -279,7 +280,7 @@ typedef struct yimarotu_answered {
     size_t length;  /* of the message: where it was written, and where the room is too small for it; else 0 */
 } yimarotu_answered;
 
-/* Writes what a look-up came to at the front of the room, as a DNS message of at most `limit` bytes, truncated as
+/* Writes what a look-up came to at the front of the room, as a DNS message of at most `limit` octets, truncated as
  * yimarotu_rewrite does it. Records and negative answers have one, other errors none: then the length is 0. Its id is for
  * the program to set. What is behind it stays, and where the status is not YIMAROTU_OK all of the room does. The look-up
  * stays until it is cancelled: it may be read again. */
@@ -300,14 +301,14 @@ typedef struct yimarotu_found {
     size_t count;  /* how many there are: where they were written, and where the room is too small for them; else 0 */
 } yimarotu_found;
 
-/* Writes the addresses of what a look-up came to at the front of the room, whose length is in bytes, in the order of the
+/* Writes the addresses of what a look-up came to at the front of the room, whose length is in octets, in the order of the
  * answer. What is behind them stays, and where the status is not YIMAROTU_OK all of the room does. */
 yimarotu_found yimarotu_addresses(yimarotu_session *session, uint64_t number, uint64_t moment, yimarotu_address *room,
                                   size_t room_length);
 
 /* Forgets the look-up of a number, whether it waits or is done, and the number is free. What was kept of its questions
- * stays in the cache. Where nobody else asks its question, that is not asked on, and the place that it had is taken at
- * this moment; a session that is fed by hand has no places, and looks at no moment here. Gives a status. */
+ * stays in the cache. Where nobody else asks its question, that is not asked on, and the place that it had goes to one that
+ * waits, at this moment; a session that is fed by hand has no places, and looks at no moment here. Gives a status. */
 uint8_t yimarotu_cancel(yimarotu_session *session, uint64_t number, uint64_t moment);
 
 /* Drops from the cache what it has for the names that a look-up of this name, UTF-8, would attempt, of a type, and what
@@ -321,17 +322,17 @@ uint8_t yimarotu_clear(yimarotu_session *session);
 
 /* ---- sessions that are fed by hand */
 
-/* Opens a session that is fed by hand, for a program with a transport of its own: yimarotu_question tells what each look-up
- * waits for. The settings are the lines of a script that set something (docs/SCRIPTS.md, "Configuration") and `option
- * cache_octets N`, how many octets the cache may take for what it keeps, over what a file of hosts says. The hashers of such
- * a session have no secret. Where the status is not YIMAROTU_OK the session stays as it was. */
+/* Opens a session that is fed by hand, for a program with a transport of its own: yimarotu_question tells what each
+ * look-up waits for. The settings are lines `domain` and `search`, and lines `option` down to `cache_octets` (yimarotu(3),
+ * SETTINGS), over what a file of hosts says. The hashers of such a session have no secret. Where the status is not
+ * YIMAROTU_OK the session stays as it was. */
 yimarotu_opened yimarotu_open_fed(yimarotu_session *session, const uint8_t *settings, size_t settings_length,
                                   const uint8_t *hosts, size_t hosts_length, uint64_t moment);
 
-/* The same, and behind the settings, in place of which it counts, what a file resolv.conf says on a host of this name: its
- * search list behind theirs, `ndots`, which is 1 where it says none, `no-aaaa`, and whether questions have an EDNS record:
- * not without `edns0`. Whom to ask, and how, is the program's affair. A file of no octets says as much as one without
- * lines; none is refused. */
+/* Opens such a session, and behind the settings, in place of which it counts, is what a file resolv.conf says on a host of
+ * this name: its search list behind theirs, `ndots`, which is 1 where it says none, `no-aaaa`, and whether questions have
+ * an EDNS record: not without `edns0`. Whom to ask, and how, is the program's affair. A file of no octets says as much as
+ * one without lines; none is refused. */
 yimarotu_opened yimarotu_open_fed_with(yimarotu_session *session, const uint8_t *conf, size_t conf_length,
                                        const uint8_t *hostname, size_t hostname_length, const uint8_t *settings,
                                        size_t settings_length, const uint8_t *hosts, size_t hosts_length,
@@ -345,9 +346,9 @@ typedef struct yimarotu_asked {
 } yimarotu_asked;
 
 /* Writes the question that the look-up waits for at the front of the room, as a DNS message to send: its id is 0, and the
- * program puts its own in the first two bytes. What is behind it stays, and where the status is not YIMAROTU_OK all of
+ * program puts its own in the first two octets. What is behind it stays, and where the status is not YIMAROTU_OK all of
  * the room does. No clause bounds its length: a header, the longest name and OPT (RFC 1035, sections 4.1 and 2.3.4; RFC
- * 6891, section 6.1.2) are 282 bytes. */
+ * 6891, section 6.1.2) are 282 octets. */
 yimarotu_asked yimarotu_question(yimarotu_session *session, uint64_t number, uint8_t *room, size_t room_length);
 
 /* Goes on with the look-up by a DNS message that came back to its question. The program sees to it that this is the
@@ -417,12 +418,14 @@ yimarotu_opened yimarotu_forwarder_open(yimarotu_forwarder *forwarder, const uin
  * the program's to close. Of a forwarder that is closed nothing changes. */
 void yimarotu_forwarder_close(yimarotu_forwarder *forwarder);
 
-/* Reads the files and the settings anew, as yimarotu_forwarder_open reads them. Where each of the five says what it said,
- * octet for octet, nothing changes. Else all that is kept is let go; what comes of look-ups in flight is told to those who
- * wait, and not kept; and they go on with the servers that they began with. How servers are asked (the options that a
- * session has, too), and how much is kept at the most, stay as the forwarder was opened. Where the status is none of
- * YIMAROTU_OK and YIMAROTU_NO_MEMORY nothing changes; where it is YIMAROTU_NO_MEMORY the general servers, and those of the
- * first domains, may be the new ones, of which nothing is known yet, and nothing else changes. */
+/* Reads the files and the settings anew, as yimarotu_forwarder_open reads them. What is kept stays where the five say what
+ * they said, but, of the settings, for comments and blank lines, lines `allow`, and the options `clients`,
+ * `clients_of_address`, `clients_of_question`, `drops_strangers`, `serves_stale` and `prefetches`. Else all that is kept
+ * is let go; what comes of look-ups in flight is told to those who wait, and not kept; and they go on with the servers
+ * that they began with. How servers are asked (the options that a session has, too), and how much is kept at the most,
+ * stay as the forwarder was opened. Where the status is none of YIMAROTU_OK and YIMAROTU_NO_MEMORY nothing changes; where
+ * it is YIMAROTU_NO_MEMORY the general servers, and those of the first domains, may be the new ones, of which nothing is
+ * known yet, and nothing else changes. */
 yimarotu_opened yimarotu_forwarder_reload(yimarotu_forwarder *forwarder, const uint8_t *conf, size_t conf_length,
                                           const uint8_t *hostname, size_t hostname_length, const uint8_t *settings,
                                           size_t settings_length, const uint8_t *hosts, size_t hosts_length,
