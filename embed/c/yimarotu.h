@@ -385,10 +385,10 @@ yimarotu_replayed yimarotu_replay(const uint8_t *script, size_t script_length, c
 /* ---- forwarders */
 
 /* A caching forwarder: it replies to queries of clients out of local data and out of what it keeps, and asks servers for
- * all else. A program hands in the queries that come, and what happens on its channels, and does what
- * yimarotu_forwarder_next says until it says nothing, after each other call that changes a forwarder. The fields are the
- * library's; an open forwarder may be moved, but makes no copy. Before it is opened it is closed: `yimarotu_forwarder
- * forwarder = YIMAROTU_FORWARDER;`. */
+ * all else. A program hands in the queries that come, and what happens on its channels, and after each of these calls, or
+ * after some of them, it does what yimarotu_forwarder_next says until it says nothing. The fields are the library's; an
+ * open forwarder may be moved, but makes no copy. Before it is opened it is closed: `yimarotu_forwarder forwarder =
+ * YIMAROTU_FORWARDER;`. */
 typedef struct yimarotu_forwarder {
     bool is_open;
     void *inside;
