@@ -82,7 +82,9 @@ fn read_behind(
     ensures { AreSettingsBehind (settings_over conf.options conf.trust_ad) servers.items (lines settings.now) result }
 {
     let ResolvConf {
-        options, trust_ad, ..
+        options,
+        trust_ad,
+        ..
     } = conf;
     match ForwarderSettings::over(alloc, options, trust_ad).read_lines(alloc, settings) {
         Ok(read) => finish(read, servers),
