@@ -179,9 +179,9 @@ def many_connections(cases, daemon):
             stack.enter_context(asking.stream(running.port))
         # (one is that by which the counts are asked for)
         wait_until(lambda: running.counts()["connections"] >= SHARE + 1, "all are taken in")
+        cases.equal("a client has no more than its share", running.counts()["connections"], SHARE + 1)
         found = asking.addresses(asking.by_tcp(running.port, "four.example.test"))
         cases.equal("a connection more than its share", found, ["192.0.2.4"])
-        cases.equal("a client has no more than its share", running.counts()["connections"], SHARE + 1)
         for client in range(2, 7):
             for _ in range(160):
                 stack.enter_context(asking.stream(running.port, source=f"127.0.0.{client}"))

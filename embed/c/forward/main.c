@@ -197,7 +197,7 @@ static pid_t children[PROCESSES];
 static int hopeless; /* how a process ended that would end so each time */
 static time_t begun[PROCESSES];
 
-/* The files may have changed since the parent read them. Where they have a fault, what that read counts. */
+/* The files may have changed since they were read. Where they have a fault, what was read last counts. */
 static void read_again(void) {
     static struct settings changed;
     struct files read;
@@ -206,8 +206,7 @@ static void read_again(void) {
     free_files(is_right ? &files : &read);
     if (!is_right) return;
     files = read;
-    if (is_none(&changed.log)) close_log();
-    else open_log(changed.log.text);
+    settings.log = changed.log;
 }
 
 /* One that died within its first second begins a second later: one that cannot begin does not take a processor. */
@@ -221,8 +220,8 @@ static void start(size_t process) {
     prctl(PR_SET_PDEATHSIG, SIGTERM);
     if (getppid() != parent) exit(ENDED);
     if (is_late) sleep(1);
-    if (!is_none(&settings.log)) open_log(settings.log.text);
     if (is_again) read_again();
+    if (!is_none(&settings.log)) open_log(settings.log.text);
     exit(run(&all[process]));
 }
 
@@ -260,6 +259,7 @@ static int supervise(void) {
         number = sigtimedwait(&set, NULL, &second);
         if (number == SIGCHLD) bury();
         else if (number > 0) signal_all(number == SIGINT ? SIGTERM : number);
+        if (number == SIGHUP) read_again();
     }
     if (hopeless != ENDED) signal_all(SIGTERM);
     while (wait(NULL) > 0 || errno == EINTR);
