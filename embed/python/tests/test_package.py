@@ -171,6 +171,8 @@ class Ends(unittest.TestCase):
         """A look-up that a signal ended leaves the resolver as it was."""
         text = """
         import signal, threading, yimarotu
+        # (the signal is ignored in what a shell runs in the background)
+        signal.signal(signal.SIGINT, signal.default_int_handler)
         with yimarotu.Resolver(servers=[SERVER]) as resolver:
             try:
                 threading.Timer(0.3, signal.pthread_kill, (threading.main_thread().ident, signal.SIGINT)).start()
