@@ -1,9 +1,8 @@
 -- Under what a reply is kept, and a question is looked up.
-use Rattle.std.specs.Prelude.{◌≡◌, ℕ, ◌+◌, Bool, true, List, ◌∷◌, nat_eq}
-use Rattle.std.specs.Cmp.{IsEquivalence, unsigned_Decides}
-use Rattle.std.specs.Cmp.Lexicographic.{nat_list_eq_equiv}
-use Rattle.std.specs.Hash as fed
-use Rattle.std.specs.Hash.{Alike, items_Alike, same_Alike}
+use Rattle.std.specs.Prelude.{◌≡◌, ℕ, ◌+◌, Bool, true, List, [], ◌∷◌}
+use Rattle.std.specs.Cmp.{IsEquivalence}
+use Rattle.std.specs.Cmp.Lexicographic.{bytes_decides, nat_list_eq_equiv}
+use Rattle.std.specs.Hash.{Alike, same_Alike}
 use Rattle.std.specs.Str.{bytes_eq}
 use Rattle.hickory_proto_wire.specs.Messages.{bit}
 use Rattle.hickory_proto_wire.specs.Writing.{weighed}
@@ -28,15 +27,13 @@ key_eq = bytes_eq
 pub key_equiv : IsEquivalence key_eq
 key_equiv = nat_list_eq_equiv
 
+-- all octets at once
 abbrev pub key_hash_input : List ℕ → List (List ℕ)
-key_hash_input key = fed.slice fed.u8 key
+key_hash_input key = key ∷ []
 
 -- keys that are equal feed a hasher the same
-octets_alike : Alike nat_eq fed.u8
-octets_alike = same_Alike fed.u8 unsigned_Decides
-
 keys_alike : Alike key_eq key_hash_input
-keys_alike = items_Alike octets_alike
+keys_alike = same_Alike key_hash_input bytes_decides
 
 pub key_respects_eq : (one other : List ℕ) → key_eq one other ≡ true → key_hash_input one ≡ key_hash_input other
 key_respects_eq = keys_alike.fed

@@ -122,6 +122,6 @@ impl Hash for ReplyKey {
     ghost respects_eq = { key_respects_eq };
 
     fn hash<H: Hasher>(&self, state: &mut H) {
-        self.as_slice().hash(state);
+        state.write(self.as_slice());
     }
 }
