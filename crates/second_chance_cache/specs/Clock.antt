@@ -4,7 +4,6 @@ use Rattle.std.specs.Prelude.{◌≡◌, ℕ, zero, suc, ◌+◌, ◌%◌, ◌^�
 use Rattle.std.specs.Option.{option_map, option_map_or}
 use Rattle.std.specs.Str.{bytes_eq}
 use Rattle.std.specs.VecDeque.{deque_capacity, deque_len}
-use Rattle.std.specs.declared.vec.Vec.{Vec}
 use Rattle.indexmap.specs.IndexMap.{IndexMap, get_by, spare}
 use Rattle.second_chance_cache.specs.declared.bounds.CacheBounds.{CacheBounds}
 use Rattle.second_chance_cache.specs.declared.clock.Clock.{Clock}
@@ -15,8 +14,8 @@ abbrev pub number_at : ℕ → ℕ → ℕ
 number_at first place = (first + place) % 2 ^ 64
 
 -- the number of a key
-abbrev pub number_in : {K S : Type 0} → List ℕ → IndexMap (Vec ℕ K) ℕ S → Option ℕ
-number_in key index = get_by (λ k. bytes_eq key k.items) index
+abbrev pub number_in : {S : Type 0} → List ℕ → IndexMap (List ℕ) ℕ S → Option ℕ
+number_in key index = get_by (bytes_eq key) index
 
 module _ {V : Type 0} where
   -- the entries in the slots
@@ -94,19 +93,19 @@ module _ {V : Type 0} where
   marked_in (suc place) now (slot ∷ slots) = slot ∷ marked_in place now slots
 
 -- the key has this number, where it has one, and the others keep theirs
-abbrev pub IsRenumbered : {K S : Type 0} → List ℕ → ℕ → IndexMap (Vec ℕ K) ℕ S → IndexMap (Vec ℕ K) ℕ S → Type 0
+abbrev pub IsRenumbered : {S : Type 0} → List ℕ → ℕ → IndexMap (List ℕ) ℕ S → IndexMap (List ℕ) ℕ S → Type 0
 IsRenumbered key number old new =
     (other : List ℕ)
     → number_in other new
     ≡ (if bytes_eq key other then option_map (λ _. number) (number_in key old) else number_in other old)
 
 -- the key has no number, and the others keep theirs
-abbrev pub IsForgotten : {K S : Type 0} → List ℕ → IndexMap (Vec ℕ K) ℕ S → IndexMap (Vec ℕ K) ℕ S → Type 0
+abbrev pub IsForgotten : {S : Type 0} → List ℕ → IndexMap (List ℕ) ℕ S → IndexMap (List ℕ) ℕ S → Type 0
 IsForgotten key old new =
     (other : List ℕ) → number_in other new ≡ (if bytes_eq key other then None else number_in other old)
 
 -- the key has this number, and the others keep theirs
-abbrev pub IsNumbered : {K S : Type 0} → List ℕ → ℕ → IndexMap (Vec ℕ K) ℕ S → IndexMap (Vec ℕ K) ℕ S → Type 0
+abbrev pub IsNumbered : {S : Type 0} → List ℕ → ℕ → IndexMap (List ℕ) ℕ S → IndexMap (List ℕ) ℕ S → Type 0
 IsNumbered key number old new =
     (other : List ℕ) → number_in other new ≡ (if bytes_eq key other then Some number else number_in other old)
 

@@ -1,4 +1,5 @@
 pub mod Clock
+pub mod Keys
 pub mod Laws
 pub mod Lending
 pub mod SecondChance

@@ -9,6 +9,7 @@ ghost use Rattle.second_chance_cache.specs.Clock.{AreSound, FrontAnswers, IsForg
 
 use crate::bounds::CacheBounds;
 use crate::kept::Kept;
+use crate::key::{Key, KeyRef};
 use indexmap::IndexMap;
 use std::alloc::{AllocError, Global};
 use std::collections::VecDeque;
@@ -18,7 +19,7 @@ use std::hash::BuildHasher;
 pub type Slots<V> = VecDeque<Option<Kept<V>>>;
 
 /// The numbers of slots by key.
-pub type Index<S> = IndexMap<Vec<u8>, u64, S>;
+pub type Index<S> = IndexMap<Key, u64, S>;
 
 /// Entries in slots, and how to find them: how many there are, and what they weigh together (octets).
 #[derive(Drop)]
@@ -58,7 +59,7 @@ impl<V: Drop, S: BuildHasher> Clock<V, S> {
         requires { IsSound self.now }
         ensures { result ≡ place_of key.now self.now.slots.items }
     {
-        match self.index.get(key) {
+        match self.index.get(&KeyRef::of(key)) {
             Some(number) => Some(self.place(*number)),
             None => None,
         }
@@ -254,24 +255,24 @@ impl<V: Drop, S: BuildHasher> Clock<V, S> {
     }
 
     // Room for one more entry, and its key once more. A refused call changes nothing that is seen.
-    fn reserve_for(&mut self, alloc: Global, key: &[u8]) -> Result<Vec<u8>, AllocError>
+    fn reserve_for(&mut self, alloc: Global, key: &[u8]) -> Result<Key, AllocError>
         requires { IsSound self.old }
         ensures sound { IsSound self.new }
         ensures room { OnOk result (HasRoom self.new) }
         ensures slots { self.new.slots.items ≡ self.old.slots.items }
-        ensures key { IfOk result (λ k. k.items ≡ key.now) }
+        ensures key { IfOk result (λ k. k ≡ key.now) }
     {
-        let key = Vec::from_slice(alloc, key)?;
+        let key = Key::of(alloc, key)?;
         self.reserve()?;
         Ok(key)
     }
 
     // An entry that may be kept comes in, where there is room in memory, in place of its key's.
-    fn put(&mut self, bounds: &CacheBounds, kept: Kept<V>, key: Vec<u8>, now: u64)
+    fn put(&mut self, bounds: &CacheBounds, kept: Kept<V>, key: Key, now: u64)
         requires kept { IsKept bounds.now self.old }
         requires light { is_kept bounds.now kept.weight ≡ true }
         requires room { HasRoom self.old }
-        requires key { key.items ≡ kept.key }
+        requires key { key ≡ kept.key }
         ensures kept { IsKept bounds.now self.new }
         ensures entries { entries_of self.new
             ≡ make_room bounds.now kept.weight now (without kept.key (entries_of self.old)) ++ kept ∷ [] }
@@ -385,10 +386,10 @@ impl<V: Drop, S: BuildHasher> Clock<V, S> {
     }
 
     // An entry comes in at the back, under its key.
-    fn push(&mut self, kept: Kept<V>, key: Vec<u8>)
+    fn push(&mut self, kept: Kept<V>, key: Key)
         requires sound { IsSound self.old }
         requires room { HasRoom self.old }
-        requires key { key.items ≡ kept.key }
+        requires key { key ≡ kept.key }
         requires new { has kept.key (live self.old.slots.items) ≡ false }
         requires count { length (live self.old.slots.items) + 1 < 2 ^ 64 }
         requires octets { all_weight (live self.old.slots.items) + kept.weight < 2 ^ 64 }
@@ -538,7 +539,7 @@ fn renumber<S: BuildHasher>(index: &mut Index<S>, key: &[u8], number: u64)
     ensures numbers { IsRenumbered key.now number index.old index.new }
     ensures room { spare index.new ≡ spare index.old }
 {
-    match index.get_mut(key) {
+    match index.get_mut(&KeyRef::of(key)) {
         Some(held) => *held = number,
         None => {}
     }
@@ -549,13 +550,13 @@ fn forget<S: BuildHasher>(index: &mut Index<S>, key: &[u8])
     ensures numbers { IsForgotten key.now index.old index.new }
     ensures room { spare index.old ≤ spare index.new }
 {
-    index.swap_remove(key);
+    index.swap_remove(&KeyRef::of(key));
 }
 
 // A key has this number, where there is room for one more.
-fn number_key<S: BuildHasher>(index: &mut Index<S>, key: Vec<u8>, number: u64)
+fn number_key<S: BuildHasher>(index: &mut Index<S>, key: Key, number: u64)
     requires { 0 < spare index.old }
-    ensures { IsNumbered key.items number index.old index.new }
+    ensures { IsNumbered key number index.old index.new }
 {
     drop(index.insert(key, number));
 }

@@ -6,6 +6,7 @@ mod bounds;
 pub mod cache;
 mod clock;
 mod kept;
+mod key;
 pub mod laws;
 
 pub use bounds::CacheBounds;

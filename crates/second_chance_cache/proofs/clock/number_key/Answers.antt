@@ -5,5 +5,5 @@ use Rattle.second_chance_cache.proofs.clock.number_key.Goals as goal
 
 pub returns : goal.returns
 returns g c =
-    updated c.args.key.items c.args.index.now c.insert.new.self (Some c.args.number)
+    updated c.args.key c.args.index.now c.insert.new.self (Some c.args.number)
     (on_ok c.insert.result (c.insert.ensures.succeeds c.requires) c.insert.ensures.updates)
