@@ -95,8 +95,8 @@ impl<V: Drop, S: BuildHasher> SecondChanceCache<V, S> {
             (asked key.now now self.old.entries)) }
         ensures told { option_copied result ≡ told key.now now self.old.entries }
     {
-        self.clock.mark(key, now);
-        self.clock.told(key, now)
+        let place = self.clock.mark(key, now);
+        self.clock.told_at(place, now)
     }
 
     /// As `get`, and its entry is not marked.

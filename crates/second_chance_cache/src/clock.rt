@@ -1,5 +1,5 @@
 //! The clock behind a cache: entries in slots, from the hand on, and the number of each entry's slot by its key.
-ghost use Rattle.std.specs.Prelude.{◌≡◌, ◌<◌, ◌+◌, ◌-◌, ◌%◌, ◌^◌, ◌++◌, ◌∷◌, [], true, false, ◌≤◌, Some, drop, find, length, slice_get, option_copied, IfOk, OnErr, OnOk};
+ghost use Rattle.std.specs.Prelude.{◌≡◌, ℕ, List, ◌<◌, ◌+◌, ◌-◌, ◌%◌, ◌^◌, ◌++◌, ◌∷◌, [], true, false, ◌≤◌, Some, drop, find, length, slice_get, option_copied, IfOk, OnErr, OnOk};
 ghost use Rattle.std.specs.VecDeque.{deque_capacity, deque_len};
 ghost use Rattle.std.specs.Fn.{FnReturnsAt};
 ghost use Rattle.std.specs.Option.{option_flatten, option_map, option_map_or};
@@ -65,12 +65,12 @@ impl<V: Drop, S: BuildHasher> Clock<V, S> {
         }
     }
 
-    // The entry of a key.
-    pub fn entry(&self, key: &[u8]) -> Option<&Kept<V>>
-        requires { IsSound self.now }
-        ensures { option_copied result ≡ find (is_for key.now) (live self.now.slots.items) }
+    // The entry that stands at a place, that of a key which is there.
+    fn entry_of(&self, place: Option<usize>) -> Option<&Kept<V>>
+        ensures { (key : List ℕ) → place ≡ place_of key self.now.slots.items
+            → option_copied result ≡ find (is_for key) (live self.now.slots.items) }
     {
-        match self.place_of(key) {
+        match place {
             Some(place) => entry_at(&self.slots, place),
             None => None,
         }
@@ -97,26 +97,38 @@ impl<V: Drop, S: BuildHasher> Clock<V, S> {
         }
     }
 
-    // The value that is told for a key at a second.
-    pub fn told(&self, key: &[u8], now: u64) -> Option<&V>
-        requires { IsSound self.now }
-        ensures { option_copied result ≡ told key.now now (live self.now.slots.items) }
+    // The value that is told at a second of the key that is at a place.
+    pub fn told_at(&self, place: Option<usize>, now: u64) -> Option<&V>
+        ensures { (key : List ℕ) → place ≡ place_of key self.now.slots.items
+            → option_copied result ≡ told key now (live self.now.slots.items) }
     {
-        match self.entry(key) {
+        match self.entry_of(place) {
             Some(kept) => kept.told(now),
             None => None,
         }
     }
 
-    // A key is asked for at a second.
-    pub fn mark(&mut self, key: &[u8], now: u64)
+    // The value that is told for a key at a second.
+    pub fn told(&self, key: &[u8], now: u64) -> Option<&V>
+        requires { IsSound self.now }
+        ensures { option_copied result ≡ told key.now now (live self.now.slots.items) }
+    {
+        self.told_at(self.place_of(key), now)
+    }
+
+    // A key is asked for at a second: its place.
+    pub fn mark(&mut self, key: &[u8], now: u64) -> Option<usize>
         requires { IsSound self.old }
         ensures sound { IsSound self.new }
         ensures entries { live self.new.slots.items ≡ asked key.now now (live self.old.slots.items) }
+        ensures place { result ≡ place_of key.now self.new.slots.items }
     {
         match self.place_of(key) {
-            Some(place) => mark_at(&mut self.slots, place, now),
-            None => {}
+            Some(place) => {
+                mark_at(&mut self.slots, place, now);
+                Some(place)
+            }
+            None => None,
         }
     }
 

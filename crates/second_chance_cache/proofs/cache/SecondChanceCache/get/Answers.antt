@@ -11,11 +11,11 @@ returns g c =
     let es = live c.self.inside.clock.slots.items in
     let f : List (Entry g.row.V.Denot) → CacheValue g.row.V.Denot = λ fs. record { bounds = b; entries = fs } in
     rw (← c.self.view_is) (
-      (refl, λ _. tt, ap f c.mark.ensures.entries),
+      (refl, λ _. tt, ap f c.mark-place.ensures.entries),
       record {
         marks = tt;
-        told = c.told.ensures
-            ∙ ap (λ (fs : List (Entry g.row.V.Denot)). told c.args.key.now c.args.now fs) c.mark.ensures.entries
+        told = c.told_at.ensures c.args.key.now c.mark-place.ensures.place
+            ∙ ap (λ (fs : List (Entry g.row.V.Denot)). told c.args.key.now c.args.now fs) c.mark-place.ensures.entries
             ∙ told-asked c.args.key.now c.args.now es;
       },
     )
@@ -24,8 +24,8 @@ pub invariant_of-self : goal.invariant_of-self
 invariant_of-self g c =
     let b = c.self.inside.bounds in
     record {
-      sound = c.mark.ensures.sound;
+      sound = c.mark-place.ensures.sound;
       within = subst (λ (es : List (Entry g.row.V.Denot)). IsCache (record { bounds = b; entries = es }))
-          (sym c.mark.ensures.entries)
+          (sym c.mark-place.ensures.entries)
           (within-asked b c.args.key.now c.args.now (live c.self.inside.clock.slots.items) c.self.invariant.within);
     }

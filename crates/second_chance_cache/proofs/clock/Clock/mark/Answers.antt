@@ -1,7 +1,7 @@
-use Rattle.std.proofs.Common.{sym}
+use Rattle.std.proofs.Common.{◌∙◌, sym}
 use Rattle.second_chance_cache.specs.Clock.{live, number_in}
 use Rattle.second_chance_cache.proofs.Keys.{asked-absent}
-use Rattle.second_chance_cache.proofs.Slots.{has-no_place, live-marked}
+use Rattle.second_chance_cache.proofs.Slots.{has-no_place, live-marked, place-marked}
 use Rattle.second_chance_cache.proofs.Sound.{sound-marked}
 use Rattle.second_chance_cache.proofs.clock.Clock.mark.Goals as goal
 
@@ -16,6 +16,8 @@ returns-in-Some g c =
           c.requires found);
       entries = rw c.mark_at.ensures
           (live-marked key c.args.now s.slots.items c.in-Some.place c.requires.apart found);
+      place = rw c.mark_at.ensures
+          (sym found ∙ sym (place-marked key c.args.now c.in-Some.place s.slots.items));
     }
 
 pub returns-in-None-clause-entries : goal.returns-in-None-clause-entries
