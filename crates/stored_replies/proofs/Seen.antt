@@ -61,3 +61,8 @@ seconds_in (Err fault) seconds moment = refl
 pub moment_in : (m : Result WireMessage WireFault) (seconds moment : ℕ) → (stored_in m seconds moment).moment ≡ moment
 moment_in (Ok m) seconds moment = refl
 moment_in (Err fault) seconds moment = refl
+
+pub kept_in : (m : Result WireMessage WireFault) (seconds moment : ℕ)
+    → (stored_in m seconds 0).kept ≡ (stored_in m seconds moment).kept
+kept_in (Ok m) seconds moment = refl
+kept_in (Err fault) seconds moment = refl

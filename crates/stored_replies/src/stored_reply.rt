@@ -3,21 +3,24 @@ ghost use Rattle.std.specs.Prelude.{◌≡◌, ◌≤◌, ◌+◌, ◌++◌, tru
 ghost use Rattle.std.specs.Option.{option_map};
 ghost use Rattle.hickory_proto_codes.specs.Codes.{response_code};
 ghost use Rattle.client_queries.specs.Refusals.{count_of};
+ghost use Rattle.whole_replies.specs.Kept.{aged};
 ghost use Rattle.stored_replies.specs.Key.{is_same_question};
-ghost use Rattle.stored_replies.specs.Stored.{stored_at, store_fault, Refuses, stored_octets, whole_octets, is_current, until, record_number, weight_of};
+ghost use Rattle.stored_replies.specs.Stored.{stored_at, store_fault, Refuses, stored_octets, whole_octets, elapsed, is_current, until, record_number, weight_of};
 ghost use Rattle.stored_replies.specs.Stale.{stale_of};
 ghost use Rattle.stored_replies.specs.Told.{is_told_authentic, told_flags, header_with, told_message, own_question, asks_for, with_question, told_octets, reply_within, put_in, bare_octets, cut_octets, cut_within, opt_length};
 
+use crate::ageing::age;
 use crate::choices::{PLACE, REPLY, STALE_TTL};
 use crate::key::is_same_question;
 use crate::places::{behind, octet_at};
+use crate::reading::kept_in;
 use crate::room::{lower_ttls, put_at, set_ttls};
 use crate::store_error::StoreError;
 use crate::storing::{behind_question, places_of, written};
 use crate::told::{first, header, is_told_authentic, opt_length, put_opt, question_in, told_flags};
 use client_queries::ClientQuery;
 use hickory_proto_core::Query;
-use std::alloc::Global;
+use std::alloc::{AllocError, Global};
 use std::marker::Model;
 use whole_replies::KeptReply;
 
@@ -98,6 +101,19 @@ impl StoredReply {
         ensures { result ≡ response_code self.now.kept.code }
     {
         self.code
+    }
+
+    /// What is kept of the reply, read again from its octets, as it has aged at this second.
+    ///
+    /// # Errors
+    /// No memory was left; or its names take more labels than `from_wire` reads of one message, which bounds the memory
+    /// that they take.
+    pub fn kept_at(&self, alloc: Global, now: u64) -> Result<KeptReply, AllocError>
+        ensures { IfOk result (λ kept. kept ≡ aged (elapsed self.now now) self.now.kept) }
+    {
+        let mut kept = kept_in(alloc, &self.octets, self.seconds)?;
+        age(&mut kept, now.saturating_sub(self.moment));
+        Ok(kept)
     }
 
     /// How many octets of memory it takes.
