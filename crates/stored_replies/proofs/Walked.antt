@@ -13,7 +13,7 @@ use Rattle.hickory_proto_wire.specs.Place.{PlaceValue}
 use Rattle.hickory_proto_wire.specs.Writing.{u16_octets, counted, data_code}
 use Rattle.hickory_proto_wire.specs.Written.{Body, place_of, pointed_or, name_octets, u32_octets, measured, data_octets, record_octets, record_added}
 use Rattle.hickory_resolver_tries.specs.Heads.{number_at}
-use Rattle.stored_replies.specs.Walk.{behind_labels, behind_data, behind_record, behind_records, places_in, ttl_places, HaveNames}
+use Rattle.stored_replies.specs.Walk.{behind_labels, behind_data, behind_record, behind_records, places_in, ttl_places, HaveNames, HaveFields}
 use Rattle.stored_replies.proofs.Added.{added}
 
 -- ---- names
@@ -126,6 +126,16 @@ record_walked ps r tail named = ap behind_data (name_walked ps r tail named) ∙
 
 -- ---- all of them
 
+pub fields_found : (rs : List RecordValue) (b : Body) → HaveFields rs (added b rs)
+fields_found [] b = tt
+fields_found (r ∷ rs) b = λ named.
+    let next = record_added b r in
+    let rest = added next rs in
+    let fields = fields_of b.places r in (
+      omega (arith, ap length (name_walked b.places r rest named), length-append fields rest),
+      subst (HaveFields rs) (sym (record_walked b.places r rest named)) (fields_found rs next),
+    )
+
 pub places_found : (rs : List RecordValue) (b : Body) (total : ℕ) → HaveNames rs
     → total ≡ 12 + length b.octets + length (added b rs) → places_in total rs (added b rs) ≡ ttl_places b rs
 places_found [] b total named long = refl
@@ -156,6 +166,16 @@ places_on total (x ∷ xs) ys octets =
     ap (λ (ps : List ℕ). (total - length (behind_labels x.name.labels octets) + 4) ∷ ps)
     (places_on total xs ys (behind_record x octets))
 
+pub fields_first : (xs ys : List RecordValue) (octets : List ℕ) → HaveFields (xs ++ ys) octets → HaveFields xs octets
+fields_first [] ys octets have = tt
+fields_first (x ∷ xs) ys octets have = λ named.
+    ((have named).0, fields_first xs ys (behind_record x octets) (have named).1)
+
+pub fields_next : (xs ys : List RecordValue) (octets : List ℕ) → HaveNames xs → HaveFields (xs ++ ys) octets
+    → HaveFields ys (behind_records xs octets)
+fields_next [] ys octets named have = have
+fields_next (x ∷ xs) ys octets named have = fields_next xs ys (behind_record x octets) named.1 (have named.0).1
+
 pub names_on : (xs ys : List RecordValue) → HaveNames xs → HaveNames ys → HaveNames (xs ++ ys)
 names_on [] ys a b = b
 names_on (x ∷ xs) ys a b = (a.0, names_on xs ys a.1 b)
@@ -177,6 +197,15 @@ places_more total rs i r old rest lt is =
     drop_more rs i r lt ∙ ap (λ (x : RecordValue). x ∷ drop (i + 1) rs) (sym is) in
     ap (λ (xs : List RecordValue). old ++ places_in total xs rest) here
     ∙ sym (append_assoc old ((total - length (behind_labels r.name.labels rest) + 4) ∷ []) (places_in total (drop (i + 1) rs) (behind_record r rest)))
+
+pub fields_more : (rs : List RecordValue) (i : ℕ) (r : RecordValue) (rest : List ℕ) → i < length rs → r ≡ get_or rs i r
+    → label_fault r.name.labels ≡ None → HaveFields (drop i rs) rest
+    → (10 ≤ length (behind_labels r.name.labels rest)) × HaveFields (drop (i + 1) rs) (behind_record r rest)
+fields_more rs i r rest lt is named have =
+    let here : drop i rs ≡ r ∷ drop (i + 1) rs =
+    drop_more rs i r lt ∙ ap (λ (x : RecordValue). x ∷ drop (i + 1) rs) (sym is) in
+    let own : HaveFields (r ∷ drop (i + 1) rs) rest = subst (λ (xs : List RecordValue). HaveFields xs rest) here have in
+    own named
 
 pub rest_more : (rs : List RecordValue) (i : ℕ) (r : RecordValue) (rest : List ℕ) → i < length rs → r ≡ get_or rs i r
     → behind_records (drop i rs) rest ≡ behind_records (drop (i + 1) rs) (behind_record r rest)

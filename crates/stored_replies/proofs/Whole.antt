@@ -1,5 +1,5 @@
 -- The octets of a whole message, part by part.
-use Rattle.std.proofs.Common.{◌≡◌, ℕ, ◌+◌, ◌-◌, List, [], ◌++◌, length, take, drop, map, sym, ap, ap₂, ◌∙◌, append_assoc, length-append, arith}
+use Rattle.std.proofs.Common.{◌≡◌, ℕ, ◌+◌, ◌-◌, List, [], ◌++◌, length, take, drop, map, sym, ap, ap₂, subst, ◌∙◌, append_assoc, length-append, arith}
 use Rattle.std.proofs.lemmas.List.{append-nil, take_all, map-append}
 use Rattle.hickory_proto_codes.specs.Codes.{type_code, class_code, response_code}
 use Rattle.hickory_proto_core.specs.Records.{RecordValue}
@@ -9,9 +9,9 @@ use Rattle.hickory_proto_wire.specs.Written.{Body, name_octets, query_octets, qu
 use Rattle.hickory_proto_wire.specs.declared.wire_message.WireMessage.{WireMessage}
 use Rattle.whole_replies.specs.Kept.{KeptValue}
 use Rattle.stored_replies.specs.Stored.{response_to, whole_octets, named_kept, stored_at}
-use Rattle.stored_replies.specs.Walk.{behind_labels, behind_question, behind_records, places_in, ttl_places, places_of, HaveNames}
+use Rattle.stored_replies.specs.Walk.{behind_labels, behind_question, behind_records, places_in, ttl_places, places_of, HaveNames, HaveFields}
 use Rattle.stored_replies.proofs.Added.{added, records_octets}
-use Rattle.stored_replies.proofs.Walked.{AreShort, behind_written, places_found, places_on, names_on}
+use Rattle.stored_replies.proofs.Walked.{AreShort, behind_written, fields_found, places_found, places_on, names_on}
 use Rattle.stored_replies.proofs.Named.{question_named, added_named, places_named}
 
 -- what OPT adds
@@ -79,6 +79,16 @@ question_walked q k short =
 pub question_end : (q : Query) (k : KeptValue) → AreShort q.name.labels
     → length (whole_octets (response_to q k)) - length (behind_question q (whole_octets (response_to q k))) ≡ 12 + length (query_octets [] q)
 question_end q k short = omega (arith, ap length (question_walked q k short), stored_length q k)
+
+pub fields_noted : (q : Query) (k : KeptValue) (octets : List ℕ) → AreShort q.name.labels
+    → octets ≡ whole_octets (response_to q k) → HaveFields (k.answers ++ k.authorities) (behind_question q octets)
+fields_noted q k octets short is =
+    let there : behind_question q octets ≡ added (asked_body q) (kept_records k) =
+    ap (behind_question q) is ∙ question_walked q k short in
+    let all : kept_records k ≡ k.answers ++ k.authorities =
+    ap (λ (rs : List RecordValue). k.answers ++ rs) (append-nil k.authorities) in
+    subst (λ (rs : List RecordValue). HaveFields rs (behind_question q octets)) all
+    (subst (HaveFields (kept_records k)) (sym there) (fields_found (kept_records k) (asked_body q)))
 
 pub places_noted : (q : Query) (k : KeptValue) (octets : List ℕ) → AreShort q.name.labels → HaveNames k.answers → HaveNames k.authorities
     → octets ≡ whole_octets (response_to q k)

@@ -47,7 +47,7 @@ response_to q k = record {
 unfoldable pub whole_octets : WireMessage → List ℕ
 whole_octets m = octets_of m (record_count m)
 
--- Why it is not stored: `to_wire` refuses to write it, or it is too long for a reply with OPT.
+-- Why it is not stored: `to_wire` refuses to write it, or it is too long for a message.
 abbrev pub too_long : WireMessage → Option StoreError
 too_long m = if nat_lt LONGEST (length (whole_octets m)) then Some TooLong else None
 

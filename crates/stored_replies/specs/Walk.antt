@@ -69,6 +69,14 @@ abbrev pub HaveNames : List RecordValue → Type 0
 HaveNames [] = Unit {0}
 HaveNames (r ∷ rs) = (label_fault r.name.labels ≡ None) × HaveNames rs
 
+-- Behind the name of each, where its labels are those of a name, stand ten octets or more: its type, its class, its TTL
+-- and how many octets its data have (RFC 1035, section 3.2.1).
+abbrev pub HaveFields : List RecordValue → List ℕ → Type 0
+HaveFields [] octets = Unit {0}
+HaveFields (r ∷ rs) octets =
+    label_fault r.name.labels ≡ None
+    → (10 ≤ length (behind_labels r.name.labels octets)) × HaveFields rs (behind_record r octets)
+
 -- ---- TTLs changed
 
 -- a part of a room written over

@@ -1,8 +1,8 @@
 //! Numbers that are choices.
 
-/// How many octets of a reply are stored at the most: 65,535, less the 11 of the OPT record that a client's query may
-/// ask for (RFC 1035, section 4.2.2; RFC 6891, section 6.1.2).
-pub const LONGEST: usize = 65524;
+/// How many octets of a reply are stored at the most, without OPT: as many as a message over a stream has (RFC 1035,
+/// section 4.2.2).
+pub const LONGEST: usize = 65535;
 
 /// A reply that is stored, beside its octets and places: 72 for the value itself, and 32 for each of its two pieces of
 /// memory, on a machine of 64 bits with glibc.

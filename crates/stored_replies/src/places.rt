@@ -1,7 +1,7 @@
 //! Where the TTLs of records stand in a message that was written of them (RFC 1035, section 4.1).
 ghost use Rattle.std.specs.Prelude.{◌≡◌, ◌≤◌, ◌++◌, None, length, get_or, drop, OnOk, IfOk};
 ghost use Rattle.hickory_proto_core.specs.Name.{label_bytes, label_fault};
-ghost use Rattle.stored_replies.specs.Walk.{behind_labels, behind_data, behind_records, places_in, HaveNames};
+ghost use Rattle.stored_replies.specs.Walk.{behind_labels, behind_data, behind_records, places_in, HaveNames, HaveFields};
 
 use hickory_proto_core::{Name, Record};
 use std::alloc::AllocError;
@@ -57,7 +57,8 @@ pub(crate) fn note_places<'o>(
     records: &[Record],
     octets: &'o [u8],
 ) -> Result<&'o [u8], AllocError>
-    requires { total ≤ 65531 }
+    requires short { total ≤ 65535 }
+    requires fields { HaveFields records.now octets.now }
     ensures places { OnOk result (places.new.items ≡ places.old.items ++ places_in total records.now octets.now) }
     ensures behind { IfOk result (λ rest. rest.now ≡ behind_records records.now octets.now) }
     ensures valid { OnOk result (HaveNames records.now) }

@@ -141,13 +141,12 @@ impl StoredReply {
         is_same_question(question, self.question())
     }
 
-    /// How many octets the reply to a query has that asks for it. They fit into a message over TCP (RFC 1035, section
-    /// 4.2.2).
+    /// How many octets the reply to a query has that asks for it. With OPT they may be more than a message over a
+    /// stream has (RFC 1035, section 4.2.2).
     pub fn length(&self, query: &ClientQuery) -> usize
         ensures value { result ≡ length (stored_octets self.now) + opt_length query.now.edns }
         ensures told { (octets : List ℕ) (trust : Bool) (now : ℕ) → asks_for octets query.now self.now ≡ true
             → length (told_octets octets query.now self.now trust now) ≡ result }
-        ensures fits { result ≤ 65535 }
     {
         self.octets.as_slice().len() + opt_length(query.edns)
     }
@@ -199,10 +198,10 @@ impl StoredReply {
         }
     }
 
-    /// Writes a reply without records, where the whole of it is too long for a datagram, to the front of a room, and
-    /// answers how many octets it has. It says TC where there are records, so that the client asks again by TCP (RFC
-    /// 2181, section 9). None, and the room as it was, where the query does not ask for it, or the room is too small.
-    /// Takes no memory.
+    /// Writes a reply without records, where the whole of it is too long for a datagram, or with OPT for a stream, to
+    /// the front of a room, and answers how many octets it has. It says TC where there are records, so that the client
+    /// asks again by TCP (RFC 2181, section 9). None, and the room as it was, where the query does not ask for it, or
+    /// the room is too small. Takes no memory.
     pub fn write_cut(
         &self,
         octets: &[u8],

@@ -7,7 +7,7 @@ ghost use Rattle.hickory_proto_wire.specs.Refused.{wire_fault};
 ghost use Rattle.hickory_proto_wire.specs.ToWire.{IsWritten};
 ghost use Rattle.hickory_proto_wire.specs.Writing.{cut, record_count};
 ghost use Rattle.stored_replies.specs.Stored.{response_to, whole_octets, store_fault, Refuses};
-ghost use Rattle.stored_replies.specs.Walk.{behind_records, behind_question, places_in, HaveNames};
+ghost use Rattle.stored_replies.specs.Walk.{behind_records, behind_question, places_in, HaveNames, HaveFields};
 
 use crate::choices::LONGEST;
 use crate::places::{behind, behind_name, note_places, octet_at};
@@ -111,7 +111,8 @@ pub(crate) fn places_of(
     octets: &[u8],
     records: &[u8],
 ) -> Result<Vec<u16>, AllocError>
-    requires { length octets.now ≤ 65531 }
+    requires short { length octets.now ≤ 65535 }
+    requires fields { HaveFields (message.now.answers ++ message.now.authorities) records.now }
     ensures places { IfOk result (λ v. v.items ≡ places_in (length octets.now) message.now.answers records.now
         ++ places_in (length octets.now) message.now.authorities (behind_records message.now.answers records.now)) }
     ensures answers { OnOk result (HaveNames message.now.answers) }

@@ -19,10 +19,3 @@ returns-clause-told c = λ octets trust now asked.
     let told = told_length octets c.args.query.now v trust now low asked in
     let whole : length c.as_slice.result.now ≡ length (stored_octets v) = ap length (c.as_slice.ensures.value ∙ inv.written) in
     omega (arith, told, whole, c.opt_length.ensures.value)
-
-pub returns-clause-fits : goal.returns-clause-fits
-returns-clause-fits c =
-    let same = ap length c.as_slice.ensures.value in
-    let short = c.self.invariant.short in
-    let small = c.opt_length.ensures.small in
-    omega (arith, same, short, small)

@@ -5,12 +5,25 @@ use Rattle.hickory_proto_wire.specs.Written.{query_octets}
 use Rattle.hickory_proto_wire.specs.declared.wire_message.WireMessage.{WireMessage}
 use Rattle.whole_replies.specs.Kept.{KeptValue}
 use Rattle.stored_replies.specs.Stored.{StoredValue, response_to, whole_octets, stored_at, stored_in}
-use Rattle.stored_replies.specs.Walk.{IsStored, HaveNames, behind_question, behind_records, places_in, ttl_places}
+use Rattle.stored_replies.specs.Walk.{IsStored, HaveNames, HaveFields, behind_question, behind_records, places_in, ttl_places}
 use Rattle.stored_replies.proofs.Cut.{small_code}
 use Rattle.stored_replies.proofs.Seen.{seen_as, is_stored}
 use Rattle.stored_replies.proofs.Walked.{AreShort, are_short}
-use Rattle.stored_replies.proofs.Whole.{asked_body, kept_records, places_noted, question_end}
+use Rattle.stored_replies.proofs.Whole.{asked_body, kept_records, fields_noted, places_noted, question_end}
 use Rattle.stored_replies.proofs.stored_reply.StoredReply.of.Goals as goal
+
+pub places_of-requires-clause-fields : goal.places_of-requires-clause-fields
+places_of-requires-clause-fields c =
+    let q = c.args.query.now in
+    let k = c.args.kept in
+    let o = c.in_ok-message.octets.items in
+    let records : c.behind_question-records.result.now ≡ behind_question q o =
+    c.behind_question-records.ensures.behind ∙ ap (behind_question q) c.deref.ensures.value in
+    let short : AreShort q.name.labels = are_short q.name.labels c.behind_question-records.ensures.valid in
+    let fields : HaveFields (k.answers ++ k.authorities) (behind_question q o) =
+    fields_noted q k o short c.in_ok-message.ensures.octets in
+    subst (λ (w : WireMessage). HaveFields (w.message.answers ++ w.message.authorities) c.behind_question-records.result.now)
+    (sym c.in_ok-message.ensures.message) (subst (HaveFields (k.answers ++ k.authorities)) (sym records) fields)
 
 pub invariant_of-result : goal.invariant_of-result
 invariant_of-result c =
