@@ -9,3 +9,4 @@ pub mod Stale
 pub mod Keys
 pub mod Cut
 pub mod Seen
+pub mod Reread

@@ -1,5 +1,5 @@
 -- What is kept of a reply as octets.
-use Rattle.std.specs.Prelude.{ℕ, ◌+◌, ◌*◌, ◌-◌, ◌^◌, ◌≡◌, ◌≢◌, Bool, true, false, List, [], ◌∷◌, length, map, min, nat_lt, nat_le, Option, None, Some, Result, Ok, Err, if◌then◌else◌}
+use Rattle.std.specs.Prelude.{ℕ, ◌+◌, ◌*◌, ◌-◌, ◌^◌, ◌≡◌, ◌≢◌, Bool, true, false, List, [], ◌∷◌, length, map, min, nat_lt, nat_le, Option, None, Some, Result, Ok, Err, is_ok, if◌then◌else◌}
 use Rattle.std.specs.Option.{option_map, option_or}
 use Rattle.hickory_proto_codes.specs.Codes.{response_code, response_of}
 use Rattle.hickory_proto_codes.specs.declared.op_code.OpCode.TheVariants as kind
@@ -8,12 +8,13 @@ use Rattle.hickory_proto_codes.specs.declared.dns_class.DNSClass.TheVariants as 
 use Rattle.hickory_proto_codes.specs.declared.response_code.ResponseCode.TheVariants as code
 use Rattle.hickory_proto_core.specs.Messages.{response_metadata}
 use Rattle.hickory_proto_core.specs.declared.query.Query.{Query}
+use Rattle.hickory_proto_wire.specs.Messages.{message_of}
 use Rattle.hickory_proto_wire.specs.Refused.{wire_fault}
 use Rattle.hickory_proto_wire.specs.Writing.{named_query, named_record, record_count}
 use Rattle.hickory_proto_wire.specs.Written.{octets_of}
 use Rattle.hickory_proto_wire.specs.declared.wire_error.WireFault.{WireFault}
 use Rattle.hickory_proto_wire.specs.declared.wire_message.WireMessage.{WireMessage}
-use Rattle.whole_replies.specs.Kept.{KeptValue}
+use Rattle.whole_replies.specs.Kept.{KeptValue, aged}
 use Rattle.stored_replies.specs.declared.choices.TheConstants.{LONGEST, REPLY, PLACE}
 use Rattle.stored_replies.specs.declared.store_error.StoreError.{StoreError}
 use Rattle.stored_replies.specs.declared.store_error.StoreError.TheVariants.{OutOfMemory, Unwritable, TooLong}
@@ -135,3 +136,13 @@ record_number k = length k.answers + length k.authorities
 -- a constant, the octets, and a place for the TTL of each record
 abbrev pub weight_of : StoredValue → ℕ
 weight_of s = saturated (REPLY + length (stored_octets s) + PLACE * record_number s.kept)
+
+-- ---- read again
+
+-- Its octets are read where its names take no more labels than are read of one message.
+abbrev pub is_readable : StoredValue → Bool
+is_readable s = is_ok (message_of (stored_octets s))
+
+-- what is kept of it, read again, as it has aged
+abbrev pub read_at : ℕ → StoredValue → Option KeptValue
+read_at now s = if is_readable s then Some (aged (elapsed s now) s.kept) else None

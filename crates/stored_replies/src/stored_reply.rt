@@ -3,9 +3,8 @@ ghost use Rattle.std.specs.Prelude.{◌≡◌, ◌≤◌, ◌+◌, ◌++◌, tru
 ghost use Rattle.std.specs.Option.{option_map};
 ghost use Rattle.hickory_proto_codes.specs.Codes.{response_code};
 ghost use Rattle.client_queries.specs.Refusals.{count_of};
-ghost use Rattle.whole_replies.specs.Kept.{aged};
 ghost use Rattle.stored_replies.specs.Key.{is_same_question};
-ghost use Rattle.stored_replies.specs.Stored.{stored_at, store_fault, Refuses, stored_octets, whole_octets, elapsed, is_current, until, record_number, weight_of};
+ghost use Rattle.stored_replies.specs.Stored.{stored_at, store_fault, Refuses, stored_octets, whole_octets, is_current, read_at, until, record_number, weight_of};
 ghost use Rattle.stored_replies.specs.Stale.{stale_of};
 ghost use Rattle.stored_replies.specs.Told.{is_told_authentic, told_flags, header_with, told_message, own_question, asks_for, with_question, told_octets, reply_within, put_in, bare_octets, cut_octets, cut_within, opt_length};
 
@@ -103,17 +102,18 @@ impl StoredReply {
         self.code
     }
 
-    /// What is kept of the reply, read again from its octets, as it has aged at this second.
-    ///
-    /// # Errors
-    /// No memory was left; or its names take more labels than `from_wire` reads of one message, which bounds the memory
-    /// that they take.
-    pub fn kept_at(&self, alloc: Global, now: u64) -> Result<KeptReply, AllocError>
-        ensures { IfOk result (λ kept. kept ≡ aged (elapsed self.now now) self.now.kept) }
+    /// What is kept of the reply, read again from its octets, as it has aged at this second. None where its names take
+    /// more labels than `from_wire` reads of one message.
+    pub fn kept_at(&self, alloc: Global, now: u64) -> Result<Option<KeptReply>, AllocError>
+        ensures { IfOk result (λ kept. kept ≡ read_at now self.now) }
     {
-        let mut kept = kept_in(alloc, &self.octets, self.seconds)?;
-        age(&mut kept, now.saturating_sub(self.moment));
-        Ok(kept)
+        match kept_in(alloc, &self.octets, self.seconds)? {
+            Some(mut kept) => {
+                age(&mut kept, now.saturating_sub(self.moment));
+                Ok(Some(kept))
+            }
+            None => Ok(None),
+        }
     }
 
     /// How many octets of memory it takes.
