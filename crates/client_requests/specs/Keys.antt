@@ -1,5 +1,5 @@
 -- Under what a reply is kept, and a question is looked up.
-use Rattle.std.specs.Prelude.{◌≡◌, ℕ, ◌+◌, Bool, true, List, [], ◌∷◌}
+use Rattle.std.specs.Prelude.{◌≡◌, ℕ, ◌+◌, Bool, true, List, [], ◌∷◌, length, nat_le, Option, None, Some, if◌then◌else◌}
 use Rattle.std.specs.Cmp.{IsEquivalence}
 use Rattle.std.specs.Cmp.Lexicographic.{bytes_decides, nat_list_eq_equiv}
 use Rattle.std.specs.Hash.{Alike, same_Alike}
@@ -10,6 +10,7 @@ use Rattle.client_queries.specs.declared.query.ClientQuery.{ClientQuery}
 use Rattle.stored_replies.specs.Key.{question_key}
 use Rattle.stored_replies.specs.Told.{asks_dnssec}
 use Rattle.client_requests.specs.Requests.{RequestValue, question_of}
+use Rattle.client_requests.specs.declared.choices.TheConstants.{LONGEST_QUESTION}
 
 -- what is asked of DNSSEC: its records (DO), and that nothing is checked (CD)
 abbrev pub dnssec_octet : ClientQuery → ℕ
@@ -18,6 +19,14 @@ dnssec_octet q = weighed (asks_dnssec q.edns) 1 + weighed (bit 16 q.flags) 2
 -- That, and the question with its name in lower case. So what is asked with DO or CD is another thing than without.
 abbrev pub key_of : RequestValue → List ℕ
 key_of r = dnssec_octet r.query ∷ question_key (question_of r)
+
+-- The same of the octets of a question, with DO and CD; none where they are more than a question has.
+abbrev pub key_with : List ℕ → Bool → Bool → List ℕ
+key_with question dnssec unchecked = (weighed dnssec 1 + weighed unchecked 2) ∷ question_key question
+
+abbrev pub key_for : List ℕ → Bool → Bool → Option (List ℕ)
+key_for question dnssec unchecked =
+    if nat_le (length question) LONGEST_QUESTION then Some (key_with question dnssec unchecked) else None
 
 -- ---- keys of a map
 

@@ -1,11 +1,11 @@
 //! Under what a reply is kept.
-ghost use Rattle.std.specs.Prelude.{◌≡◌, ◌+◌, length};
+ghost use Rattle.std.specs.Prelude.{◌≡◌, ◌≤◌, ◌+◌, ◌∷◌, length};
 ghost use Rattle.hickory_proto_wire.specs.Writing.{weighed};
 ghost use Rattle.stored_replies.specs.Key.{question_key};
 ghost use Rattle.stored_replies.specs.Told.{asks_dnssec};
-ghost use Rattle.client_requests.specs.Keys.{dnssec_octet, key_of};
+ghost use Rattle.client_requests.specs.Keys.{dnssec_octet, key_for, key_of};
 
-use crate::choices::LONGEST_KEY;
+use crate::choices::{LONGEST_KEY, LONGEST_QUESTION};
 use crate::request::Request;
 use client_queries::{ClientEdns, ClientQuery};
 use std::hash::{Hash, Hasher};
@@ -35,9 +35,29 @@ impl ReplyKey {
     pub fn of(request: &Request<'_>) -> ReplyKey
         ensures { result ≡ key_of request.now }
     {
-        let question = request.question();
+        ReplyKey::with(dnssec_octet(request.query()), request.question())
+    }
+
+    /// The key of a question as octets, with DO and CD as they are asked. None where it is longer than a question is
+    /// (`LONGEST_QUESTION`). Takes no memory.
+    pub fn for_question(question: &[u8], dnssec: bool, unchecked: bool) -> Option<ReplyKey>
+        ensures { result ≡ key_for question.now dnssec unchecked }
+    {
+        let first = weighed(dnssec, 1) + weighed(unchecked, 2);
+        if question.len() <= LONGEST_QUESTION {
+            Some(ReplyKey::with(first, question))
+        } else {
+            None
+        }
+    }
+
+    // The key with this first octet.
+    fn with(first: u8, question: &[u8]) -> ReplyKey
+        requires { length question.now ≤ LONGEST_QUESTION }
+        ensures { result ≡ first ∷ question_key question.now }
+    {
         let mut octets = [0; LONGEST_KEY];
-        octets[0] = dnssec_octet(request.query());
+        octets[0] = first;
         put_question(&mut octets[1..1 + question.len()], question);
         ReplyKey {
             octets,
