@@ -1,9 +1,9 @@
 //! A forwarder, with what the program has to do next.
 ghost use Rattle.std.specs.Prelude.{◌≡◌, IfErr, IfOk, OnErr, OnOk, length, option_copied};
-ghost use Rattle.hickory_resolver_pool.specs.Pool.{after_failure, after_octets};
+ghost use Rattle.hickory_resolver_pool.specs.Pool.{after_octets};
 ghost use Rattle.second_chance_cache.specs.SecondChance.{all_weight};
 ghost use Rattle.yimarotu_forwarder.specs.Flushing.{flushed};
-ghost use Rattle.yimarotu_forwarder.specs.Forwarders.{at_moment, cleared, moment_passes, with_pool};
+ghost use Rattle.yimarotu_forwarder.specs.Forwarders.{at_moment, channel_failed, cleared, moment_passes, with_pool};
 ghost use Rattle.yimarotu_forwarder.specs.Late.{deadline_of};
 ghost use Rattle.yimarotu_forwarder.specs.Listing.{first_listed, listed_behind};
 ghost use Rattle.yimarotu_driven_forwarder.specs.Driven.{Asks, Fetches, IsKept, IsOpened, StopsAsking, StopsFetching, gone, is_reply_left, is_reply_to, over_forwarder, sent_after, without_action, without_reply_to};
@@ -264,8 +264,8 @@ impl DrivenForwarder {
 
     /// A channel failed. A refused call changes nothing.
     pub fn failed(&mut self, channel: u64, why: Failure, now: u64) -> Result<(), AllocError>
-        ensures ok { OnOk result (self.new ≡ over_forwarder (λ f. moment_passes now
-            (with_pool (after_failure (record { channel = channel; why = why }) now f.pool) f)) self.old) }
+        ensures ok { OnOk result (self.new
+            ≡ over_forwarder (channel_failed (record { channel = channel; why = why }) now) self.old) }
         ensures err { OnErr result (self.new ≡ self.old) }
     {
         self.forwarder.failed(channel, why, now)

@@ -6,9 +6,9 @@ use Rattle.client_requests.specs.declared.fetch_end.FetchEnd.TheVariants.{Failur
 use Rattle.failure_replies.specs.declared.failure.FailureReason.TheVariants as reason
 use Rattle.yimarotu_forwarder.proofs.Puts.{put_at, puts_again}
 use Rattle.yimarotu_forwarder.specs.Fetches.{FetchValue, FetchesValue, HoldsFetch, LeadsOn, asked_for, fetch_at, without_asker}
-use Rattle.yimarotu_forwarder.specs.Forwarders.{ForwarderValue, TellingValue, second_of}
+use Rattle.yimarotu_forwarder.specs.Forwarders.{ChainEndValue, ForwarderValue, TellingValue, second_of}
 use Rattle.yimarotu_forwarder.specs.Hearing.{GoesOn, HearsAsker, HearsFetch, HearsKey, HearsNext, StopsGoingOn}
-use Rattle.yimarotu_forwarder.specs.Telling.{EndsFetch, EndsForMemory, Finishes, Hears, HearsIn, StopsNext, StopsTelling, Tells, TellsFetch, TellsKey, TellsNext, forgets_asker, heard_so, one_more, told_of, whole_end, with_end}
+use Rattle.yimarotu_forwarder.specs.Telling.{EndsFetch, EndsForMemory, Finishes, Hears, HearsIn, StopsNext, StopsTelling, Tells, TellsFetch, TellsKey, TellsNext, chain_end_for, counts_asker, forgets_asker, heard_so, one_more, told_of, whole_end, with_end}
 use Rattle.yimarotu_forwarder.specs.declared.telling.Told.{Told}
 use Rattle.yimarotu_forwarder.specs.declared.telling.Told.TheVariants as told
 
@@ -40,46 +40,42 @@ goes_on told.Asks key f b after mid hears goes = (
   goes ∙ ap (λ (x : FetchesValue). between b x) (ap (λ (x : ForwarderValue). x.fetches) (sym goes)),
 )
 goes_on (told.Whole kept) key f b after mid hears goes =
-    finishes key (whole_end kept f b) f (with_end key (whole_end kept f b) b) after mid hears
+    finishes key (whole_end kept f b) f (with_end key (whole_end kept f b) f b) after mid hears
     (found_in (after ≡ between b mid) (λ (g : FetchValue).
     EndsFetch key (whole_end kept g (between b mid)) g (between b mid) after) f
     (fetch_at key mid) (put_at key (Some f) b.fetches mid hears.puts) goes)
 goes_on (told.Fails why) key f b after mid hears goes =
-    finishes key (Failure why) f (with_end key (Failure why) b) after mid hears
+    finishes key (Failure why) f (with_end key (Failure why) f b) after mid hears
     (found_in (after ≡ between b mid) (λ (g : FetchValue). EndsFetch key (Failure why) g (between b mid) after) f
     (fetch_at key mid) (put_at key (Some f) b.fetches mid hears.puts) goes)
-
--- once the asker is counted
-abbrev counted : TellingValue → ForwarderValue → ForwarderValue
-counted t before = record before { telling = Some (one_more t) }
 
 -- the parts of a telling are the telling
 pub tells_next : (t : TellingValue) (heard : Option (List ℕ × Told)) (asker : ℕ) (before after : ForwarderValue)
     (mid : FetchesValue) → HearsAsker t.over asker (second_of before) heard before.fetches mid
-    → GoesOn heard (between (counted t before) mid) after → TellsNext t before after asker
+    → GoesOn heard (between (counts_asker t asker before) mid) after → TellsNext t before after asker
 tells_next t heard asker before after mid hears goes = by (asked_for asker before.fetches) hears
   where
     at_none : (b : ForwarderValue) (mid' : FetchesValue) → heard ≡ None → mid ≡ mid'
-        → after ≡ between (counted t before) mid'
+        → after ≡ between (counts_asker t asker before) mid'
     at_none b mid' none same =
-        subst (λ (h : Option (List ℕ × Told)). GoesOn h (between (counted t before) mid) after) none goes
-        ∙ ap (between (counted t before)) same
+        subst (λ (h : Option (List ℕ × Told)). GoesOn h (between (counts_asker t asker before) mid) after) none goes
+        ∙ ap (between (counts_asker t asker before)) same
 
     key_by : (key : List ℕ) (o : Option FetchValue)
         → MatchOption o ((heard ≡ None) × (mid ≡ without_asker asker before.fetches))
         (HearsFetch t.over (second_of before) key heard (without_asker asker before.fetches) mid)
-        → MatchOption o (after ≡ forgets_asker asker (counted t before))
-        (TellsFetch t.over key (forgets_asker asker (counted t before)) after)
+        → MatchOption o (after ≡ forgets_asker asker (counts_asker t asker before))
+        (TellsFetch t.over key (forgets_asker asker (counts_asker t asker before)) after)
     key_by key None h = at_none before (without_asker asker before.fetches) h.0 h.1
     key_by key (Some f) h =
-        goes_on (told_of t.over f) key (heard_so t.over (second_of before) f) (forgets_asker asker (counted t before))
+        goes_on (told_of t.over f) key (heard_so t.over (second_of before) f) (forgets_asker asker (counts_asker t asker before))
         after mid h.hears
-        (subst (λ (x : Option (List ℕ × Told)). GoesOn x (between (counted t before) mid) after) h.heard_is goes)
+        (subst (λ (x : Option (List ℕ × Told)). GoesOn x (between (counts_asker t asker before) mid) after) h.heard_is goes)
 
     by : (o : Option (List ℕ))
         → MatchOption o ((heard ≡ None) × (mid ≡ before.fetches))
         (HearsKey t.over asker (second_of before) heard before.fetches mid)
-        → MatchOption o (after ≡ counted t before) (TellsKey t.over asker (counted t before) after)
+        → MatchOption o (after ≡ counts_asker t asker before) (TellsKey t.over asker (counts_asker t asker before) after)
     by None h = at_none before before.fetches h.0 h.1
     by (Some key) h = key_by key (fetch_at key before.fetches) h
 
@@ -99,48 +95,54 @@ stops (told.Fails why) key f b after mid hears stop =
 -- the same where memory runs out
 pub stops_next : (t : TellingValue) (heard : Option (List ℕ × Told)) (asker : ℕ) (before after : ForwarderValue)
     (mid : FetchesValue) → HearsAsker t.over asker (second_of before) heard before.fetches mid
-    → StopsGoingOn heard (between (counted t before) mid) after → StopsNext t before after asker
+    → StopsGoingOn heard (between (counts_asker t asker before) mid) after → StopsNext t before after asker
 stops_next t heard asker before after mid hears stop = by (asked_for asker before.fetches) hears
   where
     never : heard ≡ None → ⊥
     never none =
-        subst (λ (h : Option (List ℕ × Told)). StopsGoingOn h (between (counted t before) mid) after) none stop
+        subst (λ (h : Option (List ℕ × Told)). StopsGoingOn h (between (counts_asker t asker before) mid) after) none stop
 
     key_by : (key : List ℕ) (o : Option FetchValue)
         → MatchOption o ((heard ≡ None) × (mid ≡ without_asker asker before.fetches))
         (HearsFetch t.over (second_of before) key heard (without_asker asker before.fetches) mid)
         → MatchOption o ⊥
-        (λ f. EndsForMemory key (heard_so t.over (second_of before) f) (forgets_asker asker (counted t before)) after)
+        (λ f. EndsForMemory key (heard_so t.over (second_of before) f) (forgets_asker asker (counts_asker t asker before)) after)
     key_by key None h = never h.0
     key_by key (Some f) h =
-        stops (told_of t.over f) key (heard_so t.over (second_of before) f) (forgets_asker asker (counted t before))
+        stops (told_of t.over f) key (heard_so t.over (second_of before) f) (forgets_asker asker (counts_asker t asker before))
         after mid h.hears
-        (subst (λ (x : Option (List ℕ × Told)). StopsGoingOn x (between (counted t before) mid) after) h.heard_is
+        (subst (λ (x : Option (List ℕ × Told)). StopsGoingOn x (between (counts_asker t asker before) mid) after) h.heard_is
         stop)
 
     by : (o : Option (List ℕ))
         → MatchOption o ((heard ≡ None) × (mid ≡ before.fetches))
         (HearsKey t.over asker (second_of before) heard before.fetches mid)
         → MatchOption o ⊥ (λ key. MatchOption (fetch_at key before.fetches) ⊥
-        (λ f. EndsForMemory key (heard_so t.over (second_of before) f) (forgets_asker asker (counted t before))
+        (λ f. EndsForMemory key (heard_so t.over (second_of before) f) (forgets_asker asker (counts_asker t asker before))
         after))
     by None h = never h.0
     by (Some key) h = key_by key (fetch_at key before.fetches) h
 
 -- ---- the next asker is told
 
-pub tells_now : (t : TellingValue) (heard : Option (List ℕ × Told)) (asker : ℕ) (before mid after : ForwarderValue)
-    → slice_get t.over.askers t.told ≡ Some asker → HearsNext t asker heard before mid → GoesOn heard mid after
-    → Tells before after t
-tells_now t heard asker before mid after next hears goes =
-    rw next
-    (tells_next t heard asker before after mid.fetches hears.hears
-    (subst (λ (x : ForwarderValue). GoesOn heard x after) hears.others_are goes))
+module _ (t : TellingValue) (heard : Option (List ℕ × Told)) (asker : ℕ) (before mid after : ForwarderValue)
+    (end : Option ChainEndValue) (next : slice_get t.over.askers t.told ≡ Some asker)
+    (ends : end ≡ chain_end_for t.over asker before) (hears : HearsNext t asker heard before mid) where
+  -- once the end of a chain is noted
+  noted : record mid { chain_end = end } ≡ between (counts_asker t asker before) mid.fetches
+  noted =
+      ap (λ (x : ForwarderValue). record x { chain_end = end }) hears.others_are
+      ∙ ap (λ (e : Option ChainEndValue).
+      record before { fetches = mid.fetches; telling = Some (one_more t); chain_end = e }) ends
 
-pub stops_now : (t : TellingValue) (heard : Option (List ℕ × Told)) (asker : ℕ) (before mid after : ForwarderValue)
-    → slice_get t.over.askers t.told ≡ Some asker → HearsNext t asker heard before mid → StopsGoingOn heard mid after
-    → StopsTelling before after t
-stops_now t heard asker before mid after next hears stop =
-    inr (rw next
-    (stops_next t heard asker before after mid.fetches hears.hears
-    (subst (λ (x : ForwarderValue). StopsGoingOn heard x after) hears.others_are stop)))
+  pub tells_now : GoesOn heard (record mid { chain_end = end }) after → Tells before after t
+  tells_now goes =
+      rw next
+      (tells_next t heard asker before after mid.fetches hears.hears
+      (subst (λ (x : ForwarderValue). GoesOn heard x after) noted goes))
+
+  pub stops_now : StopsGoingOn heard (record mid { chain_end = end }) after → StopsTelling before after t
+  stops_now stop =
+      inr (rw next
+      (stops_next t heard asker before after mid.fetches hears.hears
+      (subst (λ (x : ForwarderValue). StopsGoingOn heard x after) noted stop)))

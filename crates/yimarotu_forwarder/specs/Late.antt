@@ -71,6 +71,7 @@ abbrev pub late_replying : List ℕ → FetchValue → ReplyingValue
 late_replying key f = record {
   key = key;
   end = Failure NoReachableAuthority;
+  replies = 0;
   generation = f.generation;
   waiting = f.waiting;
 }

@@ -12,6 +12,7 @@ pub mod Statistics
 pub mod Replying
 pub mod LookingUp
 pub mod Queries
+pub mod NextQuestions
 pub mod Telling
 pub mod Hearing
 pub mod Stale

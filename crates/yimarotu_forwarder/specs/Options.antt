@@ -29,9 +29,13 @@ pub record OptionsValue : Type 0 where
 abbrev pub may_ask : IpAddr → OptionsValue → Bool
 may_ask address o = is_in_some o.may_ask (data_of_address address)
 
+-- a reply to a question for a name may have any address
+abbrev pub is_exempt : NameValue → OptionsValue → Bool
+is_exempt name o = list_any (λ domain. is_zone_of domain name) o.exempt
+
 -- the networks whose addresses no reply to a question for a name may have
 abbrev pub denied_for : NameValue → OptionsValue → List IpNet
-denied_for name o = if list_any (λ domain. is_zone_of domain name) o.exempt then [] else o.denied
+denied_for name o = if is_exempt name o then [] else o.denied
 
 -- no more than a day
 abbrev pub stale_seconds : OptionsValue → ℕ

@@ -16,14 +16,16 @@ use Rattle.failure_replies.specs.declared.failure.FailureReason.TheVariants as r
 use Rattle.yimarotu_forwarder.specs.Local.{IsDecided}
 use Rattle.local_answers.specs.declared.local_data.Decision.{Decision}
 use Rattle.local_answers.specs.declared.local_data.Decision.TheVariants as decision
-use Rattle.second_chance_cache.specs.SecondChance.{stored}
+use Rattle.second_chance_cache.specs.SecondChance.{stored, without}
 use Rattle.stored_replies.specs.Stored.{StoredValue, saturated, until, weight_of}
 use Rattle.whole_lookups.specs.Lookups.{whole_with}
+use Rattle.whole_replies.specs.Kept.{KeptValue}
 use Rattle.yimarotu_forwarder.specs.Cached.{CachedValue, fresh_until}
 use Rattle.yimarotu_forwarder.specs.Fetches.{FetchValue, fetch_at, first_asked, with_asker}
-use Rattle.yimarotu_forwarder.specs.Forwarders.{ForwarderValue, ReplyingValue, TellingValue, second_of}
+use Rattle.yimarotu_forwarder.specs.Forwarders.{ChainEndValue, ForwarderValue, ReplyingValue, TellingValue, second_of}
 use Rattle.yimarotu_forwarder.specs.Late.{TellsLate, first_due}
 use Rattle.yimarotu_forwarder.specs.LookingUp.{after_ask, pool_question, pool_says}
+use Rattle.yimarotu_forwarder.specs.NextQuestions.{ended_by, kept_end}
 use Rattle.yimarotu_forwarder.specs.Prefetching.{Prefetches, without_prefetch}
 use Rattle.yimarotu_forwarder.specs.Stale.{kept_until, told_end}
 use Rattle.yimarotu_forwarder.specs.Telling.{EndsFetch, EndsForMemory, Finishes, StopsTelling, Tells, first_telling, whole_end}
@@ -45,28 +47,30 @@ RepliesTo r before action after w =
 abbrev pub cached_until : StoredValue → ForwarderValue → ℕ
 cached_until s f = min (until s) (saturated (second_of f + f.options.greatest_ttl))
 
-abbrev pub as_cached : StoredValue → ForwarderValue → CachedValue
-as_cached s f = record {
+abbrev pub as_cached : StoredValue → ℕ → ForwarderValue → CachedValue
+as_cached s replies f = record {
   reply = s;
   fresh_until = fresh_until (second_of f) (cached_until s f);
   told_until = cached_until s f;
+  replies = replies;
 }
 
-abbrev pub with_stored : List ℕ → StoredValue → ForwarderValue → ForwarderValue
-with_stored key s f =
+-- a reply that so many replies of servers made
+abbrev pub with_stored : List ℕ → StoredValue → ℕ → ForwarderValue → ForwarderValue
+with_stored key s replies f =
     record f {
       cache =
-          stored key (as_cached s f) (weight_of s) (kept_until f.options (cached_until s f) (second_of f)) (second_of f)
-          f.cache;
+          stored key (as_cached s replies f) (weight_of s) (kept_until f.options (cached_until s f) (second_of f))
+          (second_of f) f.cache;
     }
 
-abbrev pub keeps_end : List ℕ → FetchEnd → ForwarderValue → ForwarderValue
-keeps_end key (Reply s) f = with_stored key s f
-keeps_end key (Failure why) f = f
+abbrev pub keeps_end : List ℕ → FetchEnd → ℕ → ForwarderValue → ForwarderValue
+keeps_end key (Reply s) replies f = with_stored key s replies f
+keeps_end key (Failure why) replies f = f
 
 -- A reply is kept, unless local data changed meanwhile.
 abbrev pub keeps : ReplyingValue → ForwarderValue → ForwarderValue
-keeps r f = if r.generation == f.generation then keeps_end r.key r.end f else f
+keeps r f = if r.generation == f.generation then keeps_end r.key r.end r.replies f else f
 
 -- where all were replied to, it is let go
 abbrev pub lets_go : ReplyingValue → ForwarderValue → ForwarderValue
@@ -76,6 +80,19 @@ abbrev pub RepliesNext : ForwarderValue → Option ForwarderAction → Forwarder
 RepliesNext before action after r =
     MatchOption (slice_get r.waiting 0) ((action ≡ Some act.Continue) × (after ≡ lets_go r before))
     (RepliesTo r before action after)
+
+-- ---- the end of a chain is kept
+
+-- a failure of its question is let go
+abbrev pub without_failure : List ℕ → ForwarderValue → ForwarderValue
+without_failure key f = record f { failures = record f.failures { entries = without key f.failures.entries } }
+
+abbrev pub keeps_chain_end : ChainEndValue → ForwarderValue → ForwarderValue
+keeps_chain_end e f =
+    if e.generation == f.generation then without_failure e.key (with_stored e.key e.reply 1 f) else f
+
+abbrev pub without_chain_end : ForwarderValue → ForwarderValue
+without_chain_end f = record f { chain_end = None }
 
 -- ---- a fetch asks the question that its last reply led to
 
@@ -93,11 +110,17 @@ abbrev pub AsksPool : ℕ → List ℕ → FetchValue → ForwarderValue → For
 AsksPool group key f before after =
     AsksBy (pool_says group (asks_with f before) before) key f (after_ask group (asks_with f before) before) after
 
--- what is known here of the name is told behind what came, and else servers are asked
+-- that, which so many replies made, is told behind what came
+abbrev pub EndsWith : List ℕ → KeptValue → ℕ → FetchValue → ForwarderValue → ForwarderValue → Type 0
+EndsWith key kept replies f before after =
+    EndsFetch key (whole_end (whole_with kept f.lookup) f before) (ended_by replies f) before after
+
+-- what is known here of the name, and else what is kept of the question; and else servers are asked
 abbrev pub AsksOr : Decision → List ℕ → FetchValue → ForwarderValue → ForwarderValue → Type 0
-AsksOr (decision.Answer kept) key f before after =
-    EndsFetch key (whole_end (whole_with kept f.lookup) f before) f before after
-AsksOr (decision.Ask group) key f before after = AsksPool group key f before after
+AsksOr (decision.Answer kept) key f before after = EndsWith key kept 0 f before after
+AsksOr (decision.Ask group) key f before after =
+    MatchOption (kept_end f before) (AsksPool group key f before after)
+    (λ end. EndsWith key end.0 end.1 f before after)
 
 -- what is decided of the question that the fetch of a key has to ask
 abbrev pub IsDecidedAs : ForwarderValue → Option Decision → FetchValue → Type 0
@@ -163,10 +186,15 @@ AsksFirst before action after =
     MatchOption (slice_get before.fetches.to_ask 0) (TellsFirst before action after)
     (λ key. (action ≡ Some act.Continue) × AsksFor before after key)
 
+abbrev pub RepliesFirst : ForwarderValue → Option ForwarderAction → ForwarderValue → Type 0
+RepliesFirst before action after =
+    MatchOption before.replying (AsksFirst before action after) (RepliesNext before action after)
+
 -- A step: what the program has to do for it, nothing where nothing was left to be done, and the forwarder after it.
 abbrev pub ForwarderSteps : ForwarderValue → Option ForwarderAction → ForwarderValue → Type 0
 ForwarderSteps before action after =
-    MatchOption before.replying (AsksFirst before action after) (RepliesNext before action after)
+    MatchOption before.chain_end (RepliesFirst before action after)
+    (λ e. (action ≡ Some act.Continue) × (after ≡ keeps_chain_end e (without_chain_end before)))
 
 -- ---- where memory runs out
 
@@ -197,5 +225,10 @@ StopsAskingFirst before after =
 abbrev pub IsLetGo : ForwarderValue → ForwarderValue → ReplyingValue → Type 0
 IsLetGo before after r = (slice_get r.waiting 0 ≡ None) × (after ≡ record before { replying = None })
 
+abbrev pub StopsReplyingFirst : ForwarderValue → ForwarderValue → Type 0
+StopsReplyingFirst before after = MatchOption before.replying (StopsAskingFirst before after) (IsLetGo before after)
+
+-- The end of a chain is let go without being kept.
 abbrev pub StopsStep : ForwarderValue → ForwarderValue → Type 0
-StopsStep before after = MatchOption before.replying (StopsAskingFirst before after) (IsLetGo before after)
+StopsStep before after =
+    MatchOption before.chain_end (StopsReplyingFirst before after) (λ e. after ≡ without_chain_end before)

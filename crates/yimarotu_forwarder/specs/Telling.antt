@@ -1,6 +1,6 @@
 -- What a transaction of the servers came to, and what a fetch makes of it.
-use Rattle.std.specs.Prelude.{◌≡◌, ◌+◌, ◌⊎◌, ℕ, Bool, true, false, List, Option, None, Some, MatchOption, slice_get, if◌then◌else◌}
-use Rattle.std.specs.Option.{option_map_or}
+use Rattle.std.specs.Prelude.{◌≡◌, ◌+◌, ◌⊎◌, ◌&&◌, ℕ, Bool, true, false, not, min, nat_lt, List, Option, None, Some, MatchOption, slice_get, if◌then◌else◌}
+use Rattle.std.specs.Option.{is_none, option_and_then, option_map_or}
 use Rattle.hickory_proto_names.specs.Name.{NameValue}
 use Rattle.hickory_proto_wire.specs.declared.wire_message.WireMessage.{WireMessage}
 use Rattle.hickory_resolver_pool.specs.Over.{OverValue, message_of}
@@ -19,9 +19,10 @@ use Rattle.whole_lookups.specs.Lookups as whole
 use Rattle.whole_lookups.specs.Lookups.{LookupValue}
 use Rattle.whole_lookups.specs.declared.heard.Heard.{Heard}
 use Rattle.whole_lookups.specs.declared.heard.Heard.TheVariants as heard_as
-use Rattle.whole_replies.specs.Kept.{KeptValue}
+use Rattle.whole_replies.specs.Kept.{KeptValue, kept_of, next_question}
 use Rattle.yimarotu_forwarder.specs.Fetches.{Ends, FetchValue, FetchesValue, HoldsFetch, LeadsOn, asked_for, fetch_at, without_asker}
-use Rattle.yimarotu_forwarder.specs.Forwarders.{ForwarderValue, ReplyingValue, TellingValue, second_of}
+use Rattle.yimarotu_forwarder.specs.Forwarders.{ChainEndValue, ForwarderValue, ReplyingValue, TellingValue, is_since, second_of}
+use Rattle.yimarotu_forwarder.specs.NextQuestions.{next_key}
 use Rattle.yimarotu_forwarder.specs.Options.{OptionsValue, denied_for}
 use Rattle.yimarotu_forwarder.specs.Replying.{end_of}
 use Rattle.yimarotu_forwarder.specs.declared.telling.Told.{Told}
@@ -53,13 +54,35 @@ abbrev pub is_kept_failure : FailureReason → Bool
 is_kept_failure reason.NotReady = false
 is_kept_failure _ = true
 
--- a failure is noted, and a reply lets go of those before it
-abbrev pub failures_after : List ℕ → FetchEnd → ℕ → FailuresValue FailureReason → FailuresValue FailureReason
-failures_after key (Reply s) second c = record c { entries = without key c.entries }
-failures_after key (Failure why) second c = if is_kept_failure why then noted key why second c else c
+-- that no server could be reached
+abbrev pub is_unreachable : FailureReason → Bool
+is_unreachable reason.NoReachableAuthority = true
+is_unreachable _ = false
+
+-- Nor is that none could be reached, where a channel could not be opened here since the look-up began.
+abbrev pub is_noted : FailureReason → ℕ → Option ℕ → Bool
+is_noted why began stalled = is_kept_failure why && not (is_unreachable why && is_since began stalled)
+
+-- a failure that is noted is kept, and a reply lets go of those before it
+abbrev pub failures_after : List ℕ → FetchEnd → ℕ → Option ℕ → ℕ → FailuresValue FailureReason
+    → FailuresValue FailureReason
+failures_after key (Reply r) began stalled second c = record c { entries = without key c.entries }
+failures_after key (Failure why) began stalled second c =
+    if is_noted why began stalled then noted key why second c else c
+
+-- Each question that was asked had one reply at the most; of a failure it is not counted.
+abbrev pub replies_of : FetchEnd → ℕ → ℕ
+replies_of (Reply r) questions = questions
+replies_of (Failure why) questions = 0
 
 abbrev pub replying_of : List ℕ → FetchEnd → FetchValue → ReplyingValue
-replying_of key end f = record { key = key; end = end; generation = f.generation; waiting = f.waiting }
+replying_of key end f = record {
+  key = key;
+  end = end;
+  replies = replies_of end f.lookup.count;
+  generation = f.generation;
+  waiting = f.waiting;
+}
 
 -- it came to this: those who wait are replied to from then on
 pub record Finishes (key : List ℕ) (end : FetchEnd) (f : FetchValue) (before after : ForwarderValue) : Type 0 where
@@ -67,15 +90,16 @@ pub record Finishes (key : List ℕ) (end : FetchEnd) (f : FetchValue) (before a
   pub others_are : after ≡ record before { fetches = after.fetches; replying = Some (replying_of key end f) }
 
 -- and that is noted
-abbrev pub with_end : List ℕ → FetchEnd → ForwarderValue → ForwarderValue
-with_end key end s = record s { failures = failures_after key end (second_of s) s.failures }
+abbrev pub with_end : List ℕ → FetchEnd → FetchValue → ForwarderValue → ForwarderValue
+with_end key end f s =
+    record s { failures = failures_after key end f.began s.stalled (second_of s) s.failures }
 
 abbrev pub EndsFetch : List ℕ → FetchEnd → FetchValue → ForwarderValue → ForwarderValue → Type 0
-EndsFetch key end f before after = Finishes key end f (with_end key end before) after
+EndsFetch key end f before after = Finishes key end f (with_end key end f before) after
 
 -- It counts from the second at which the first of its replies came, so that no record outlives what was received.
 abbrev pub first_second : FetchValue → ForwarderValue → ℕ
-first_second f s = option_map_or (λ second. second) f.heard (second_of s)
+first_second f s = option_map_or (λ second. min second (second_of s)) f.heard (second_of s)
 
 -- A whole reply to a question for a name as it is told: without the addresses that are denied, and with no TTL above the
 -- greatest.
@@ -85,6 +109,33 @@ as_told name o kept = capped o.greatest_ttl (without_denied o.allowed (denied_fo
 abbrev pub whole_end : KeptValue → FetchValue → ForwarderValue → FetchEnd
 whole_end kept f s =
     end_of f.lookup.asked (as_told f.lookup.asked.name s.options kept) (first_second f s)
+
+-- ---- the end of a chain
+
+-- what is kept of the last reply of a look-up, by itself
+abbrev pub chain_end_with : Option (List ℕ) → FetchEnd → ℕ → Option ChainEndValue
+chain_end_with (Some key) (Reply r) generation =
+    Some (record { key = key; reply = r; generation = generation })
+chain_end_with other end generation = None
+
+abbrev pub chain_end_of : FetchValue → ForwarderValue → KeptValue → Option ChainEndValue
+chain_end_of f s kept =
+    chain_end_with (next_key f)
+    (end_of f.lookup.next (as_told f.lookup.next.name s.options kept) (second_of s)) f.generation
+
+-- It answers a question that another reply led to, and leads on to none.
+abbrev pub ends_chain : FetchValue → WireMessage → Bool
+ends_chain f m = nat_lt 1 f.lookup.count && is_none (next_question f.lookup.next m.message)
+
+abbrev pub chain_end_in : FetchValue → ForwarderValue → WireMessage → Option ChainEndValue
+chain_end_in f s m =
+    if ends_chain f m then option_and_then (chain_end_of f s) (kept_of f.lookup.next f.lookup.dnssec m) else None
+
+-- of the reply of a transaction, for the look-up for which an asker asks
+abbrev pub chain_end_for : OverValue → ℕ → ForwarderValue → Option ChainEndValue
+chain_end_for over asker s =
+    option_and_then (λ m. option_and_then (λ key. option_and_then (λ f. chain_end_in f s m) (fetch_at key s.fetches))
+    (asked_for asker s.fetches)) (response_of over)
 
 -- ---- an asker is told
 
@@ -148,8 +199,15 @@ first_telling over = record { over = over; told = 0 }
 abbrev pub one_more : TellingValue → TellingValue
 one_more t = record t { told = t.told + 1 }
 
+-- one more is told; where the reply ends a chain, it is kept by itself, too
+abbrev pub counts_asker : TellingValue → ℕ → ForwarderValue → ForwarderValue
+counts_asker t asker s = record s {
+  telling = Some (one_more t);
+  chain_end = chain_end_for t.over asker s;
+}
+
 abbrev pub TellsNext : TellingValue → ForwarderValue → ForwarderValue → ℕ → Type 0
-TellsNext t before after asker = TellsAsker t.over asker (record before { telling = Some (one_more t) }) after
+TellsNext t before after asker = TellsAsker t.over asker (counts_asker t asker before) after
 
 -- where all were told, it is let go
 abbrev pub Tells : ForwarderValue → ForwarderValue → TellingValue → Type 0
@@ -167,7 +225,7 @@ abbrev pub StopsNext : TellingValue → ForwarderValue → ForwarderValue → �
 StopsNext t before after asker =
     MatchOption (asked_for asker before.fetches) ⊥ (λ key. MatchOption (fetch_at key before.fetches) ⊥
     (λ f. EndsForMemory key (heard_so t.over (second_of before) f)
-    (forgets_asker asker (record before { telling = Some (one_more t) })) after))
+    (forgets_asker asker (counts_asker t asker before)) after))
 
 abbrev pub Stops : ForwarderValue → ForwarderValue → TellingValue → Type 0
 Stops before after t = MatchOption (slice_get t.over.askers t.told) ⊥ (StopsNext t before after)

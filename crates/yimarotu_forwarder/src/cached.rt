@@ -5,13 +5,14 @@ ghost use Rattle.yimarotu_forwarder.specs.Cached.{fresh_until, if_told};
 use std::marker::Model;
 use stored_replies::StoredReply;
 
-// A reply that is kept; the last second before the last tenth of the time for which it is told, as it ages; and the
-// last second of that time.
+// A reply that is kept; the last second before the last tenth of the time for which it is told, as it ages; the last
+// second of that time; and how many replies of servers made it, at the most.
 #[derive(Drop)]
 pub struct CachedReply {
     pub(crate) reply: StoredReply,
     pub(crate) fresh_until: u64,
     pub(crate) told_until: u64,
+    pub(crate) replies: u32,
 }
 
 impl Model for CachedReply {
@@ -19,7 +20,12 @@ impl Model for CachedReply {
 
     ghost Value = { CachedValue };
 
-    ghost view = { λ c. record { reply = c.reply; fresh_until = c.fresh_until; told_until = c.told_until } };
+    ghost view = { λ c. record {
+      reply = c.reply;
+      fresh_until = c.fresh_until;
+      told_until = c.told_until;
+      replies = c.replies;
+    } };
 }
 
 // The last second before the last tenth of the time from one second up to another.

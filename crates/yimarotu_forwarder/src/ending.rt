@@ -3,11 +3,12 @@ ghost use Rattle.std.specs.Prelude.{◌≡◌, IfOk, MatchOption, OnErr, OnOk, S
 ghost use Rattle.client_requests.specs.declared.fetch_end.FetchEnd.TheVariants as fetch_end;
 ghost use Rattle.failure_replies.specs.declared.failure.FailureReason.TheVariants as reason;
 ghost use Rattle.yimarotu_forwarder.specs.Fetches.{fetch_at};
+ghost use Rattle.yimarotu_forwarder.specs.Forwarders.{second_of};
 ghost use Rattle.yimarotu_forwarder.specs.Hearing.{StopsKey};
-ghost use Rattle.yimarotu_forwarder.specs.Telling.{EndsFetch, as_told, failures_after, replying_of, whole_end, with_end};
+ghost use Rattle.yimarotu_forwarder.specs.Telling.{EndsFetch, as_told, failures_after, is_kept_failure, is_noted, is_unreachable, replies_of, replying_of, whole_end, with_end};
 
 use crate::fetch::Fetch;
-use crate::forwarder::{Failures, Forwarder};
+use crate::forwarder::Forwarder;
 use crate::options::ForwarderOptions;
 use crate::replying::{Replying, end_of};
 use client_requests::{FetchEnd, ReplyKey};
@@ -51,7 +52,7 @@ impl Forwarder {
         fetch: Fetch,
         kept: KeptReply,
     ) -> Result<(), AllocError>
-        ensures ok { OnOk result (self.new ≡ record (with_end key (whole_end kept fetch self.old) self.old) {
+        ensures ok { OnOk result (self.new ≡ record (with_end key (whole_end kept fetch self.old) fetch self.old) {
           replying = Some (replying_of key (whole_end kept fetch self.old) fetch);
         }) }
         ensures err { OnErr result (self.new
@@ -72,7 +73,8 @@ impl Forwarder {
     {
         let mut kept = kept;
         tell_as(&self.options, &fetch.lookup.asked.name, &mut kept);
-        let second = fetch.first_second(self.second());
+        let now = self.second();
+        let second = fetch.first_second(now).min(now);
         end_of(self.alloc, &fetch.lookup.asked, kept, second)
     }
 
@@ -84,12 +86,11 @@ impl Forwarder {
         end: FetchEnd,
     ) -> Result<(), AllocError>
         ensures ok { OnOk result (self.new
-            ≡ record (with_end key end self.old) { replying = Some (replying_of key end fetch) }) }
+            ≡ record (with_end key end fetch self.old) { replying = Some (replying_of key end fetch) }) }
         ensures err { OnErr result (self.new
             ≡ record self.old { replying = Some (replying_of key (fetch_end.Failure reason.Other) fetch) }) }
     {
-        let second = self.second();
-        match note_end(&mut self.failures, &key, &end, second) {
+        match self.note_end(&key, &fetch, &end) {
             Ok(()) => {
                 self.reply_all(key, fetch, end);
                 Ok(())
@@ -101,13 +102,59 @@ impl Forwarder {
         }
     }
 
+    // A failure is noted, and a reply lets go of those before it. A refused call changes nothing.
+    fn note_end(&mut self, key: &ReplyKey, fetch: &Fetch, end: &FetchEnd) -> Result<(), AllocError>
+        ensures ok { OnOk result (self.new ≡ record self.old {
+          failures = failures_after key.now end.now fetch.now.began self.old.stalled (second_of self.old)
+              self.old.failures;
+        }) }
+        ensures err { OnErr result (self.new ≡ self.old) }
+    {
+        match end {
+            FetchEnd::Reply(_) => {
+                self.failures.forget(key.as_slice());
+                Ok(())
+            }
+            FetchEnd::Failure(reason) => self.note_failure(key, fetch, *reason),
+        }
+    }
+
+    fn note_failure(
+        &mut self,
+        key: &ReplyKey,
+        fetch: &Fetch,
+        reason: FailureReason,
+    ) -> Result<(), AllocError>
+        ensures ok { OnOk result (self.new ≡ record self.old {
+          failures = failures_after key.now (fetch_end.Failure reason) fetch.now.began self.old.stalled
+              (second_of self.old) self.old.failures;
+        }) }
+        ensures err { OnErr result (self.new ≡ self.old) }
+    {
+        if !self.is_noted(fetch, reason) {
+            return Ok(());
+        }
+        let second = self.second();
+        self.failures.note(key.as_slice(), reason, second)
+    }
+
+    // Whether it says something of the servers: not that there was no place; nor that none could be reached, where since
+    // the look-up began a channel could not be opened here.
+    fn is_noted(&self, fetch: &Fetch, reason: FailureReason) -> bool
+        ensures { result ≡ is_noted reason fetch.now.began self.now.stalled }
+    {
+        is_kept_failure(reason) && !(is_unreachable(reason) && self.is_stalled_since(fetch.began))
+    }
+
     // Those who wait for a fetch that left are told this from then on.
     pub(crate) fn reply_all(&mut self, key: ReplyKey, fetch: Fetch, end: FetchEnd)
         ensures { self.new ≡ record self.old { replying = Some (replying_of key end fetch) } }
     {
+        let replies = replies_of(&end, fetch.questions());
         self.replying = Some(Replying {
             key,
             end,
+            replies,
             generation: fetch.generation,
             waiting: fetch.waiting,
         });
@@ -117,7 +164,7 @@ impl Forwarder {
 // A whole reply to a question for a name as it is told: without the addresses that are denied, and with no TTL above the
 // greatest.
 #[tactic(auto, unfolding(crate::specs::Telling::as_told))]
-fn tell_as(options: &ForwarderOptions, name: &Name, kept: &mut KeptReply)
+pub(crate) fn tell_as(options: &ForwarderOptions, name: &Name, kept: &mut KeptReply)
     ensures { kept.new ≡ as_told name.now options.now kept.old }
 {
     let by = AnswerFilter {
@@ -128,37 +175,32 @@ fn tell_as(options: &ForwarderOptions, name: &Name, kept: &mut KeptReply)
     cap(options.greatest_ttl, kept);
 }
 
-// A failure is noted, and a reply lets go of those before it. A refused call changes nothing.
-fn note_end(
-    failures: &mut Failures,
-    key: &ReplyKey,
-    end: &FetchEnd,
-    second: u64,
-) -> Result<(), AllocError>
-    ensures ok { OnOk result (failures.new ≡ failures_after key.now end.now second failures.old) }
-    ensures err { OnErr result (failures.new ≡ failures.old) }
+// That no server could be reached.
+fn is_unreachable(reason: FailureReason) -> bool
+    ensures { result ≡ is_unreachable reason }
 {
-    match end {
-        FetchEnd::Reply(_) => {
-            failures.forget(key.as_slice());
-            Ok(())
-        }
-        FetchEnd::Failure(reason) => note_failure(failures, key, *reason, second),
+    match reason {
+        FailureReason::NoReachableAuthority => true,
+        _ => false,
     }
 }
 
-// That there was no place says nothing of the servers, and is not noted.
-fn note_failure(
-    failures: &mut Failures,
-    key: &ReplyKey,
-    reason: FailureReason,
-    second: u64,
-) -> Result<(), AllocError>
-    ensures ok { OnOk result (failures.new ≡ failures_after key.now (fetch_end.Failure reason) second failures.old) }
-    ensures err { OnErr result (failures.new ≡ failures.old) }
+// How many replies of servers made it, at the most.
+fn replies_of(end: &FetchEnd, questions: u32) -> u32
+    ensures { result ≡ replies_of end.now questions }
+{
+    match end {
+        FetchEnd::Reply(_) => questions,
+        FetchEnd::Failure(_) => 0,
+    }
+}
+
+// That there was no place says nothing of the servers.
+fn is_kept_failure(reason: FailureReason) -> bool
+    ensures { result ≡ is_kept_failure reason }
 {
     match reason {
-        FailureReason::NotReady => Ok(()),
-        _ => failures.note(key.as_slice(), reason, second),
+        FailureReason::NotReady => false,
+        _ => true,
     }
 }

@@ -3,6 +3,7 @@ ghost use Rattle.std.specs.Prelude.{◌≡◌, length, IfOk, OnErr, OnOk};
 ghost use Rattle.std.specs.Option.{option_map_or};
 ghost use Rattle.whole_lookups.specs.Lookups.{after, heard};
 ghost use Rattle.yimarotu_forwarder.specs.Fetches.{has_request, is_same_request, with_waiting};
+ghost use Rattle.yimarotu_forwarder.specs.NextQuestions.{ended_by};
 ghost use Rattle.yimarotu_forwarder.specs.Telling.{heard_after, told_as};
 
 use crate::telling::{Told, told_as};
@@ -57,6 +58,13 @@ impl Fetch {
         self.waiting.len()
     }
 
+    // How many questions were asked, with the one that is asked now.
+    pub(crate) fn questions(&self) -> u32
+        ensures { result ≡ self.now.lookup.count }
+    {
+        self.lookup.count
+    }
+
     // The second at which the first of its replies came, or this one.
     pub(crate) fn first_second(&self, second: u64) -> u64
         ensures { result ≡ option_map_or (λ first. first) self.now.heard second }
@@ -93,6 +101,15 @@ impl Fetch {
             self.heard = Some(self.first_second(second));
         }
         told
+    }
+
+    // The same, its question answered here by what so many replies of servers made.
+    pub(crate) fn ended_by(self, replies: u32) -> Fetch
+        ensures { result ≡ ended_by replies self }
+    {
+        let mut fetch = self;
+        fetch.lookup.count = fetch.lookup.count.saturating_sub(1).saturating_add(replies);
+        fetch
     }
 
     // One more waits. A refused call changes nothing.

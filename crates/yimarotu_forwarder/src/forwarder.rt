@@ -1,12 +1,13 @@
 //! A caching forwarder.
 ghost use Rattle.std.specs.Prelude.{◌≡◌, length, Err, IfOk, IsOkUnless, None, OnErr, OnOk, Some};
-ghost use Rattle.hickory_resolver_pool.specs.Pool.{after_failure, after_octets, after_servers};
+ghost use Rattle.hickory_resolver_pool.specs.Pool.{after_octets, after_servers};
 ghost use Rattle.hickory_resolver_pool.specs.Servers.{first_fixed};
 ghost use Rattle.second_chance_cache.specs.SecondChance.{all_weight};
 ghost use Rattle.yimarotu_forwarder.specs.Late.{deadline_of};
-ghost use Rattle.yimarotu_forwarder.specs.Forwarders.{at_moment, cleared, moment_passes, new_forwarder, second_of, with_local, with_pool};
+ghost use Rattle.yimarotu_forwarder.specs.Forwarders.{at_moment, channel_failed, cleared, is_since, moment_passes, new_forwarder, second_of, with_local, with_pool};
 
 use crate::cached::CachedReply;
+use crate::chain_ends::ChainEnd;
 use crate::counting::ForwarderCounts;
 use crate::fetches::Fetches;
 use crate::late::{earlier, first_moment};
@@ -51,9 +52,11 @@ pub struct Forwarder {
     pub(crate) fetches: Fetches,
     pub(crate) telling: Option<Telling>,
     pub(crate) replying: Option<Replying>,
+    pub(crate) chain_end: Option<ChainEnd>,
     pub(crate) prefetch: Option<ReplyKey>,
     pub(crate) late: VecDeque<(u64, ReplyKey)>,
     pub(crate) generation: u64,
+    pub(crate) stalled: Option<u64>,
     pub(crate) clock: u64,
     pub(crate) reply: ReplyRoom,
 }
@@ -75,9 +78,11 @@ impl Model for Forwarder {
       fetches = fetches_of f.fetches;
       telling = f.telling;
       replying = f.replying;
+      chain_end = f.chain_end;
       prefetch = f.prefetch;
       late = f.late.items;
       generation = f.generation;
+      stalled = f.stalled;
       clock = f.clock;
       reply = f.reply;
     } };
@@ -110,9 +115,11 @@ impl Forwarder {
             fetches: Fetches::new(alloc, hasher),
             telling: None,
             replying: None,
+            chain_end: None,
             prefetch: None,
             late: VecDeque::new(alloc),
             generation: 0,
+            stalled: None,
             clock: 0,
             reply: ReplyRoom::new(alloc)?,
         })
@@ -183,15 +190,30 @@ impl Forwarder {
     }
 
     /// A channel failed. A datagram channel is kept open after that until an action closes it, unless it could not be
-    /// opened at all. A refused call changes nothing.
+    /// opened at all. Where it could not for want of something of this machine, no failure of a look-up is kept that
+    /// began before. A refused call changes nothing.
     pub fn failed(&mut self, channel: u64, why: Failure, now: u64) -> Result<(), AllocError>
-        ensures ok { OnOk result (self.new ≡ moment_passes now (with_pool
-            (after_failure (record { channel = channel; why = why }) now self.old.pool) self.old)) }
+        ensures ok { OnOk result
+            (self.new ≡ channel_failed (record { channel = channel; why = why }) now self.old) }
         ensures err { OnErr result (self.new ≡ self.old) }
     {
         self.pool.failed(channel, why, now)?;
         self.clock = self.clock.max(now);
+        match why {
+            Failure::Local => self.stalled = Some(self.clock),
+            _ => {}
+        }
         Ok(())
+    }
+
+    // Whether a channel could not be opened here since a moment.
+    pub(crate) fn is_stalled_since(&self, moment: u64) -> bool
+        ensures { result ≡ is_since moment self.now.stalled }
+    {
+        match self.stalled {
+            Some(stalled) => moment <= stalled,
+            None => false,
+        }
     }
 
     /// The earliest moment at which time ends something, or a look-up is late, where nothing is left to be done.

@@ -22,7 +22,9 @@ impl Forwarder {
     {
         match self.next_asker() {
             Some(asker) => {
+                let end = self.end_of_chain(asker)?;
                 let heard = self.hear_next(asker)?;
+                self.chain_end = end;
                 self.go_on(heard)
             }
             None => {

@@ -97,6 +97,7 @@ fn late_replying(alloc: Global, key: &ReplyKey, fetch: &mut Fetch) -> Replying
     Replying {
         key: key.copied(),
         end: FetchEnd::Failure(FailureReason::NoReachableAuthority),
+        replies: 0,
         generation: fetch.generation,
         waiting,
     }

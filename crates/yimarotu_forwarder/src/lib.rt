@@ -5,6 +5,7 @@
 mod answered;
 mod answering;
 mod cached;
+mod chain_ends;
 pub mod choices;
 mod counting;
 mod ending;

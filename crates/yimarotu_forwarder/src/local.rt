@@ -25,7 +25,7 @@ pub(crate) fn decide(
 }
 
 // The octets of a name.
-fn name_octets(alloc: Global, name: &Name) -> Result<Vec<u8>, AllocError>
+pub(crate) fn name_octets(alloc: Global, name: &Name) -> Result<Vec<u8>, AllocError>
     ensures { IfOk result (λ octets. octets.items ≡ wire_form name.now.labels) }
 {
     octets_of(alloc, name.labels())

@@ -4,7 +4,7 @@ ghost use Rattle.std.specs.List.{list_any};
 ghost use Rattle.hickory_proto_names.specs.Name.{is_zone_of};
 ghost use Rattle.hickory_proto_core.specs.Records.{data_of};
 ghost use Rattle.hickory_resolver_filters.specs.Networks.{is_in_some};
-ghost use Rattle.yimarotu_forwarder.specs.Options.{denied_for, may_ask, stale_seconds};
+ghost use Rattle.yimarotu_forwarder.specs.Options.{denied_for, is_exempt, may_ask, stale_seconds};
 
 use crate::choices::LONGEST_STALE;
 use client_limits::ClientLimits;
@@ -66,11 +66,18 @@ impl ForwarderOptions {
         is_in_some(&self.may_ask, &RData::from(address))
     }
 
+    // Whether a reply to a question for this name may have any address.
+    pub(crate) fn is_exempt(&self, name: &Name) -> bool
+        ensures { result ≡ is_exempt name.now self.now }
+    {
+        is_below_some(&self.exempt, name)
+    }
+
     // The networks whose addresses are taken out of a reply to a question for this name.
     pub(crate) fn denied_for(&self, name: &Name) -> &[IpNet]
         ensures { result.now ≡ denied_for name.now self.now }
     {
-        if is_below_some(&self.exempt, name) {
+        if self.is_exempt(name) {
             &[]
         } else {
             &self.denied

@@ -14,11 +14,13 @@ use std::marker::Model;
 use stored_replies::{StoreError, StoredReply};
 use whole_replies::KeptReply;
 
-// What a look-up came to: its key, what it was, the generation under which it began, and who is still to be told.
+// What a look-up came to: its key, what it was, how many replies of servers made that, at the most, the generation under
+// which it began, and who is still to be told.
 #[derive(Drop)]
 pub(crate) struct Replying {
     pub(crate) key: ReplyKey,
     pub(crate) end: FetchEnd,
+    pub(crate) replies: u32,
     pub(crate) generation: u64,
     pub(crate) waiting: VecDeque<WaitingRequest>,
 }
@@ -31,6 +33,7 @@ impl Model for Replying {
     ghost view = { λ r. record {
       key = r.key;
       end = r.end;
+      replies = r.replies;
       generation = r.generation;
       waiting = r.waiting.items;
     } };

@@ -3,7 +3,9 @@ ghost use Rattle.std.specs.Prelude.{◌≡◌, IfOk, MatchOption, None, OnErr, O
 ghost use Rattle.yimarotu_forwarder.specs.Fetches.{FetchValue, fetch_at};
 ghost use Rattle.yimarotu_forwarder.specs.Forwarders.{ReplyingValue};
 ghost use Rattle.yimarotu_forwarder.specs.LookingUp.{next_question};
-ghost use Rattle.yimarotu_forwarder.specs.Steps.{AsksFor, AsksOr, AsksPool, ForwarderSteps, IsDecidedNext, IsLetGo, RepliesNext, RepliesTo, StepsPool, StopsAsking, StopsFetch, StopsStep, TellsLateFirst, action_of, has_turn, keeps, keeps_end, lets_go, with_stored};
+ghost use Rattle.yimarotu_forwarder.specs.NextQuestions.{ended_by};
+ghost use Rattle.yimarotu_forwarder.specs.Steps.{AsksFor, AsksOr, AsksPool, EndsWith, ForwarderSteps, IsDecidedNext, IsLetGo, RepliesFirst, RepliesNext, RepliesTo, StepsPool, StopsAsking, StopsFetch, StopsReplyingFirst, StopsStep, TellsLateFirst, action_of, has_turn, keeps, keeps_chain_end, keeps_end, lets_go, with_stored};
+ghost use Rattle.local_answers.specs.declared.local_data.Decision.TheVariants as decision;
 ghost use Rattle.yimarotu_forwarder.specs.Telling.{EndsFetch, Finishes, replying_of, whole_end, with_end};
 ghost use Rattle.client_requests.specs.declared.fetch_end.FetchEnd.TheVariants as fetch_end;
 ghost use Rattle.failure_replies.specs.declared.failure.FailureReason.TheVariants as reason;
@@ -11,6 +13,7 @@ ghost use Rattle.std.specs.Option.{is_none, option_map};
 ghost use Rattle.whole_lookups.specs.Lookups.{whole_with};
 
 use crate::cached::{CachedReply, fresh_until};
+use crate::chain_ends::ChainEnd;
 use crate::fetch::Fetch;
 use crate::forwarder::Forwarder;
 use crate::local::decide;
@@ -43,15 +46,28 @@ pub enum ForwarderAction {
 }
 
 impl Forwarder {
-    /// Does the next step, and answers what the program has to do for it; `None` where nothing is left to be done. Who
-    /// waits for what a look-up came to is replied to first; then questions are asked that replies led to; then those
-    /// are told who asked in a transaction that is over; then what is kept is looked up anew before its end; then those
-    /// who wait for a look-up that is late are told what is kept past its end; and else the pool does its next step. A
-    /// refused call changes nothing, but that a look-up that was at its end fails, that its reply is not kept, once all
-    /// were told of it, or that what is kept is not looked up anew.
+    /// Does the next step, and answers what the program has to do for it; `None` where nothing is left to be done. The
+    /// end of a chain is kept first; then who waits for what a look-up came to is replied to; then questions are asked
+    /// that replies led to; then those are told who asked in a transaction that is over; then what is kept is looked up
+    /// anew before its end; then those who wait for a look-up that is late are told what is kept past its end; and else
+    /// the pool does its next step. A refused call changes nothing, but that a look-up that was at its end fails, that
+    /// its reply is not kept, once all were told of it, nor the end of a chain, or that what is kept is not looked up
+    /// anew.
     pub fn next_action(&mut self) -> Result<Option<ForwarderAction>, AllocError>
         ensures ok { IfOk result (λ action. ForwarderSteps self.old action self.new) }
         ensures err { OnErr result (StopsStep self.old self.new) }
+    {
+        if let Some(end) = self.chain_end.take() {
+            self.keep_chain_end(end)?;
+            return Ok(Some(ForwarderAction::Continue));
+        }
+        self.reply_or_ask()
+    }
+
+    // Who waits is replied to first, and then questions are asked.
+    fn reply_or_ask(&mut self) -> Result<Option<ForwarderAction>, AllocError>
+        ensures ok { IfOk result (λ action. RepliesFirst self.old action self.new) }
+        ensures err { OnErr result (StopsReplyingFirst self.old self.new) }
     {
         if self.replying.is_some() {
             return Ok(Some(self.reply_next()?));
@@ -142,27 +158,43 @@ impl Forwarder {
         let Replying {
             key,
             end,
+            replies,
             generation,
             ..
         } = replying;
         if generation != self.generation {
             return Ok(());
         }
-        self.keep_end(&key, end)
+        self.keep_end(&key, end, replies)
     }
 
-    fn keep_end(&mut self, key: &ReplyKey, end: FetchEnd) -> Result<(), AllocError>
-        ensures ok { OnOk result (self.new ≡ keeps_end key.now end self.old) }
+    fn keep_end(&mut self, key: &ReplyKey, end: FetchEnd, replies: u32) -> Result<(), AllocError>
+        ensures ok { OnOk result (self.new ≡ keeps_end key.now end replies self.old) }
         ensures err { OnErr result (self.new ≡ self.old) }
     {
         match end {
-            FetchEnd::Reply(stored) => self.store(key, stored),
+            FetchEnd::Reply(stored) => self.store(key, stored, replies),
             FetchEnd::Failure(_) => Ok(()),
         }
     }
 
-    fn store(&mut self, key: &ReplyKey, stored: StoredReply) -> Result<(), AllocError>
-        ensures ok { OnOk result (self.new ≡ with_stored key.now stored self.old) }
+    // The end of a chain is kept, and a failure of its question is let go. Where no memory is left it is not.
+    fn keep_chain_end(&mut self, end: ChainEnd) -> Result<(), AllocError>
+        ensures ok { OnOk result (self.new ≡ keeps_chain_end end self.old) }
+        ensures err { OnErr result (self.new ≡ self.old) }
+    {
+        if end.generation != self.generation {
+            return Ok(());
+        }
+        let ChainEnd { key, reply, .. } = end;
+        self.store(&key, reply, 1)?;
+        self.failures.forget(key.as_slice());
+        Ok(())
+    }
+
+    // A reply is kept that so many replies of servers made.
+    fn store(&mut self, key: &ReplyKey, stored: StoredReply, replies: u32) -> Result<(), AllocError>
+        ensures ok { OnOk result (self.new ≡ with_stored key.now stored replies self.old) }
         ensures err { OnErr result (self.new ≡ self.old) }
     {
         let second = self.second();
@@ -175,6 +207,7 @@ impl Forwarder {
             reply: stored,
             fresh_until: fresh_until(second, until),
             told_until: until,
+            replies,
         };
         self.cache
             .store(key.as_slice(), cached, weight, deadline, second)
@@ -203,8 +236,20 @@ impl Forwarder {
         ensures err { OnErr result (StopsAsking self.old self.new key) }
     {
         match decision {
-            Decision::Answer(kept) => self.answer_next(key, kept),
-            Decision::Ask(group) => self.ask_next(key, group),
+            Decision::Answer(kept) => self.answer_next(key, kept, 0),
+            Decision::Ask(group) => self.ask_or_end(key, group),
+        }
+    }
+
+    // What is kept of the question is put behind what came, and else a group is asked.
+    fn ask_or_end(&mut self, key: ReplyKey, group: u64) -> Result<(), AllocError>
+        ensures ok { (f : FetchValue) → fetch_at key self.old.fetches ≡ Some f
+            → OnOk result (AsksOr (decision.Ask group) key f (has_turn self.old) self.new) }
+        ensures err { OnErr result (StopsAsking self.old self.new key) }
+    {
+        match self.kept_end(&key)? {
+            Some((kept, replies)) => self.answer_next(key, kept, replies),
+            None => self.ask_next(key, group),
         }
     }
 
@@ -221,36 +266,42 @@ impl Forwarder {
         }
     }
 
-    // The question is answered here: that is told behind what came.
-    fn answer_next(&mut self, key: ReplyKey, kept: KeptReply) -> Result<(), AllocError>
-        ensures ok { (f : FetchValue) → fetch_at key self.old.fetches ≡ Some f → OnOk result
-            (EndsFetch key (whole_end (whole_with kept f.lookup) f (has_turn self.old)) f (has_turn self.old)
-            self.new) }
+    // The question is answered here, by what so many replies of servers made: that is told behind what came.
+    fn answer_next(
+        &mut self,
+        key: ReplyKey,
+        kept: KeptReply,
+        replies: u32,
+    ) -> Result<(), AllocError>
+        ensures ok { (f : FetchValue) → fetch_at key self.old.fetches ≡ Some f
+            → OnOk result (EndsWith key kept replies f (has_turn self.old) self.new) }
         ensures err { OnErr result (StopsFetch key self.old self.new) }
     {
         self.fetches.pop_to_ask();
         match self.fetches.remove(&key) {
-            Some(fetch) => self.finish_local(key, fetch, kept),
+            Some(fetch) => self.finish_with(key, fetch, kept, replies),
             None => Ok(()),
         }
     }
 
-    fn finish_local(
+    fn finish_with(
         &mut self,
         key: ReplyKey,
         fetch: Fetch,
         kept: KeptReply,
+        replies: u32,
     ) -> Result<(), AllocError>
         ensures ok { OnOk result (self.new
-            ≡ record (with_end key (whole_end (whole_with kept fetch.lookup) fetch self.old) self.old) {
-              replying = Some (replying_of key (whole_end (whole_with kept fetch.lookup) fetch self.old) fetch);
+            ≡ record (with_end key (whole_end (whole_with kept fetch.lookup) fetch self.old) fetch self.old) {
+              replying = Some (replying_of key (whole_end (whole_with kept fetch.lookup) fetch self.old)
+                  (ended_by replies fetch));
             }) }
         ensures err { OnErr result (self.new
             ≡ record self.old { replying = Some (replying_of key (fetch_end.Failure reason.Other) fetch) }) }
     {
         let mut fetch = fetch;
         match fetch.lookup.hear_local(kept) {
-            Ok(whole) => self.finish_whole(key, fetch, whole),
+            Ok(whole) => self.finish_whole(key, fetch.ended_by(replies), whole),
             Err(error) => {
                 self.reply_all(key, fetch, FetchEnd::Failure(FailureReason::Other));
                 Err(error)

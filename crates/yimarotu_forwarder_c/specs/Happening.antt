@@ -1,10 +1,10 @@
 -- What happens around a forwarder.
 use Rattle.std.specs.Prelude.{◌≡◌, ◌⊎◌, ◌<◌, ℕ, List, Option, None, Some, Result, Ok, Err, MatchOption}
 use Rattle.std.specs.declared.alloc.AllocError.{AllocError}
-use Rattle.hickory_resolver_pool.specs.Pool.{after_failure, after_octets}
+use Rattle.hickory_resolver_pool.specs.Pool.{after_octets}
 use Rattle.hickory_resolver_traffic.specs.declared.inbox.Failure.{Failure}
 use Rattle.hickory_resolver_traffic.specs.declared.inbox.Failure.TheVariants.{Refused, Unreachable, Closed, Local}
-use Rattle.yimarotu_forwarder.specs.Forwarders.{ForwarderValue, at_moment, moment_passes, with_pool}
+use Rattle.yimarotu_forwarder.specs.Forwarders.{ForwarderValue, at_moment, channel_failed, moment_passes, with_pool}
 use Rattle.yimarotu_driven_forwarder.specs.Driven.{DrivenValue, gone, over_forwarder}
 use Rattle.yimarotu_forwarder_c.specs.Statuses.{number_of}
 use Rattle.yimarotu_forwarder_c.specs.declared.status.Status.{Status}
@@ -40,8 +40,7 @@ IsChannelFailure number (Some Local) = number ≡ 4
 IsChannelFailure number None = (number ≡ 0) ⊎ (4 < number)
 
 abbrev pub FailsAs : ℕ → Failure → ℕ → DrivenValue → ℕ → DrivenValue → Type 0
-FailsAs channel why now =
-    TakesIn (λ f. moment_passes now (with_pool (after_failure (record { channel = channel; why = why }) now f.pool) f))
+FailsAs channel why now = TakesIn (channel_failed (record { channel = channel; why = why }) now)
 
 abbrev pub FailsAt : ℕ → ℕ → ℕ → DrivenValue → ℕ → DrivenValue → Type 0
 FailsAt channel number now before ended after =

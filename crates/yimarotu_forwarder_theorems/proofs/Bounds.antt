@@ -25,7 +25,7 @@ use Rattle.second_chance_cache.specs.declared.bounds.CacheBounds.{CacheBounds}
 use Rattle.yimarotu_forwarder.specs.Cached.{CachedValue}
 use Rattle.yimarotu_forwarder.specs.Fetches.{FetchValue, fetch_in, is_of_client}
 use Rattle.yimarotu_forwarder.specs.Flushing.{is_flushed as is_flushed_key}
-use Rattle.yimarotu_forwarder.specs.Forwarders.{ForwarderValue, ReplyingValue, new_forwarder}
+use Rattle.yimarotu_forwarder.specs.Forwarders.{ChainEndValue, ForwarderValue, ReplyingValue, new_forwarder}
 use Rattle.yimarotu_forwarder.specs.Late.{late_replying, with_nobody}
 use Rattle.yimarotu_forwarder.specs.Leaving.{counts_without, counts_without_fetches, counts_without_replying, counts_without_request, entry_without, fetch_without, replying_without}
 use Rattle.yimarotu_forwarder.specs.Local.{LocalValue}
@@ -33,7 +33,7 @@ use Rattle.yimarotu_forwarder.specs.Options.{OptionsValue}
 use Rattle.yimarotu_forwarder.specs.Telling.{replying_of}
 use Rattle.yimarotu_forwarder_theorems.specs.Bounds.{AllowNoMore, BoundsAreKept, SetsNoMore}
 use Rattle.yimarotu_forwarder_theorems.specs.Runs.{ForwarderEvent, Happening, Runs, at_first, happened, next}
-use Rattle.yimarotu_forwarder_theorems.proofs.Cores.{Core, Fetching, Joins, Leaves, Puts, Still, Stills, as_before, begins_alone, cache_changes, core, failures_change, is_flushed, is_heard, is_let_go, is_over, is_told_late, left_by, more, waiting_for}
+use Rattle.yimarotu_forwarder_theorems.proofs.Cores.{Core, Fetching, Joins, Leaves, Puts, Still, Stills, as_before, begins_alone, cache_changes, chain_ends, core, failures_change, is_flushed, is_heard, is_let_go, is_over, is_told_late, left_by, more, no_chain_ends, waiting_for}
 use Rattle.yimarotu_forwarder_theorems.proofs.Events.{EventMoves, event_goes, event_joins, event_leaves, event_options, event_stays, moves}
 use Rattle.yimarotu_forwarder_theorems.proofs.Flushed.{fewer, let-go}
 
@@ -161,6 +161,17 @@ module _ (limits : ClientLimits) (cache failures : CacheBounds) where
       ap length (same ∙ sym (ap waiting_for found)) in
       few-put k (Some g) c d puts (omega (arith, as-many, few k)) few
 
+  as-bounded : (c : Core) (end : Option ChainEndValue) → IsBounded c → IsBounded (record c { chain_end = end })
+  as-bounded c end h = record {
+    allows = h.allows;
+    counted = h.counted;
+    few = h.few;
+    kept = h.kept;
+    kept_within = h.kept_within;
+    noted = h.noted;
+    noted_within = h.noted_within;
+  }
+
   still-bounded : {said : WireMessage → Type 0} (c d : Core) → Still said c d → IsBounded c → IsBounded d
   still-bounded c d (cache_changes c' d' event such e) h =
       subst IsBounded (sym e) (record {
@@ -193,6 +204,8 @@ module _ (limits : ClientLimits) (cache failures : CacheBounds) where
       (few-put k (Some (with_nobody f)) c.fetches d.fetches puts (omega arith) h.few))
   still-bounded c d (is_let_go c' d' r was none e) h =
       subst IsBounded (sym e) (others-wait c c.counts c.fetches None h h.counted h.few)
+  still-bounded c d (chain_ends c' d' end is e) h = subst IsBounded (sym e) (as-bounded c (Some end) h)
+  still-bounded c d (no_chain_ends c' d' e) h = subst IsBounded (sym e) (as-bounded c None h)
   still-bounded c d (is_flushed c' d' labels below e) h =
       subst IsBounded (sym e) (record {
         allows = h.allows;

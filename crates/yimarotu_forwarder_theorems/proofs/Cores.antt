@@ -1,7 +1,7 @@
 -- What of a forwarder decides who is replied to and what is kept, and how that changes.
-use Rattle.std.proofs.Common.{◌≡◌, ℕ, ◌+◌, ◌≤◌, ◌⊎◌, Bool, List, [], ◌∷◌, ◌++◌, true, if◌then◌else◌, length, refl, subst}
-use Rattle.std.specs.Prelude.{Option, None, Some, map}
-use Rattle.std.specs.Option.{option_map, option_map_or}
+use Rattle.std.proofs.Common.{◌≡◌, ℕ, ◌+◌, ◌-◌, ◌^◌, ◌≤◌, ◌⊎◌, Bool, List, [], ◌∷◌, ◌++◌, true, false, if◌then◌else◌, length, refl, subst}
+use Rattle.std.specs.Prelude.{Option, None, Some, map, min}
+use Rattle.std.specs.Option.{is_none, option_map, option_map_or}
 use Rattle.hickory_proto_core.specs.declared.query.Query.{Query}
 use Rattle.hickory_proto_names.specs.declared.ip.IpNet.{IpNet}
 use Rattle.hickory_proto_wire.specs.declared.wire_message.WireMessage.{WireMessage}
@@ -11,26 +11,32 @@ use Rattle.client_requests.specs.Requests.{RequestValue}
 use Rattle.client_requests.specs.declared.fetch_end.FetchEnd.{FetchEnd}
 use Rattle.client_requests.specs.declared.fetch_end.FetchEnd.TheVariants.{Failure, Reply}
 use Rattle.failure_replies.specs.declared.failure.FailureReason.{FailureReason}
+use Rattle.failure_replies.specs.declared.failure.FailureReason.TheVariants as reason
 use Rattle.kept_failures.specs.declared.failure.KeptFailure.{KeptFailure}
 use Rattle.second_chance_cache.specs.Laws.{CacheEvent, after_event, stores}
-use Rattle.second_chance_cache.specs.SecondChance.{CacheValue}
+use Rattle.second_chance_cache.specs.SecondChance.{CacheValue, told}
 use Rattle.whole_lookups.specs.Capped.{capped}
 use Rattle.whole_lookups.specs.Denied.{without_denied}
 use Rattle.whole_lookups.specs.Lookups.{LookupValue, begun, heard, whole_with}
 use Rattle.whole_lookups.specs.declared.heard.Heard.TheVariants.{Asks, Whole}
-use Rattle.whole_replies.specs.Kept.{KeptValue}
+use Rattle.whole_lookups.specs.declared.choices.TheConstants.{MOST_QUESTIONS}
+use Rattle.whole_replies.specs.Kept.{KeptValue, aged, kept_of, next_question}
+use Rattle.stored_replies.specs.Key.{is_same_question}
+use Rattle.stored_replies.specs.Stored.{StoredValue, elapsed, store_fault, stored_at}
+use Rattle.stored_replies.specs.Told.{own_question}
+use Rattle.yimarotu_forwarder.specs.NextQuestions.{asked_octets}
 use Rattle.whole_lookups.specs.Lookups as whole
 use Rattle.yimarotu_forwarder.specs.Cached.{CachedValue}
 use Rattle.yimarotu_forwarder.specs.Fetches.{FetchValue, fetch_in}
 use Rattle.yimarotu_forwarder.specs.Flushing.{entries_flushed}
-use Rattle.yimarotu_forwarder.specs.Forwarders.{ForwarderValue, ReplyingValue}
+use Rattle.yimarotu_forwarder.specs.Forwarders.{ChainEndValue, ForwarderValue, ReplyingValue}
 use Rattle.yimarotu_forwarder.specs.Late.{late_replying, with_nobody}
 use Rattle.yimarotu_forwarder.specs.Leaving.{counts_without_fetches, counts_without_replying, entry_without, replying_without}
 use Rattle.yimarotu_forwarder.specs.Options.{OptionsValue}
 use Rattle.yimarotu_forwarder.specs.Replying.{end_of}
 use Rattle.yimarotu_forwarder.specs.Telling.{replying_of}
 use Rattle.yimarotu_forwarder.specs.declared.choices.TheConstants.{LONGEST_STALE}
-use Rattle.yimarotu_forwarder_theorems.specs.Lookups.{LastsTo}
+use Rattle.yimarotu_forwarder_theorems.specs.Lookups.{LastsTo, Storing, stored_so}
 
 abbrev pub Fetching : Type 0
 Fetching = List (List ℕ × FetchValue)
@@ -45,6 +51,7 @@ pub record Core : Type 0 where
   pub counts : CountsValue
   pub fetches : Fetching
   pub replying : Option ReplyingValue
+  pub chain_end : Option ChainEndValue
 
 abbrev pub core : ForwarderValue → Core
 core s = record {
@@ -54,12 +61,23 @@ core s = record {
   counts = s.counts;
   fetches = s.fetches.fetches;
   replying = s.replying;
+  chain_end = s.chain_end;
 }
 
 -- under this key is now this fetch, or none; the others stay
 abbrev pub Puts : List ℕ → Option FetchValue → Fetching → Fetching → Type 0
 Puts key held before after =
     (other : List ℕ) → fetch_in other after ≡ (if key_eq key other then held else fetch_in other before)
+
+-- a whole reply that can be written is stored as it is
+pub stored-at : (q : Query) (kept : KeptValue) (second : ℕ) (s : StoredValue) → end_of q kept second ≡ Reply s
+    → s ≡ stored_at q kept second
+stored-at q kept second s h = by (is_none (store_fault q kept)) h
+  where
+    by : (b : Bool) → (if b then Reply (stored_at q kept second) else Failure reason.Other) ≡ Reply s
+        → s ≡ stored_at q kept second
+    by true e = cc
+    by false e = absurd cc
 
 -- ---- changes in which nobody comes to wait, and nobody is replied to
 
@@ -79,21 +97,61 @@ pub record IsLed (said : WireMessage → Type 0) (before after : LookupValue) : 
   pub asks : heard reply before ≡ Asks
   pub led : after ≡ whole.after reply before
 
--- What it came to: a failure; what a reply ended; or what is known here of the name that replies led to.
-pub data IsEndOf (said : WireMessage → Type 0) (l : LookupValue) (end : FetchEnd) : Type 0 where
-  has_failed : (why : FailureReason) → end ≡ Failure why → IsEndOf said l end
-  has_heard : (m : WireMessage) (kept : KeptValue) → said m → heard m l ≡ Whole kept
-      → (allowed denied : List IpNet) (greatest second : ℕ)
-      → end ≡ end_of l.asked (capped greatest (without_denied allowed denied kept)) second → IsEndOf said l end
-  is_known : (here : KeptValue) (allowed denied : List IpNet) (greatest second : ℕ)
-      → end ≡ end_of l.asked (capped greatest (without_denied allowed denied (whole_with here l))) second
-      → IsEndOf said l end
+-- a whole reply as it is stored
+abbrev pub end_so : Query → KeptValue → Storing → FetchEnd
+end_so q kept how = end_of q (capped how.greatest (without_denied how.allowed how.denied kept)) how.second
 
--- only what those who waited were told of a look-up is stored, for as long as it may be
+-- what is kept of the question that a look-up has to ask, which few replies made, and what they made together
+pub record EndsByKept (cache : CacheValue CachedValue) (l : LookupValue) (most now : ℕ) (cached : CachedValue)
+    : Type 0 where
+  pub key : List ℕ
+  pub found : told key now cache.entries ≡ Some cached
+  pub current : now ≤ cached.told_until
+  pub same : is_same_question (asked_octets l.next) (own_question cached.reply) ≡ true
+  pub few : l.count + cached.replies ≤ MOST_QUESTIONS + 1
+  pub many : most ≡ min (l.count - 1 + cached.replies) (2 ^ 32 - 1)
+
+-- What it came to, and how many replies made that, at the most: a failure; what a reply ended; what is known here of the
+-- name that replies led to; or what is kept of that question.
+pub data IsEndOf (said : WireMessage → Type 0) (cache : CacheValue CachedValue) (l : LookupValue) (most : ℕ)
+    (end : FetchEnd) : Type 0 where
+  has_failed : (why : FailureReason) → end ≡ Failure why → IsEndOf said cache l most end
+  has_heard : (m : WireMessage) (kept : KeptValue) → said m → heard m l ≡ Whole kept → most ≡ l.count
+      → (how : Storing) → end ≡ end_so l.asked kept how → IsEndOf said cache l most end
+  is_known : (here : KeptValue) → most ≡ min (l.count - 1 + 0) (2 ^ 32 - 1) → (how : Storing)
+      → end ≡ end_so l.asked (whole_with here l) how → IsEndOf said cache l most end
+  is_kept : (now : ℕ) (cached : CachedValue) → EndsByKept cache l most now cached → (how : Storing)
+      → how.second ≤ now
+      → end ≡ end_so l.asked (whole_with (aged (elapsed cached.reply now) cached.reply.kept) l) how
+      → IsEndOf said cache l most end
+
+-- a reply ends a chain by itself
+pub record IsChainEnd (said : WireMessage → Type 0) (e : ChainEndValue) : Type 0 where
+  pub reply : WireMessage
+  pub told : said reply
+  pub question : Query
+  pub dnssec : Bool
+  pub kept : KeptValue
+  pub keeps : kept_of question dnssec reply ≡ Some kept
+  pub ends : next_question question reply.message ≡ None
+  pub how : Storing
+  pub stored : e.reply ≡ stored_so question kept how
+
+-- Only what those who waited were told of a look-up is stored, and the end of a chain, each for as long as it may be.
+pub record StoresTold (c : Core) (s : CachedValue) (r : ReplyingValue) : Type 0 where
+  pub was : c.replying ≡ Some r
+  pub end : r.end ≡ Reply s.reply
+  pub many : s.replies ≡ r.replies
+
+pub record StoresChainEnd (c : Core) (s : CachedValue) (e : ChainEndValue) : Type 0 where
+  pub was : c.chain_end ≡ Some e
+  pub end : e.reply ≡ s.reply
+  pub many : s.replies ≡ 1
+
 abbrev pub StoresEnd : Core → CacheEvent CachedValue → Type 0
 StoresEnd c (stores key s weight deadline now) =
-    (r : ReplyingValue) × (c.replying ≡ Some r) × (r.end ≡ Reply s.reply) × LastsTo s.reply s.told_until
-    × (deadline ≤ s.told_until + LONGEST_STALE)
+    (((r : ReplyingValue) × StoresTold c s r) ⊎ ((e : ChainEndValue) × StoresChainEnd c s e))
+    × LastsTo s.reply s.told_until × (deadline ≤ s.told_until + LONGEST_STALE)
 StoresEnd c other = Unit {0}
 
 -- where these replies may be heard
@@ -107,13 +165,17 @@ pub data Still (said : WireMessage → Type 0) : Core → Core → Type 0 where
       → IsLed said f.lookup g.lookup → Puts key (Some g) c.fetches d.fetches → d ≡ record c { fetches = d.fetches }
       → Still said c d
   is_over : (c d : Core) (key : List ℕ) (end : FetchEnd) (f g : FetchValue) → c.replying ≡ None
-      → fetch_in key c.fetches ≡ Some f → IsSame f g → IsEndOf said f.lookup end → Puts key None c.fetches d.fetches
+      → fetch_in key c.fetches ≡ Some f → IsSame f g → IsEndOf said c.cache f.lookup g.lookup.count end
+      → Puts key None c.fetches d.fetches
       → d ≡ record c { fetches = d.fetches; replying = Some (replying_of key end g) } → Still said c d
   is_told_late : (c d : Core) (key : List ℕ) (f : FetchValue) → c.replying ≡ None → fetch_in key c.fetches ≡ Some f
       → Puts key (Some (with_nobody f)) c.fetches d.fetches
       → d ≡ record c { fetches = d.fetches; replying = Some (late_replying key f) } → Still said c d
   is_let_go : (c d : Core) (r : ReplyingValue) → c.replying ≡ Some r → r.waiting ≡ []
       → d ≡ record c { replying = None } → Still said c d
+  chain_ends : (c d : Core) (e : ChainEndValue) → IsChainEnd said e → d ≡ record c { chain_end = Some e }
+      → Still said c d
+  no_chain_ends : (c d : Core) → d ≡ record c { chain_end = None } → Still said c d
   is_flushed : (c d : Core) (labels : List (List ℕ)) (below : Bool)
       → d ≡ record c {
         cache = entries_flushed labels below c.cache;
@@ -178,19 +240,24 @@ stills-then c m d (more c' n m' first rest) later = more c n d first (stills-the
 abbrev pub Nothing : WireMessage → Type 0
 Nothing m = ⊥
 
-end-said : {said : WireMessage → Type 0} (l : LookupValue) (end : FetchEnd) → IsEndOf Nothing l end → IsEndOf said l end
-end-said l end (has_failed why is) = has_failed why is
-end-said l end (has_heard m kept told how allowed denied greatest second is) = absurd told
-end-said l end (is_known here allowed denied greatest second is) = is_known here allowed denied greatest second is
+end-said : {said : WireMessage → Type 0} (cache : CacheValue CachedValue) (l : LookupValue) (most : ℕ) (end : FetchEnd)
+    → IsEndOf Nothing cache l most end → IsEndOf said cache l most end
+end-said cache l most end (has_failed why is) = has_failed why is
+end-said cache l most end (has_heard m kept told whole many how is) = absurd told
+end-said cache l most end (is_known here many how is) = is_known here many how is
+end-said cache l most end (is_kept now cached by-kept how early is) =
+    is_kept now cached by-kept how early is
 
 still-said : {said : WireMessage → Type 0} (c d : Core) → Still Nothing c d → Still said c d
 still-said c d (cache_changes c' d' event such e) = cache_changes c d event such e
 still-said c d (failures_change c' d' event e) = failures_change c d event e
 still-said c d (is_heard c' d' k f g found same led puts e) = absurd led.told
 still-said c d (is_over c' d' k end f g none found same is puts e) =
-    is_over c d k end f g none found same (end-said f.lookup end is) puts e
+    is_over c d k end f g none found same (end-said c.cache f.lookup g.lookup.count end is) puts e
 still-said c d (is_told_late c' d' k f none found puts e) = is_told_late c d k f none found puts e
 still-said c d (is_let_go c' d' r was none e) = is_let_go c d r was none e
+still-said c d (chain_ends c' d' e is h) = absurd is.told
+still-said c d (no_chain_ends c' d' h) = no_chain_ends c d h
 still-said c d (is_flushed c' d' labels below e) = is_flushed c d labels below e
 still-said c d (begins_alone c' d' k f none waits begins puts e) = begins_alone c d k f none waits begins puts e
 

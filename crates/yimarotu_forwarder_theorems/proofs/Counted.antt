@@ -18,7 +18,7 @@ use Rattle.yimarotu_forwarder.specs.Options.{OptionsValue}
 use Rattle.yimarotu_forwarder_theorems.specs.Bounds.{NobodyGoes, WhoWaitsIsCounted, number_of, of_network}
 use Rattle.yimarotu_forwarder_theorems.specs.Replies.{is_under, replied_in, replied_to, told_to_wait, under, waited_in}
 use Rattle.yimarotu_forwarder_theorems.specs.Runs.{ForwarderEvent, Happening, Runs, at_first, happened, next}
-use Rattle.yimarotu_forwarder_theorems.proofs.Cores.{Core, Joins, Leaves, Still, Stills, as_before, begins_alone, cache_changes, core, failures_change, is_flushed, is_heard, is_let_go, is_over, is_told_late, more}
+use Rattle.yimarotu_forwarder_theorems.proofs.Cores.{Core, Joins, Leaves, Still, Stills, as_before, begins_alone, cache_changes, chain_ends, core, failures_change, is_flushed, is_heard, is_let_go, is_over, is_told_late, more, no_chain_ends}
 use Rattle.yimarotu_forwarder_theorems.proofs.Events.{EventMoves, Says, event_goes, event_joins, event_leaves, event_options, event_stays, moves}
 use Rattle.yimarotu_forwarder_theorems.proofs.Keys.{same-key}
 use Rattle.yimarotu_forwarder_theorems.proofs.Networks.{Ascends, ascends-inserted, ascends-less, count-added, count-less, is, is-own, is-same}
@@ -176,6 +176,8 @@ still-counts c d (is_heard c' d' k f g found same led puts e) = ap (λ (x : Core
 still-counts c d (is_over c' d' k end f g none found same is puts e) = ap (λ (x : Core). x.counts) e
 still-counts c d (is_told_late c' d' k f none found puts e) = ap (λ (x : Core). x.counts) e
 still-counts c d (is_let_go c' d' r was none e) = ap (λ (x : Core). x.counts) e
+still-counts c d (chain_ends c' d' end is e) = ap (λ (x : Core). x.counts) e
+still-counts c d (no_chain_ends c' d' e) = ap (λ (x : Core). x.counts) e
 still-counts c d (is_flushed c' d' labels below e) = ap (λ (x : Core). x.counts) e
 still-counts c d (begins_alone c' d' k f none waits begins puts e) = ap (λ (x : Core). x.counts) e
 

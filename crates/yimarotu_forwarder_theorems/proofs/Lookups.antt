@@ -1,8 +1,8 @@
 -- What look-ups come to, and what is kept of it.
-use Rattle.std.proofs.Common.{◌≡◌, ◌∙◌, ℕ, ◌+◌, ◌-◌, ◌<◌, ◌≤◌, Bool, true, false, not, List, [], ◌∷◌, ◌++◌, length, refl, sym, ap, subst, arith, ◌⊎◌, inl, inr}
+use Rattle.std.proofs.Common.{◌≡◌, ◌∙◌, ℕ, ◌+◌, ◌-◌, ◌<◌, ◌≤◌, Bool, true, false, not, List, [], ◌∷◌, ◌++◌, length, refl, sym, ap, subst, arith, length-append, ◌⊎◌, inl, inr}
 use Rattle.std.specs.Prelude.{Option, None, Some, map, nat_le, nat_lt, ◌&&◌, if◌then◌else◌}
 use Rattle.std.specs.List.{AllByRecursion}
-use Rattle.std.specs.Option.{is_none, option_and_then, option_map}
+use Rattle.std.specs.Option.{option_and_then, option_map}
 use Rattle.std.proofs.lemmas.Bool.{leb-true, ltb-true}
 use Rattle.std.proofs.lemmas.List.Sums.{fold-append}
 use Rattle.std.proofs.lemmas.Map.Made.{lookup-map_values}
@@ -16,10 +16,12 @@ use Rattle.client_requests.specs.declared.fetch_end.FetchEnd.{FetchEnd}
 use Rattle.client_requests.specs.declared.fetch_end.FetchEnd.TheVariants.{Failure, Reply}
 use Rattle.failure_replies.specs.declared.failure.FailureReason.TheVariants as reason
 use Rattle.second_chance_cache.specs.Laws.{CacheEvent, asks, clears, removes, stores}
-use Rattle.second_chance_cache.specs.SecondChance.{Entry, told}
+use Rattle.second_chance_cache.specs.SecondChance.{CacheValue, Entry, told}
 use Rattle.second_chance_cache.specs.declared.bounds.CacheBounds.{CacheBounds}
 use Rattle.stored_replies.specs.Stale.{with_ttl}
-use Rattle.stored_replies.specs.Stored.{StoredValue, store_fault, stored_at}
+use Rattle.stored_replies.specs.Key.{is_same_question}
+use Rattle.stored_replies.specs.Stored.{StoredValue, elapsed, stored_at}
+use Rattle.stored_replies.specs.Told.{own_question}
 use Rattle.stored_replies.specs.declared.choices.TheConstants.{STALE_TTL}
 use Rattle.whole_lookups.proofs.InOrder.{asks_few_questions, whole_replies_are_all_in_order}
 use Rattle.whole_lookups.specs.Capped.{capped}
@@ -29,20 +31,22 @@ use Rattle.whole_lookups.specs.Lookups.{LookupValue, after, after_of, begun, gon
 use Rattle.whole_lookups.specs.declared.choices.TheConstants.{MOST_QUESTIONS}
 use Rattle.whole_lookups.specs.declared.heard.Heard.{Heard}
 use Rattle.whole_lookups.specs.declared.heard.Heard.TheVariants.{Asks, Fails, Whole}
-use Rattle.whole_replies.specs.Kept.{KeptValue, kept_of, next_question}
+use Rattle.whole_replies.specs.Kept.{KeptValue, aged, kept_of, next_question}
 use Rattle.yimarotu_forwarder.specs.Cached.{CachedValue}
 use Rattle.yimarotu_forwarder.specs.Fetches.{FetchValue, fetch_in}
 use Rattle.yimarotu_forwarder.specs.Flushing.{is_flushed as is_flushed_key}
-use Rattle.yimarotu_forwarder.specs.Forwarders.{ForwarderValue, ReplyingValue, new_forwarder, second_of}
+use Rattle.yimarotu_forwarder.specs.Forwarders.{ChainEndValue, ForwarderValue, ReplyingValue, new_forwarder, second_of}
 use Rattle.yimarotu_forwarder.specs.Late.{late_replying, with_nobody}
+use Rattle.yimarotu_forwarder.specs.Telling.{replies_of, replying_of}
+use Rattle.yimarotu_forwarder.specs.declared.choices.TheConstants.{LONGEST_STALE}
 use Rattle.yimarotu_forwarder.specs.Leaving.{fetch_without, replying_without}
 use Rattle.yimarotu_forwarder.specs.Local.{LocalValue}
+use Rattle.yimarotu_forwarder.specs.NextQuestions.{asked_octets}
 use Rattle.yimarotu_forwarder.specs.Options.{OptionsValue, stale_seconds}
-use Rattle.yimarotu_forwarder.specs.Replying.{end_of}
 use Rattle.yimarotu_forwarder.specs.Stale.{if_stale}
-use Rattle.yimarotu_forwarder_theorems.specs.Lookups.{AnswersAreOfReplies, HasShortTtl, HeardReplies, IsAnswer, IsKeptAnswer, IsStaleAnswer, IsTelling, LastsTo, StaleAnswersAreOfReplies, WasTold, by_local_data, by_servers}
+use Rattle.yimarotu_forwarder_theorems.specs.Lookups.{AnswersAreOfReplies, HasShortTtl, HeardReplies, IsAnswer, IsKeptAnswer, IsMadeOf, IsStaleAnswer, IsTelling, LastsTo, StaleAnswersAreOfReplies, Storing, WasTold, by_kept_end, by_local_data, by_servers, stored_so}
 use Rattle.yimarotu_forwarder_theorems.specs.Runs.{ForwarderEvent, Happening, Runs, at_first, happened, next}
-use Rattle.yimarotu_forwarder_theorems.proofs.Cores.{Core, Fetching, IsBegun, IsEndOf, IsLed, IsThatOf, Joins, Leaves, Puts, Still, Stills, StoresEnd, as_before, begins_alone, cache_changes, core, failures_change, has_failed, has_heard, is_flushed, is_heard, is_known, is_let_go, is_over, is_told_late, left_by, more}
+use Rattle.yimarotu_forwarder_theorems.proofs.Cores.{Core, EndsByKept, Fetching, IsBegun, IsChainEnd, IsEndOf, IsLed, IsThatOf, Joins, Leaves, Puts, Still, Stills, StoresChainEnd, StoresEnd, StoresTold, as_before, begins_alone, cache_changes, chain_ends, core, end_so, failures_change, has_failed, has_heard, is_flushed, is_heard, is_kept, is_known, is_let_go, is_over, is_told_late, left_by, more, no_chain_ends, stored-at}
 use Rattle.yimarotu_forwarder_theorems.proofs.Events.{EventMoves, event_goes, event_joins, event_leaves, event_options, event_stays, moves}
 use Rattle.yimarotu_forwarder_theorems.proofs.KeptValues.{AllKept, StoresSuch, all-after, all-filtered, told-kept}
 
@@ -93,6 +97,11 @@ one-told : (past : List Happening) (ms : Messages) (m : WireMessage) → AllByRe
 one-told past [] m all one = (one, tt)
 one-told past (x ∷ ms) m all one = (all.0, one-told past ms m all.1 one)
 
+all-told : (past : List Happening) (ms others : Messages) → AllByRecursion (WasTold past) ms
+    → AllByRecursion (WasTold past) others → AllByRecursion (WasTold past) (ms ++ others)
+all-told past [] others all rest = rest
+all-told past (x ∷ ms) others all rest = (all.0, all-told past ms others all.1 rest)
+
 told-before : (h : Happening) (past : List Happening) (ms : Messages) → AllByRecursion (WasTold past) ms
     → AllByRecursion (WasTold (h ∷ past)) ms
 told-before (happened event b a) past [] all = tt
@@ -141,64 +150,102 @@ module _ (past : List Happening) where
 
   -- ---- its end
 
-  stored-so : (q : Query) (kept : KeptValue) (second : ℕ) (s : StoredValue) → end_of q kept second ≡ Reply s
-      → s ≡ stored_at q kept second
-  stored-so q kept second s h = by (is_none (store_fault q kept)) h
-    where
-      by : (b : Bool) → (if b then Reply (stored_at q kept second) else Failure reason.Other) ≡ Reply s
-          → s ≡ stored_at q kept second
-      by true e = cc
-      by false e = absurd cc
+  -- as many replies as that made it, and no more than few
+  pub record IsCounted (s : StoredValue) (most : ℕ) : Type 0 where
+    pub replies : Messages
+    pub told : AllByRecursion (WasTold past) replies
+    pub few : length replies ≤ most
+    pub most_are_few : most ≤ MOST_QUESTIONS
+    pub made : IsMadeOf replies s
 
-  ended-so : {said : WireMessage → Type 0} (l : LookupValue) (end : FetchEnd) (s : StoredValue)
-      → ((m : WireMessage) → said m → WasTold past m) → IsReached l → IsEndOf said l end → end ≡ Reply s
-      → IsAnswer past s
-  ended-so l end s tells r (has_failed why is) h = let clash : Failure why ≡ Reply s = sym is ∙ h in absurd cc
-  ended-so l end s tells r (has_heard m kept said-so how allowed denied greatest second is) h =
+  pub record IsKeptCounted (cached : CachedValue) (deadline : ℕ) : Type 0 where
+    pub counted : IsCounted cached.reply cached.replies
+    pub lasts : LastsTo cached.reply cached.told_until
+    pub a_day : deadline ≤ cached.told_until + LONGEST_STALE
+
+  -- one question more than replies led on, and few
+  count-reached : (l : LookupValue) (r : IsReached l) → l.count ≡ 1 + length r.replies
+  count-reached l r =
+      ap (λ (x : LookupValue). x.count) r.reached ∙ all-asked r.replies (begun r.question r.dnssec) r.lead
+
+  few-reached : (l : LookupValue) → IsReached l → l.count ≤ MOST_QUESTIONS
+  few-reached l r =
+      subst (λ (x : LookupValue). x.count ≤ MOST_QUESTIONS) (sym r.reached)
+      (asks_few_questions r.question r.dnssec r.replies)
+
+  stored-asked : (l : LookupValue) (r : IsReached l) (kept : KeptValue) (how : Storing) (end : FetchEnd)
+      (s : StoredValue) → end ≡ end_so l.asked kept how → end ≡ Reply s → s ≡ stored_so r.question kept how
+  stored-asked l r kept how end s is h =
+      stored-at l.asked (capped how.greatest (without_denied how.allowed how.denied kept)) how.second s (sym is ∙ h)
+      ∙ ap (λ (q : Query). stored_so q kept how) r.asked
+
+  ended-so : {said : WireMessage → Type 0} (cache : CacheValue CachedValue) (l : LookupValue) (most : ℕ)
+      (end : FetchEnd) (s : StoredValue) → ((m : WireMessage) → said m → WasTold past m) → IsReached l
+      → AllKept IsKeptCounted cache.entries → IsEndOf said cache l most end → end ≡ Reply s → IsCounted s most
+  ended-so cache l most end s tells r all (has_failed why is) h =
+      let clash : Failure why ≡ Reply s = sym is ∙ h in absurd cc
+  ended-so cache l most end s tells r all (has_heard m kept said-so heard-it many how is) h =
       let how-again : heard m (after_all (begun r.question r.dnssec) r.replies) ≡ Whole kept =
-      ap (heard m) (sym r.reached) ∙ how in
+      ap (heard m) (sym r.reached) ∙ heard-it in
       let whole = whole-behind (begun r.question r.dnssec) r.replies m kept r.lead how-again in
       record {
-        question = r.question;
-        dnssec = r.dnssec;
         replies = r.replies ++ m ∷ [];
         told = one-told past r.replies m r.told (tells m said-so);
-        few = (whole_replies_are_all_in_order r.question r.dnssec (r.replies ++ m ∷ []) kept whole).few;
-        kept = kept;
-        made = by_servers whole;
-        allowed = allowed;
-        denied = denied;
-        greatest = greatest;
-        second = second;
-        stored =
-            stored-so l.asked (capped greatest (without_denied allowed denied kept)) second s (sym is ∙ h)
-            ∙ ap (λ (q : Query). stored_at q (capped greatest (without_denied allowed denied kept)) second) r.asked;
+        few = omega (arith, many, count-reached l r, length-append r.replies (m ∷ []));
+        most_are_few = omega (arith, many, few-reached l r);
+        made = by_servers r.question r.dnssec (r.replies ++ m ∷ []) kept how s whole
+            (stored-asked l r kept how end s is h);
       }
-  ended-so l end s tells r (is_known here allowed denied greatest second is) h =
-      let count = all-asked r.replies (begun r.question r.dnssec) r.lead in
-      let few = asks_few_questions r.question r.dnssec r.replies in
+  ended-so cache l most end s tells r all (is_known here many how is) h = record {
+    replies = r.replies;
+    told = r.told;
+    few = omega (arith, many, count-reached l r, few-reached l r);
+    most_are_few = omega (arith, many, few-reached l r);
+    made = by_local_data r.question r.dnssec r.replies here how s
+        (stored-asked l r (whole_with here l) how end s is h
+        ∙ ap (λ (x : LookupValue). stored_so r.question (whole_with here x) how) r.reached);
+  }
+  ended-so cache l most end s tells r all (is_kept now cached by-kept how early is) h =
+      let found = told-kept IsKeptCounted by-kept.key now cache.entries cached all by-kept.found in
+      let last = found.1.counted in
+      let here = aged (elapsed cached.reply now) cached.reply.kept in
+      let lasts : LastsTo cached.reply now = omega (arith, by-kept.current, found.1.lasts) in
       record {
-        question = r.question;
-        dnssec = r.dnssec;
-        replies = r.replies;
-        told = r.told;
-        few = omega (arith, count, few);
-        kept = whole_with here l;
-        made = by_local_data here (ap (whole_with here) r.reached);
-        allowed = allowed;
-        denied = denied;
-        greatest = greatest;
-        second = second;
-        stored =
-            stored-so l.asked (capped greatest (without_denied allowed denied (whole_with here l))) second s (sym is ∙ h)
-            ∙ ap (λ (q : Query). stored_at q (capped greatest (without_denied allowed denied (whole_with here l))) second)
-            r.asked;
+        replies = r.replies ++ last.replies;
+        told = all-told past r.replies last.replies r.told last.told;
+        few = omega (arith, by-kept.many, by-kept.few, count-reached l r, last.few, length-append r.replies last.replies);
+        most_are_few = omega (arith, by-kept.many, by-kept.few, count-reached l r);
+        made = by_kept_end r.question r.dnssec r.replies last.replies cached.reply now how s last.made lasts early
+            (subst (λ (x : LookupValue). is_same_question (asked_octets x.next) (own_question cached.reply) ≡ true)
+            r.reached by-kept.same)
+            (stored-asked l r (whole_with here l) how end s is h
+            ∙ ap (λ (x : LookupValue). stored_so r.question (whole_with here x) how) r.reached);
       }
+
+  -- a reply that ends a chain is the whole of its own look-up
+  chain-end-so : {said : WireMessage → Type 0} (e : ChainEndValue) → ((m : WireMessage) → said m → WasTold past m)
+      → IsChainEnd said e → IsCounted e.reply 1
+  chain-end-so e tells c = record {
+    replies = c.reply ∷ [];
+    told = (tells c.reply c.told, tt);
+    few = omega arith;
+    most_are_few = omega arith;
+    made = by_servers c.question c.dnssec (c.reply ∷ []) c.kept c.how e.reply
+        (ap (λ (h : Heard). told_by h [] None)
+        (ap (λ (k : Option KeptValue).
+        outcome_of k (next_question c.question c.reply.message) (begun c.question c.dnssec)) c.keeps
+        ∙ ap (λ (q : Option Query). outcome_of (Some c.kept) q (begun c.question c.dnssec)) c.ends))
+        c.stored;
+  }
 
   -- ---- all of it
 
   abbrev IsToldOf : Option ReplyingValue → Type 0
-  IsToldOf replying = (r : ReplyingValue) (s : StoredValue) → replying ≡ Some r → r.end ≡ Reply s → IsAnswer past s
+  IsToldOf replying =
+      (r : ReplyingValue) (s : StoredValue) → replying ≡ Some r → r.end ≡ Reply s → IsCounted s r.replies
+
+  abbrev IsEndOfReply : Option ChainEndValue → Type 0
+  IsEndOfReply end = (e : ChainEndValue) → end ≡ Some e → IsCounted e.reply 1
 
   abbrev AreReached : Fetching → Type 0
   AreReached fetches = (key : List ℕ) (f : FetchValue) → fetch_in key fetches ≡ Some f → IsReached f.lookup
@@ -206,10 +253,19 @@ module _ (past : List Happening) where
   pub record IsSound (c : Core) : Type 0 where
     pub going_on : AreReached c.fetches
     pub told : IsToldOf c.replying
-    pub kept : AllKept (IsKeptAnswer past) c.cache.entries
+    pub chain_end : IsEndOfReply c.chain_end
+    pub kept : AllKept IsKeptCounted c.cache.entries
 
   none-told : IsToldOf None
   none-told r s is end = absurd cc
+
+  no-end : IsEndOfReply None
+  no-end e is = absurd cc
+
+  -- of an equal one
+  same-counted : (s : StoredValue) (r q : ReplyingValue) → r.replies ≡ q.replies → IsCounted s r.replies
+      → IsCounted s q.replies
+  same-counted s r q same h = subst (IsCounted s) same h
 
   put-reached : (key : List ℕ) (held : Option FetchValue) (c d : Fetching) → Puts key held c d → AreReached c
       → ((f : FetchValue) → held ≡ Some f → IsReached f.lookup) → AreReached d
@@ -223,12 +279,23 @@ module _ (past : List Happening) where
   same-put f g e = cc
 
   stored-such : (c : Core) (event : CacheEvent CachedValue) → StoresEnd c event → IsToldOf c.replying
-      → StoresSuch (IsKeptAnswer past) event
-  stored-such c (stores key s weight deadline now) (r, was, end, lasts, a_day) told =
-      record { answer = told r s.reply was end; lasts = lasts; a_day = a_day }
-  stored-such c (asks key now) such told = tt
-  stored-such c (removes key) such told = tt
-  stored-such c clears such told = tt
+      → IsEndOfReply c.chain_end → StoresSuch IsKeptCounted event
+  stored-such c (stores key s weight deadline now) (inl (r, x), lasts, a_day) told ends =
+      record {
+        counted = subst (IsCounted s.reply) (sym x.many) (told r s.reply x.was x.end);
+        lasts = lasts;
+        a_day = a_day;
+      }
+  stored-such c (stores key s weight deadline now) (inr (e, x), lasts, a_day) told ends =
+      record {
+        counted = subst (IsCounted s.reply) (sym x.many)
+            (subst (λ (y : StoredValue). IsCounted y 1) x.end (ends e x.was));
+        lasts = lasts;
+        a_day = a_day;
+      }
+  stored-such c (asks key now) such told ends = tt
+  stored-such c (removes key) such told ends = tt
+  stored-such c clears such told ends = tt
 
   still-sound : {said : WireMessage → Type 0} (c d : Core) → ((m : WireMessage) → said m → WasTold past m)
       → Still said c d → IsSound c → IsSound d
@@ -236,23 +303,31 @@ module _ (past : List Happening) where
       subst IsSound (sym e) (record {
         going_on = h.going_on;
         told = h.told;
-        kept = all-after (IsKeptAnswer past) c.cache event (stored-such c event such h.told) h.kept;
+        chain_end = h.chain_end;
+        kept = all-after IsKeptCounted c.cache event (stored-such c event such h.told h.chain_end) h.kept;
       })
   still-sound c d tells (failures_change c' d' event e) h =
-      subst IsSound (sym e) (record { going_on = h.going_on; told = h.told; kept = h.kept })
+      subst IsSound (sym e) (record { going_on = h.going_on; told = h.told; chain_end = h.chain_end; kept = h.kept })
   still-sound c d tells (is_heard c' d' k f g found same led puts e) h =
       let now = led-so f.lookup g.lookup tells same.asked led (h.going_on k f found) in
       subst IsSound (sym e) (record {
         going_on = put-reached k (Some g) c.fetches d.fetches puts h.going_on
             (λ x is. subst (λ (y : FetchValue). IsReached y.lookup) (same-put g x is) now);
         told = h.told;
+        chain_end = h.chain_end;
         kept = h.kept;
       })
   still-sound c d tells (is_over c' d' k end f g none found same is puts e) h =
       subst IsSound (sym e) (record {
         going_on = put-reached k None c.fetches d.fetches puts h.going_on (λ x never. absurd cc);
-        told = λ r s was ends. ended-so f.lookup end s tells (h.going_on k f found) is
-            (ap (λ (x : ReplyingValue). x.end) (same-replying _ r was) ∙ ends);
+        told = λ r s was ends.
+            let same = same-replying (replying_of k end g) r was in
+            let end-is : end ≡ Reply s = ap (λ (x : ReplyingValue). x.end) same ∙ ends in
+            subst (IsCounted s)
+            (sym (ap (λ (x : FetchEnd). replies_of x g.lookup.count) end-is)
+            ∙ ap (λ (x : ReplyingValue). x.replies) same)
+            (ended-so c.cache f.lookup g.lookup.count end s tells (h.going_on k f found) h.kept is end-is);
+        chain_end = h.chain_end;
         kept = h.kept;
       })
     where
@@ -264,19 +339,35 @@ module _ (past : List Happening) where
             (λ x is. subst (λ (y : FetchValue). IsReached y.lookup) (same-put (with_nobody f) x is)
             (h.going_on k f found));
         told = λ r s was ends. failed r s was ends;
+        chain_end = h.chain_end;
         kept = h.kept;
       })
     where
       failed : (r : ReplyingValue) (s : StoredValue) → Some (late_replying k f) ≡ Some r → r.end ≡ Reply s
-          → IsAnswer past s
+          → IsCounted s r.replies
       failed r s is ends = let clash : Failure reason.NoReachableAuthority ≡ Reply s = cc in absurd cc
   still-sound c d tells (is_let_go c' d' r was none e) h =
-      subst IsSound (sym e) (record { going_on = h.going_on; told = none-told; kept = h.kept })
+      subst IsSound (sym e) (record { going_on = h.going_on; told = none-told; chain_end = h.chain_end; kept = h.kept })
+  still-sound c d tells (chain_ends c' d' end is e) h =
+      subst IsSound (sym e) (record {
+        going_on = h.going_on;
+        told = h.told;
+        chain_end = λ x same. subst (λ (y : ChainEndValue). IsCounted y.reply 1) (same-end end x same)
+            (chain-end-so end tells is);
+        kept = h.kept;
+      })
+    where
+      same-end : (x y : ChainEndValue) → Some x ≡ Some y → x ≡ y
+      same-end x y is' = cc
+  still-sound c d tells (no_chain_ends c' d' e) h =
+      subst IsSound (sym e)
+      (record { going_on = h.going_on; told = h.told; chain_end = no-end; kept = h.kept })
   still-sound c d tells (is_flushed c' d' labels below e) h =
       subst IsSound (sym e) (record {
         going_on = h.going_on;
         told = h.told;
-        kept = all-filtered (IsKeptAnswer past) (λ (x : Entry CachedValue). not (is_flushed_key labels below x.key))
+        chain_end = h.chain_end;
+        kept = all-filtered IsKeptCounted (λ (x : Entry CachedValue). not (is_flushed_key labels below x.key))
             c.cache.entries h.kept;
       })
   still-sound c d tells (begins_alone c' d' k f none waits begins puts e) h =
@@ -284,6 +375,7 @@ module _ (past : List Happening) where
         going_on = put-reached k (Some f) c.fetches d.fetches puts h.going_on
             (λ x is. subst (λ (y : FetchValue). IsReached y.lookup) (same-put f x is) (begins-so f.lookup begins));
         told = h.told;
+        chain_end = h.chain_end;
         kept = h.kept;
       })
 
@@ -298,6 +390,7 @@ module _ (past : List Happening) where
         going_on = put-reached j.key (Some j.fetch) c.fetches d.fetches j.puts h.going_on
             (λ x is. subst (λ (y : FetchValue). IsReached y.lookup) (same-put j.fetch x is) (by j.lookup));
         told = h.told;
+        chain_end = h.chain_end;
         kept = h.kept;
       })
     where
@@ -309,7 +402,11 @@ module _ (past : List Happening) where
   leave-sound w c d l h =
       subst IsSound (sym l.others_are) (record {
         going_on = h.going_on;
-        told = λ r s is end. h.told l.replying s l.was (ap (λ (x : ReplyingValue). x.end) (same-replying _ r is) ∙ end);
+        told = λ r s is end. same-counted s l.replying r
+            (ap (λ (x : ReplyingValue). x.replies) (same-replying (record l.replying { waiting = l.others }) r is))
+            (h.told l.replying s l.was
+            (ap (λ (x : ReplyingValue). x.end) (same-replying (record l.replying { waiting = l.others }) r is) ∙ end));
+        chain_end = h.chain_end;
         kept = h.kept;
       })
     where
@@ -328,7 +425,9 @@ module _ (past : List Happening) where
       → IsToldOf (option_map (replying_without client) replying)
   told-left client None told = none-told
   told-left client (Some q) told =
-      λ r s is end. told q s refl (ap (λ (x : ReplyingValue). x.end) (same-replying _ r is) ∙ end)
+      λ r s is end. same-counted s q r
+      (ap (λ (x : ReplyingValue). x.replies) (same-replying (replying_without client q) r is))
+      (told q s refl (ap (λ (x : ReplyingValue). x.end) (same-replying (replying_without client q) r is) ∙ end))
     where
       same-replying : (r q : ReplyingValue) → Some r ≡ Some q → r ≡ q
       same-replying r q is' = cc
@@ -339,6 +438,7 @@ module _ (past : List Happening) where
         going_on = λ key f is. reached-left client (fetch_in key c.fetches) f (h.going_on key)
             (sym (lookup-map_values (fetch_without client) (key_eq key) c.fetches) ∙ is);
         told = told-left client c.replying h.told;
+        chain_end = h.chain_end;
         kept = h.kept;
       })
 
@@ -349,9 +449,7 @@ module _ (past : List Happening) where
     replies = r.replies;
     told = r.told;
     heard = r.reached;
-    few =
-        subst (λ (x : LookupValue). x.count ≤ MOST_QUESTIONS) (sym r.reached)
-        (asks_few_questions r.question r.dnssec r.replies);
+    few = few-reached l r;
   }
 
 -- ---- what was so stays so
@@ -367,28 +465,22 @@ reached-later h past l r = record {
   asked = r.asked;
 }
 
-answer-later : (h : Happening) (past : List Happening) (s : StoredValue) → IsAnswer past s → IsAnswer (h ∷ past) s
-answer-later h past s x = record {
-  question = x.question;
-  dnssec = x.dnssec;
+counted-later : (h : Happening) (past : List Happening) (s : StoredValue) (most : ℕ) → IsCounted past s most
+    → IsCounted (h ∷ past) s most
+counted-later h past s most x = record {
   replies = x.replies;
   told = told-before h past x.replies x.told;
   few = x.few;
-  kept = x.kept;
+  most_are_few = x.most_are_few;
   made = x.made;
-  allowed = x.allowed;
-  denied = x.denied;
-  greatest = x.greatest;
-  second = x.second;
-  stored = x.stored;
 }
 
-kept-later : (h : Happening) (past : List Happening) (es : List (Entry CachedValue)) → AllKept (IsKeptAnswer past) es
-    → AllKept (IsKeptAnswer (h ∷ past)) es
+kept-later : (h : Happening) (past : List Happening) (es : List (Entry CachedValue))
+    → AllKept (IsKeptCounted past) es → AllKept (IsKeptCounted (h ∷ past)) es
 kept-later h past [] all = tt
 kept-later h past (e ∷ es) all = (
   record {
-    answer = answer-later h past e.value.reply all.0.answer;
+    counted = counted-later h past e.value.reply e.value.replies all.0.counted;
     lasts = all.0.lasts;
     a_day = all.0.a_day;
   },
@@ -398,9 +490,33 @@ kept-later h past (e ∷ es) all = (
 sound-later : (h : Happening) (past : List Happening) (c : Core) → IsSound past c → IsSound (h ∷ past) c
 sound-later h past c x = record {
   going_on = λ key f found. reached-later h past f.lookup (x.going_on key f found);
-  told = λ r s is end. answer-later h past s (x.told r s is end);
+  told = λ r s is end. counted-later h past s r.replies (x.told r s is end);
+  chain_end = λ e is. counted-later h past e.reply 1 (x.chain_end e is);
   kept = kept-later h past c.cache.entries x.kept;
 }
+
+-- ---- what is counted is an answer
+
+answer-of : (past : List Happening) (s : StoredValue) (most : ℕ) → IsCounted past s most → IsAnswer past s
+answer-of past s most x = record {
+  replies = x.replies;
+  told = x.told;
+  few = omega (arith, x.few, x.most_are_few);
+  made = x.made;
+}
+
+kept-answer : (past : List Happening) (cached : CachedValue) (deadline : ℕ) → IsKeptCounted past cached deadline
+    → IsKeptAnswer past cached deadline
+kept-answer past cached deadline x = record {
+  answer = answer-of past cached.reply cached.replies x.counted;
+  lasts = x.lasts;
+  a_day = x.a_day;
+}
+
+kept-answers : (past : List Happening) (es : List (Entry CachedValue)) → AllKept (IsKeptCounted past) es
+    → AllKept (IsKeptAnswer past) es
+kept-answers past [] all = tt
+kept-answers past (e ∷ es) all = (kept-answer past e.value e.deadline all.0, kept-answers past es all.1)
 
 event-sound : (past : List Happening) (event : ForwarderEvent) (b a : ForwarderValue)
     → ((m : WireMessage) → IsTelling b m → WasTold past m) → EventMoves event b a → IsSound past (core b)
@@ -410,12 +526,17 @@ event-sound past event b a tells (event_joins w says j) h = join-sound past w (c
 event-sound past event b a tells (event_leaves w says l) h = leave-sound past w (core b) (core a) l h
 event-sound past event b a tells (event_goes client is e) h = gone-sound past client (core b) (core a) e h
 event-sound past event b a tells (event_options options is says e) h =
-    subst (IsSound past) (sym e) (record { going_on = h.going_on; told = h.told; kept = h.kept })
+    subst (IsSound past) (sym e) (record { going_on = h.going_on; told = h.told; chain_end = h.chain_end; kept = h.kept })
 
 module _ (options : OptionsValue) (local : LocalValue) (cache failures : CacheBounds) (pool : PoolState) where
   sound : (past : List Happening) (s : ForwarderValue)
       → Runs (new_forwarder options local cache failures pool) past s → IsSound past (core s)
-  sound past s at_first = record { going_on = λ key f never. absurd cc; told = none-told []; kept = tt }
+  sound past s at_first = record {
+    going_on = λ key f never. absurd cc;
+    told = none-told [];
+    chain_end = no-end [];
+    kept = tt;
+  }
   sound past s (next earlier event before after happens runs) =
       let h = happened event before after in
       event-sound (h ∷ earlier) event before after (λ m telling. inl telling) (moves event before after happens)
@@ -426,8 +547,9 @@ answers_are_of_replies options local cache failures pool past s runs =
     let h = sound options local cache failures pool past s runs in
     record {
       going_on = λ key f found. heard-so past f.lookup (h.going_on key f found);
-      told = λ r end is ends. h.told r end is ends;
-      kept = h.kept;
+      told = λ r end is ends. answer-of past end r.replies (h.told r end is ends);
+      chain_end = λ e is. answer-of past e.reply 1 (h.chain_end e is);
+      kept = kept-answers past s.cache.entries h.kept;
     }
 
 -- ---- what is told past its end
@@ -472,5 +594,5 @@ stale_answers_are_of_replies options local cache failures pool past s runs key s
     by None there h = absurd cc
     by (Some cached) there h =
         let kept = told-kept (IsKeptAnswer past) key (second_of s) s.cache.entries cached
-        (sound options local cache failures pool past s runs).kept there in
+        (kept-answers past s.cache.entries (sound options local cache failures pool past s runs).kept) there in
         stale-so past cached kept.0 s.options (second_of s) stored kept.1 h

@@ -1,7 +1,8 @@
 -- What a step changes.
-use Rattle.std.proofs.Common.{◌≡◌, ◌∙◌, ◌==◌, ◌+◌, ◌≤◌, ℕ, inl, inr, Bool, true, false, List, [], ◌∷◌, drop, refl, sym, ap, subst, arith}
-use Rattle.std.specs.Prelude.{Option, None, Some, MatchOption, nat_lt, slice_get, if◌then◌else◌}
-use Rattle.std.specs.Option.{option_map_or}
+use Rattle.std.proofs.Common.{◌≡◌, ◌∙◌, ◌==◌, ◌+◌, ◌-◌, ◌^◌, ◌≤◌, ◌&&◌, ℕ, inl, inr, Bool, true, false, List, [], ◌∷◌, drop, refl, sym, ap, subst, arith}
+use Rattle.std.specs.Prelude.{Option, None, Some, MatchOption, min, nat_le, nat_lt, slice_get, if◌then◌else◌}
+use Rattle.std.specs.Option.{is_none, option_and_then, option_map, option_map_or}
+use Rattle.std.proofs.lemmas.Bool.{leb-true}
 use Rattle.hickory_proto_core.specs.declared.query.Query.{Query}
 use Rattle.hickory_proto_wire.specs.declared.wire_message.WireMessage.{WireMessage}
 use Rattle.hickory_resolver_pool.specs.Over.{OverValue}
@@ -20,29 +21,34 @@ use Rattle.local_answers.specs.declared.local_data.Decision.{Decision}
 use Rattle.local_answers.specs.declared.local_data.Decision.TheVariants as decision
 use Rattle.second_chance_cache.specs.Laws.{removes, stores}
 use Rattle.second_chance_cache.specs.SecondChance.{told}
-use Rattle.stored_replies.specs.Stored.{StoredValue, saturated, weight_of}
+use Rattle.stored_replies.specs.Key.{is_same_question}
+use Rattle.stored_replies.specs.Stored.{StoredValue, elapsed, is_readable, saturated, weight_of}
+use Rattle.stored_replies.specs.Told.{own_question}
 use Rattle.whole_lookups.specs.Capped.{capped}
 use Rattle.whole_lookups.specs.Denied.{without_denied}
 use Rattle.whole_lookups.specs.Lookups as whole
-use Rattle.whole_lookups.specs.Lookups.{LookupValue, after_of, gone_on, heard, may_go_on, whole_with}
+use Rattle.whole_lookups.specs.Lookups.{LookupValue, after_of, gone_on, heard, may_go_on, outcome_of, whole_with}
+use Rattle.whole_lookups.specs.declared.choices.TheConstants.{MOST_QUESTIONS}
 use Rattle.whole_lookups.specs.declared.heard.Heard.{Heard}
 use Rattle.whole_lookups.specs.declared.heard.Heard.TheVariants as heard_as
-use Rattle.whole_replies.specs.Kept.{KeptValue, kept_of, next_question}
+use Rattle.whole_replies.specs.Kept.{KeptValue, aged, kept_of, next_question}
 use Rattle.yimarotu_forwarder.specs.Fetches.{FetchValue, asked_for, fetch_at}
-use Rattle.yimarotu_forwarder.specs.Forwarders.{ForwarderValue, ReplyingValue, TellingValue, second_of}
-use Rattle.yimarotu_forwarder.specs.Steps.{AsksBy, AsksFirst, AsksFor, AsksNext, AsksOr, ForwarderSteps, IsLetGo, PrefetchesFirst, RepliesNext, RepliesTo, StepsPool, StopsAsking, StopsAskingFirst, StopsPrefetchingFirst, StopsStep, StopsTellingFirst, TellsFirst, TellsLateFirst, action_of, as_cached, asks_with, cached_until, has_turn, keeps_end, lets_go, with_stored}
+use Rattle.yimarotu_forwarder.specs.Forwarders.{ChainEndValue, ForwarderValue, ReplyingValue, TellingValue, second_of}
+use Rattle.yimarotu_forwarder.specs.Steps.{AsksBy, AsksFirst, AsksFor, AsksNext, AsksOr, AsksPool, EndsWith, ForwarderSteps, IsLetGo, PrefetchesFirst, RepliesFirst, RepliesNext, RepliesTo, StepsPool, StopsAsking, StopsAskingFirst, StopsPrefetchingFirst, StopsReplyingFirst, StopsStep, StopsTellingFirst, TellsFirst, TellsLateFirst, action_of, as_cached, asks_with, cached_until, has_turn, keeps_chain_end, keeps_end, lets_go, with_stored, without_chain_end, without_failure}
 use Rattle.yimarotu_forwarder.specs.Late.{TellsLate, TellsLateIf, TellsWaiting, TellsWaitingOf, first_due, is_told_late as is_late_key, passed_over}
 use Rattle.yimarotu_forwarder.specs.LookingUp.{after_ask, pool_question, pool_says}
+use Rattle.yimarotu_forwarder.specs.Cached.{CachedValue, if_told}
+use Rattle.yimarotu_forwarder.specs.NextQuestions.{are_denied_alike, as_end, asked_octets, ended_by, found_end, if_may_end, is_fresh_and_light, kept_under, may_end, next_key}
 use Rattle.yimarotu_forwarder.specs.Prefetching.{AsksLone, BeginsLoneBy, DecidesLone, Prefetches, PrefetchesUnasked, key_dnssec, key_query, key_unchecked, lone_fetch, without_prefetch}
 use Rattle.yimarotu_forwarder.specs.Options.{OptionsValue, denied_for, stale_seconds}
 use Rattle.yimarotu_forwarder.specs.Replying.{end_of}
 use Rattle.yimarotu_forwarder.specs.Stale.{kept_until, told_end}
-use Rattle.yimarotu_forwarder.specs.Telling.{EndsFetch, EndsForMemory, Finishes, Hears, StopsNext, StopsTelling, Tells, TellsAsker, TellsFetch, TellsKey, TellsNext, as_told, first_second, forgets_asker, heard_so, is_kept_failure, lookup_after, one_more, reason_of, response_of, told_of, whole_end, with_end}
+use Rattle.yimarotu_forwarder.specs.Telling.{EndsFetch, EndsForMemory, Finishes, Hears, StopsNext, StopsTelling, Tells, TellsAsker, TellsFetch, TellsKey, TellsNext, as_told, chain_end_for, chain_end_in, chain_end_of, chain_end_with, counts_asker, ends_chain, first_second, forgets_asker, heard_so, is_noted, lookup_after, reason_of, response_of, told_of, whole_end, with_end}
 use Rattle.yimarotu_forwarder.specs.declared.choices.TheConstants.{LONGEST_STALE}
 use Rattle.yimarotu_forwarder.specs.declared.steps.ForwarderAction.{ForwarderAction}
 use Rattle.yimarotu_forwarder.specs.declared.steps.ForwarderAction.TheVariants as act
-use Rattle.yimarotu_forwarder_theorems.specs.Lookups.{IsTelling, LastsTo}
-use Rattle.yimarotu_forwarder_theorems.proofs.Cores.{IsEndOf, IsSame, Leaves, Still, Stills, as_before, begins_alone, cache_changes, core, failures_change, has_failed, has_heard, is_heard, is_known, is_let_go, is_over, is_told_late, more, still-one, stills-then}
+use Rattle.yimarotu_forwarder_theorems.specs.Lookups.{IsTelling, LastsTo, Storing}
+use Rattle.yimarotu_forwarder_theorems.proofs.Cores.{EndsByKept, IsChainEnd, IsEndOf, IsSame, Leaves, Still, Stills, StoresChainEnd, StoresTold, as_before, begins_alone, cache_changes, chain_ends, core, end_so, failures_change, has_failed, has_heard, is_heard, is_kept, is_known, is_let_go, is_over, is_told_late, more, no_chain_ends, still-one, stills-then, stored-at}
 
 -- ---- lists
 
@@ -54,6 +60,17 @@ some-first : (ws : List RequestValue) (w : RequestValue) → slice_get ws 0 ≡ 
 some-first [] w h = absurd cc
 some-first (v ∷ ws) w h = let same : v ≡ w = cc in ap (λ (x : RequestValue). x ∷ ws) same
 
+-- ---- truths
+
+both-true : (a b : Bool) → (a && b) ≡ true → (a ≡ true) × (b ≡ true)
+both-true true b h = (refl, h)
+both-true false b h = absurd (let no : false ≡ true = h in cc)
+
+all-true : (a b c : Bool) → (a && b && c) ≡ true → (a ≡ true) × (b ≡ true)
+all-true true true c h = (refl, refl)
+all-true true false c h = absurd (let no : false ≡ true = h in cc)
+all-true false b c h = absurd (let no : false ≡ true = h in cc)
+
 -- ---- a look-up is over
 
 same-fetch : (f : FetchValue) → IsSame f f
@@ -61,14 +78,15 @@ same-fetch f = record { waiting = refl; asked = refl }
 
 finishes : {said : WireMessage → Type 0}
     (key : List ℕ) (end : FetchEnd) (f g : FetchValue) (b a : ForwarderValue) → b.replying ≡ None
-    → fetch_at key b.fetches ≡ Some f → IsSame f g → IsEndOf said f.lookup end → Finishes key end g b a
+    → fetch_at key b.fetches ≡ Some f → IsSame f g → IsEndOf said b.cache f.lookup g.lookup.count end
+    → Finishes key end g b a
     → Still said (core b) (core a)
 finishes {said} key end f g b a none found same is h =
     is_over (core b) (core a) key end f g none found same is h.ends.puts (ap core h.others_are)
 
-noted : {said : WireMessage → Type 0} (key : List ℕ) (why : FailureReason) (b : ForwarderValue)
-    → Stills said (core b) (core (with_end key (Failure why) b))
-noted {said} key why b = by (is_kept_failure why)
+noted : {said : WireMessage → Type 0} (key : List ℕ) (why : FailureReason) (f : FetchValue) (b : ForwarderValue)
+    → Stills said (core b) (core (with_end key (Failure why) f b))
+noted {said} key why f b = by (is_noted why f.began b.stalled)
   where
     by : (kept : Bool) → Stills said (core b) (record (core b) {
       failures =
@@ -83,19 +101,127 @@ noted {said} key why b = by (is_kept_failure why)
     by false = as_before (core b) (core b) refl
 
 end-noted : {said : WireMessage → Type 0}
-    (key : List ℕ) (end : FetchEnd) (b : ForwarderValue) → Stills said (core b) (core (with_end key end b))
-end-noted {said} key (Reply s) b =
-    still-one (core b) (core (with_end key (Reply s) b))
-    (failures_change (core b) (core (with_end key (Reply s) b)) (removes key) refl)
-end-noted {said} key (Failure why) b = noted key why b
+    (key : List ℕ) (end : FetchEnd) (f : FetchValue) (b : ForwarderValue)
+    → Stills said (core b) (core (with_end key end f b))
+end-noted {said} key (Reply s) f b =
+    still-one (core b) (core (with_end key (Reply s) f b))
+    (failures_change (core b) (core (with_end key (Reply s) f b)) (removes key) refl)
+end-noted {said} key (Failure why) f b = noted key why f b
 
 ends-fetch : {said : WireMessage → Type 0}
     (key : List ℕ) (end : FetchEnd) (f g : FetchValue) (b a : ForwarderValue) → b.replying ≡ None
-    → fetch_at key b.fetches ≡ Some f → IsSame f g → IsEndOf said f.lookup end → EndsFetch key end g b a
-    → Stills said (core b) (core a)
+    → fetch_at key b.fetches ≡ Some f → IsSame f g → IsEndOf said b.cache f.lookup g.lookup.count end
+    → EndsFetch key end g b a → Stills said (core b) (core a)
 ends-fetch {said} key end f g b a none found same is h =
-    stills-then (core b) (core (with_end key end b)) (core a) (end-noted key end b)
-    (still-one (core (with_end key end b)) (core a) (finishes key end f g (with_end key end b) a none found same is h))
+    stills-then (core b) (core (with_end key end g b)) (core a) (end-noted key end g b)
+    (still-one (core (with_end key end g b)) (core a)
+    (finishes key end f g (with_end key end g b) a none found same is h))
+
+-- as what a look-up came to is stored
+abbrev storing : FetchValue → ForwarderValue → Storing
+storing f b = record {
+  allowed = b.options.allowed;
+  denied = denied_for f.lookup.asked.name b.options;
+  greatest = b.options.greatest_ttl;
+  second = first_second f b;
+}
+
+-- it is no later than now
+first-early : (f : FetchValue) (b : ForwarderValue) → first_second f b ≤ second_of b
+first-early f b = by f.heard
+  where
+    by : (o : Option ℕ) → option_map_or (λ second. min second (second_of b)) o (second_of b) ≤ second_of b
+    by None = omega arith
+    by (Some second) = omega arith
+
+-- ---- the end of a chain
+
+abbrev led-to : FetchValue → Query
+led-to f = f.lookup.next
+
+-- as it is stored
+abbrev keeping : FetchValue → ForwarderValue → Storing
+keeping f b = record {
+  allowed = b.options.allowed;
+  denied = denied_for (led-to f).name b.options;
+  greatest = b.options.greatest_ttl;
+  second = second_of b;
+}
+
+no-next : (f : FetchValue) (m : WireMessage) (o : Option Query) → next_question (led-to f) m.message ≡ o
+    → is_none o ≡ true → next_question (led-to f) m.message ≡ None
+no-next f m None is none = is
+no-next f m (Some q) is none = absurd cc
+
+module _ {said : WireMessage → Type 0} (b : ForwarderValue) (e : ChainEndValue) (f : FetchValue) (m : WireMessage)
+    (told-so : said m) where
+  with-key : (kept : KeptValue) → kept_of (led-to f) f.lookup.dnssec m ≡ Some kept
+      → next_question (led-to f) m.message ≡ None → (key : Option (List ℕ)) (end : FetchEnd)
+      → end_so (led-to f) kept (keeping f b) ≡ end → chain_end_with key end f.generation ≡ Some e → IsChainEnd said e
+  with-key kept keeps ends None end is h = absurd cc
+  with-key kept keeps ends (Some key) (Failure why) is h = absurd cc
+  with-key kept keeps ends (Some key) (Reply r) is h =
+      let same : r ≡ e.reply = cc in
+      record {
+        reply = m;
+        told = told-so;
+        question = led-to f;
+        dnssec = f.lookup.dnssec;
+        kept = kept;
+        keeps = keeps;
+        ends = ends;
+        how = keeping f b;
+        stored = sym same
+            ∙ stored-at (led-to f) (capped (keeping f b).greatest (without_denied (keeping f b).allowed (keeping f b).denied kept))
+            (keeping f b).second r is;
+      }
+
+  of-kept : (k : Option KeptValue) → kept_of (led-to f) f.lookup.dnssec m ≡ k → next_question (led-to f) m.message ≡ None
+      → option_and_then (chain_end_of f b) k ≡ Some e → IsChainEnd said e
+  unfolding as_told
+  of-kept None keeps ends h = absurd cc
+  of-kept (Some kept) keeps ends h = with-key kept keeps ends (next_key f) (end_so (led-to f) kept (keeping f b)) refl h
+
+  in-chain : (ends : Bool) → ends_chain f m ≡ ends
+      → (if ends then option_and_then (chain_end_of f b) (kept_of (led-to f) f.lookup.dnssec m) else None) ≡ Some e
+      → IsChainEnd said e
+  in-chain false is h = absurd cc
+  in-chain true is h =
+      let none = both-true (nat_lt 1 f.lookup.count) (is_none (next_question (led-to f) m.message)) is in
+      of-kept (kept_of (led-to f) f.lookup.dnssec m) refl (no-next f m (next_question (led-to f) m.message) refl none.1) h
+
+is-chain-end : {said : WireMessage → Type 0} (over : OverValue) (asker : ℕ) (b : ForwarderValue) (e : ChainEndValue)
+    → ((m : WireMessage) → response_of over ≡ Some m → said m) → chain_end_for over asker b ≡ Some e
+    → IsChainEnd said e
+is-chain-end {said} over asker b e says h = by (response_of over) refl h
+  where
+    by-fetch : (m : WireMessage) → said m → (o : Option FetchValue)
+        → option_and_then (λ f. chain_end_in f b m) o ≡ Some e → IsChainEnd said e
+    by-fetch m told None h = absurd cc
+    by-fetch m told (Some f) h = in-chain b e f m told (ends_chain f m) refl h
+
+    by-key : (m : WireMessage) → said m → (o : Option (List ℕ))
+        → option_and_then (λ key. option_and_then (λ f. chain_end_in f b m) (fetch_at key b.fetches)) o ≡ Some e
+        → IsChainEnd said e
+    by-key m told None h = absurd cc
+    by-key m told (Some key) h = by-fetch m told (fetch_at key b.fetches) h
+
+    by : (o : Option WireMessage) → response_of over ≡ o
+        → option_and_then (λ m. option_and_then (λ key. option_and_then (λ f. chain_end_in f b m)
+        (fetch_at key b.fetches)) (asked_for asker b.fetches)) o ≡ Some e → IsChainEnd said e
+    by None is h = absurd cc
+    by (Some m) is h = by-key m (says m is) (asked_for asker b.fetches) h
+
+-- it is noted, with the asker
+counts-asker : {said : WireMessage → Type 0} (t : TellingValue) (asker : ℕ) (b : ForwarderValue)
+    → ((m : WireMessage) → response_of t.over ≡ Some m → said m) → Still said (core b) (core (counts_asker t asker b))
+counts-asker {said} t asker b says = by (chain_end_for t.over asker b) refl
+  where
+    by : (o : Option ChainEndValue) → chain_end_for t.over asker b ≡ o
+        → Still said (core b) (record (core b) { chain_end = o })
+    by None is = no_chain_ends (core b) (record (core b) { chain_end = None }) refl
+    by (Some e) is =
+        chain_ends (core b) (record (core b) { chain_end = Some e }) e (is-chain-end t.over asker b e says is) refl
 
 -- ---- an asker is told
 
@@ -110,6 +236,23 @@ after-asked m l = by (kept_of l.next l.dnssec m) (next_question l.next m.message
     by None next = refl
     by (Some k) None = refl
     by (Some k) (Some next) = going k next (may_go_on l)
+
+-- a whole reply asks no question more
+whole-count : (m : WireMessage) (l : LookupValue) (kept : KeptValue) → heard m l ≡ heard_as.Whole kept
+    → (whole.after m l).count ≡ l.count
+whole-count m l kept is = by (kept_of l.next l.dnssec m) (next_question l.next m.message) is
+  where
+    going : (k : KeptValue) (next : Query) (b : Bool)
+        → (if b then heard_as.Asks else heard_as.Fails) ≡ heard_as.Whole kept
+        → (if b then gone_on k next l else l).count ≡ l.count
+    going k next true is = absurd cc
+    going k next false is = refl
+
+    by : (k : Option KeptValue) (next : Option Query) → outcome_of k next l ≡ heard_as.Whole kept
+        → (after_of k next l).count ≡ l.count
+    by None next is = refl
+    by (Some k) None is = refl
+    by (Some k) (Some next) is = going k next (may_go_on l) is
 
 heard-same : (over : OverValue) (second : ℕ) (f : FetchValue) → IsSame f (heard_so over second f)
 heard-same over second f = record { waiting = refl; asked = by (response_of over) }
@@ -126,23 +269,23 @@ hears-so : {said : WireMessage → Type 0}
 unfolding as_told
 hears-so {said} over key f g b a none found same led says h = by (response_of over) refl
   where
+    after-reply : (m : WireMessage) → response_of over ≡ Some m → lookup_after over f ≡ whole.after m f.lookup
+    after-reply m is = ap (λ (o : Option WireMessage). option_map_or (λ x. whole.after x f.lookup) o f.lookup) is
+
     by-heard : (m : WireMessage) → response_of over ≡ Some m → (what : Heard) → heard m f.lookup ≡ what
         → Stills said (core b) (core a)
     by-heard m is heard_as.Asks how =
         let asks = rw (is, how) at h in
-        let after : lookup_after over f ≡ whole.after m f.lookup =
-        ap (λ (o : Option WireMessage). option_map_or (λ x. whole.after x f.lookup) o f.lookup) is in
         still-one (core b) (core a)
-        (is_heard (core b) (core a) key f g found same (record { reply = m; told = says m is; asks = how; led = led ∙ after }) asks.0.puts
+        (is_heard (core b) (core a) key f g found same
+        (record { reply = m; told = says m is; asks = how; led = led ∙ after-reply m is }) asks.0.puts
         (ap core asks.1))
     by-heard m is (heard_as.Whole kept) how =
         let ends = rw (is, how) at h in
         ends-fetch key (whole_end kept g b) f g b a none found same
-        (has_heard m kept (says m is) how b.options.allowed (denied_for g.lookup.asked.name b.options)
-        b.options.greatest_ttl (first_second g b) (ap (λ (q : Query).
-        end_of q (capped b.options.greatest_ttl
-        (without_denied b.options.allowed (denied_for g.lookup.asked.name b.options) kept)) (first_second g b))
-        same.asked))
+        (has_heard m kept (says m is) how
+        (ap (λ (l : LookupValue). l.count) (led ∙ after-reply m is) ∙ whole-count m f.lookup kept how)
+        (storing g b) (ap (λ (q : Query). end_so q kept (storing g b)) same.asked))
         ends
     by-heard m is heard_as.Fails how =
         let ends = rw (is, how) at h in
@@ -178,9 +321,54 @@ tells {said} t b a none says h = by (slice_get t.over.askers t.told) h
   where
     by : (o : Option ℕ) → MatchOption o (a ≡ record b { telling = None }) (TellsNext t b a) → Stills said (core b) (core a)
     by None h = as_before (core b) (core a) (ap core h)
-    by (Some asker) h = tells-asker t.over asker (record b { telling = Some (one_more t) }) a none says h
+    by (Some asker) h =
+        let counted = counts_asker t asker b in
+        more (core b) (core counted) (core a) (counts-asker t asker b says)
+        (tells-asker t.over asker counted a none says h)
 
 -- ---- a fetch asks its question
+
+-- what is kept of it, which may be put behind what came
+ends-by-kept : (f : FetchValue) (b : ForwarderValue) (cached : CachedValue) → found_end f b ≡ Some cached
+    → EndsByKept b.cache f.lookup (min (f.lookup.count - 1 + cached.replies) (2 ^ 32 - 1)) (second_of b) cached
+ends-by-kept f b cached h = by-key (next_key f) h
+  where
+    may : (x : CachedValue) (key : List ℕ) → told key (second_of b) b.cache.entries ≡ Some x
+        → nat_le (second_of b) x.told_until ≡ true → (ok : Bool) → may_end f b x ≡ ok → (if ok then Some x else None) ≡ Some cached
+        → EndsByKept b.cache f.lookup (min (f.lookup.count - 1 + cached.replies) (2 ^ 32 - 1)) (second_of b) cached
+    may x key found current false is h = absurd cc
+    may x key found current true is h =
+        let same : x ≡ cached = cc in
+        let alike = is_same_question (asked_octets f.lookup.next) (own_question x.reply) in
+        let few = nat_le (f.lookup.count + x.replies) (MOST_QUESTIONS + 1) in
+        let parts = all-true alike few (are_denied_alike f b.options && is_fresh_and_light b x) is in
+        subst (λ (y : CachedValue).
+        EndsByKept b.cache f.lookup (min (f.lookup.count - 1 + y.replies) (2 ^ 32 - 1)) (second_of b) y) same (record {
+          key = key;
+          found = found;
+          current = leb-true (second_of b) x.told_until current;
+          same = parts.0;
+          few = leb-true (f.lookup.count + x.replies) (MOST_QUESTIONS + 1) parts.1;
+          many = refl;
+        })
+
+    by-told : (x : CachedValue) (key : List ℕ) → told key (second_of b) b.cache.entries ≡ Some x → (current : Bool)
+        → nat_le (second_of b) x.told_until ≡ current → option_and_then (if_may_end f b) (if current then Some x else None) ≡ Some cached
+        → EndsByKept b.cache f.lookup (min (f.lookup.count - 1 + cached.replies) (2 ^ 32 - 1)) (second_of b) cached
+    by-told x key found false is h = absurd cc
+    by-told x key found true is h = may x key found is (may_end f b x) refl h
+
+    by-entry : (key : List ℕ) (o : Option CachedValue) → told key (second_of b) b.cache.entries ≡ o
+        → option_and_then (if_may_end f b) (option_and_then (if_told (second_of b)) o) ≡ Some cached
+        → EndsByKept b.cache f.lookup (min (f.lookup.count - 1 + cached.replies) (2 ^ 32 - 1)) (second_of b) cached
+    by-entry key None found h = absurd cc
+    by-entry key (Some x) found h = by-told x key found (nat_le (second_of b) x.told_until) refl h
+
+    by-key : (o : Option (List ℕ))
+        → option_and_then (if_may_end f b) (option_and_then (kept_under b) o) ≡ Some cached
+        → EndsByKept b.cache f.lookup (min (f.lookup.count - 1 + cached.replies) (2 ^ 32 - 1)) (second_of b) cached
+    by-key None h = absurd cc
+    by-key (Some key) h = by-entry key (told key (second_of b) b.cache.entries) refl h
 
 asks-by : {said : WireMessage → Type 0}
     (what : pool_asked.Asked) (key : List ℕ) (f : FetchValue) (b a : ForwarderValue) → b.replying ≡ None
@@ -198,11 +386,29 @@ asks-or : {said : WireMessage → Type 0}
     → fetch_at key b.fetches ≡ Some f → AsksOr what key f b a → Stills said (core b) (core a)
 unfolding as_told
 asks-or {said} (decision.Answer kept) key f b a none found h =
-    ends-fetch key (whole_end (whole_with kept f.lookup) f b) f f b a none found (same-fetch f)
-    (is_known kept b.options.allowed (denied_for f.lookup.asked.name b.options) b.options.greatest_ttl
-    (first_second f b) refl) h
-asks-or {said} (decision.Ask group) key f b a none found h =
-    asks-by (pool_says group (asks_with f b) b) key f (after_ask group (asks_with f b) b) a none found h
+    ends-fetch key (whole_end (whole_with kept f.lookup) f b) f (ended_by 0 f) b a none found
+    (record { waiting = refl; asked = refl }) (is_known kept refl (storing f b) refl) h
+asks-or {said} (decision.Ask group) key f b a none found h = by (found_end f b) refl h
+  where
+    asks : AsksPool group key f b a → Stills said (core b) (core a)
+    asks h = asks-by (pool_says group (asks_with f b) b) key f (after_ask group (asks_with f b) b) a none found h
+
+    by-read : (cached : CachedValue) → found_end f b ≡ Some cached → (readable : Bool)
+        → MatchOption (option_map {U = KeptValue × ℕ} (λ kept. (kept, cached.replies))
+        (if readable then Some (aged (elapsed cached.reply (second_of b)) cached.reply.kept) else None))
+        (AsksPool group key f b a) (λ end. EndsWith key end.0 end.1 f b a) → Stills said (core b) (core a)
+    by-read cached is false h = asks h
+    by-read cached is true h =
+        let here = aged (elapsed cached.reply (second_of b)) cached.reply.kept in
+        ends-fetch key (whole_end (whole_with here f.lookup) f b) f (ended_by cached.replies f) b a none
+        found (record { waiting = refl; asked = refl })
+        (is_kept (second_of b) cached (ends-by-kept f b cached is) (storing f b) (first-early f b) refl) h
+
+    by : (o : Option CachedValue) → found_end f b ≡ o
+        → MatchOption (option_and_then (as_end b) o) (AsksPool group key f b a)
+        (λ end. EndsWith key end.0 end.1 f b a) → Stills said (core b) (core a)
+    by None is h = asks h
+    by (Some cached) is h = by-read cached is (is_readable cached.reply) h
 
 asks-for : {said : WireMessage → Type 0}
     (key : List ℕ) (b a : ForwarderValue) → b.replying ≡ None → AsksFor b a key → Stills said (core b) (core a)
@@ -230,16 +436,20 @@ let-go-by : {said : WireMessage → Type 0}
     (same : Bool) (end : FetchEnd) (r : ReplyingValue) (b : ForwarderValue) → b.replying ≡ Some r
     → r.waiting ≡ [] → r.end ≡ end
     → Stills said (core b)
-    (core (if same then keeps_end r.key end (record b { replying = None }) else record b { replying = None }))
+    (core (if same then keeps_end r.key end r.replies (record b { replying = None }) else record b { replying = None }))
 let-go-by {said} true (Reply s) r b was none is =
     let gone = record b { replying = None } in
-    let kept = core (with_stored r.key s b) in
-    more (core b) kept (core (with_stored r.key s gone))
+    let kept = core (with_stored r.key s r.replies b) in
+    more (core b) kept (core (with_stored r.key s r.replies gone))
     (cache_changes (core b) kept
-    (stores r.key (as_cached s b) (weight_of s) (kept_until b.options (cached_until s b) (second_of b)) (second_of b))
-    (r, was, is, lasts s b, a-day b.options (cached_until s b) (second_of b)) refl)
-    (still-one kept (core (with_stored r.key s gone))
-    (is_let_go kept (core (with_stored r.key s gone)) r was none refl))
+    (stores r.key (as_cached s r.replies b) (weight_of s) (kept_until b.options (cached_until s b) (second_of b))
+    (second_of b)) (
+      inl (r, record { was = was; end = is; many = refl }),
+      lasts s b,
+      a-day b.options (cached_until s b) (second_of b),
+    ) refl)
+    (still-one kept (core (with_stored r.key s r.replies gone))
+    (is_let_go kept (core (with_stored r.key s r.replies gone)) r was none refl))
 let-go-by {said} true (Failure why) r b was none is =
     still-one (core b) (core (record b { replying = None }))
     (is_let_go (core b) (core (record b { replying = None })) r was none refl)
@@ -253,6 +463,35 @@ let-go : {said : WireMessage → Type 0}
 let-go {said} r b a was none h =
     subst (λ (x : ForwarderValue). Stills said (core b) (core x)) (sym h)
     (let-go-by (r.generation == b.generation) r.end r b was none refl)
+
+-- the end of a chain is stored, and then let go
+keeps-end-by : {said : WireMessage → Type 0} (same : Bool) (e : ChainEndValue) (b : ForwarderValue)
+    → b.chain_end ≡ Some e
+    → Stills said (core b)
+    (core (if same then without_failure e.key (with_stored e.key e.reply 1 (without_chain_end b))
+    else without_chain_end b))
+keeps-end-by {said} true e b was =
+    let kept = core (with_stored e.key e.reply 1 b) in
+    let let-go = core (with_stored e.key e.reply 1 (without_chain_end b)) in
+    let gone = core (without_failure e.key (with_stored e.key e.reply 1 (without_chain_end b))) in
+    more (core b) kept gone
+    (cache_changes (core b) kept
+    (stores e.key (as_cached e.reply 1 b) (weight_of e.reply)
+    (kept_until b.options (cached_until e.reply b) (second_of b)) (second_of b)) (
+      inr (e, record { was = was; end = refl; many = refl }),
+      lasts e.reply b,
+      a-day b.options (cached_until e.reply b) (second_of b),
+    ) refl)
+    (more kept let-go gone (no_chain_ends kept let-go refl)
+    (still-one let-go gone (failures_change let-go gone (removes e.key) refl)))
+keeps-end-by {said} false e b was =
+    still-one (core b) (core (without_chain_end b)) (no_chain_ends (core b) (core (without_chain_end b)) refl)
+
+keeps-chain-end : {said : WireMessage → Type 0} (e : ChainEndValue) (b a : ForwarderValue) → b.chain_end ≡ Some e
+    → a ≡ keeps_chain_end e (without_chain_end b) → Stills said (core b) (core a)
+keeps-chain-end {said} e b a was h =
+    subst (λ (x : ForwarderValue). Stills said (core b) (core x)) (sym h)
+    (keeps-end-by (e.generation == b.generation) e b was)
 
 -- ---- a step
 
@@ -390,9 +629,9 @@ replies-to r w b a action is first h =
       others_are = ap core h.1;
     }) h.0 (ap (λ (x : ForwarderValue). x.reply) h.1)
 
-pub steps : (b a : ForwarderValue) (action : Option ForwarderAction) → ForwarderSteps b action a
+replies-first : (b a : ForwarderValue) (action : Option ForwarderAction) → RepliesFirst b action a
     → StepMoves b a action
-steps b a action h = by b.replying refl h
+replies-first b a action h = by b.replying refl h
   where
     next : (r : ReplyingValue) → b.replying ≡ Some r → (o : Option RequestValue) → slice_get r.waiting 0 ≡ o
         → MatchOption o ((action ≡ Some act.Continue) × (a ≡ lets_go r b)) (RepliesTo r b action a)
@@ -405,6 +644,16 @@ steps b a action h = by b.replying refl h
     by None is h = asks-first b a action is h
     by (Some r) is h = next r is (slice_get r.waiting 0) refl h
 
+pub steps : (b a : ForwarderValue) (action : Option ForwarderAction) → ForwarderSteps b action a
+    → StepMoves b a action
+steps b a action h = by b.chain_end refl h
+  where
+    by : (o : Option ChainEndValue) → b.chain_end ≡ o
+        → MatchOption o (RepliesFirst b action a)
+        (λ e. (action ≡ Some act.Continue) × (a ≡ keeps_chain_end e (without_chain_end b))) → StepMoves b a action
+    by None is h = replies-first b a action h
+    by (Some e) is h = step_stays (continues action h.0) (keeps-chain-end e b a is h.1)
+
 -- ---- a step that is refused
 
 ends-for-memory : {said : WireMessage → Type 0}
@@ -415,36 +664,40 @@ ends-for-memory {said} key f g b a none found same h =
     (finishes key (Failure reason.Other) f g b a none found same (has_failed reason.Other refl) h)
 
 stops-next : {said : WireMessage → Type 0}
-    (t : TellingValue) (asker : ℕ) (b a : ForwarderValue) → b.replying ≡ None → StopsNext t b a asker
+    (t : TellingValue) (asker : ℕ) (b a : ForwarderValue) → b.replying ≡ None
+    → ((m : WireMessage) → response_of t.over ≡ Some m → said m) → StopsNext t b a asker
     → Stills said (core b) (core a)
-stops-next {said} t asker b a none h = by (asked_for asker b.fetches) h
+stops-next {said} t asker b a none says h =
+    more (core b) (core (counts_asker t asker b)) (core a) (counts-asker t asker b says)
+    (by (asked_for asker b.fetches) h)
   where
     by-key : (key : List ℕ) (o : Option FetchValue) → fetch_at key b.fetches ≡ o
         → MatchOption o ⊥ (λ f. EndsForMemory key (heard_so t.over (second_of b) f)
-        (forgets_asker asker (record b { telling = Some (one_more t) })) a)
-        → Stills said (core b) (core a)
+        (forgets_asker asker (counts_asker t asker b)) a)
+        → Stills said (core (counts_asker t asker b)) (core a)
     by-key key None is h = absurd h
     by-key key (Some f) is h =
         ends-for-memory key f (heard_so t.over (second_of b) f)
-        (forgets_asker asker (record b { telling = Some (one_more t) })) a none is
+        (forgets_asker asker (counts_asker t asker b)) a none is
         (heard-same t.over (second_of b) f) h
 
     by : (o : Option (List ℕ))
         → MatchOption o ⊥ (λ key. MatchOption (fetch_at key b.fetches) ⊥
         (λ f. EndsForMemory key (heard_so t.over (second_of b) f)
-        (forgets_asker asker (record b { telling = Some (one_more t) })) a)) → Stills said (core b) (core a)
+        (forgets_asker asker (counts_asker t asker b)) a)) → Stills said (core (counts_asker t asker b)) (core a)
     by None h = absurd h
     by (Some key) h = by-key key (fetch_at key b.fetches) refl h
 
 stops-telling : {said : WireMessage → Type 0}
-    (t : TellingValue) (b a : ForwarderValue) → b.replying ≡ None → StopsTelling b a t
+    (t : TellingValue) (b a : ForwarderValue) → b.replying ≡ None
+    → ((m : WireMessage) → response_of t.over ≡ Some m → said m) → StopsTelling b a t
     → Stills said (core b) (core a)
-stops-telling {said} t b a none (inl h) = as_before (core b) (core a) (ap core h)
-stops-telling {said} t b a none (inr h) = by (slice_get t.over.askers t.told) h
+stops-telling {said} t b a none says (inl h) = as_before (core b) (core a) (ap core h)
+stops-telling {said} t b a none says (inr h) = by (slice_get t.over.askers t.told) h
   where
     by : (o : Option ℕ) → MatchOption o ⊥ (StopsNext t b a) → Stills said (core b) (core a)
     by None h = absurd h
-    by (Some asker) h = stops-next t asker b a none h
+    by (Some asker) h = stops-next t asker b a none says h
 
 stops-prefetching : {said : WireMessage → Type 0}
     (b a : ForwarderValue) → StopsPrefetchingFirst b a → Stills said (core b) (core a)
@@ -454,39 +707,48 @@ stops-prefetching {said} b a h = by b.prefetch h
     by None h = as_before (core b) (core a) (ap core h)
     by (Some key) h = as_before (core b) (core a) (ap core h)
 
-stops-telling-first : {said : WireMessage → Type 0}
-    (b a : ForwarderValue) → b.replying ≡ None → StopsTellingFirst b a → Stills said (core b) (core a)
-stops-telling-first {said} b a none h = by b.telling h
+stops-telling-first : (b a : ForwarderValue) → b.replying ≡ None → StopsTellingFirst b a
+    → Stills (IsTelling b) (core b) (core a)
+stops-telling-first b a none h = by b.telling refl h
   where
-    by : (o : Option TellingValue) → MatchOption o (StopsPrefetchingFirst b a) (StopsTelling b a)
-        → Stills said (core b) (core a)
-    by None h = stops-prefetching b a h
-    by (Some t) h = stops-telling t b a none h
+    by : (o : Option TellingValue) → b.telling ≡ o → MatchOption o (StopsPrefetchingFirst b a) (StopsTelling b a)
+        → Stills (IsTelling b) (core b) (core a)
+    by None is h = stops-prefetching b a h
+    by (Some t) is h = stops-telling t b a none (λ m told. (t, is, told)) h
 
-stops-asking : {said : WireMessage → Type 0}
-    (key : List ℕ) (b a : ForwarderValue) → b.replying ≡ None → StopsAsking b a key
-    → Stills said (core b) (core a)
-stops-asking {said} key b a none (inl h) = as_before (core b) (core a) (ap core h)
-stops-asking {said} key b a none (inr h) = by (fetch_at key b.fetches) refl h
+stops-asking : (key : List ℕ) (b a : ForwarderValue) → b.replying ≡ None → StopsAsking b a key
+    → Stills (IsTelling b) (core b) (core a)
+stops-asking key b a none (inl h) = as_before (core b) (core a) (ap core h)
+stops-asking key b a none (inr h) = by (fetch_at key b.fetches) refl h
   where
     by : (o : Option FetchValue) → fetch_at key b.fetches ≡ o
-        → MatchOption o ⊥ (λ f. EndsForMemory key f (has_turn b) a) → Stills said (core b) (core a)
+        → MatchOption o ⊥ (λ f. EndsForMemory key f (has_turn b) a) → Stills (IsTelling b) (core b) (core a)
     by None is h = absurd h
     by (Some f) is h = ends-for-memory key f f (has_turn b) a none is (same-fetch f) h
 
-stops-first : {said : WireMessage → Type 0}
-    (b a : ForwarderValue) → b.replying ≡ None → StopsAskingFirst b a → Stills said (core b) (core a)
-stops-first {said} b a none h = by (slice_get b.fetches.to_ask 0) h
+stops-first : (b a : ForwarderValue) → b.replying ≡ None → StopsAskingFirst b a
+    → Stills (IsTelling b) (core b) (core a)
+stops-first b a none h = by (slice_get b.fetches.to_ask 0) h
   where
-    by : (o : Option (List ℕ)) → MatchOption o (StopsTellingFirst b a) (StopsAsking b a) → Stills said (core b) (core a)
+    by : (o : Option (List ℕ)) → MatchOption o (StopsTellingFirst b a) (StopsAsking b a)
+        → Stills (IsTelling b) (core b) (core a)
     by None h = stops-telling-first b a none h
     by (Some key) h = stops-asking key b a none h
 
-pub is-refused : {said : WireMessage → Type 0} (b a : ForwarderValue) → StopsStep b a → Stills said (core b) (core a)
-is-refused {said} b a h = by b.replying refl h
+stops-replying-first : (b a : ForwarderValue) → StopsReplyingFirst b a → Stills (IsTelling b) (core b) (core a)
+stops-replying-first b a h = by b.replying refl h
   where
     by : (o : Option ReplyingValue) → b.replying ≡ o → MatchOption o (StopsAskingFirst b a) (IsLetGo b a)
-        → Stills said (core b) (core a)
+        → Stills (IsTelling b) (core b) (core a)
     by None is stop = stops-first b a is stop
     by (Some r) is stop =
         still-one (core b) (core a) (is_let_go (core b) (core a) r is (none-first r.waiting stop.0) (ap core stop.1))
+
+pub is-refused : (b a : ForwarderValue) → StopsStep b a → Stills (IsTelling b) (core b) (core a)
+is-refused b a h = by b.chain_end h
+  where
+    by : (o : Option ChainEndValue) → MatchOption o (StopsReplyingFirst b a) (λ e. a ≡ without_chain_end b)
+        → Stills (IsTelling b) (core b) (core a)
+    by None stop = stops-replying-first b a stop
+    by (Some e) stop =
+        still-one (core b) (core a) (no_chain_ends (core b) (core a) (ap core stop))

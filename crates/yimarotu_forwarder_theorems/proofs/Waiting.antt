@@ -15,7 +15,7 @@ use Rattle.yimarotu_forwarder.specs.Late.{late_replying, with_nobody}
 use Rattle.yimarotu_forwarder.specs.Leaving.{fetch_without, replying_without}
 use Rattle.yimarotu_forwarder.specs.Telling.{replying_of}
 use Rattle.yimarotu_forwarder_theorems.specs.Replies.{under, untold_under}
-use Rattle.yimarotu_forwarder_theorems.proofs.Cores.{Core, Fetching, Joins, Leaves, Puts, Still, Stills, as_before, begins_alone, cache_changes, failures_change, is_flushed, is_heard, is_let_go, is_over, is_told_late, left_by, more, waiting_for}
+use Rattle.yimarotu_forwarder_theorems.proofs.Cores.{Core, Fetching, Joins, Leaves, Puts, Still, Stills, as_before, begins_alone, cache_changes, chain_ends, failures_change, is_flushed, is_heard, is_let_go, is_over, is_told_late, left_by, more, no_chain_ends, waiting_for}
 use Rattle.yimarotu_forwarder_theorems.proofs.Keys.{own-key, put-waits, same-key, turned}
 
 abbrev pub waiting : List ℕ → Core → List RequestValue
@@ -82,6 +82,8 @@ still-waits key c d (is_let_go c' d' r was none e) =
     ap (waiting key) e
     ∙ sym (ap (λ (ws : List RequestValue). ws ++ waiting_for (fetch_in key c.fetches))
     (ap (untold_under key) was ∙ none-untold key r none))
+still-waits key c d (chain_ends c' d' end is e) = ap (waiting key) e
+still-waits key c d (no_chain_ends c' d' e) = ap (waiting key) e
 still-waits key c d (is_flushed c' d' labels below e) = ap (waiting key) e
 still-waits key c d (begins_alone c' d' k f none waits begins puts e) =
     ap (waiting key) e

@@ -1,5 +1,5 @@
 -- What look-ups come to, and what is kept of it.
-use Rattle.std.specs.Prelude.{◌≡◌, ◌⊎◌, ℕ, ◌+◌, ◌<◌, ◌≤◌, Bool, List, [], ◌∷◌, length, Some}
+use Rattle.std.specs.Prelude.{◌≡◌, ◌⊎◌, ℕ, ◌+◌, ◌<◌, ◌≤◌, Bool, true, List, [], ◌∷◌, ◌++◌, length, Some}
 use Rattle.std.specs.List.{AllByRecursion}
 use Rattle.hickory_proto_core.specs.Records.{RecordValue}
 use Rattle.hickory_proto_core.specs.declared.query.Query.{Query}
@@ -9,18 +9,21 @@ use Rattle.hickory_resolver_pool.specs.Pool.{PoolState}
 use Rattle.client_requests.specs.declared.fetch_end.FetchEnd.TheVariants.{Reply}
 use Rattle.second_chance_cache.specs.SecondChance.{Entry}
 use Rattle.second_chance_cache.specs.declared.bounds.CacheBounds.{CacheBounds}
+use Rattle.stored_replies.specs.Key.{is_same_question}
 use Rattle.stored_replies.specs.Stale.{stale_of}
-use Rattle.stored_replies.specs.Stored.{StoredValue, stored_at}
+use Rattle.stored_replies.specs.Stored.{StoredValue, elapsed, stored_at}
+use Rattle.stored_replies.specs.Told.{own_question}
 use Rattle.whole_lookups.specs.Capped.{capped}
 use Rattle.whole_lookups.specs.Denied.{without_denied}
 use Rattle.whole_lookups.specs.Laws.{after_all, whole_of}
 use Rattle.whole_lookups.specs.Lookups.{LookupValue, begun, whole_with}
 use Rattle.whole_lookups.specs.declared.choices.TheConstants.{MOST_QUESTIONS}
-use Rattle.whole_replies.specs.Kept.{KeptValue}
+use Rattle.whole_replies.specs.Kept.{KeptValue, aged}
 use Rattle.yimarotu_forwarder.specs.Cached.{CachedValue}
 use Rattle.yimarotu_forwarder.specs.Fetches.{FetchValue, fetch_at}
-use Rattle.yimarotu_forwarder.specs.Forwarders.{ForwarderValue, ReplyingValue, TellingValue, new_forwarder, second_of}
+use Rattle.yimarotu_forwarder.specs.Forwarders.{ChainEndValue, ForwarderValue, ReplyingValue, TellingValue, new_forwarder, second_of}
 use Rattle.yimarotu_forwarder.specs.Local.{LocalValue}
+use Rattle.yimarotu_forwarder.specs.NextQuestions.{asked_octets}
 use Rattle.yimarotu_forwarder.specs.Options.{OptionsValue, stale_seconds}
 use Rattle.yimarotu_forwarder.specs.Stale.{stale_in}
 use Rattle.yimarotu_forwarder.specs.Telling.{response_of}
@@ -48,32 +51,44 @@ pub record HeardReplies (past : List Happening) (l : LookupValue) : Type 0 where
   pub heard : l ≡ after_all (begun question dnssec) replies
   pub few : l.count ≤ MOST_QUESTIONS
 
--- These replies to a question and to what it led to make the whole reply; or they lead to a name of which is known here
--- what is put behind them.
-pub data IsMadeOf (question : Query) (dnssec : Bool) (replies : List WireMessage) (kept : KeptValue) : Type 0 where
-  by_servers : whole_of (begun question dnssec) replies ≡ Some kept → IsMadeOf question dnssec replies kept
-  by_local_data : (here : KeptValue) → kept ≡ whole_with here (after_all (begun question dnssec) replies)
-      → IsMadeOf question dnssec replies kept
+-- Up to this second it is no older than the least of its TTLs.
+abbrev pub LastsTo : StoredValue → ℕ → Type 0
+LastsTo s deadline = deadline ≤ s.moment + s.kept.seconds
 
--- What few replies to a question make, without addresses that were denied, and with no TTL above the greatest, as it
--- was stored at a second.
-pub record IsAnswer (past : List Happening) (s : StoredValue) : Type 0 where
-  pub question : Query
-  pub dnssec : Bool
-  pub replies : List WireMessage
-  pub told : AllByRecursion (WasTold past) replies
-  pub few : length replies ≤ MOST_QUESTIONS
-  pub kept : KeptValue
-  pub made : IsMadeOf question dnssec replies kept
+-- how a whole reply was stored: the networks whose addresses it may have and may not, the greatest TTL, and the second
+pub record Storing : Type 0 where
   pub allowed : List IpNet
   pub denied : List IpNet
   pub greatest : ℕ
   pub second : ℕ
-  pub stored : s ≡ stored_at question (capped greatest (without_denied allowed denied kept)) second
 
--- Up to this second it is no older than the least of its TTLs.
-abbrev pub LastsTo : StoredValue → ℕ → Type 0
-LastsTo s deadline = deadline ≤ s.moment + s.kept.seconds
+-- without addresses that are denied, and with no TTL above the greatest
+abbrev pub stored_so : Query → KeptValue → Storing → StoredValue
+stored_so q kept how =
+    stored_at q (capped how.greatest (without_denied how.allowed how.denied kept)) how.second
+
+-- These replies to a question and to what it led to make the whole reply that was stored. Or they lead to a name of which
+-- is known here what is put behind them; or to a question for which such a reply was kept, which is put behind them as
+-- it had aged at a second at which it could be told, and from which on, or from an earlier one, the whole ages.
+pub data IsMadeOf : List WireMessage → StoredValue → Type 0 where
+  by_servers : (q : Query) (dnssec : Bool) (replies : List WireMessage) (kept : KeptValue) (how : Storing)
+      (s : StoredValue) → whole_of (begun q dnssec) replies ≡ Some kept → s ≡ stored_so q kept how
+      → IsMadeOf replies s
+  by_local_data : (q : Query) (dnssec : Bool) (replies : List WireMessage) (here : KeptValue) (how : Storing)
+      (s : StoredValue) → s ≡ stored_so q (whole_with here (after_all (begun q dnssec) replies)) how
+      → IsMadeOf replies s
+  by_kept_end : (q : Query) (dnssec : Bool) (first last : List WireMessage) (end : StoredValue) (second : ℕ)
+      (how : Storing) (s : StoredValue) → IsMadeOf last end → LastsTo end second → how.second ≤ second
+      → is_same_question (asked_octets (after_all (begun q dnssec) first).next) (own_question end) ≡ true
+      → s ≡ stored_so q (whole_with (aged (elapsed end second) end.kept) (after_all (begun q dnssec) first)) how
+      → IsMadeOf (first ++ last) s
+
+-- what few replies that were told make
+pub record IsAnswer (past : List Happening) (s : StoredValue) : Type 0 where
+  pub replies : List WireMessage
+  pub told : AllByRecursion (WasTold past) replies
+  pub few : length replies ≤ MOST_QUESTIONS
+  pub made : IsMadeOf replies s
 
 -- It is an answer; as it ages it is told up to no later second than it lasts; and it is kept for a day after that at
 -- the most.
@@ -82,10 +97,12 @@ pub record IsKeptAnswer (past : List Happening) (cached : CachedValue) (deadline
   pub lasts : LastsTo cached.reply cached.told_until
   pub a_day : deadline ≤ cached.told_until + LONGEST_STALE
 
--- Look-ups that go on, what those who waited are told of one that is over, and what is kept
+-- Look-ups that go on, what those who waited are told of one that is over, the end of a chain that is to be kept, and
+-- what is kept
 pub record AreOfReplies (past : List Happening) (s : ForwarderValue) : Type 0 where
   pub going_on : (key : List ℕ) (f : FetchValue) → fetch_at key s.fetches ≡ Some f → HeardReplies past f.lookup
   pub told : (r : ReplyingValue) (end : StoredValue) → s.replying ≡ Some r → r.end ≡ Reply end → IsAnswer past end
+  pub chain_end : (e : ChainEndValue) → s.chain_end ≡ Some e → IsAnswer past e.reply
   pub kept : AllByRecursion (λ (e : Entry CachedValue). IsKeptAnswer past e.value e.deadline) s.cache.entries
 
 -- The answer of a look-up is what at most eight replies that were told make, one after another, and so is all that is

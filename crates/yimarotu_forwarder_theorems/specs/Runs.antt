@@ -1,12 +1,12 @@
 -- What happened to a forwarder, one thing after another.
 use Rattle.std.specs.Prelude.{◌≡◌, ℕ, Bool, List, [], ◌∷◌, Option}
 use Rattle.hickory_proto_core.specs.Name.{NameValue}
-use Rattle.hickory_resolver_pool.specs.Pool.{after_failure, after_octets, after_servers}
+use Rattle.hickory_resolver_pool.specs.Pool.{after_octets, after_servers}
 use Rattle.hickory_resolver_pool.specs.Servers.{PoolServerValue}
 use Rattle.hickory_resolver_traffic.specs.declared.inbox.ChannelFailure.{ChannelFailure}
 use Rattle.client_requests.specs.declared.client.Client.{Client}
 use Rattle.yimarotu_forwarder.specs.Flushing.{flushed}
-use Rattle.yimarotu_forwarder.specs.Forwarders.{ForwarderValue, at_moment, cleared, moment_passes, with_local, with_pool}
+use Rattle.yimarotu_forwarder.specs.Forwarders.{ForwarderValue, at_moment, channel_failed, cleared, moment_passes, with_local, with_pool}
 use Rattle.yimarotu_forwarder.specs.Leaving.{gone}
 use Rattle.yimarotu_forwarder.specs.Local.{LocalValue}
 use Rattle.yimarotu_forwarder.specs.Options.{OptionsValue}
@@ -39,8 +39,7 @@ Happens (query_is_refused now) before after = after ≡ at_moment now before
 Happens (client_is_gone client) before after = after ≡ gone client before
 Happens (octets_come channel octets now) before after =
     after ≡ moment_passes now (with_pool (after_octets channel octets now before.pool) before)
-Happens (channel_fails failure now) before after =
-    after ≡ moment_passes now (with_pool (after_failure failure now before.pool) before)
+Happens (channel_fails failure now) before after = after ≡ channel_failed failure now before
 Happens (time_passes now) before after = after ≡ at_moment now before
 Happens (servers_are group servers) before after = after ≡ with_pool (after_servers group servers before.pool) before
 Happens (local_data_is local) before after = after ≡ with_local local before
