@@ -1,7 +1,7 @@
 -- A fetch after another is left.
-use Rattle.std.proofs.Common.{◌≡◌, ◌∙◌, ℕ, zero, suc, ◌+◌, ◌≤◌, true, false, List, [], ◌∷◌, ◌++◌, add-one, ap, ap₂, append-nil, arith, length, refl, sym, drop, fold, map, take}
+use Rattle.std.proofs.Common.{◌≡◌, ◌∙◌, ℕ, zero, suc, ◌+◌, ◌≤◌, true, false, List, [], ◌∷◌, ◌++◌, add-one, ap, ap₂, append-nil, arith, length, sym, drop, fold, map, take}
 use Rattle.std.proofs.lemmas.List.{drop_all, take_all}
-use Rattle.std.specs.Prelude.{Option, None, Some, slice_get}
+use Rattle.std.specs.Prelude.{None, Some, slice_get}
 use Rattle.std.specs.Map.{values_of}
 use Rattle.indexmap.specs.Layout.{length-set_value_at, set_value_at}
 use Rattle.client_limits.specs.Counts.{CountsValue}

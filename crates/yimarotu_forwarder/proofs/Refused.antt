@@ -24,6 +24,10 @@ pub if_done : {A E P Q : Type 0} (r : Result A E) → (P → Q) → OnOk r P →
 if_done (Ok a) f p = f p
 if_done (Err e) f p = p
 
+pub if_ok : {A E P : Type 0} (r : Result A E) (a : A) → r ≡ Ok a → OnOk r P → P
+if_ok (Ok x) a is p = p
+if_ok (Err e) a is p = absurd cc
+
 -- what is done for a fetch that is found
 pub if_done_for : {A E F Q : Type 0} {H P : F → Type 0} (r : Result A E) → (((f : F) → H f → P f) → Q)
     → ((f : F) → H f → OnOk r (P f)) → OnOk r Q

@@ -1,5 +1,5 @@
 -- Requests that wait for what servers say.
-use Rattle.std.specs.Prelude.{◌≡◌, ℕ, Bool, true, false, List, [], ◌∷◌, length, Option, None, MatchOption}
+use Rattle.std.specs.Prelude.{◌≡◌, ℕ, Bool, true, false, List, [], ◌∷◌, length, Option, None, MatchOption, ◌&&◌, nat_lt}
 use Rattle.std.specs.declared.net.IpAddr.{IpAddr}
 use Rattle.hickory_proto_core.specs.declared.query.Query.{Query}
 use Rattle.hickory_proto_wire.specs.Messages.{bit}
@@ -108,10 +108,14 @@ BeginsOr true q r group before answered after =
     (BeginsWith q r (pool_question q (asks_dnssec r.query.edns) (bit 16 r.query.flags) before) group before answered
     after)
 
--- where one more may wait
+-- One more may wait. No more questions are looked up than clients may wait, also where those for whom they are wait no
+-- more.
+abbrev pub may_begin : RequestValue → ForwarderValue → Bool
+may_begin r s =
+    admits s.options.limits r.client.address 0 s.counts && nat_lt (length s.fetches.fetches) s.options.limits.all
+
 abbrev pub BeginsLookup : Query → RequestValue → ℕ → ForwarderValue → Outcome → ForwarderValue → Type 0
-BeginsLookup q r group before =
-    BeginsOr (admits before.options.limits r.client.address 0 before.counts) q r group before
+BeginsLookup q r group before = BeginsOr (may_begin r before) q r group before
 
 -- ---- one more waits for a fetch
 

@@ -1,12 +1,12 @@
 -- What is kept of a question that a reply led to.
 use Rattle.std.specs.Prelude.{ℕ, ◌+◌, ◌-◌, ◌^◌, min, Bool, not, ◌&&◌, List, ◌++◌, nat_le, Option, None, Some, if◌then◌else◌}
-use Rattle.std.specs.Option.{option_and_then, option_map}
+use Rattle.std.specs.Option.{option_and_then, option_map, option_map_or}
 use Rattle.hickory_proto_codes.specs.Codes.{class_code, type_code}
 use Rattle.hickory_proto_core.specs.Name.{wire_form}
 use Rattle.hickory_proto_core.specs.declared.query.Query.{Query}
 use Rattle.hickory_proto_wire.specs.Writing.{u16_octets}
 use Rattle.client_requests.specs.Keys.{key_for}
-use Rattle.second_chance_cache.specs.SecondChance.{told}
+use Rattle.second_chance_cache.specs.SecondChance.{Entry, asked, told}
 use Rattle.stored_replies.specs.Key.{is_same_question}
 use Rattle.stored_replies.specs.Stored.{read_at, weight_of}
 use Rattle.stored_replies.specs.Told.{own_question}
@@ -64,6 +64,14 @@ as_end s cached =
 
 abbrev pub kept_end : FetchValue → ForwarderValue → Option (KeptValue × ℕ)
 kept_end f s = option_and_then (as_end s) (found_end f s)
+
+-- It counts as asked for again: so entries are once this key, where there is one, is asked for.
+abbrev pub asked_where : Option (List ℕ) → ℕ → List (Entry CachedValue) → List (Entry CachedValue)
+asked_where key now es = option_map_or (λ k. asked k now es) key es
+
+abbrev pub with_asked_where : Option (List ℕ) → ForwarderValue → ForwarderValue
+with_asked_where key s =
+    record s { cache = record s.cache { entries = asked_where key (second_of s) s.cache.entries } }
 
 -- a fetch whose question is answered here, by what so many replies made
 abbrev pub ended_by : ℕ → FetchValue → FetchValue

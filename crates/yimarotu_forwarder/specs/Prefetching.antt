@@ -1,10 +1,12 @@
 -- What is kept is looked up anew before its end, while nobody waits for it.
-use Rattle.std.specs.Prelude.{◌≡◌, ℕ, Bool, List, [], ◌∷◌, ◌++◌, drop, get_or, Option, None, Some, MatchOption}
+use Rattle.std.specs.Prelude.{◌≡◌, ◌&&◌, ℕ, Bool, true, false, List, [], ◌∷◌, ◌++◌, drop, get_or, length, nat_lt, Option, None, MatchOption}
+use Rattle.std.specs.Option.{is_none}
 use Rattle.hickory_proto_core.specs.declared.query.Query.{Query}
 use Rattle.hickory_proto_wire.specs.Messages.{bit, message_of}
 use Rattle.hickory_resolver_pool.specs.declared.pool.Asked as pool_asked
 use Rattle.hickory_resolver_pool.specs.declared.pool.Asked.TheVariants as asked
 use Rattle.hickory_resolver_tries.specs.declared.pool_question.PoolQuestion.{PoolQuestion}
+use Rattle.kept_failures.specs.Failures.{failure_at}
 use Rattle.local_answers.specs.declared.local_data.Decision.{Decision}
 use Rattle.local_answers.specs.declared.local_data.Decision.TheVariants as decision
 use Rattle.whole_lookups.specs.Lookups.{begun}
@@ -14,6 +16,7 @@ use Rattle.yimarotu_forwarder.specs.Forwarders.{ForwarderValue, second_of}
 use Rattle.yimarotu_forwarder.specs.Local.{IsDecided}
 use Rattle.yimarotu_forwarder.specs.LookingUp.{after_ask, pool_question, pool_says}
 use Rattle.yimarotu_forwarder.specs.Queries.{first_query}
+use Rattle.yimarotu_forwarder.specs.declared.choices.TheConstants.{FEW_FETCHES}
 
 -- ---- what a key asks
 
@@ -73,13 +76,24 @@ pub record DecidesLone (key : List ℕ) (before after : ForwarderValue) (q : Que
   pub decided : IsDecided before.local q (second_of before) found
   pub asks : AsksLone found q key before after
 
--- a question that is looked up is not asked again
 abbrev pub PrefetchesUnasked : List ℕ → ForwarderValue → ForwarderValue → Type 0
 PrefetchesUnasked key before after = MatchOption (key_query key) (after ≡ before) (DecidesLone key before after)
 
+-- Nobody waits for it, so nobody is counted for it: it is looked up while few are. One that failed shortly before is not
+-- asked again (RFC 9520, section 3.2).
+abbrev pub may_prefetch : List ℕ → ForwarderValue → Bool
+may_prefetch key s =
+    nat_lt (length s.fetches.fetches) FEW_FETCHES && is_none (failure_at key (second_of s) s.failures)
+
+abbrev pub PrefetchesWhere : Bool → List ℕ → ForwarderValue → ForwarderValue → Type 0
+PrefetchesWhere true key before after = PrefetchesUnasked key before after
+PrefetchesWhere false key before after = after ≡ before
+
+-- a question that is looked up is not asked again
 abbrev pub PrefetchesKey : List ℕ → ForwarderValue → ForwarderValue → Type 0
 PrefetchesKey key before after =
-    MatchOption (fetch_at key before.fetches) (PrefetchesUnasked key before after) (λ f. after ≡ before)
+    MatchOption (fetch_at key before.fetches) (PrefetchesWhere (may_prefetch key before) key before after)
+    (λ f. after ≡ before)
 
 abbrev pub without_prefetch : ForwarderValue → ForwarderValue
 without_prefetch s = record s { prefetch = None }

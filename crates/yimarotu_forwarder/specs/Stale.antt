@@ -11,11 +11,9 @@ use Rattle.yimarotu_forwarder.specs.Cached.{CachedValue}
 use Rattle.yimarotu_forwarder.specs.Forwarders.{ForwarderValue, second_of}
 use Rattle.yimarotu_forwarder.specs.Options.{OptionsValue, stale_seconds}
 
--- The last second at which a reply is kept that is told, as it ages, up to a second. What is told for no time is not
--- told past its end either.
-abbrev pub kept_until : OptionsValue → ℕ → ℕ → ℕ
-kept_until o told_until now =
-    if nat_lt now told_until then saturated (told_until + stale_seconds o) else told_until
+-- The last second at which a reply is kept that is told, as it ages, up to a second.
+abbrev pub kept_until : OptionsValue → ℕ → ℕ
+kept_until o told_until = saturated (told_until + stale_seconds o)
 
 -- past its end, and by no more seconds than that
 abbrev pub if_stale : OptionsValue → ℕ → CachedValue → Option StoredValue

@@ -1,6 +1,6 @@
 -- The steps of a forwarder: who waits is replied to, questions are asked, askers are told, what is kept is looked up
 -- anew, those are told who wait for a look-up that is late, and else what the pool does next.
-use Rattle.std.specs.Prelude.{◌≡◌, ◌==◌, ◌+◌, ◌⊎◌, ℕ, List, Option, None, Some, MatchOption, drop, min, slice_get, if◌then◌else◌}
+use Rattle.std.specs.Prelude.{◌≡◌, ◌==◌, ◌+◌, ◌⊎◌, ℕ, List, Option, None, Some, MatchOption, drop, min, nat_lt, slice_get, if◌then◌else◌}
 use Rattle.hickory_resolver_pool.specs.Pool.{PoolState}
 use Rattle.hickory_resolver_tries.specs.declared.pool_question.PoolQuestion.{PoolQuestion}
 use Rattle.hickory_resolver_pool.specs.Pool as pool
@@ -16,7 +16,7 @@ use Rattle.failure_replies.specs.declared.failure.FailureReason.TheVariants as r
 use Rattle.yimarotu_forwarder.specs.Local.{IsDecided}
 use Rattle.local_answers.specs.declared.local_data.Decision.{Decision}
 use Rattle.local_answers.specs.declared.local_data.Decision.TheVariants as decision
-use Rattle.second_chance_cache.specs.SecondChance.{stored, without}
+use Rattle.second_chance_cache.specs.SecondChance.{CacheValue, stored, without}
 use Rattle.stored_replies.specs.Stored.{StoredValue, saturated, until, weight_of}
 use Rattle.whole_lookups.specs.Lookups.{whole_with}
 use Rattle.whole_replies.specs.Kept.{KeptValue}
@@ -25,7 +25,7 @@ use Rattle.yimarotu_forwarder.specs.Fetches.{FetchValue, fetch_at, first_asked, 
 use Rattle.yimarotu_forwarder.specs.Forwarders.{ChainEndValue, ForwarderValue, ReplyingValue, TellingValue, second_of}
 use Rattle.yimarotu_forwarder.specs.Late.{TellsLate, first_due}
 use Rattle.yimarotu_forwarder.specs.LookingUp.{after_ask, pool_question, pool_says}
-use Rattle.yimarotu_forwarder.specs.NextQuestions.{ended_by, kept_end}
+use Rattle.yimarotu_forwarder.specs.NextQuestions.{ended_by, kept_end, next_key, with_asked_where}
 use Rattle.yimarotu_forwarder.specs.Prefetching.{Prefetches, without_prefetch}
 use Rattle.yimarotu_forwarder.specs.Stale.{kept_until, told_end}
 use Rattle.yimarotu_forwarder.specs.Telling.{EndsFetch, EndsForMemory, Finishes, StopsTelling, Tells, first_telling, whole_end}
@@ -55,14 +55,16 @@ as_cached s replies f = record {
   replies = replies;
 }
 
--- a reply that so many replies of servers made
+-- So what is kept is once a reply is stored that so many replies of servers made. One that is told for no time is not
+-- kept, and what was kept before it goes.
+abbrev pub cache_with : List ℕ → StoredValue → ℕ → ForwarderValue → CacheValue CachedValue
+cache_with key s replies f =
+    if nat_lt (second_of f) (cached_until s f)
+    then stored key (as_cached s replies f) (weight_of s) (kept_until f.options (cached_until s f)) (second_of f) f.cache
+    else record f.cache { entries = without key f.cache.entries }
+
 abbrev pub with_stored : List ℕ → StoredValue → ℕ → ForwarderValue → ForwarderValue
-with_stored key s replies f =
-    record f {
-      cache =
-          stored key (as_cached s replies f) (weight_of s) (kept_until f.options (cached_until s f) (second_of f))
-          (second_of f) f.cache;
-    }
+with_stored key s replies f = record f { cache = cache_with key s replies f }
 
 abbrev pub keeps_end : List ℕ → FetchEnd → ℕ → ForwarderValue → ForwarderValue
 keeps_end key (Reply s) replies f = with_stored key s replies f
@@ -115,12 +117,13 @@ abbrev pub EndsWith : List ℕ → KeptValue → ℕ → FetchValue → Forwarde
 EndsWith key kept replies f before after =
     EndsFetch key (whole_end (whole_with kept f.lookup) f before) (ended_by replies f) before after
 
--- what is known here of the name, and else what is kept of the question; and else servers are asked
+-- what is known here of the name, and else what is kept of the question, which counts as asked for again; and else
+-- servers are asked
 abbrev pub AsksOr : Decision → List ℕ → FetchValue → ForwarderValue → ForwarderValue → Type 0
 AsksOr (decision.Answer kept) key f before after = EndsWith key kept 0 f before after
 AsksOr (decision.Ask group) key f before after =
     MatchOption (kept_end f before) (AsksPool group key f before after)
-    (λ end. EndsWith key end.0 end.1 f before after)
+    (λ end. EndsWith key end.0 end.1 f (with_asked_where (next_key f) before) after)
 
 -- what is decided of the question that the fetch of a key has to ask
 abbrev pub IsDecidedAs : ForwarderValue → Option Decision → FetchValue → Type 0

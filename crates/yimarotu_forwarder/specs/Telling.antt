@@ -1,5 +1,5 @@
 -- What a transaction of the servers came to, and what a fetch makes of it.
-use Rattle.std.specs.Prelude.{◌≡◌, ◌+◌, ◌⊎◌, ◌&&◌, ℕ, Bool, true, false, not, min, nat_lt, List, Option, None, Some, MatchOption, slice_get, if◌then◌else◌}
+use Rattle.std.specs.Prelude.{◌≡◌, ◌==◌, ◌+◌, ◌⊎◌, ◌&&◌, ℕ, Bool, true, false, not, min, nat_lt, List, Option, None, Some, MatchOption, slice_get, if◌then◌else◌}
 use Rattle.std.specs.Option.{is_none, option_and_then, option_map_or}
 use Rattle.hickory_proto_names.specs.Name.{NameValue}
 use Rattle.hickory_proto_wire.specs.declared.wire_message.WireMessage.{WireMessage}
@@ -89,17 +89,26 @@ pub record Finishes (key : List ℕ) (end : FetchEnd) (f : FetchValue) (before a
   pub ends : Ends key before.fetches after.fetches
   pub others_are : after ≡ record before { fetches = after.fetches; replying = Some (replying_of key end f) }
 
+-- Of a look-up that began before local data changed, when other servers may have been asked, nothing is noted.
+abbrev pub noted_of : List ℕ → FetchEnd → FetchValue → ForwarderValue → FailuresValue FailureReason
+noted_of key end f s =
+    if f.generation == s.generation then failures_after key end f.began s.stalled (second_of s) s.failures
+    else s.failures
+
 -- and that is noted
 abbrev pub with_end : List ℕ → FetchEnd → FetchValue → ForwarderValue → ForwarderValue
-with_end key end f s =
-    record s { failures = failures_after key end f.began s.stalled (second_of s) s.failures }
+with_end key end f s = record s { failures = noted_of key end f s }
 
 abbrev pub EndsFetch : List ℕ → FetchEnd → FetchValue → ForwarderValue → ForwarderValue → Type 0
 EndsFetch key end f before after = Finishes key end f (with_end key end f before) after
 
+-- the earlier of that at which the first of its replies came, where one did, and this one
+abbrev pub earlier_second : Option ℕ → ℕ → ℕ
+earlier_second heard second = option_map_or (λ first. min first second) heard second
+
 -- It counts from the second at which the first of its replies came, so that no record outlives what was received.
 abbrev pub first_second : FetchValue → ForwarderValue → ℕ
-first_second f s = option_map_or (λ second. min second (second_of s)) f.heard (second_of s)
+first_second f s = earlier_second f.heard (second_of s)
 
 -- A whole reply to a question for a name as it is told: without the addresses that are denied, and with no TTL above the
 -- greatest.
@@ -154,7 +163,7 @@ lookup_after over f = option_map_or (λ m. whole.after m f.lookup) (response_of 
 
 -- the second at which the first of its replies came, once it hears this
 abbrev pub heard_after : Told → ℕ → Option ℕ → Option ℕ
-heard_after told.Asks second heard = Some (option_map_or (λ first. first) heard second)
+heard_after told.Asks second heard = Some (earlier_second heard second)
 heard_after other second heard = heard
 
 -- it was heard at a second

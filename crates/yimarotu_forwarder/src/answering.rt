@@ -283,7 +283,7 @@ fn told_in<'a>(cache: &'a Cache, key: &ReplyKey, second: u64) -> Option<&'a Cach
 }
 
 // What is kept under a key was asked for again.
-fn mark(cache: &mut Cache, key: &ReplyKey, second: u64)
+pub(crate) fn mark(cache: &mut Cache, key: &ReplyKey, second: u64)
     ensures { cache.new ≡ record cache.old { entries = asked key.now second cache.old.entries } }
 {
     let _ = cache.get(key.as_slice(), second);

@@ -6,9 +6,10 @@ ghost use Rattle.hickory_proto_wire.specs.Writing.{u16_octets};
 ghost use Rattle.stored_replies.specs.Stored.{read_at};
 ghost use Rattle.yimarotu_forwarder.specs.Fetches.{asked_for, fetch_at};
 ghost use Rattle.yimarotu_forwarder.specs.Forwarders.{TellingValue};
-ghost use Rattle.yimarotu_forwarder.specs.NextQuestions.{are_denied_alike, asked_octets, found_end, is_fresh_and_light, kept_end, may_end, next_key};
+ghost use Rattle.yimarotu_forwarder.specs.NextQuestions.{are_denied_alike, asked_octets, found_end, is_fresh_and_light, kept_end, may_end, next_key, with_asked_where};
 ghost use Rattle.yimarotu_forwarder.specs.Telling.{chain_end_for, chain_end_in, chain_end_of, chain_end_with};
 
+use crate::answering::mark;
 use crate::cached::{CachedReply, if_told};
 use crate::choices::HEAVIEST_END;
 use crate::ending::tell_as;
@@ -55,6 +56,27 @@ impl Forwarder {
         match self.fetches.get(key) {
             Some(fetch) => self.kept_end_of(fetch),
             None => Ok(None),
+        }
+    }
+
+    // The key of the question that the fetch of a key has to ask.
+    pub(crate) fn end_key(&self, key: &ReplyKey) -> Result<Option<ReplyKey>, AllocError>
+        ensures { IfOk result (λ end. end ≡ option_and_then next_key (fetch_at key.now self.now.fetches)) }
+    {
+        match self.fetches.get(key) {
+            Some(fetch) => next_key(self.alloc, fetch),
+            None => Ok(None),
+        }
+    }
+
+    // What is kept under a key, where there is one, was asked for again.
+    pub(crate) fn mark_end(&mut self, key: Option<ReplyKey>)
+        ensures { self.new ≡ with_asked_where key self.old }
+    {
+        let second = self.second();
+        match key {
+            Some(key) => mark(&mut self.cache, &key, second),
+            None => {}
         }
     }
 

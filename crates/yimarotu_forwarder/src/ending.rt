@@ -73,8 +73,7 @@ impl Forwarder {
     {
         let mut kept = kept;
         tell_as(&self.options, &fetch.lookup.asked.name, &mut kept);
-        let now = self.second();
-        let second = fetch.first_second(now).min(now);
+        let second = fetch.first_second(self.second());
         end_of(self.alloc, &fetch.lookup.asked, kept, second)
     }
 
@@ -102,14 +101,15 @@ impl Forwarder {
         }
     }
 
-    // A failure is noted, and a reply lets go of those before it. A refused call changes nothing.
+    // A failure is noted, and a reply lets go of those before it, unless local data changed since the look-up began. A
+    // refused call changes nothing.
     fn note_end(&mut self, key: &ReplyKey, fetch: &Fetch, end: &FetchEnd) -> Result<(), AllocError>
-        ensures ok { OnOk result (self.new ≡ record self.old {
-          failures = failures_after key.now end.now fetch.now.began self.old.stalled (second_of self.old)
-              self.old.failures;
-        }) }
+        ensures ok { OnOk result (self.new ≡ with_end key.now end.now fetch.now self.old) }
         ensures err { OnErr result (self.new ≡ self.old) }
     {
+        if fetch.generation != self.generation {
+            return Ok(());
+        }
         match end {
             FetchEnd::Reply(_) => {
                 self.failures.forget(key.as_slice());

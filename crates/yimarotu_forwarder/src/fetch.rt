@@ -1,10 +1,9 @@
 //! A question that is looked up for clients.
 ghost use Rattle.std.specs.Prelude.{◌≡◌, length, IfOk, OnErr, OnOk};
-ghost use Rattle.std.specs.Option.{option_map_or};
 ghost use Rattle.whole_lookups.specs.Lookups.{after, heard};
 ghost use Rattle.yimarotu_forwarder.specs.Fetches.{has_request, is_same_request, with_waiting};
 ghost use Rattle.yimarotu_forwarder.specs.NextQuestions.{ended_by};
-ghost use Rattle.yimarotu_forwarder.specs.Telling.{heard_after, told_as};
+ghost use Rattle.yimarotu_forwarder.specs.Telling.{earlier_second, heard_after, told_as};
 
 use crate::telling::{Told, told_as};
 use client_requests::{Request, WaitingRequest};
@@ -65,11 +64,14 @@ impl Fetch {
         self.lookup.count
     }
 
-    // The second at which the first of its replies came, or this one.
+    // The second at which the first of its replies came, or this one, whichever is earlier.
     pub(crate) fn first_second(&self, second: u64) -> u64
-        ensures { result ≡ option_map_or (λ first. first) self.now.heard second }
+        ensures { result ≡ earlier_second self.now.heard second }
     {
-        self.heard.unwrap_or(second)
+        match self.heard {
+            Some(first) => first.min(second),
+            None => second,
+        }
     }
 
     // A reply came at this second: what it tells. A refused call changes nothing.

@@ -1,5 +1,5 @@
 //! The questions that are looked up for clients.
-ghost use Rattle.std.specs.Prelude.{◌≡◌, ◌<◌, ◌++◌, ◌∷◌, [], option_copied, slice_get, IfNone, OnErr, OnOk};
+ghost use Rattle.std.specs.Prelude.{◌≡◌, ◌<◌, ◌++◌, ◌∷◌, [], length, option_copied, slice_get, IfNone, OnErr, OnOk};
 ghost use Rattle.indexmap.specs.IndexMap.{spare};
 ghost use Rattle.yimarotu_forwarder.specs.FetchTables.{HasRoom, HasTurn, fetches_of};
 ghost use Rattle.yimarotu_forwarder.specs.Fetches.{Begins, ChangesFetch, Ends, asked_for, fetch_at, first_asked, no_fetches, with_asker, with_waiting, without_asker};
@@ -52,6 +52,13 @@ impl Fetches {
     }
 
     // ---- fetches
+
+    // How many questions are looked up.
+    pub(crate) fn number(&self) -> usize
+        ensures { result ≡ length (fetches_of self.now).fetches }
+    {
+        self.fetches.len()
+    }
 
     pub(crate) fn get(&self, key: &ReplyKey) -> Option<&Fetch>
         ensures { option_copied result ≡ fetch_at key.now (fetches_of self.now) }

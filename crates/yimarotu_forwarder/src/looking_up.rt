@@ -8,7 +8,7 @@ ghost use Rattle.client_limits.specs.Counts.{admits};
 ghost use Rattle.hickory_resolver_tries.specs.Question as in_tries;
 ghost use Rattle.stored_replies.specs.Told.{asks_dnssec};
 ghost use Rattle.yimarotu_forwarder.specs.Stale.{stale_hit};
-ghost use Rattle.yimarotu_forwarder.specs.LookingUp.{BeginsLookup, BeginsWith, IsPastBound, JoinsFetch, JoinsOr, JoinsOrTold, LooksUp, counts_after, dnssec_of, new_fetch, pool_question};
+ghost use Rattle.yimarotu_forwarder.specs.LookingUp.{BeginsLookup, BeginsWith, IsPastBound, JoinsFetch, JoinsOr, JoinsOrTold, LooksUp, counts_after, dnssec_of, may_begin, new_fetch, pool_question};
 
 use crate::answered::Outcome;
 use crate::fetch::Fetch;
@@ -134,7 +134,7 @@ impl Forwarder {
         ensures ok { IfOk result (λ answered. BeginsLookup query request.now group self.old answered self.new) }
         ensures err { OnErr result (self.new ≡ self.old) }
     {
-        if !self.admits(request, 0) {
+        if !self.may_begin(request) {
             return Ok(self.turn_away(request));
         }
         match WaitingRequest::of(self.alloc, request)? {
@@ -209,6 +209,13 @@ impl Forwarder {
     {
         self.counts
             .admits(&self.options.limits, request.client().address, waiting)
+    }
+
+    // Whether one more may wait, and not as many questions are looked up as clients may wait.
+    fn may_begin(&self, request: &Request<'_>) -> bool
+        ensures { result ≡ may_begin request.now self.now }
+    {
+        self.admits(request, 0) && self.fetches.number() < self.options.limits.all
     }
 
     // There is no place for one more.

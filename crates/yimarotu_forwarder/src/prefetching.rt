@@ -4,10 +4,11 @@ ghost use Rattle.std.specs.Option.{option_map_or};
 ghost use Rattle.second_chance_cache.specs.SecondChance.{told};
 ghost use Rattle.yimarotu_forwarder.specs.Fetches.{fetch_at};
 ghost use Rattle.yimarotu_forwarder.specs.LookingUp.{pool_question};
-ghost use Rattle.yimarotu_forwarder.specs.Prefetching.{BeginsLoneWith, DecidesLone, PrefetchesKey, PrefetchesUnasked, key_dnssec, key_query, key_unchecked, lone_fetch, query_header};
+ghost use Rattle.yimarotu_forwarder.specs.Prefetching.{BeginsLoneWith, DecidesLone, PrefetchesKey, PrefetchesUnasked, PrefetchesWhere, key_dnssec, key_query, key_unchecked, lone_fetch, may_prefetch, query_header};
 ghost use Rattle.yimarotu_forwarder.specs.Queries.{prefetch_after};
 
 use crate::answering::query_of;
+use crate::choices::FEW_FETCHES;
 use crate::counting::one_more;
 use crate::fetch::Fetch;
 use crate::forwarder::{Cache, Forwarder};
@@ -38,14 +39,33 @@ impl Forwarder {
         }
     }
 
-    // The question of a key is looked up, where it is not already. A refused call changes nothing.
+    // The question of a key is looked up, where it is not already, and where it may be. A refused call changes nothing.
     pub(crate) fn prefetch(&mut self, key: ReplyKey) -> Result<(), AllocError>
         ensures ok { OnOk result (PrefetchesKey key self.old self.new) }
         ensures err { OnErr result (self.new ≡ self.old) }
     {
         match self.fetches.get(&key) {
             Some(_) => Ok(()),
-            None => self.prefetch_unasked(key),
+            None => self.prefetch_where(self.may_prefetch(&key), key),
+        }
+    }
+
+    // Whether few are looked up, and it did not fail shortly before.
+    fn may_prefetch(&self, key: &ReplyKey) -> bool
+        ensures { result ≡ may_prefetch key.now self.now }
+    {
+        let failed = self.failures.failure(key.as_slice(), self.second());
+        self.fetches.number() < FEW_FETCHES && failed.is_none()
+    }
+
+    fn prefetch_where(&mut self, may: bool, key: ReplyKey) -> Result<(), AllocError>
+        ensures ok { OnOk result (PrefetchesWhere may key self.old self.new) }
+        ensures err { OnErr result (self.new ≡ self.old) }
+    {
+        if may {
+            self.prefetch_unasked(key)
+        } else {
+            Ok(())
         }
     }
 

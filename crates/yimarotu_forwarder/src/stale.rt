@@ -13,14 +13,10 @@ use failure_replies::FailureReason;
 use stored_replies::StoredReply;
 
 // The last second at which a reply is kept that is told, as it ages, up to a second.
-pub(crate) fn kept_until(options: &ForwarderOptions, told_until: u64, now: u64) -> u64
-    ensures { result ≡ kept_until options.now told_until now }
+pub(crate) fn kept_until(options: &ForwarderOptions, told_until: u64) -> u64
+    ensures { result ≡ kept_until options.now told_until }
 {
-    if now < told_until {
-        told_until.saturating_add(options.stale_seconds())
-    } else {
-        told_until
-    }
+    told_until.saturating_add(options.stale_seconds())
 }
 
 // Whether it is past its end, and by no more seconds than it is told for.

@@ -3,7 +3,7 @@ ghost use Rattle.std.specs.Prelude.{◌≡◌, IfOk, MatchOption, None, OnErr, O
 ghost use Rattle.yimarotu_forwarder.specs.Fetches.{FetchValue, fetch_at};
 ghost use Rattle.yimarotu_forwarder.specs.Forwarders.{ReplyingValue};
 ghost use Rattle.yimarotu_forwarder.specs.LookingUp.{next_question};
-ghost use Rattle.yimarotu_forwarder.specs.NextQuestions.{ended_by};
+ghost use Rattle.yimarotu_forwarder.specs.NextQuestions.{ended_by, next_key, with_asked_where};
 ghost use Rattle.yimarotu_forwarder.specs.Steps.{AsksFor, AsksOr, AsksPool, EndsWith, ForwarderSteps, IsDecidedNext, IsLetGo, RepliesFirst, RepliesNext, RepliesTo, StepsPool, StopsAsking, StopsFetch, StopsReplyingFirst, StopsStep, TellsLateFirst, action_of, has_turn, keeps, keeps_chain_end, keeps_end, lets_go, with_stored};
 ghost use Rattle.local_answers.specs.declared.local_data.Decision.TheVariants as decision;
 ghost use Rattle.yimarotu_forwarder.specs.Telling.{EndsFetch, Finishes, replying_of, whole_end, with_end};
@@ -192,7 +192,7 @@ impl Forwarder {
         Ok(())
     }
 
-    // A reply is kept that so many replies of servers made.
+    // A reply is kept that so many replies of servers made, unless it is told for no time: then what was kept goes.
     fn store(&mut self, key: &ReplyKey, stored: StoredReply, replies: u32) -> Result<(), AllocError>
         ensures ok { OnOk result (self.new ≡ with_stored key.now stored replies self.old) }
         ensures err { OnErr result (self.new ≡ self.old) }
@@ -202,7 +202,11 @@ impl Forwarder {
         let until = stored
             .until()
             .min(second.saturating_add(self.options.greatest_ttl));
-        let deadline = kept_until(&self.options, until, second);
+        if until <= second {
+            self.cache.remove(key.as_slice());
+            return Ok(());
+        }
+        let deadline = kept_until(&self.options, until);
         let cached = CachedReply {
             reply: stored,
             fresh_until: fresh_until(second, until),
@@ -241,16 +245,33 @@ impl Forwarder {
         }
     }
 
-    // What is kept of the question is put behind what came, and else a group is asked.
+    // What is kept of the question is put behind what came, and counts as asked for again; and else a group is asked.
     fn ask_or_end(&mut self, key: ReplyKey, group: u64) -> Result<(), AllocError>
         ensures ok { (f : FetchValue) → fetch_at key self.old.fetches ≡ Some f
             → OnOk result (AsksOr (decision.Ask group) key f (has_turn self.old) self.new) }
         ensures err { OnErr result (StopsAsking self.old self.new key) }
     {
         match self.kept_end(&key)? {
-            Some((kept, replies)) => self.answer_next(key, kept, replies),
+            Some((kept, replies)) => self.answer_kept(key, kept, replies),
             None => self.ask_next(key, group),
         }
+    }
+
+    // What is kept of the question, which so many replies of servers made, is told behind what came, and is marked.
+    fn answer_kept(
+        &mut self,
+        key: ReplyKey,
+        kept: KeptReply,
+        replies: u32,
+    ) -> Result<(), AllocError>
+        ensures ok { (f : FetchValue) → fetch_at key self.old.fetches ≡ Some f → OnOk result
+            (EndsWith key kept replies f (with_asked_where (next_key f) (has_turn self.old)) self.new) }
+        ensures err { OnErr result (StopsAsking self.old self.new key) }
+    {
+        let end = self.end_key(&key)?;
+        self.answer_next(key, kept, replies)?;
+        self.mark_end(end);
+        Ok(())
     }
 
     // What is decided of the question that the fetch of a key has to ask; none where there is no such fetch.

@@ -1,5 +1,5 @@
 -- One more fetch is left.
-use Rattle.std.proofs.Common.{◌≡◌, ◌∙◌, ◌<◌, ap, arith, length, sym, subst}
+use Rattle.std.proofs.Common.{◌∙◌, ◌<◌, ap, arith, length, sym, subst}
 use Rattle.std.specs.Prelude.{IsSome}
 use Rattle.yimarotu_forwarder.specs.FetchTables.{fetches_of}
 use Rattle.yimarotu_forwarder.proofs.Left.{left_next, never}

@@ -1,5 +1,4 @@
 -- The fetches behind are still to be left.
-use Rattle.std.proofs.Common.{◌≡◌, length}
 use Rattle.yimarotu_forwarder.specs.FetchTables.{fetches_of}
 use Rattle.yimarotu_forwarder.proofs.Left.{AreLeft}
 use Rattle.yimarotu_forwarder.proofs.leaving.leave_fetches.Given as goal

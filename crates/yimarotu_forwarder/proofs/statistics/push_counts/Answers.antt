@@ -1,7 +1,7 @@
 -- One string after another.
-use Rattle.std.proofs.Common.{◌≡◌, List, [], ◌∷◌, ◌++◌, ℕ, codes}
+use Rattle.std.proofs.Common.{◌≡◌, [], ◌∷◌, ◌++◌, codes}
 use Rattle.hickory_proto_core.specs.Name.{label_bytes}
-use Rattle.yimarotu_forwarder.specs.Statistics.{count_text, count_texts}
+use Rattle.yimarotu_forwarder.specs.Statistics.{count_text}
 use Rattle.yimarotu_forwarder.proofs.Pushed.{done_last, pushed}
 use Rattle.yimarotu_forwarder.proofs.statistics.push_counts.Goals as goal
 

@@ -1,5 +1,4 @@
 -- What is not kept is looked up.
-use Rattle.std.proofs.Common.{◌≡◌}
 use Rattle.yimarotu_forwarder.proofs.Missed.{missed}
 use Rattle.yimarotu_forwarder.proofs.forwarder.Forwarder.answer_asked.Goals as goal
 
