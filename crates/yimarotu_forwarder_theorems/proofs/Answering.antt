@@ -1,6 +1,6 @@
 -- What a query changes.
 use Rattle.std.proofs.Common.{◌≡◌, ◌∙◌, ℕ, ◌-◌, inl, inr, Bool, true, false, zero, suc, ◌+◌, List, [], ◌∷◌, ◌++◌, length, take, drop, refl, sym, ap, subst, arith}
-use Rattle.std.specs.Prelude.{Option, None, Some, MatchOption, nat_le, if◌then◌else◌}
+use Rattle.std.specs.Prelude.{Option, None, Some, MatchOption, ◌&&◌, nat_le, nat_lt, if◌then◌else◌}
 use Rattle.std.specs.Option.{option_map, option_and_then}
 use Rattle.std.proofs.lemmas.Bool.{leb-false, leb-true}
 use Rattle.std.proofs.lemmas.List.{drop-take}
@@ -27,13 +27,14 @@ use Rattle.local_answers.specs.declared.local_data.Decision.TheVariants as decis
 use Rattle.second_chance_cache.specs.Laws.{asks}
 use Rattle.stored_replies.specs.Key.{question_key}
 use Rattle.stored_replies.specs.Told.{asks_dnssec}
+use Rattle.whole_lookups.specs.Lookups.{begun}
 use Rattle.whole_replies.specs.Kept.{KeptValue}
 use Rattle.yimarotu_forwarder.specs.Cached.{CachedValue}
 use Rattle.yimarotu_forwarder.specs.Counting.{answered_as}
 use Rattle.yimarotu_forwarder.specs.Fetches.{FetchValue, fetch_at, has_request, with_waiting}
 use Rattle.yimarotu_forwarder.specs.Forwarders.{ForwarderValue, at_moment, second_of}
 use Rattle.yimarotu_forwarder.specs.Late.{is_late, late_hit}
-use Rattle.yimarotu_forwarder.specs.LookingUp.{BeginsBy, BeginsFetch, BeginsLookup, BeginsOr, BeginsWith, IsPastBound, IsPastBoundBy, JoinsBy, JoinsFetch, JoinsLookup, JoinsOr, LooksUp, after_ask, new_fetch, pool_question, pool_says}
+use Rattle.yimarotu_forwarder.specs.LookingUp.{BeginsBy, BeginsFetch, BeginsLookup, BeginsOr, BeginsWith, IsPastBound, IsPastBoundBy, JoinsBy, JoinsFetch, JoinsLookup, JoinsOr, LooksUp, after_ask, may_begin, new_fetch, pool_question, pool_says}
 use Rattle.yimarotu_forwarder.specs.Options.{may_ask}
 use Rattle.yimarotu_forwarder.specs.Queries.{Answering, AnswersAs, AnswersAsked, AnswersBy, AnswersQuery, AnswersRequest, Decides, FailsAgain, Misses, Serves, ServesBy, TellsCounts, TellsLocalAlone, TellsOr, TellsOrLooksUp, TurnsAway, WithQuery, hit, query_in, told_in, with_hit}
 use Rattle.yimarotu_forwarder.specs.Replying.{Fails, Refuses, TellsLocal, end_of}
@@ -43,6 +44,7 @@ use Rattle.yimarotu_forwarder.specs.declared.answered.Answered.{Answered}
 use Rattle.yimarotu_forwarder.specs.declared.answered.Answered.TheVariants.{Dropped, Replied, Waits}
 use Rattle.yimarotu_forwarder_theorems.specs.ReplyOctets.{IsOwnReply, IsReplyToOctets, RepliesAtOnceAreOwn}
 use Rattle.yimarotu_forwarder_theorems.proofs.Cores.{Nothing, Core, Joins, Puts, Stills, as_before, cache_changes, core, more, waiting_for}
+use Rattle.yimarotu_forwarder_theorems.proofs.Keys.{own-dnssec}
 use Rattle.yimarotu_forwarder_theorems.proofs.Octets.{failure-own, refusal-own, reply-own, stale-hit-own, stored-own}
 
 -- ---- a request that waits has its question still
@@ -196,7 +198,7 @@ module _ {b0 : ForwarderValue} {answered : Answered} {a0 : ForwarderValue} {r0 :
             ∙ ap (λ (held : Option FetchValue). admits b.options.limits r.client.address (length (waiting_for held))
             b.counts) none ∙ room;
         waiting = sym (ap (λ (held : Option FetchValue). waiting_for held ++ w ∷ []) none);
-        lookup = inl (q, asks_dnssec r.query.edns, refl);
+        lookup = inl (q, ap (begun q) (sym (own-dnssec r)));
       })
 
   joins-fetch : (r w : RequestValue) (f : FetchValue) (b a : ForwarderValue)
@@ -224,7 +226,7 @@ module _ {b0 : ForwarderValue} {answered : Answered} {a0 : ForwarderValue} {r0 :
             ∙ ap (λ (held : Option FetchValue). admits b.options.limits r.client.address (length (waiting_for held))
             b.counts) found ∙ room;
         waiting = sym (ap (λ (held : Option FetchValue). waiting_for held ++ w ∷ []) found);
-        lookup = inr (f, found, refl);
+        lookup = inr (f, found, refl, refl);
       })
 
   begins-by : (what : pool_asked.Asked) (q : Query) (r w : RequestValue) (b a : ForwarderValue)
@@ -238,7 +240,7 @@ module _ {b0 : ForwarderValue} {answered : Answered} {a0 : ForwarderValue} {r0 :
 
   begins-lookup : (q : Query) (r : RequestValue) (group : ℕ) (b a : ForwarderValue)
       → fetch_at (key_of r) b.fetches ≡ None → BeginsLookup q r group b x.became a → Moves r b a (answered_as x.became)
-  begins-lookup q r group b a none h = by (admits b.options.limits r.client.address 0 b.counts) refl h
+  begins-lookup q r group b a none h = by (may_begin r b) refl h
     where
       waits : (o : Option RequestValue) → waiting_of r ≡ o → admits b.options.limits r.client.address 0 b.counts ≡ true
           → MatchOption o (Refuses b r refusal.FormErr x.became a)
@@ -250,10 +252,16 @@ module _ {b0 : ForwarderValue} {answered : Answered} {a0 : ForwarderValue} {r0 :
           from r b (after_ask group question b) a (answered_as x.became) refl
           (begins-by (pool_says group question b) q r w (after_ask group question b) a none room is h)
 
-      by : (room : Bool) → admits b.options.limits r.client.address 0 b.counts ≡ room
-          → BeginsOr room q r group b x.became a → Moves r b a (answered_as x.became)
+      first-true : (one other : Bool) → (one && other) ≡ true → one ≡ true
+      first-true true other is = refl
+      first-true false other is = absurd (let no : false ≡ true = is in cc)
+
+      by : (room : Bool) → may_begin r b ≡ room → BeginsOr room q r group b x.became a → Moves r b a (answered_as x.became)
       by false is h = past-bound r b a h
-      by true is h = waits (waiting_of r) refl is h
+      by true is h =
+          waits (waiting_of r) refl
+          (first-true (admits b.options.limits r.client.address 0 b.counts)
+          (nat_lt (length b.fetches.fetches) b.options.limits.all) is) h
 
   told-stale : (r : RequestValue) (octets : List ℕ) (b a : ForwarderValue) → stale_hit r (key_of r) b ≡ Some octets
       → answered_as x.became ≡ Replied → a ≡ record b { reply = octets } → Moves r b a (answered_as x.became)

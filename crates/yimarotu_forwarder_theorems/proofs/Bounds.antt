@@ -8,7 +8,6 @@ use Rattle.std.proofs.lemmas.Bool.{and_parts, lt-ltb, ltb-true}
 use Rattle.std.proofs.lemmas.List.Sums.{fold-append}
 use Rattle.std.proofs.lemmas.Map.Made.{lookup-map_values}
 use Rattle.hickory_resolver_pool.specs.Pool.{PoolState}
-use Rattle.hickory_proto_wire.specs.declared.wire_message.WireMessage.{WireMessage}
 use Rattle.client_limits.proofs.Bounded.{stays_within_limits}
 use Rattle.client_limits.specs.Counts.{CountsValue, added, admits, count_of, nobody, removed}
 use Rattle.client_limits.specs.Laws.{ClientEvent, IsWithinLimits, comes, goes}
@@ -33,7 +32,7 @@ use Rattle.yimarotu_forwarder.specs.Options.{OptionsValue}
 use Rattle.yimarotu_forwarder.specs.Telling.{replying_of}
 use Rattle.yimarotu_forwarder_theorems.specs.Bounds.{AllowNoMore, BoundsAreKept, SetsNoMore}
 use Rattle.yimarotu_forwarder_theorems.specs.Runs.{ForwarderEvent, Happening, Runs, at_first, happened, next}
-use Rattle.yimarotu_forwarder_theorems.proofs.Cores.{Core, Fetching, Joins, Leaves, Puts, Still, Stills, as_before, begins_alone, cache_changes, chain_ends, core, failures_change, is_flushed, is_heard, is_let_go, is_over, is_told_late, left_by, more, no_chain_ends, waiting_for}
+use Rattle.yimarotu_forwarder_theorems.proofs.Cores.{Core, Fetching, Joins, Leaves, Puts, Source, Still, Stills, as_before, begins_alone, cache_changes, chain_ends, core, failures_change, is_flushed, is_heard, is_let_go, is_over, is_told_late, left_by, more, no_chain_ends, waiting_for}
 use Rattle.yimarotu_forwarder_theorems.proofs.Events.{EventMoves, event_goes, event_joins, event_leaves, event_options, event_stays, moves}
 use Rattle.yimarotu_forwarder_theorems.proofs.Flushed.{fewer, let-go}
 
@@ -172,7 +171,7 @@ module _ (limits : ClientLimits) (cache failures : CacheBounds) where
     noted_within = h.noted_within;
   }
 
-  still-bounded : {said : WireMessage → Type 0} (c d : Core) → Still said c d → IsBounded c → IsBounded d
+  still-bounded : {said : Source → Type 0} (c d : Core) → Still said c d → IsBounded c → IsBounded d
   still-bounded c d (cache_changes c' d' event such e) h =
       subst IsBounded (sym e) (record {
         allows = h.allows;
@@ -222,7 +221,7 @@ module _ (limits : ClientLimits) (cache failures : CacheBounds) where
       subst IsBounded (sym e) (others-wait c c.counts d.fetches c.replying h h.counted
       (few-put k (Some f) c.fetches d.fetches puts (omega (arith, nobody-waits)) h.few))
 
-  stills-bounded : {said : WireMessage → Type 0} (c d : Core) → Stills said c d → IsBounded c → IsBounded d
+  stills-bounded : {said : Source → Type 0} (c d : Core) → Stills said c d → IsBounded c → IsBounded d
   stills-bounded c d (as_before c' d' e) h = subst IsBounded (sym e) h
   stills-bounded c d (more c' m d' first rest) h = stills-bounded m d rest (still-bounded c m first h)
 

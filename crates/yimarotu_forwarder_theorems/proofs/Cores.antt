@@ -3,8 +3,6 @@ use Rattle.std.proofs.Common.{◌≡◌, ℕ, ◌+◌, ◌-◌, ◌^◌, ◌≤�
 use Rattle.std.specs.Prelude.{Option, None, Some, map, min}
 use Rattle.std.specs.Option.{is_none, option_map, option_map_or}
 use Rattle.hickory_proto_core.specs.declared.query.Query.{Query}
-use Rattle.hickory_proto_names.specs.declared.ip.IpNet.{IpNet}
-use Rattle.hickory_proto_wire.specs.declared.wire_message.WireMessage.{WireMessage}
 use Rattle.client_limits.specs.Counts.{CountsValue, added, admits, removed}
 use Rattle.client_requests.specs.Keys.{key_eq, key_of}
 use Rattle.client_requests.specs.Requests.{RequestValue}
@@ -33,10 +31,11 @@ use Rattle.yimarotu_forwarder.specs.Forwarders.{ChainEndValue, ForwarderValue, R
 use Rattle.yimarotu_forwarder.specs.Late.{late_replying, with_nobody}
 use Rattle.yimarotu_forwarder.specs.Leaving.{counts_without_fetches, counts_without_replying, entry_without, replying_without}
 use Rattle.yimarotu_forwarder.specs.Options.{OptionsValue}
+use Rattle.yimarotu_forwarder.specs.Prefetching.{key_dnssec}
 use Rattle.yimarotu_forwarder.specs.Replying.{end_of}
-use Rattle.yimarotu_forwarder.specs.Telling.{replying_of}
+use Rattle.yimarotu_forwarder.specs.Telling.{earlier_second, replying_of}
 use Rattle.yimarotu_forwarder.specs.declared.choices.TheConstants.{LONGEST_STALE}
-use Rattle.yimarotu_forwarder_theorems.specs.Lookups.{LastsTo, Storing, stored_so}
+use Rattle.yimarotu_forwarder_theorems.specs.Lookups.{IsKnown, IsTelling, LastsTo, Storing, ToldReply, stored_so}
 
 abbrev pub Fetching : Type 0
 Fetching = List (List ℕ × FetchValue)
@@ -81,9 +80,18 @@ stored-at q kept second s h = by (is_none (store_fault q kept)) h
 
 -- ---- changes in which nobody comes to wait, and nobody is replied to
 
--- a look-up that begins
-abbrev pub IsBegun : LookupValue → Type 0
-IsBegun l = (q : Query) × (dnssec : Bool) × (l ≡ begun q dnssec)
+-- what a step stands on: a reply that is told, or what is known here of a question at a second
+pub data Source : Type 0 where
+  told_reply : ToldReply → Source
+  known_here : Query → KeptValue → ℕ → Source
+
+abbrev pub IsSaid : ForwarderValue → Source → Type 0
+IsSaid b (told_reply r) = IsTelling b r
+IsSaid b (known_here q here second) = IsKnown b q here second
+
+-- a look-up that begins under a key
+abbrev pub IsBegun : List ℕ → LookupValue → Type 0
+IsBegun key l = (q : Query) × (l ≡ begun q (key_dnssec key))
 
 -- the same wait for it, and it is for the same question
 pub record IsSame (f g : FetchValue) : Type 0 where
@@ -91,11 +99,12 @@ pub record IsSame (f g : FetchValue) : Type 0 where
   pub asked : g.lookup.asked ≡ f.lookup.asked
 
 -- a reply led it on to another question
-pub record IsLed (said : WireMessage → Type 0) (before after : LookupValue) : Type 0 where
-  pub reply : WireMessage
-  pub told : said reply
-  pub asks : heard reply before ≡ Asks
-  pub led : after ≡ whole.after reply before
+pub record IsLed (said : Source → Type 0) (before after : FetchValue) : Type 0 where
+  pub reply : ToldReply
+  pub told : said (told_reply reply)
+  pub asks : heard reply.message before.lookup ≡ Asks
+  pub led : after.lookup ≡ whole.after reply.message before.lookup
+  pub since : after.heard ≡ Some (earlier_second before.heard reply.second)
 
 -- a whole reply as it is stored
 abbrev pub end_so : Query → KeptValue → Storing → FetchEnd
@@ -106,6 +115,7 @@ pub record EndsByKept (cache : CacheValue CachedValue) (l : LookupValue) (most n
     : Type 0 where
   pub key : List ℕ
   pub found : told key now cache.entries ≡ Some cached
+  pub alike : key_dnssec key ≡ l.dnssec
   pub current : now ≤ cached.told_until
   pub same : is_same_question (asked_octets l.next) (own_question cached.reply) ≡ true
   pub few : l.count + cached.replies ≤ MOST_QUESTIONS + 1
@@ -113,59 +123,64 @@ pub record EndsByKept (cache : CacheValue CachedValue) (l : LookupValue) (most n
 
 -- What it came to, and how many replies made that, at the most: a failure; what a reply ended; what is known here of the
 -- name that replies led to; or what is kept of that question.
-pub data IsEndOf (said : WireMessage → Type 0) (cache : CacheValue CachedValue) (l : LookupValue) (most : ℕ)
+pub data IsEndOf (said : Source → Type 0) (cache : CacheValue CachedValue) (f : FetchValue) (most : ℕ)
     (end : FetchEnd) : Type 0 where
-  has_failed : (why : FailureReason) → end ≡ Failure why → IsEndOf said cache l most end
-  has_heard : (m : WireMessage) (kept : KeptValue) → said m → heard m l ≡ Whole kept → most ≡ l.count
-      → (how : Storing) → end ≡ end_so l.asked kept how → IsEndOf said cache l most end
-  is_known : (here : KeptValue) → most ≡ min (l.count - 1 + 0) (2 ^ 32 - 1) → (how : Storing)
-      → end ≡ end_so l.asked (whole_with here l) how → IsEndOf said cache l most end
-  is_kept : (now : ℕ) (cached : CachedValue) → EndsByKept cache l most now cached → (how : Storing)
-      → how.second ≤ now
-      → end ≡ end_so l.asked (whole_with (aged (elapsed cached.reply now) cached.reply.kept) l) how
-      → IsEndOf said cache l most end
+  has_failed : (why : FailureReason) → end ≡ Failure why → IsEndOf said cache f most end
+  has_heard : (r : ToldReply) (kept : KeptValue) → said (told_reply r) → heard r.message f.lookup ≡ Whole kept
+      → most ≡ f.lookup.count → (how : Storing) → how.second ≡ earlier_second f.heard r.second
+      → end ≡ end_so f.lookup.asked kept how → IsEndOf said cache f most end
+  is_known : (here : KeptValue) (now : ℕ) → said (known_here f.lookup.next here now)
+      → most ≡ min (f.lookup.count - 1 + 0) (2 ^ 32 - 1) → (how : Storing)
+      → how.second ≡ earlier_second f.heard now → end ≡ end_so f.lookup.asked (whole_with here f.lookup) how
+      → IsEndOf said cache f most end
+  is_kept : (now : ℕ) (cached : CachedValue) → EndsByKept cache f.lookup most now cached → (how : Storing)
+      → how.second ≡ earlier_second f.heard now
+      → end ≡ end_so f.lookup.asked (whole_with (aged (elapsed cached.reply now) cached.reply.kept) f.lookup) how
+      → IsEndOf said cache f most end
 
 -- a reply ends a chain by itself
-pub record IsChainEnd (said : WireMessage → Type 0) (e : ChainEndValue) : Type 0 where
-  pub reply : WireMessage
-  pub told : said reply
+pub record IsChainEnd (said : Source → Type 0) (e : ChainEndValue) : Type 0 where
+  pub reply : ToldReply
+  pub told : said (told_reply reply)
   pub question : Query
-  pub dnssec : Bool
   pub kept : KeptValue
-  pub keeps : kept_of question dnssec reply ≡ Some kept
-  pub ends : next_question question reply.message ≡ None
+  pub keeps : kept_of question (key_dnssec e.key) reply.message ≡ Some kept
+  pub ends : next_question question reply.message.message ≡ None
   pub how : Storing
+  pub since : how.second ≡ reply.second
   pub stored : e.reply ≡ stored_so question kept how
 
 -- Only what those who waited were told of a look-up is stored, and the end of a chain, each for as long as it may be.
-pub record StoresTold (c : Core) (s : CachedValue) (r : ReplyingValue) : Type 0 where
+pub record StoresTold (c : Core) (key : List ℕ) (s : CachedValue) (r : ReplyingValue) : Type 0 where
   pub was : c.replying ≡ Some r
+  pub own : key ≡ r.key
   pub end : r.end ≡ Reply s.reply
   pub many : s.replies ≡ r.replies
 
-pub record StoresChainEnd (c : Core) (s : CachedValue) (e : ChainEndValue) : Type 0 where
+pub record StoresChainEnd (c : Core) (key : List ℕ) (s : CachedValue) (e : ChainEndValue) : Type 0 where
   pub was : c.chain_end ≡ Some e
+  pub own : key ≡ e.key
   pub end : e.reply ≡ s.reply
   pub many : s.replies ≡ 1
 
 abbrev pub StoresEnd : Core → CacheEvent CachedValue → Type 0
 StoresEnd c (stores key s weight deadline now) =
-    (((r : ReplyingValue) × StoresTold c s r) ⊎ ((e : ChainEndValue) × StoresChainEnd c s e))
+    (((r : ReplyingValue) × StoresTold c key s r) ⊎ ((e : ChainEndValue) × StoresChainEnd c key s e))
     × LastsTo s.reply s.told_until × (deadline ≤ s.told_until + LONGEST_STALE)
 StoresEnd c other = Unit {0}
 
 -- where these replies may be heard
-pub data Still (said : WireMessage → Type 0) : Core → Core → Type 0 where
+pub data Still (said : Source → Type 0) : Core → Core → Type 0 where
   cache_changes : (c d : Core) (event : CacheEvent CachedValue) → StoresEnd c event
       → d ≡ record c { cache = after_event c.cache event }
       → Still said c d
   failures_change : (c d : Core) (event : CacheEvent (KeptFailure FailureReason))
       → d ≡ record c { failures = after_event c.failures event } → Still said c d
   is_heard : (c d : Core) (key : List ℕ) (f g : FetchValue) → fetch_in key c.fetches ≡ Some f → IsSame f g
-      → IsLed said f.lookup g.lookup → Puts key (Some g) c.fetches d.fetches → d ≡ record c { fetches = d.fetches }
+      → IsLed said f g → Puts key (Some g) c.fetches d.fetches → d ≡ record c { fetches = d.fetches }
       → Still said c d
   is_over : (c d : Core) (key : List ℕ) (end : FetchEnd) (f g : FetchValue) → c.replying ≡ None
-      → fetch_in key c.fetches ≡ Some f → IsSame f g → IsEndOf said c.cache f.lookup g.lookup.count end
+      → fetch_in key c.fetches ≡ Some f → IsSame f g → IsEndOf said c.cache f g.lookup.count end
       → Puts key None c.fetches d.fetches
       → d ≡ record c { fetches = d.fetches; replying = Some (replying_of key end g) } → Still said c d
   is_told_late : (c d : Core) (key : List ℕ) (f : FetchValue) → c.replying ≡ None → fetch_in key c.fetches ≡ Some f
@@ -182,10 +197,10 @@ pub data Still (said : WireMessage → Type 0) : Core → Core → Type 0 where
         failures = entries_flushed labels below c.failures;
       } → Still said c d
   begins_alone : (c d : Core) (key : List ℕ) (f : FetchValue) → fetch_in key c.fetches ≡ None → f.waiting ≡ []
-      → IsBegun f.lookup → Puts key (Some f) c.fetches d.fetches → d ≡ record c { fetches = d.fetches } → Still said c d
+      → IsBegun key f.lookup → Puts key (Some f) c.fetches d.fetches → d ≡ record c { fetches = d.fetches } → Still said c d
 
 -- one after another
-pub data Stills (said : WireMessage → Type 0) : Core → Core → Type 0 where
+pub data Stills (said : Source → Type 0) : Core → Core → Type 0 where
   as_before : (c d : Core) → d ≡ c → Stills said c d
   more : (c m d : Core) → Still said c m → Stills said m d → Stills said c d
 
@@ -194,9 +209,9 @@ pub data Stills (said : WireMessage → Type 0) : Core → Core → Type 0 where
 abbrev pub waiting_for : Option FetchValue → List RequestValue
 waiting_for f = option_map_or (λ x. x.waiting) f []
 
--- a look-up is that of a fetch
-abbrev pub IsThatOf : Option FetchValue → LookupValue → Type 0
-IsThatOf held l = (f : FetchValue) × (held ≡ Some f) × (l ≡ f.lookup)
+-- the look-up is that of a fetch
+abbrev pub IsThatOf : Option FetchValue → FetchValue → Type 0
+IsThatOf held g = (f : FetchValue) × (held ≡ Some f) × (g.lookup ≡ f.lookup) × (g.heard ≡ f.heard)
 
 pub record Joins (w : RequestValue) (c d : Core) : Type 0 where
   pub key : List ℕ
@@ -207,7 +222,7 @@ pub record Joins (w : RequestValue) (c d : Core) : Type 0 where
   pub admitted :
       admits c.options.limits w.client.address (length (waiting_for (fetch_in key c.fetches))) c.counts ≡ true
   pub waiting : fetch.waiting ≡ waiting_for (fetch_in key c.fetches) ++ w ∷ []
-  pub lookup : IsBegun fetch.lookup ⊎ IsThatOf (fetch_in key c.fetches) fetch.lookup
+  pub lookup : IsBegun key fetch.lookup ⊎ IsThatOf (fetch_in key c.fetches) fetch
 
 pub record Leaves (w : RequestValue) (c d : Core) : Type 0 where
   pub replying : ReplyingValue
@@ -229,31 +244,31 @@ left_by client c = record c {
 
 -- ---- one change after another
 
-pub still-one : {said : WireMessage → Type 0} (c d : Core) → Still said c d → Stills said c d
+pub still-one : {said : Source → Type 0} (c d : Core) → Still said c d → Stills said c d
 still-one c d s = more c d d s (as_before d d refl)
 
-pub stills-then : {said : WireMessage → Type 0} (c m d : Core) → Stills said c m → Stills said m d → Stills said c d
+pub stills-then : {said : Source → Type 0} (c m d : Core) → Stills said c m → Stills said m d → Stills said c d
 stills-then {said} c m d (as_before c' m' same) later = subst (λ (x : Core). Stills said x d) same later
 stills-then c m d (more c' n m' first rest) later = more c n d first (stills-then n m d rest later)
 
--- no reply is heard
-abbrev pub Nothing : WireMessage → Type 0
-Nothing m = ⊥
+-- no reply is heard, and nothing is known here
+abbrev pub Nothing : Source → Type 0
+Nothing x = ⊥
 
-end-said : {said : WireMessage → Type 0} (cache : CacheValue CachedValue) (l : LookupValue) (most : ℕ) (end : FetchEnd)
-    → IsEndOf Nothing cache l most end → IsEndOf said cache l most end
-end-said cache l most end (has_failed why is) = has_failed why is
-end-said cache l most end (has_heard m kept told whole many how is) = absurd told
-end-said cache l most end (is_known here many how is) = is_known here many how is
-end-said cache l most end (is_kept now cached by-kept how early is) =
-    is_kept now cached by-kept how early is
+end-said : {said : Source → Type 0} (cache : CacheValue CachedValue) (f : FetchValue) (most : ℕ) (end : FetchEnd)
+    → IsEndOf Nothing cache f most end → IsEndOf said cache f most end
+end-said cache f most end (has_failed why is) = has_failed why is
+end-said cache f most end (has_heard r kept told whole many how since is) = absurd told
+end-said cache f most end (is_known here now known many how since is) = absurd known
+end-said cache f most end (is_kept now cached by-kept how since is) =
+    is_kept now cached by-kept how since is
 
-still-said : {said : WireMessage → Type 0} (c d : Core) → Still Nothing c d → Still said c d
+still-said : {said : Source → Type 0} (c d : Core) → Still Nothing c d → Still said c d
 still-said c d (cache_changes c' d' event such e) = cache_changes c d event such e
 still-said c d (failures_change c' d' event e) = failures_change c d event e
 still-said c d (is_heard c' d' k f g found same led puts e) = absurd led.told
 still-said c d (is_over c' d' k end f g none found same is puts e) =
-    is_over c d k end f g none found same (end-said c.cache f.lookup g.lookup.count end is) puts e
+    is_over c d k end f g none found same (end-said c.cache f g.lookup.count end is) puts e
 still-said c d (is_told_late c' d' k f none found puts e) = is_told_late c d k f none found puts e
 still-said c d (is_let_go c' d' r was none e) = is_let_go c d r was none e
 still-said c d (chain_ends c' d' e is h) = absurd is.told
@@ -261,6 +276,6 @@ still-said c d (no_chain_ends c' d' h) = no_chain_ends c d h
 still-said c d (is_flushed c' d' labels below e) = is_flushed c d labels below e
 still-said c d (begins_alone c' d' k f none waits begins puts e) = begins_alone c d k f none waits begins puts e
 
-pub stills-said : {said : WireMessage → Type 0} (c d : Core) → Stills Nothing c d → Stills said c d
+pub stills-said : {said : Source → Type 0} (c d : Core) → Stills Nothing c d → Stills said c d
 stills-said c d (as_before c' d' e) = as_before c d e
 stills-said c d (more c' m d' first rest) = more c m d (still-said c m first) (stills-said m d rest)

@@ -6,7 +6,6 @@ use Rattle.std.proofs.lemmas.Bool.{eqb-true}
 use Rattle.std.proofs.lemmas.List.{append-nil}
 use Rattle.std.proofs.lemmas.List.Elements.{filter-append}
 use Rattle.hickory_resolver_pool.specs.Pool.{PoolState}
-use Rattle.hickory_proto_wire.specs.declared.wire_message.WireMessage.{WireMessage}
 use Rattle.client_limits.specs.Counts.{CountsValue, added, count_at, count_of, one_less, removed}
 use Rattle.client_limits.specs.Networks.{counted_as}
 use Rattle.client_requests.specs.Keys.{key_of}
@@ -18,7 +17,7 @@ use Rattle.yimarotu_forwarder.specs.Options.{OptionsValue}
 use Rattle.yimarotu_forwarder_theorems.specs.Bounds.{NobodyGoes, WhoWaitsIsCounted, number_of, of_network}
 use Rattle.yimarotu_forwarder_theorems.specs.Replies.{is_under, replied_in, replied_to, told_to_wait, under, waited_in}
 use Rattle.yimarotu_forwarder_theorems.specs.Runs.{ForwarderEvent, Happening, Runs, at_first, happened, next}
-use Rattle.yimarotu_forwarder_theorems.proofs.Cores.{Core, Joins, Leaves, Still, Stills, as_before, begins_alone, cache_changes, chain_ends, core, failures_change, is_flushed, is_heard, is_let_go, is_over, is_told_late, more, no_chain_ends}
+use Rattle.yimarotu_forwarder_theorems.proofs.Cores.{Core, Joins, Leaves, Source, Still, Stills, as_before, begins_alone, cache_changes, chain_ends, core, failures_change, is_flushed, is_heard, is_let_go, is_over, is_told_late, more, no_chain_ends}
 use Rattle.yimarotu_forwarder_theorems.proofs.Events.{EventMoves, Says, event_goes, event_joins, event_leaves, event_options, event_stays, moves}
 use Rattle.yimarotu_forwarder_theorems.proofs.Keys.{same-key}
 use Rattle.yimarotu_forwarder_theorems.proofs.Networks.{Ascends, ascends-inserted, ascends-less, count-added, count-less, is, is-own, is-same}
@@ -169,7 +168,7 @@ counts-removed c front back w h = by (count_of w.client.address c == 0) refl
 
 -- ---- each event
 
-still-counts : {said : WireMessage → Type 0} (c d : Core) → Still said c d → d.counts ≡ c.counts
+still-counts : {said : Source → Type 0} (c d : Core) → Still said c d → d.counts ≡ c.counts
 still-counts c d (cache_changes c' d' event such e) = ap (λ (x : Core). x.counts) e
 still-counts c d (failures_change c' d' event e) = ap (λ (x : Core). x.counts) e
 still-counts c d (is_heard c' d' k f g found same led puts e) = ap (λ (x : Core). x.counts) e
@@ -181,7 +180,7 @@ still-counts c d (no_chain_ends c' d' e) = ap (λ (x : Core). x.counts) e
 still-counts c d (is_flushed c' d' labels below e) = ap (λ (x : Core). x.counts) e
 still-counts c d (begins_alone c' d' k f none waits begins puts e) = ap (λ (x : Core). x.counts) e
 
-stills-count : {said : WireMessage → Type 0} (c d : Core) → Stills said c d → d.counts ≡ c.counts
+stills-count : {said : Source → Type 0} (c d : Core) → Stills said c d → d.counts ≡ c.counts
 stills-count c d (as_before c' d' e) = ap (λ (x : Core). x.counts) e
 stills-count c d (more c' m d' first rest) = stills-count m d rest ∙ still-counts c m first
 

@@ -2,7 +2,6 @@
 use Rattle.std.proofs.Common.{◌≡◌, ◌∙◌, ℕ, List, [], ◌∷◌, refl, sym, ap, subst}
 use Rattle.std.specs.Prelude.{Option, None, Some, take}
 use Rattle.std.specs.Option.{option_and_then, option_to_list}
-use Rattle.hickory_proto_wire.specs.declared.wire_message.WireMessage.{WireMessage}
 use Rattle.client_requests.specs.Requests.{RequestValue, waiting_of}
 use Rattle.client_requests.specs.declared.client.Client.{Client}
 use Rattle.second_chance_cache.specs.Laws.{clears}
@@ -12,11 +11,10 @@ use Rattle.yimarotu_forwarder.specs.declared.answered.Answered.{Answered}
 use Rattle.yimarotu_forwarder.specs.declared.answered.Answered.TheVariants.{Dropped, Replied, Waits}
 use Rattle.yimarotu_forwarder.specs.declared.steps.ForwarderAction.{ForwarderAction}
 use Rattle.yimarotu_forwarder.specs.declared.steps.ForwarderAction.TheVariants as act
-use Rattle.yimarotu_forwarder_theorems.specs.Lookups.{IsTelling}
 use Rattle.yimarotu_forwarder_theorems.specs.Replies.{replied_by, replied_to, told_to_wait, untold, without_gone}
 use Rattle.yimarotu_forwarder_theorems.specs.Runs.{ForwarderEvent, Happens, all_is_cleared, channel_fails, client_is_gone, is_stepped, local_data_is, name_is_flushed, octets_come, options_are, query_comes, query_is_refused, servers_are, step_is_refused, time_passes}
 use Rattle.yimarotu_forwarder_theorems.proofs.Answering.{QueryMoves, answers, query_joins, query_stays}
-use Rattle.yimarotu_forwarder_theorems.proofs.Cores.{Core, Joins, Leaves, Stills, as_before, cache_changes, core, failures_change, is_flushed, left_by, more, still-one, stills-said}
+use Rattle.yimarotu_forwarder_theorems.proofs.Cores.{Core, IsSaid, Joins, Leaves, Source, Stills, as_before, cache_changes, core, failures_change, is_flushed, left_by, more, still-one, stills-said}
 use Rattle.yimarotu_forwarder_theorems.proofs.Stepping.{IsReply, StepMoves, is-refused, step_replies, step_stays, steps}
 
 -- who comes to wait with it, and who is replied to; and nobody is gone
@@ -28,7 +26,7 @@ pub record Says (event : ForwarderEvent) (before : ForwarderValue) (told replied
 -- Nobody comes to wait, and nobody is replied to; or one comes to wait; or one is replied to; or a client is gone; or
 -- there are other options.
 pub data EventMoves (event : ForwarderEvent) (before after : ForwarderValue) : Type 0 where
-  event_stays : Says event before [] [] → Stills (IsTelling before) (core before) (core after)
+  event_stays : Says event before [] [] → Stills (IsSaid before) (core before) (core after)
       → EventMoves event before after
   event_joins : (w : RequestValue) → Says event before (w ∷ []) [] → Joins w (core before) (core after)
       → EventMoves event before after
@@ -86,7 +84,7 @@ step-moves action b a (step_replies w l does reply) =
       none_gone = λ ws. refl;
     }) l
 
-all-cleared : {said : WireMessage → Type 0} (b : ForwarderValue) → Stills said (core b) (core (cleared b))
+all-cleared : {said : Source → Type 0} (b : ForwarderValue) → Stills said (core b) (core (cleared b))
 all-cleared b =
     let without : Core = record (core b) { cache = record b.cache { entries = [] } } in
     more (core b) without (core (cleared b)) (cache_changes (core b) without clears tt refl)
@@ -108,7 +106,7 @@ moves (servers_are group servers) b a h = event_stays (quiet refl refl (λ ws. r
     (as_before (core b) (core a) (ap core h))
 moves (local_data_is local) b a h =
     event_stays (quiet refl refl (λ ws. refl))
-    (subst (λ (x : ForwarderValue). Stills (IsTelling b) (core b) (core x)) (sym h) (all-cleared b))
+    (subst (λ (x : ForwarderValue). Stills (IsSaid b) (core b) (core x)) (sym h) (all-cleared b))
 moves (client_is_gone client) b a h = event_goes client refl (ap core h)
 moves (options_are options) b a h = event_options options refl (quiet refl refl (λ ws. refl)) (ap core h)
 moves (name_is_flushed domain below) b a h =
@@ -116,7 +114,7 @@ moves (name_is_flushed domain below) b a h =
     (still-one (core b) (core a) (is_flushed (core b) (core a) domain.labels below (ap core h)))
 moves all_is_cleared b a h =
     event_stays (quiet refl refl (λ ws. refl))
-    (subst (λ (x : ForwarderValue). Stills (IsTelling b) (core b) (core x)) (sym h) (all-cleared b))
+    (subst (λ (x : ForwarderValue). Stills (IsSaid b) (core b) (core x)) (sym h) (all-cleared b))
 moves (is_stepped action) b a h = step-moves action b a (steps b a action h)
 moves step_is_refused b a h = event_stays (quiet refl refl (λ ws. refl))
     (is-refused b a h)

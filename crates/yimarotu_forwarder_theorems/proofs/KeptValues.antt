@@ -1,40 +1,46 @@
--- What holds of each value that is stored, and of its deadline, holds of each that is kept.
-use Rattle.std.proofs.Common.{◌≡◌, ℕ, Bool, true, false, not, List, [], ◌∷◌, ◌++◌, subst}
+-- What holds of each value that is stored, and of its deadline, holds of each that is kept; and what is told of a key
+-- does not change where one is asked for.
+use Rattle.std.proofs.Common.{◌≡◌, ℕ, Bool, true, false, not, List, [], ◌∷◌, ◌++◌, refl, subst, sym}
 use Rattle.std.specs.Prelude.{filter, find, None, Some, if◌then◌else◌}
 use Rattle.std.specs.Option.{option_and_then, option_map}
 use Rattle.std.specs.List.{AllByRecursion}
 use Rattle.second_chance_cache.specs.Laws.{CacheEvent, after_event, asks, clears, removes, stores}
 use Rattle.second_chance_cache.specs.SecondChance.{CacheValue, Entry, asked, first_round, has_room, if_current, is_current, is_for, is_kept, is_passed_by, make_room, marked_at, second_round, stored, told, unmarked, without}
 use Rattle.second_chance_cache.specs.declared.bounds.CacheBounds.{CacheBounds}
+use Rattle.second_chance_cache.proofs.Keys.{same_key}
 
-module _ {V : Type 0} (P : V → ℕ → Type 0) where
+module _ {V : Type 0} (P : List ℕ → V → ℕ → Type 0) where
   abbrev pub AllKept : List (Entry V) → Type 0
-  AllKept es = AllByRecursion (λ (e : Entry V). P e.value e.deadline) es
+  AllKept es = AllByRecursion (λ (e : Entry V). P e.key e.value e.deadline) es
 
   -- what an event stores, if anything
   abbrev pub StoresSuch : CacheEvent V → Type 0
-  StoresSuch (stores key value weight deadline now) = P value deadline
+  StoresSuch (stores key value weight deadline now) = P key value deadline
   StoresSuch other = Unit {0}
 
   -- and so of the value that is told
   pub told-kept : (key : List ℕ) (now : ℕ) (es : List (Entry V)) (v : V) → AllKept es → told key now es ≡ Some v
-      → (deadline : ℕ) × P v deadline
+      → (deadline : ℕ) × P key v deadline
   told-kept key now [] v all is = absurd cc
-  told-kept key now (e ∷ es) v all is = by (is_for key e) is (told-kept key now es v all.1)
+  told-kept key now (e ∷ es) v all is = by (is_for key e) refl is (told-kept key now es v all.1)
     where
-      by : (own : Bool)
+      by : (own : Bool) → is_for key e ≡ own
           → option_map (λ x. x.value) (option_and_then (if_current now)
           (if own then Some e else find (is_for key) es)) ≡ Some v
-          → (told key now es ≡ Some v → (deadline : ℕ) × P v deadline) → (deadline : ℕ) × P v deadline
-      by false is' more = more is'
-      by true is' more = current-kept (is_current now e) is'
+          → (told key now es ≡ Some v → (deadline : ℕ) × P key v deadline) → (deadline : ℕ) × P key v deadline
+      by false for is' more = more is'
+      by true for is' more = current-kept (is_current now e) is'
         where
           same : Some e.value ≡ Some v → e.value ≡ v
           same h = cc
 
           current-kept : (b : Bool)
-              → option_map (λ x. x.value) (if b then Some e else None) ≡ Some v → (deadline : ℕ) × P v deadline
-          current-kept true h = (e.deadline, subst (λ (x : V). P x e.deadline) (same h) all.0)
+              → option_map (λ x. x.value) (if b then Some e else None) ≡ Some v → (deadline : ℕ) × P key v deadline
+          current-kept true h = (
+            e.deadline,
+            subst (λ (k : List ℕ). P k v e.deadline) (sym (same_key key e.key for))
+                (subst (λ (x : V). P e.key x e.deadline) (same h) all.0),
+          )
           current-kept false h = absurd cc
 
   all-append : (es fs : List (Entry V)) → AllKept es → AllKept fs → AllKept (es ++ fs)
@@ -50,7 +56,7 @@ module _ {V : Type 0} (P : V → ℕ → Type 0) where
       by false rest = rest
 
   abbrev Holds : Entry V → Type 0
-  Holds e = P e.value e.deadline
+  Holds e = P e.key e.value e.deadline
 
   marked : (key : List ℕ) (now : ℕ) (e : Entry V) → Holds e → Holds (if is_for key e then marked_at now e else e)
   marked key now e p = by (is_for key e) (is_current now e)
@@ -92,7 +98,7 @@ module _ {V : Type 0} (P : V → ℕ → Type 0) where
       by false true by-passing dropping = by-passing
       by false false by-passing dropping = dropping
 
-  all-stored : (key : List ℕ) (value : V) (weight deadline now : ℕ) (c : CacheValue V) → P value deadline
+  all-stored : (key : List ℕ) (value : V) (weight deadline now : ℕ) (c : CacheValue V) → P key value deadline
       → AllKept c.entries → AllKept (stored key value weight deadline now c).entries
   all-stored key value weight deadline now c p all = by (is_kept c.bounds weight)
     where
@@ -117,3 +123,24 @@ module _ {V : Type 0} (P : V → ℕ → Type 0) where
   all-after c (asks key now) p all = all-asked key now c.entries all
   all-after c (removes key) p all = all-filtered (λ e. not (is_for key e)) c.entries all
   all-after c clears p all = tt
+
+-- ---- what is told
+
+module _ {V : Type 0} (key : List ℕ) (now : ℕ) where
+  told-first : (other : List ℕ) (e : Entry V) (es fs : List (Entry V)) → told key now es ≡ told key now fs
+      → told key now ((if is_for other e then marked_at now e else e) ∷ es) ≡ told key now (e ∷ fs)
+  told-first other e es fs rest = by (is_for other e) (is_current now e) refl (is_for key e) refl
+    where
+      by : (marks current : Bool) → is_current now e ≡ current → (own : Bool) → is_for key e ≡ own
+          → told key now ((if marks then (if current then record e { asked_again = true } else e) else e) ∷ es)
+          ≡ told key now (e ∷ fs)
+      by true true c true o = rw (o, c)
+      by true true c false o = rw o rest
+      by true false c true o = rw (o, c)
+      by true false c false o = rw o rest
+      by false current c true o = rw o
+      by false current c false o = rw o rest
+
+  pub told-asked-any : (other : List ℕ) (es : List (Entry V)) → told key now (asked other now es) ≡ told key now es
+  told-asked-any other [] = refl
+  told-asked-any other (e ∷ es) = told-first other e (asked other now es) es (told-asked-any other es)

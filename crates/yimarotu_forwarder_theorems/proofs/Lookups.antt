@@ -1,5 +1,5 @@
 -- What look-ups come to, and what is kept of it.
-use Rattle.std.proofs.Common.{◌≡◌, ◌∙◌, ℕ, ◌+◌, ◌-◌, ◌<◌, ◌≤◌, Bool, true, false, not, List, [], ◌∷◌, ◌++◌, length, refl, sym, ap, subst, arith, length-append, ◌⊎◌, inl, inr}
+use Rattle.std.proofs.Common.{◌≡◌, ◌∙◌, ℕ, ◌+◌, ◌-◌, ◌<◌, ◌≤◌, Bool, true, false, not, List, [], ◌∷◌, ◌++◌, length, refl, suc, sym, ap, subst, arith, length-append, ◌⊎◌, inl, inr}
 use Rattle.std.specs.Prelude.{Option, None, Some, map, nat_le, nat_lt, ◌&&◌, if◌then◌else◌}
 use Rattle.std.specs.List.{AllByRecursion}
 use Rattle.std.specs.Option.{option_and_then, option_map}
@@ -20,10 +20,10 @@ use Rattle.second_chance_cache.specs.SecondChance.{CacheValue, Entry, told}
 use Rattle.second_chance_cache.specs.declared.bounds.CacheBounds.{CacheBounds}
 use Rattle.stored_replies.specs.Stale.{with_ttl}
 use Rattle.stored_replies.specs.Key.{is_same_question}
-use Rattle.stored_replies.specs.Stored.{StoredValue, elapsed, stored_at}
+use Rattle.stored_replies.specs.Stored.{StoredValue, elapsed}
 use Rattle.stored_replies.specs.Told.{own_question}
 use Rattle.stored_replies.specs.declared.choices.TheConstants.{STALE_TTL}
-use Rattle.whole_lookups.proofs.InOrder.{asks_few_questions, whole_replies_are_all_in_order}
+use Rattle.whole_lookups.proofs.InOrder.{asks_few_questions}
 use Rattle.whole_lookups.specs.Capped.{capped}
 use Rattle.whole_lookups.specs.Denied.{without_denied}
 use Rattle.whole_lookups.specs.Laws.{after_all, told_by, whole_of}
@@ -37,21 +37,26 @@ use Rattle.yimarotu_forwarder.specs.Fetches.{FetchValue, fetch_in}
 use Rattle.yimarotu_forwarder.specs.Flushing.{is_flushed as is_flushed_key}
 use Rattle.yimarotu_forwarder.specs.Forwarders.{ChainEndValue, ForwarderValue, ReplyingValue, new_forwarder, second_of}
 use Rattle.yimarotu_forwarder.specs.Late.{late_replying, with_nobody}
-use Rattle.yimarotu_forwarder.specs.Telling.{replies_of, replying_of}
+use Rattle.yimarotu_forwarder.specs.Telling.{earlier_second, replies_of, replying_of}
 use Rattle.yimarotu_forwarder.specs.declared.choices.TheConstants.{LONGEST_STALE}
 use Rattle.yimarotu_forwarder.specs.Leaving.{fetch_without, replying_without}
 use Rattle.yimarotu_forwarder.specs.Local.{LocalValue}
 use Rattle.yimarotu_forwarder.specs.NextQuestions.{asked_octets}
 use Rattle.yimarotu_forwarder.specs.Options.{OptionsValue, stale_seconds}
+use Rattle.yimarotu_forwarder.specs.Prefetching.{key_dnssec}
 use Rattle.yimarotu_forwarder.specs.Stale.{if_stale}
-use Rattle.yimarotu_forwarder_theorems.specs.Lookups.{AnswersAreOfReplies, HasShortTtl, HeardReplies, IsAnswer, IsKeptAnswer, IsMadeOf, IsStaleAnswer, IsTelling, LastsTo, StaleAnswersAreOfReplies, Storing, WasTold, by_kept_end, by_local_data, by_servers, stored_so}
+use Rattle.yimarotu_forwarder_theorems.specs.Lookups.{AnswersAreOfReplies, HasShortTtl, HeardReplies, IsAnswer, IsKeptAnswer, IsMadeOf, IsStaleAnswer, AreSince, LastsTo, StaleAnswersAreOfReplies, Storing, ToldReply, WasKnown, WasTold, by_kept_end, by_local_data, by_servers, messages, stored_so}
 use Rattle.yimarotu_forwarder_theorems.specs.Runs.{ForwarderEvent, Happening, Runs, at_first, happened, next}
-use Rattle.yimarotu_forwarder_theorems.proofs.Cores.{Core, EndsByKept, Fetching, IsBegun, IsChainEnd, IsEndOf, IsLed, IsThatOf, Joins, Leaves, Puts, Still, Stills, StoresChainEnd, StoresEnd, StoresTold, as_before, begins_alone, cache_changes, chain_ends, core, end_so, failures_change, has_failed, has_heard, is_flushed, is_heard, is_kept, is_known, is_let_go, is_over, is_told_late, left_by, more, no_chain_ends, stored-at}
+use Rattle.yimarotu_forwarder_theorems.proofs.Cores.{Core, Fetching, IsBegun, IsChainEnd, IsEndOf, IsLed, IsSaid, IsThatOf, Joins, Leaves, Puts, Source, Still, Stills, StoresEnd, as_before, begins_alone, cache_changes, chain_ends, core, end_so, failures_change, has_failed, has_heard, is_flushed, is_heard, is_kept, is_known, is_let_go, is_over, is_told_late, known_here, left_by, more, no_chain_ends, stored-at, told_reply}
 use Rattle.yimarotu_forwarder_theorems.proofs.Events.{EventMoves, event_goes, event_joins, event_leaves, event_options, event_stays, moves}
+use Rattle.yimarotu_forwarder_theorems.proofs.Keys.{same-key}
 use Rattle.yimarotu_forwarder_theorems.proofs.KeptValues.{AllKept, StoresSuch, all-after, all-filtered, told-kept}
 
 abbrev Messages : Type 0
 Messages = List WireMessage
+
+abbrev Replies : Type 0
+Replies = List ToldReply
 
 -- ---- replies that led on
 
@@ -90,165 +95,278 @@ all-asked : (ms : Messages) (l : LookupValue) → LeadOn l ms → (after_all l m
 all-asked [] l lead = omega arith
 all-asked (m ∷ ms) l lead = omega (arith, all-asked ms (after m l) lead.1, one-asked m l lead.0)
 
+-- with DO or without, all along
+dnssec-after : (ms : Messages) (l : LookupValue) → (after_all l ms).dnssec ≡ l.dnssec
+dnssec-after [] l = refl
+dnssec-after (m ∷ ms) l = dnssec-after ms (after m l) ∙ by (kept_of l.next l.dnssec m) (next_question l.next m.message)
+  where
+    going : (k : KeptValue) (q : Query) (b : Bool) → (if b then gone_on k q l else l).dnssec ≡ l.dnssec
+    going k q true = refl
+    going k q false = refl
+
+    by : (k : Option KeptValue) (q : Option Query) → (after_of k q l).dnssec ≡ l.dnssec
+    by None q = refl
+    by (Some k) None = refl
+    by (Some k) (Some q) = going k q (may_go_on l)
+
 -- ---- replies that were told
 
-one-told : (past : List Happening) (ms : Messages) (m : WireMessage) → AllByRecursion (WasTold past) ms
-    → WasTold past m → AllByRecursion (WasTold past) (ms ++ m ∷ [])
-one-told past [] m all one = (one, tt)
-one-told past (x ∷ ms) m all one = (all.0, one-told past ms m all.1 one)
+module _ (P : ToldReply → Type 0) where
+  one-behind : (rs : Replies) (r : ToldReply) → AllByRecursion P rs → P r → AllByRecursion P (rs ++ r ∷ [])
+  one-behind [] r all one = (one, tt)
+  one-behind (x ∷ rs) r all one = (all.0, one-behind rs r all.1 one)
 
-all-told : (past : List Happening) (ms others : Messages) → AllByRecursion (WasTold past) ms
-    → AllByRecursion (WasTold past) others → AllByRecursion (WasTold past) (ms ++ others)
-all-told past [] others all rest = rest
-all-told past (x ∷ ms) others all rest = (all.0, all-told past ms others all.1 rest)
+  all-behind : (rs others : Replies) → AllByRecursion P rs → AllByRecursion P others
+      → AllByRecursion P (rs ++ others)
+  all-behind [] others all rest = rest
+  all-behind (x ∷ rs) others all rest = (all.0, all-behind rs others all.1 rest)
 
-told-before : (h : Happening) (past : List Happening) (ms : Messages) → AllByRecursion (WasTold past) ms
-    → AllByRecursion (WasTold (h ∷ past)) ms
+messages-behind : (rs : Replies) (r : ToldReply) → messages (rs ++ r ∷ []) ≡ messages rs ++ r.message ∷ []
+messages-behind [] r = refl
+messages-behind (x ∷ rs) r = ap (λ (ms : Messages). x.message ∷ ms) (messages-behind rs r)
+
+as-many : (rs : Replies) → length (messages rs) ≡ length rs
+as-many [] = refl
+as-many (r ∷ rs) = ap suc (as-many rs)
+
+told-before : (h : Happening) (past : List Happening) (rs : Replies) → AllByRecursion (WasTold past) rs
+    → AllByRecursion (WasTold (h ∷ past)) rs
 told-before (happened event b a) past [] all = tt
-told-before (happened event b a) past (m ∷ ms) all = (inr all.0, told-before (happened event b a) past ms all.1)
+told-before (happened event b a) past (r ∷ rs) all = (inr all.0, told-before (happened event b a) past rs all.1)
+
+-- ---- the second from which on a whole ages
+
+-- it was noted at no later second
+abbrev IsBy : Option ℕ → ℕ → Type 0
+IsBy None second = ⊥
+IsBy (Some first) second = first ≤ second
+
+abbrev AreBy : Option ℕ → Replies → Type 0
+AreBy heard replies = AllByRecursion (λ (r : ToldReply). IsBy heard r.second) replies
+
+earlier-now : (heard : Option ℕ) (now : ℕ) → earlier_second heard now ≤ now
+earlier-now None now = omega arith
+earlier-now (Some first) now = omega arith
+
+earlier-all : (heard : Option ℕ) (now : ℕ) (rs : Replies) → AreBy heard rs → AreSince (earlier_second heard now) rs
+earlier-all heard now [] all = tt
+earlier-all None now (r ∷ rs) all = absurd all.0
+earlier-all (Some first) now (r ∷ rs) all =
+    let early : first ≤ r.second = all.0 in (omega (arith, early), earlier-all (Some first) now rs all.1)
+
+since-all : (second : ℕ) (heard : Option ℕ) (now : ℕ) (rs : Replies) → second ≡ earlier_second heard now
+    → AreBy heard rs → AreSince second rs
+since-all second heard now rs is all =
+    subst (λ (s : ℕ). AreSince s rs) (sym is) (earlier-all heard now rs all)
+
+since-now : (second : ℕ) (heard : Option ℕ) (now : ℕ) → second ≡ earlier_second heard now → second ≤ now
+since-now second heard now is = subst (λ (s : ℕ). s ≤ now) (sym is) (earlier-now heard now)
+
+by-earlier : (heard : Option ℕ) (now : ℕ) (rs : Replies) → AreSince (earlier_second heard now) rs
+    → AreBy (Some (earlier_second heard now)) rs
+by-earlier heard now [] all = tt
+by-earlier heard now (r ∷ rs) all = (all.0, by-earlier heard now rs all.1)
 
 module _ (past : List Happening) where
   -- ---- how far a look-up is
 
-  pub record IsReached (l : LookupValue) : Type 0 where
+  -- and the second that was noted for it
+  pub record IsReached (dnssec : Bool) (l : LookupValue) (noted : Option ℕ) : Type 0 where
     pub question : Query
-    pub dnssec : Bool
-    pub replies : Messages
+    pub replies : Replies
     pub told : AllByRecursion (WasTold past) replies
-    pub reached : l ≡ after_all (begun question dnssec) replies
-    pub lead : LeadOn (begun question dnssec) replies
+    pub reached : l ≡ after_all (begun question dnssec) (messages replies)
+    pub lead : LeadOn (begun question dnssec) (messages replies)
     pub asked : l.asked ≡ question
+    pub since : AreBy noted replies
 
-  begins-so : (l : LookupValue) → IsBegun l → IsReached l
-  begins-so l (q, dnssec, is) = record {
+  begins-so : (key : List ℕ) (l : LookupValue) (noted : Option ℕ) → IsBegun key l
+      → IsReached (key_dnssec key) l noted
+  begins-so key l noted (q, is) = record {
     question = q;
-    dnssec = dnssec;
     replies = [];
     told = tt;
     reached = is;
     lead = tt;
     asked = ap (λ (x : LookupValue). x.asked) is;
+    since = tt;
   }
 
-  led-so : {said : WireMessage → Type 0} (before l : LookupValue) → ((m : WireMessage) → said m → WasTold past m)
-      → l.asked ≡ before.asked → IsLed said before l → IsReached before → IsReached l
-  led-so before l tells same led r =
-      let on : heard led.reply (after_all (begun r.question r.dnssec) r.replies) ≡ Asks =
-      ap (heard led.reply) (sym r.reached) ∙ led.asks in
+  -- what happened said it
+  abbrev Was : Source → Type 0
+  Was (told_reply r) = WasTold past r
+  Was (known_here q here second) = WasKnown past q here second
+
+  led-so : {said : Source → Type 0} (dnssec : Bool) (f g : FetchValue) → ((x : Source) → said x → Was x)
+      → g.lookup.asked ≡ f.lookup.asked → IsLed said f g → IsReached dnssec f.lookup f.heard
+      → IsReached dnssec g.lookup g.heard
+  led-so dnssec f g tells same led r =
+      let ms = messages r.replies in
+      let m = led.reply.message in
+      let all : messages (r.replies ++ led.reply ∷ []) ≡ ms ++ m ∷ [] = messages-behind r.replies led.reply in
+      let on : heard m (after_all (begun r.question dnssec) ms) ≡ Asks = ap (heard m) (sym r.reached) ∙ led.asks in
+      let first = earlier_second f.heard led.reply.second in
       record {
         question = r.question;
-        dnssec = r.dnssec;
         replies = r.replies ++ led.reply ∷ [];
-        told = one-told past r.replies led.reply r.told (tells led.reply led.told);
+        told = one-behind (WasTold past) r.replies led.reply r.told (tells (told_reply led.reply) led.told);
         reached =
-            led.led ∙ ap (after led.reply) r.reached
-            ∙ sym (fold-append (λ (k : LookupValue) (m : WireMessage). after m k) (begun r.question r.dnssec) r.replies
-            (led.reply ∷ []));
-        lead = one-leads (begun r.question r.dnssec) r.replies led.reply r.lead on;
+            led.led ∙ ap (after m) r.reached
+            ∙ sym (fold-append (λ (k : LookupValue) (x : WireMessage). after x k) (begun r.question dnssec) ms
+            (m ∷ []))
+            ∙ ap (after_all (begun r.question dnssec)) (sym all);
+        lead = subst (LeadOn (begun r.question dnssec)) (sym all)
+            (one-leads (begun r.question dnssec) ms m r.lead on);
         asked = same ∙ r.asked;
+        since = subst (λ (o : Option ℕ). AreBy o (r.replies ++ led.reply ∷ [])) (sym led.since)
+            (one-behind (λ (x : ToldReply). first ≤ x.second) r.replies led.reply
+            (earlier-all f.heard led.reply.second r.replies r.since) (earlier-now f.heard led.reply.second));
       }
 
   -- ---- its end
 
   -- as many replies as that made it, and no more than few
-  pub record IsCounted (s : StoredValue) (most : ℕ) : Type 0 where
-    pub replies : Messages
+  pub record IsCounted (dnssec : Bool) (s : StoredValue) (most : ℕ) : Type 0 where
+    pub replies : Replies
     pub told : AllByRecursion (WasTold past) replies
     pub few : length replies ≤ most
     pub most_are_few : most ≤ MOST_QUESTIONS
-    pub made : IsMadeOf replies s
+    pub made : IsMadeOf past dnssec replies s
 
-  pub record IsKeptCounted (cached : CachedValue) (deadline : ℕ) : Type 0 where
-    pub counted : IsCounted cached.reply cached.replies
+  pub record IsKeptCounted (key : List ℕ) (cached : CachedValue) (deadline : ℕ) : Type 0 where
+    pub counted : IsCounted (key_dnssec key) cached.reply cached.replies
     pub lasts : LastsTo cached.reply cached.told_until
     pub a_day : deadline ≤ cached.told_until + LONGEST_STALE
 
   -- one question more than replies led on, and few
-  count-reached : (l : LookupValue) (r : IsReached l) → l.count ≡ 1 + length r.replies
-  count-reached l r =
-      ap (λ (x : LookupValue). x.count) r.reached ∙ all-asked r.replies (begun r.question r.dnssec) r.lead
+  count-reached : (dnssec : Bool) (l : LookupValue) (noted : Option ℕ) (r : IsReached dnssec l noted)
+      → l.count ≡ 1 + length r.replies
+  count-reached dnssec l noted r =
+      ap (λ (x : LookupValue). x.count) r.reached
+      ∙ all-asked (messages r.replies) (begun r.question dnssec) r.lead
+      ∙ ap (λ (n : ℕ). 1 + n) (as-many r.replies)
 
-  few-reached : (l : LookupValue) → IsReached l → l.count ≤ MOST_QUESTIONS
-  few-reached l r =
+  few-reached : (dnssec : Bool) (l : LookupValue) (noted : Option ℕ) → IsReached dnssec l noted
+      → l.count ≤ MOST_QUESTIONS
+  few-reached dnssec l noted r =
       subst (λ (x : LookupValue). x.count ≤ MOST_QUESTIONS) (sym r.reached)
-      (asks_few_questions r.question r.dnssec r.replies)
+      (asks_few_questions r.question dnssec (messages r.replies))
 
-  stored-asked : (l : LookupValue) (r : IsReached l) (kept : KeptValue) (how : Storing) (end : FetchEnd)
-      (s : StoredValue) → end ≡ end_so l.asked kept how → end ≡ Reply s → s ≡ stored_so r.question kept how
-  stored-asked l r kept how end s is h =
+  -- with DO or without, all along
+  dnssec-reached : (dnssec : Bool) (l : LookupValue) (noted : Option ℕ) → IsReached dnssec l noted
+      → l.dnssec ≡ dnssec
+  dnssec-reached dnssec l noted r =
+      ap (λ (x : LookupValue). x.dnssec) r.reached
+      ∙ dnssec-after (messages r.replies) (begun r.question dnssec)
+
+  stored-asked : (dnssec : Bool) (l : LookupValue) (noted : Option ℕ) (r : IsReached dnssec l noted)
+      (kept : KeptValue) (how : Storing) (end : FetchEnd) (s : StoredValue) → end ≡ end_so l.asked kept how
+      → end ≡ Reply s → s ≡ stored_so r.question kept how
+  stored-asked dnssec l noted r kept how end s is h =
       stored-at l.asked (capped how.greatest (without_denied how.allowed how.denied kept)) how.second s (sym is ∙ h)
       ∙ ap (λ (q : Query). stored_so q kept how) r.asked
 
-  ended-so : {said : WireMessage → Type 0} (cache : CacheValue CachedValue) (l : LookupValue) (most : ℕ)
-      (end : FetchEnd) (s : StoredValue) → ((m : WireMessage) → said m → WasTold past m) → IsReached l
-      → AllKept IsKeptCounted cache.entries → IsEndOf said cache l most end → end ≡ Reply s → IsCounted s most
-  ended-so cache l most end s tells r all (has_failed why is) h =
+  ended-so : {said : Source → Type 0} (dnssec : Bool) (cache : CacheValue CachedValue) (f : FetchValue) (most : ℕ)
+      (end : FetchEnd) (s : StoredValue) → ((x : Source) → said x → Was x) → IsReached dnssec f.lookup f.heard
+      → AllKept IsKeptCounted cache.entries → IsEndOf said cache f most end → end ≡ Reply s
+      → IsCounted dnssec s most
+  ended-so dnssec cache f most end s tells r all (has_failed why is) h =
       let clash : Failure why ≡ Reply s = sym is ∙ h in absurd cc
-  ended-so cache l most end s tells r all (has_heard m kept said-so heard-it many how is) h =
-      let how-again : heard m (after_all (begun r.question r.dnssec) r.replies) ≡ Whole kept =
-      ap (heard m) (sym r.reached) ∙ heard-it in
-      let whole = whole-behind (begun r.question r.dnssec) r.replies m kept r.lead how-again in
+  ended-so dnssec cache f most end s tells r all (has_heard m kept said-so heard-it many how since is) h =
+      let ms = messages r.replies in
+      let again : heard m.message (after_all (begun r.question dnssec) ms) ≡ Whole kept =
+      ap (heard m.message) (sym r.reached) ∙ heard-it in
+      let whole = whole-behind (begun r.question dnssec) ms m.message kept r.lead again in
       record {
         replies = r.replies ++ m ∷ [];
-        told = one-told past r.replies m r.told (tells m said-so);
-        few = omega (arith, many, count-reached l r, length-append r.replies (m ∷ []));
-        most_are_few = omega (arith, many, few-reached l r);
-        made = by_servers r.question r.dnssec (r.replies ++ m ∷ []) kept how s whole
-            (stored-asked l r kept how end s is h);
+        told = one-behind (WasTold past) r.replies m r.told (tells (told_reply m) said-so);
+        few = omega (
+          arith,
+          many,
+          count-reached dnssec f.lookup f.heard r,
+          length-append r.replies (m ∷ []),
+        );
+        most_are_few = omega (arith, many, few-reached dnssec f.lookup f.heard r);
+        made = by_servers r.question (r.replies ++ m ∷ []) kept how s
+            (ap (whole_of (begun r.question dnssec)) (messages-behind r.replies m) ∙ whole)
+            (one-behind (λ (x : ToldReply). how.second ≤ x.second) r.replies m
+            (since-all how.second f.heard m.second r.replies since r.since)
+            (since-now how.second f.heard m.second since))
+            (stored-asked dnssec f.lookup f.heard r kept how end s is h);
       }
-  ended-so cache l most end s tells r all (is_known here many how is) h = record {
+  ended-so dnssec cache f most end s tells r all (is_known here now known many how since is) h = record {
     replies = r.replies;
     told = r.told;
-    few = omega (arith, many, count-reached l r, few-reached l r);
-    most_are_few = omega (arith, many, few-reached l r);
-    made = by_local_data r.question r.dnssec r.replies here how s
-        (stored-asked l r (whole_with here l) how end s is h
+    few = omega (
+      arith,
+      many,
+      count-reached dnssec f.lookup f.heard r,
+      few-reached dnssec f.lookup f.heard r,
+    );
+    most_are_few = omega (arith, many, few-reached dnssec f.lookup f.heard r);
+    made = by_local_data r.question r.replies here now how s
+        (subst (λ (x : LookupValue). WasKnown past x.next here now) r.reached
+        (tells (known_here f.lookup.next here now) known)) (since-now how.second f.heard now since)
+        (since-all how.second f.heard now r.replies since r.since)
+        (stored-asked dnssec f.lookup f.heard r (whole_with here f.lookup) how end s is h
         ∙ ap (λ (x : LookupValue). stored_so r.question (whole_with here x) how) r.reached);
   }
-  ended-so cache l most end s tells r all (is_kept now cached by-kept how early is) h =
+  ended-so dnssec cache f most end s tells r all (is_kept now cached by-kept how since is) h =
       let found = told-kept IsKeptCounted by-kept.key now cache.entries cached all by-kept.found in
-      let last = found.1.counted in
+      let last = subst (λ (d : Bool). IsCounted d cached.reply cached.replies)
+      (by-kept.alike ∙ dnssec-reached dnssec f.lookup f.heard r) found.1.counted in
       let here = aged (elapsed cached.reply now) cached.reply.kept in
       let lasts : LastsTo cached.reply now = omega (arith, by-kept.current, found.1.lasts) in
       record {
         replies = r.replies ++ last.replies;
-        told = all-told past r.replies last.replies r.told last.told;
-        few = omega (arith, by-kept.many, by-kept.few, count-reached l r, last.few, length-append r.replies last.replies);
-        most_are_few = omega (arith, by-kept.many, by-kept.few, count-reached l r);
-        made = by_kept_end r.question r.dnssec r.replies last.replies cached.reply now how s last.made lasts early
+        told = all-behind (WasTold past) r.replies last.replies r.told last.told;
+        few = omega (
+          arith,
+          by-kept.many,
+          by-kept.few,
+          count-reached dnssec f.lookup f.heard r,
+          last.few,
+          length-append r.replies last.replies,
+        );
+        most_are_few = omega (arith, by-kept.many, by-kept.few, count-reached dnssec f.lookup f.heard r);
+        made = by_kept_end r.question r.replies last.replies cached.reply now how s last.made lasts
+            (since-now how.second f.heard now since) (since-all how.second f.heard now r.replies since r.since)
             (subst (λ (x : LookupValue). is_same_question (asked_octets x.next) (own_question cached.reply) ≡ true)
             r.reached by-kept.same)
-            (stored-asked l r (whole_with here l) how end s is h
+            (stored-asked dnssec f.lookup f.heard r (whole_with here f.lookup) how end s is h
             ∙ ap (λ (x : LookupValue). stored_so r.question (whole_with here x) how) r.reached);
       }
 
   -- a reply that ends a chain is the whole of its own look-up
-  chain-end-so : {said : WireMessage → Type 0} (e : ChainEndValue) → ((m : WireMessage) → said m → WasTold past m)
-      → IsChainEnd said e → IsCounted e.reply 1
+  chain-end-so : {said : Source → Type 0} (e : ChainEndValue) → ((x : Source) → said x → Was x)
+      → IsChainEnd said e → IsCounted (key_dnssec e.key) e.reply 1
   chain-end-so e tells c = record {
     replies = c.reply ∷ [];
-    told = (tells c.reply c.told, tt);
+    told = (tells (told_reply c.reply) c.told, tt);
     few = omega arith;
     most_are_few = omega arith;
-    made = by_servers c.question c.dnssec (c.reply ∷ []) c.kept c.how e.reply
+    made = by_servers c.question (c.reply ∷ []) c.kept c.how e.reply
         (ap (λ (h : Heard). told_by h [] None)
         (ap (λ (k : Option KeptValue).
-        outcome_of k (next_question c.question c.reply.message) (begun c.question c.dnssec)) c.keeps
-        ∙ ap (λ (q : Option Query). outcome_of (Some c.kept) q (begun c.question c.dnssec)) c.ends))
-        c.stored;
+        outcome_of k (next_question c.question c.reply.message.message) (begun c.question (key_dnssec e.key))) c.keeps
+        ∙ ap (λ (q : Option Query). outcome_of (Some c.kept) q (begun c.question (key_dnssec e.key))) c.ends))
+        (omega (arith, c.since), tt) c.stored;
   }
 
   -- ---- all of it
 
   abbrev IsToldOf : Option ReplyingValue → Type 0
   IsToldOf replying =
-      (r : ReplyingValue) (s : StoredValue) → replying ≡ Some r → r.end ≡ Reply s → IsCounted s r.replies
+      (r : ReplyingValue) (s : StoredValue) → replying ≡ Some r → r.end ≡ Reply s
+      → IsCounted (key_dnssec r.key) s r.replies
 
   abbrev IsEndOfReply : Option ChainEndValue → Type 0
-  IsEndOfReply end = (e : ChainEndValue) → end ≡ Some e → IsCounted e.reply 1
+  IsEndOfReply end = (e : ChainEndValue) → end ≡ Some e → IsCounted (key_dnssec e.key) e.reply 1
 
   abbrev AreReached : Fetching → Type 0
-  AreReached fetches = (key : List ℕ) (f : FetchValue) → fetch_in key fetches ≡ Some f → IsReached f.lookup
+  AreReached fetches =
+      (key : List ℕ) (f : FetchValue) → fetch_in key fetches ≡ Some f
+      → IsReached (key_dnssec key) f.lookup f.heard
 
   pub record IsSound (c : Core) : Type 0 where
     pub going_on : AreReached c.fetches
@@ -263,17 +381,21 @@ module _ (past : List Happening) where
   no-end e is = absurd cc
 
   -- of an equal one
-  same-counted : (s : StoredValue) (r q : ReplyingValue) → r.replies ≡ q.replies → IsCounted s r.replies
-      → IsCounted s q.replies
-  same-counted s r q same h = subst (IsCounted s) same h
+  same-counted : (s : StoredValue) (r q : ReplyingValue) → r.key ≡ q.key → r.replies ≡ q.replies
+      → IsCounted (key_dnssec r.key) s r.replies → IsCounted (key_dnssec q.key) s q.replies
+  same-counted s r q own same h =
+      subst (IsCounted (key_dnssec q.key) s) same
+      (subst (λ (k : List ℕ). IsCounted (key_dnssec k) s r.replies) own h)
 
   put-reached : (key : List ℕ) (held : Option FetchValue) (c d : Fetching) → Puts key held c d → AreReached c
-      → ((f : FetchValue) → held ≡ Some f → IsReached f.lookup) → AreReached d
-  put-reached key held c d puts all one other f is = by (key_eq key other) (sym (puts other) ∙ is)
+      → ((f : FetchValue) → held ≡ Some f → IsReached (key_dnssec key) f.lookup f.heard) → AreReached d
+  put-reached key held c d puts all one other f is = by (key_eq key other) refl (sym (puts other) ∙ is)
     where
-      by : (b : Bool) → (if b then held else fetch_in other c) ≡ Some f → IsReached f.lookup
-      by true e = one f e
-      by false e = all other f e
+      by : (b : Bool) → key_eq key other ≡ b → (if b then held else fetch_in other c) ≡ Some f
+          → IsReached (key_dnssec other) f.lookup f.heard
+      by true own e =
+          subst (λ (k : List ℕ). IsReached (key_dnssec k) f.lookup f.heard) (same-key key other own) (one f e)
+      by false own e = all other f e
 
   same-put : (f g : FetchValue) → Some f ≡ Some g → f ≡ g
   same-put f g e = cc
@@ -282,14 +404,16 @@ module _ (past : List Happening) where
       → IsEndOfReply c.chain_end → StoresSuch IsKeptCounted event
   stored-such c (stores key s weight deadline now) (inl (r, x), lasts, a_day) told ends =
       record {
-        counted = subst (IsCounted s.reply) (sym x.many) (told r s.reply x.was x.end);
+        counted = subst (λ (k : List ℕ). IsCounted (key_dnssec k) s.reply s.replies) (sym x.own)
+            (subst (IsCounted (key_dnssec r.key) s.reply) (sym x.many) (told r s.reply x.was x.end));
         lasts = lasts;
         a_day = a_day;
       }
   stored-such c (stores key s weight deadline now) (inr (e, x), lasts, a_day) told ends =
       record {
-        counted = subst (IsCounted s.reply) (sym x.many)
-            (subst (λ (y : StoredValue). IsCounted y 1) x.end (ends e x.was));
+        counted = subst (λ (k : List ℕ). IsCounted (key_dnssec k) s.reply s.replies) (sym x.own)
+            (subst (IsCounted (key_dnssec e.key) s.reply) (sym x.many)
+            (subst (λ (y : StoredValue). IsCounted (key_dnssec e.key) y 1) x.end (ends e x.was)));
         lasts = lasts;
         a_day = a_day;
       }
@@ -297,7 +421,7 @@ module _ (past : List Happening) where
   stored-such c (removes key) such told ends = tt
   stored-such c clears such told ends = tt
 
-  still-sound : {said : WireMessage → Type 0} (c d : Core) → ((m : WireMessage) → said m → WasTold past m)
+  still-sound : {said : Source → Type 0} (c d : Core) → ((x : Source) → said x → Was x)
       → Still said c d → IsSound c → IsSound d
   still-sound c d tells (cache_changes c' d' event such e) h =
       subst IsSound (sym e) (record {
@@ -309,10 +433,10 @@ module _ (past : List Happening) where
   still-sound c d tells (failures_change c' d' event e) h =
       subst IsSound (sym e) (record { going_on = h.going_on; told = h.told; chain_end = h.chain_end; kept = h.kept })
   still-sound c d tells (is_heard c' d' k f g found same led puts e) h =
-      let now = led-so f.lookup g.lookup tells same.asked led (h.going_on k f found) in
+      let now = led-so (key_dnssec k) f g tells same.asked led (h.going_on k f found) in
       subst IsSound (sym e) (record {
         going_on = put-reached k (Some g) c.fetches d.fetches puts h.going_on
-            (λ x is. subst (λ (y : FetchValue). IsReached y.lookup) (same-put g x is) now);
+            (λ x is. subst (λ (y : FetchValue). IsReached (key_dnssec k) y.lookup y.heard) (same-put g x is) now);
         told = h.told;
         chain_end = h.chain_end;
         kept = h.kept;
@@ -323,10 +447,10 @@ module _ (past : List Happening) where
         told = λ r s was ends.
             let same = same-replying (replying_of k end g) r was in
             let end-is : end ≡ Reply s = ap (λ (x : ReplyingValue). x.end) same ∙ ends in
-            subst (IsCounted s)
-            (sym (ap (λ (x : FetchEnd). replies_of x g.lookup.count) end-is)
-            ∙ ap (λ (x : ReplyingValue). x.replies) same)
-            (ended-so c.cache f.lookup g.lookup.count end s tells (h.going_on k f found) h.kept is end-is);
+            subst (λ (x : ReplyingValue). IsCounted (key_dnssec x.key) s x.replies) same
+            (subst (IsCounted (key_dnssec k) s) (sym (ap (λ (x : FetchEnd). replies_of x g.lookup.count) end-is))
+            (ended-so (key_dnssec k) c.cache f g.lookup.count end s tells (h.going_on k f found) h.kept is
+            end-is));
         chain_end = h.chain_end;
         kept = h.kept;
       })
@@ -336,7 +460,7 @@ module _ (past : List Happening) where
   still-sound c d tells (is_told_late c' d' k f none found puts e) h =
       subst IsSound (sym e) (record {
         going_on = put-reached k (Some (with_nobody f)) c.fetches d.fetches puts h.going_on
-            (λ x is. subst (λ (y : FetchValue). IsReached y.lookup) (same-put (with_nobody f) x is)
+            (λ x is. subst (λ (y : FetchValue). IsReached (key_dnssec k) y.lookup y.heard) (same-put (with_nobody f) x is)
             (h.going_on k f found));
         told = λ r s was ends. failed r s was ends;
         chain_end = h.chain_end;
@@ -344,7 +468,7 @@ module _ (past : List Happening) where
       })
     where
       failed : (r : ReplyingValue) (s : StoredValue) → Some (late_replying k f) ≡ Some r → r.end ≡ Reply s
-          → IsCounted s r.replies
+          → IsCounted (key_dnssec r.key) s r.replies
       failed r s is ends = let clash : Failure reason.NoReachableAuthority ≡ Reply s = cc in absurd cc
   still-sound c d tells (is_let_go c' d' r was none e) h =
       subst IsSound (sym e) (record { going_on = h.going_on; told = none-told; chain_end = h.chain_end; kept = h.kept })
@@ -352,7 +476,8 @@ module _ (past : List Happening) where
       subst IsSound (sym e) (record {
         going_on = h.going_on;
         told = h.told;
-        chain_end = λ x same. subst (λ (y : ChainEndValue). IsCounted y.reply 1) (same-end end x same)
+        chain_end = λ x same. subst (λ (y : ChainEndValue). IsCounted (key_dnssec y.key) y.reply 1)
+            (same-end end x same)
             (chain-end-so end tells is);
         kept = h.kept;
       })
@@ -373,13 +498,14 @@ module _ (past : List Happening) where
   still-sound c d tells (begins_alone c' d' k f none waits begins puts e) h =
       subst IsSound (sym e) (record {
         going_on = put-reached k (Some f) c.fetches d.fetches puts h.going_on
-            (λ x is. subst (λ (y : FetchValue). IsReached y.lookup) (same-put f x is) (begins-so f.lookup begins));
+            (λ x is. subst (λ (y : FetchValue). IsReached (key_dnssec k) y.lookup y.heard) (same-put f x is)
+            (begins-so k f.lookup f.heard begins));
         told = h.told;
         chain_end = h.chain_end;
         kept = h.kept;
       })
 
-  stills-sound : {said : WireMessage → Type 0} (c d : Core) → ((m : WireMessage) → said m → WasTold past m)
+  stills-sound : {said : Source → Type 0} (c d : Core) → ((x : Source) → said x → Was x)
       → Stills said c d → IsSound c → IsSound d
   stills-sound c d tells (as_before c' d' e) h = subst IsSound (sym e) h
   stills-sound c d tells (more c' m d' first rest) h = stills-sound m d tells rest (still-sound c m tells first h)
@@ -388,21 +514,26 @@ module _ (past : List Happening) where
   join-sound w c d j h =
       subst IsSound (sym j.others_are) (record {
         going_on = put-reached j.key (Some j.fetch) c.fetches d.fetches j.puts h.going_on
-            (λ x is. subst (λ (y : FetchValue). IsReached y.lookup) (same-put j.fetch x is) (by j.lookup));
+            (λ x is. subst (λ (y : FetchValue). IsReached (key_dnssec j.key) y.lookup y.heard) (same-put j.fetch x is)
+            (by j.lookup));
         told = h.told;
         chain_end = h.chain_end;
         kept = h.kept;
       })
     where
-      by : IsBegun j.fetch.lookup ⊎ IsThatOf (fetch_in j.key c.fetches) j.fetch.lookup → IsReached j.fetch.lookup
-      by (inl begins) = begins-so j.fetch.lookup begins
-      by (inr (f, found, same)) = subst IsReached (sym same) (h.going_on j.key f found)
+      by : IsBegun j.key j.fetch.lookup ⊎ IsThatOf (fetch_in j.key c.fetches) j.fetch
+          → IsReached (key_dnssec j.key) j.fetch.lookup j.fetch.heard
+      by (inl begins) = begins-so j.key j.fetch.lookup j.fetch.heard begins
+      by (inr (f, found, same, noted)) =
+          subst (IsReached (key_dnssec j.key) j.fetch.lookup) (sym noted)
+          (subst (λ (l : LookupValue). IsReached (key_dnssec j.key) l f.heard) (sym same) (h.going_on j.key f found))
 
   leave-sound : (w : RequestValue) (c d : Core) → Leaves w c d → IsSound c → IsSound d
   leave-sound w c d l h =
       subst IsSound (sym l.others_are) (record {
         going_on = h.going_on;
         told = λ r s is end. same-counted s l.replying r
+            (ap (λ (x : ReplyingValue). x.key) (same-replying (record l.replying { waiting = l.others }) r is))
             (ap (λ (x : ReplyingValue). x.replies) (same-replying (record l.replying { waiting = l.others }) r is))
             (h.told l.replying s l.was
             (ap (λ (x : ReplyingValue). x.end) (same-replying (record l.replying { waiting = l.others }) r is) ∙ end));
@@ -414,18 +545,19 @@ module _ (past : List Happening) where
       same-replying r q is' = cc
 
   -- who is gone waits for nothing
-  reached-left : (client : ℕ) (held : Option FetchValue) (f : FetchValue)
-      → ((g : FetchValue) → held ≡ Some g → IsReached g.lookup) → option_map (fetch_without client) held ≡ Some f
-      → IsReached f.lookup
-  reached-left client None f all is = absurd cc
-  reached-left client (Some g) f all is =
-      subst (λ (y : FetchValue). IsReached y.lookup) (same-put (fetch_without client g) f is) (all g refl)
+  reached-left : (dnssec : Bool) (client : ℕ) (held : Option FetchValue) (f : FetchValue)
+      → ((g : FetchValue) → held ≡ Some g → IsReached dnssec g.lookup g.heard)
+      → option_map (fetch_without client) held ≡ Some f → IsReached dnssec f.lookup f.heard
+  reached-left dnssec client None f all is = absurd cc
+  reached-left dnssec client (Some g) f all is =
+      subst (λ (y : FetchValue). IsReached dnssec y.lookup y.heard) (same-put (fetch_without client g) f is) (all g refl)
 
   told-left : (client : ℕ) (replying : Option ReplyingValue) → IsToldOf replying
       → IsToldOf (option_map (replying_without client) replying)
   told-left client None told = none-told
   told-left client (Some q) told =
       λ r s is end. same-counted s q r
+      (ap (λ (x : ReplyingValue). x.key) (same-replying (replying_without client q) r is))
       (ap (λ (x : ReplyingValue). x.replies) (same-replying (replying_without client q) r is))
       (told q s refl (ap (λ (x : ReplyingValue). x.end) (same-replying (replying_without client q) r is) ∙ end))
     where
@@ -435,44 +567,59 @@ module _ (past : List Happening) where
   gone-sound : (client : ℕ) (c d : Core) → d ≡ left_by client c → IsSound c → IsSound d
   gone-sound client c d e h =
       subst IsSound (sym e) (record {
-        going_on = λ key f is. reached-left client (fetch_in key c.fetches) f (h.going_on key)
+        going_on = λ key f is. reached-left (key_dnssec key) client (fetch_in key c.fetches) f (h.going_on key)
             (sym (lookup-map_values (fetch_without client) (key_eq key) c.fetches) ∙ is);
         told = told-left client c.replying h.told;
         chain_end = h.chain_end;
         kept = h.kept;
       })
 
-  heard-so : (l : LookupValue) → IsReached l → HeardReplies past l
-  heard-so l r = record {
+  heard-so : (dnssec : Bool) (l : LookupValue) (noted : Option ℕ) → IsReached dnssec l noted
+      → HeardReplies past dnssec l
+  heard-so dnssec l noted r = record {
     question = r.question;
-    dnssec = r.dnssec;
     replies = r.replies;
     told = r.told;
     heard = r.reached;
-    few = few-reached l r;
+    few = few-reached dnssec l noted r;
   }
 
 -- ---- what was so stays so
 
-reached-later : (h : Happening) (past : List Happening) (l : LookupValue) → IsReached past l → IsReached (h ∷ past) l
-reached-later h past l r = record {
+known-later : (h : Happening) (past : List Happening) (q : Query) (here : KeptValue) (second : ℕ)
+    → WasKnown past q here second → WasKnown (h ∷ past) q here second
+known-later (happened event b a) past q here second was = inr was
+
+made-later : (h : Happening) (past : List Happening) (dnssec : Bool) (rs : Replies) (s : StoredValue)
+    → IsMadeOf past dnssec rs s → IsMadeOf (h ∷ past) dnssec rs s
+made-later h past dnssec rs s (by_servers q rs' kept how s' whole since is) =
+    by_servers q rs kept how s whole since is
+made-later h past dnssec rs s (by_local_data q rs' here second how s' known early since is) =
+    by_local_data q rs here second how s
+    (known-later h past (after_all (begun q dnssec) (messages rs)).next here second known) early since is
+made-later h past dnssec rs s (by_kept_end q first last end second how s' made lasts early since same is) =
+    by_kept_end q first last end second how s (made-later h past dnssec last end made) lasts early since same is
+
+reached-later : (h : Happening) (past : List Happening) (dnssec : Bool) (l : LookupValue) (noted : Option ℕ)
+    → IsReached past dnssec l noted → IsReached (h ∷ past) dnssec l noted
+reached-later h past dnssec l noted r = record {
   question = r.question;
-  dnssec = r.dnssec;
   replies = r.replies;
   told = told-before h past r.replies r.told;
   reached = r.reached;
   lead = r.lead;
   asked = r.asked;
+  since = r.since;
 }
 
-counted-later : (h : Happening) (past : List Happening) (s : StoredValue) (most : ℕ) → IsCounted past s most
-    → IsCounted (h ∷ past) s most
-counted-later h past s most x = record {
+counted-later : (h : Happening) (past : List Happening) (dnssec : Bool) (s : StoredValue) (most : ℕ)
+    → IsCounted past dnssec s most → IsCounted (h ∷ past) dnssec s most
+counted-later h past dnssec s most x = record {
   replies = x.replies;
   told = told-before h past x.replies x.told;
   few = x.few;
   most_are_few = x.most_are_few;
-  made = x.made;
+  made = made-later h past dnssec x.replies s x.made;
 }
 
 kept-later : (h : Happening) (past : List Happening) (es : List (Entry CachedValue))
@@ -480,7 +627,7 @@ kept-later : (h : Happening) (past : List Happening) (es : List (Entry CachedVal
 kept-later h past [] all = tt
 kept-later h past (e ∷ es) all = (
   record {
-    counted = counted-later h past e.value.reply e.value.replies all.0.counted;
+    counted = counted-later h past (key_dnssec e.key) e.value.reply e.value.replies all.0.counted;
     lasts = all.0.lasts;
     a_day = all.0.a_day;
   },
@@ -489,26 +636,27 @@ kept-later h past (e ∷ es) all = (
 
 sound-later : (h : Happening) (past : List Happening) (c : Core) → IsSound past c → IsSound (h ∷ past) c
 sound-later h past c x = record {
-  going_on = λ key f found. reached-later h past f.lookup (x.going_on key f found);
-  told = λ r s is end. counted-later h past s r.replies (x.told r s is end);
-  chain_end = λ e is. counted-later h past e.reply 1 (x.chain_end e is);
+  going_on = λ key f found. reached-later h past (key_dnssec key) f.lookup f.heard (x.going_on key f found);
+  told = λ r s is end. counted-later h past (key_dnssec r.key) s r.replies (x.told r s is end);
+  chain_end = λ e is. counted-later h past (key_dnssec e.key) e.reply 1 (x.chain_end e is);
   kept = kept-later h past c.cache.entries x.kept;
 }
 
 -- ---- what is counted is an answer
 
-answer-of : (past : List Happening) (s : StoredValue) (most : ℕ) → IsCounted past s most → IsAnswer past s
-answer-of past s most x = record {
+answer-of : (past : List Happening) (dnssec : Bool) (s : StoredValue) (most : ℕ) → IsCounted past dnssec s most
+    → IsAnswer past dnssec s
+answer-of past dnssec s most x = record {
   replies = x.replies;
   told = x.told;
   few = omega (arith, x.few, x.most_are_few);
   made = x.made;
 }
 
-kept-answer : (past : List Happening) (cached : CachedValue) (deadline : ℕ) → IsKeptCounted past cached deadline
-    → IsKeptAnswer past cached deadline
-kept-answer past cached deadline x = record {
-  answer = answer-of past cached.reply cached.replies x.counted;
+kept-answer : (past : List Happening) (key : List ℕ) (cached : CachedValue) (deadline : ℕ)
+    → IsKeptCounted past key cached deadline → IsKeptAnswer past key cached deadline
+kept-answer past key cached deadline x = record {
+  answer = answer-of past (key_dnssec key) cached.reply cached.replies x.counted;
   lasts = x.lasts;
   a_day = x.a_day;
 }
@@ -516,10 +664,15 @@ kept-answer past cached deadline x = record {
 kept-answers : (past : List Happening) (es : List (Entry CachedValue)) → AllKept (IsKeptCounted past) es
     → AllKept (IsKeptAnswer past) es
 kept-answers past [] all = tt
-kept-answers past (e ∷ es) all = (kept-answer past e.value e.deadline all.0, kept-answers past es all.1)
+kept-answers past (e ∷ es) all = (kept-answer past e.key e.value e.deadline all.0, kept-answers past es all.1)
+
+said-now : (event : ForwarderEvent) (b a : ForwarderValue) (past : List Happening) (x : Source) → IsSaid b x
+    → Was (happened event b a ∷ past) x
+said-now event b a past (told_reply r) says = inl says
+said-now event b a past (known_here q here second) says = inl says
 
 event-sound : (past : List Happening) (event : ForwarderEvent) (b a : ForwarderValue)
-    → ((m : WireMessage) → IsTelling b m → WasTold past m) → EventMoves event b a → IsSound past (core b)
+    → ((x : Source) → IsSaid b x → Was past x) → EventMoves event b a → IsSound past (core b)
     → IsSound past (core a)
 event-sound past event b a tells (event_stays says still) h = stills-sound past (core b) (core a) tells still h
 event-sound past event b a tells (event_joins w says j) h = join-sound past w (core b) (core a) j h
@@ -539,16 +692,17 @@ module _ (options : OptionsValue) (local : LocalValue) (cache failures : CacheBo
   }
   sound past s (next earlier event before after happens runs) =
       let h = happened event before after in
-      event-sound (h ∷ earlier) event before after (λ m telling. inl telling) (moves event before after happens)
+      event-sound (h ∷ earlier) event before after (said-now event before after earlier)
+      (moves event before after happens)
       (sound-later h earlier (core before) (sound earlier before runs))
 
 pub answers_are_of_replies : AnswersAreOfReplies
 answers_are_of_replies options local cache failures pool past s runs =
     let h = sound options local cache failures pool past s runs in
     record {
-      going_on = λ key f found. heard-so past f.lookup (h.going_on key f found);
-      told = λ r end is ends. answer-of past end r.replies (h.told r end is ends);
-      chain_end = λ e is. answer-of past e.reply 1 (h.chain_end e is);
+      going_on = λ key f found. heard-so past (key_dnssec key) f.lookup f.heard (h.going_on key f found);
+      told = λ r end is ends. answer-of past (key_dnssec r.key) end r.replies (h.told r end is ends);
+      chain_end = λ e is. answer-of past (key_dnssec e.key) e.reply 1 (h.chain_end e is);
       kept = kept-answers past s.cache.entries h.kept;
     }
 
@@ -558,14 +712,16 @@ short-ttls : (rs : List RecordValue) → AllByRecursion HasShortTtl (map (with_t
 short-ttls [] = tt
 short-ttls (r ∷ rs) = (refl, short-ttls rs)
 
-stale-so : (past : List Happening) (cached : CachedValue) (deadline : ℕ) (o : OptionsValue) (now : ℕ) (s : StoredValue)
-    → IsKeptAnswer past cached deadline → if_stale o now cached ≡ Some s → IsStaleAnswer past s o now
-stale-so past cached deadline o now s kept is =
+stale-so : (past : List Happening) (key : List ℕ) (cached : CachedValue) (deadline : ℕ) (o : OptionsValue) (now : ℕ)
+    (s : StoredValue) → IsKeptAnswer past key cached deadline → if_stale o now cached ≡ Some s
+    → IsStaleAnswer past (key_dnssec key) s o now
+stale-so past key cached deadline o now s kept is =
     by (nat_lt cached.told_until now) refl (nat_le (now - cached.told_until) (stale_seconds o)) refl is
   where
     by : (over : Bool) → nat_lt cached.told_until now ≡ over → (late : Bool)
         → nat_le (now - cached.told_until) (stale_seconds o) ≡ late
-        → (if over && late then Some cached.reply else None) ≡ Some s → IsStaleAnswer past s o now
+        → (if over && late then Some cached.reply else None) ≡ Some s
+        → IsStaleAnswer past (key_dnssec key) s o now
     by false over late days h = absurd cc
     by true over false days h = absurd cc
     by true over true days h =
@@ -574,7 +730,7 @@ stale-so past cached deadline o now s kept is =
         let within : now - cached.told_until ≤ stale_seconds o =
         leb-true (now - cached.told_until) (stale_seconds o) days in
         record {
-          answer = subst (IsAnswer past) same kept.answer;
+          answer = subst (IsAnswer past (key_dnssec key)) same kept.answer;
           told_until = cached.told_until;
           lasts = subst (λ (x : StoredValue). LastsTo x cached.told_until) same kept.lasts;
           over = before;
@@ -590,9 +746,9 @@ stale_answers_are_of_replies options local cache failures pool past s runs key s
   where
     by : (o : Option CachedValue) → told key (second_of s) s.cache.entries ≡ o
         → option_and_then (if_stale s.options (second_of s)) o ≡ Some stored
-        → IsStaleAnswer past stored s.options (second_of s)
+        → IsStaleAnswer past (key_dnssec key) stored s.options (second_of s)
     by None there h = absurd cc
     by (Some cached) there h =
         let kept = told-kept (IsKeptAnswer past) key (second_of s) s.cache.entries cached
         (kept-answers past s.cache.entries (sound options local cache failures pool past s runs).kept) there in
-        stale-so past cached kept.0 s.options (second_of s) stored kept.1 h
+        stale-so past key cached kept.0 s.options (second_of s) stored kept.1 h

@@ -1,5 +1,5 @@
 -- What a step changes.
-use Rattle.std.proofs.Common.{◌≡◌, ◌∙◌, ◌==◌, ◌+◌, ◌-◌, ◌^◌, ◌≤◌, ◌&&◌, ℕ, inl, inr, Bool, true, false, List, [], ◌∷◌, drop, refl, sym, ap, subst, arith}
+use Rattle.std.proofs.Common.{◌≡◌, ◌∙◌, ◌==◌, ◌+◌, ◌-◌, ◌^◌, ◌≤◌, ◌&&◌, ◌⊎◌, ℕ, inl, inr, Bool, true, false, List, [], ◌∷◌, drop, refl, sym, ap, subst, arith}
 use Rattle.std.specs.Prelude.{Option, None, Some, MatchOption, min, nat_le, nat_lt, slice_get, if◌then◌else◌}
 use Rattle.std.specs.Option.{is_none, option_and_then, option_map, option_map_or}
 use Rattle.std.proofs.lemmas.Bool.{leb-true}
@@ -19,10 +19,10 @@ use Rattle.kept_failures.specs.Failures.{failure_behind, remembered_until}
 use Rattle.kept_failures.specs.Failures as kept_failures
 use Rattle.local_answers.specs.declared.local_data.Decision.{Decision}
 use Rattle.local_answers.specs.declared.local_data.Decision.TheVariants as decision
-use Rattle.second_chance_cache.specs.Laws.{removes, stores}
-use Rattle.second_chance_cache.specs.SecondChance.{told}
+use Rattle.second_chance_cache.specs.Laws.{asks, removes, stores}
+use Rattle.second_chance_cache.specs.SecondChance.{Entry, stored, told, without}
 use Rattle.stored_replies.specs.Key.{is_same_question}
-use Rattle.stored_replies.specs.Stored.{StoredValue, elapsed, is_readable, saturated, weight_of}
+use Rattle.stored_replies.specs.Stored.{StoredValue, elapsed, is_readable, weight_of}
 use Rattle.stored_replies.specs.Told.{own_question}
 use Rattle.whole_lookups.specs.Capped.{capped}
 use Rattle.whole_lookups.specs.Denied.{without_denied}
@@ -35,20 +35,22 @@ use Rattle.whole_replies.specs.Kept.{KeptValue, aged, kept_of, next_question}
 use Rattle.yimarotu_forwarder.specs.Fetches.{FetchValue, asked_for, fetch_at}
 use Rattle.yimarotu_forwarder.specs.Forwarders.{ChainEndValue, ForwarderValue, ReplyingValue, TellingValue, second_of}
 use Rattle.yimarotu_forwarder.specs.Steps.{AsksBy, AsksFirst, AsksFor, AsksNext, AsksOr, AsksPool, EndsWith, ForwarderSteps, IsLetGo, PrefetchesFirst, RepliesFirst, RepliesNext, RepliesTo, StepsPool, StopsAsking, StopsAskingFirst, StopsPrefetchingFirst, StopsReplyingFirst, StopsStep, StopsTellingFirst, TellsFirst, TellsLateFirst, action_of, as_cached, asks_with, cached_until, has_turn, keeps_chain_end, keeps_end, lets_go, with_stored, without_chain_end, without_failure}
+use Rattle.yimarotu_forwarder.specs.Local.{IsDecided}
 use Rattle.yimarotu_forwarder.specs.Late.{TellsLate, TellsLateIf, TellsWaiting, TellsWaitingOf, first_due, is_told_late as is_late_key, passed_over}
 use Rattle.yimarotu_forwarder.specs.LookingUp.{after_ask, pool_question, pool_says}
 use Rattle.yimarotu_forwarder.specs.Cached.{CachedValue, if_told}
-use Rattle.yimarotu_forwarder.specs.NextQuestions.{are_denied_alike, as_end, asked_octets, ended_by, found_end, if_may_end, is_fresh_and_light, kept_under, may_end, next_key}
-use Rattle.yimarotu_forwarder.specs.Prefetching.{AsksLone, BeginsLoneBy, DecidesLone, Prefetches, PrefetchesUnasked, key_dnssec, key_query, key_unchecked, lone_fetch, without_prefetch}
-use Rattle.yimarotu_forwarder.specs.Options.{OptionsValue, denied_for, stale_seconds}
-use Rattle.yimarotu_forwarder.specs.Replying.{end_of}
+use Rattle.yimarotu_forwarder.specs.NextQuestions.{are_denied_alike, as_end, asked_octets, asked_where, ended_by, found_end, if_may_end, is_fresh_and_light, kept_under, may_end, next_key, with_asked_where}
+use Rattle.yimarotu_forwarder.specs.Prefetching.{AsksLone, BeginsLoneBy, DecidesLone, Prefetches, PrefetchesWhere, key_dnssec, key_query, key_unchecked, lone_fetch, may_prefetch, without_prefetch}
+use Rattle.yimarotu_forwarder.specs.Options.{OptionsValue, denied_for}
 use Rattle.yimarotu_forwarder.specs.Stale.{kept_until, told_end}
-use Rattle.yimarotu_forwarder.specs.Telling.{EndsFetch, EndsForMemory, Finishes, Hears, StopsNext, StopsTelling, Tells, TellsAsker, TellsFetch, TellsKey, TellsNext, as_told, chain_end_for, chain_end_in, chain_end_of, chain_end_with, counts_asker, ends_chain, first_second, forgets_asker, heard_so, is_noted, lookup_after, reason_of, response_of, told_of, whole_end, with_end}
+use Rattle.yimarotu_forwarder.specs.Telling.{EndsFetch, EndsForMemory, Finishes, Hears, StopsNext, StopsTelling, Tells, TellsAsker, TellsFetch, TellsKey, TellsNext, as_told, chain_end_for, chain_end_in, chain_end_of, chain_end_with, counts_asker, earlier_second, ends_chain, failures_after, first_second, forgets_asker, heard_after, heard_so, is_noted, lookup_after, reason_of, response_of, told_of, whole_end, with_end}
 use Rattle.yimarotu_forwarder.specs.declared.choices.TheConstants.{LONGEST_STALE}
 use Rattle.yimarotu_forwarder.specs.declared.steps.ForwarderAction.{ForwarderAction}
 use Rattle.yimarotu_forwarder.specs.declared.steps.ForwarderAction.TheVariants as act
-use Rattle.yimarotu_forwarder_theorems.specs.Lookups.{IsTelling, LastsTo, Storing}
-use Rattle.yimarotu_forwarder_theorems.proofs.Cores.{EndsByKept, IsChainEnd, IsEndOf, IsSame, Leaves, Still, Stills, StoresChainEnd, StoresTold, as_before, begins_alone, cache_changes, chain_ends, core, end_so, failures_change, has_failed, has_heard, is_heard, is_kept, is_known, is_let_go, is_over, is_told_late, more, no_chain_ends, still-one, stills-then, stored-at}
+use Rattle.yimarotu_forwarder_theorems.specs.Lookups.{IsKnown, LastsTo, Storing, ToldReply}
+use Rattle.yimarotu_forwarder_theorems.proofs.KeptValues.{told-asked-any}
+use Rattle.yimarotu_forwarder_theorems.proofs.Keys.{next-dnssec}
+use Rattle.yimarotu_forwarder_theorems.proofs.Cores.{Core, EndsByKept, IsChainEnd, IsEndOf, IsSaid, IsSame, Leaves, Source, Still, Stills, StoresChainEnd, StoresTold, as_before, begins_alone, cache_changes, chain_ends, core, end_so, failures_change, has_failed, has_heard, is_heard, is_kept, is_known, is_let_go, is_over, is_told_late, known_here, more, no_chain_ends, still-one, stills-then, stored-at, told_reply}
 
 -- ---- lists
 
@@ -76,16 +78,21 @@ all-true false b c h = absurd (let no : false ≡ true = h in cc)
 same-fetch : (f : FetchValue) → IsSame f f
 same-fetch f = record { waiting = refl; asked = refl }
 
-finishes : {said : WireMessage → Type 0}
+finishes : {said : Source → Type 0}
     (key : List ℕ) (end : FetchEnd) (f g : FetchValue) (b a : ForwarderValue) → b.replying ≡ None
-    → fetch_at key b.fetches ≡ Some f → IsSame f g → IsEndOf said b.cache f.lookup g.lookup.count end
+    → fetch_at key b.fetches ≡ Some f → IsSame f g → IsEndOf said b.cache f g.lookup.count end
     → Finishes key end g b a
     → Still said (core b) (core a)
 finishes {said} key end f g b a none found same is h =
     is_over (core b) (core a) key end f g none found same is h.ends.puts (ap core h.others_are)
 
-noted : {said : WireMessage → Type 0} (key : List ℕ) (why : FailureReason) (f : FetchValue) (b : ForwarderValue)
-    → Stills said (core b) (core (with_end key (Failure why) f b))
+-- so are the failures that are kept once it is noted
+abbrev noting : List ℕ → FetchEnd → FetchValue → ForwarderValue → Core
+noting key end f b =
+    record (core b) { failures = failures_after key end f.began b.stalled (second_of b) b.failures }
+
+noted : {said : Source → Type 0} (key : List ℕ) (why : FailureReason) (f : FetchValue) (b : ForwarderValue)
+    → Stills said (core b) (noting key (Failure why) f b)
 noted {said} key why f b = by (is_noted why f.began b.stalled)
   where
     by : (kept : Bool) → Stills said (core b) (record (core b) {
@@ -100,17 +107,27 @@ noted {said} key why f b = by (is_noted why f.began b.stalled)
         (stores key one (kept_failures.weight_of key) (remembered_until one) (second_of b)) refl)
     by false = as_before (core b) (core b) refl
 
-end-noted : {said : WireMessage → Type 0}
+noted-by : {said : Source → Type 0}
+    (key : List ℕ) (end : FetchEnd) (f : FetchValue) (b : ForwarderValue) → Stills said (core b) (noting key end f b)
+noted-by {said} key (Reply s) f b =
+    still-one (core b) (noting key (Reply s) f b)
+    (failures_change (core b) (noting key (Reply s) f b) (removes key) refl)
+noted-by {said} key (Failure why) f b = noted key why f b
+
+end-noted : {said : Source → Type 0}
     (key : List ℕ) (end : FetchEnd) (f : FetchValue) (b : ForwarderValue)
     → Stills said (core b) (core (with_end key end f b))
-end-noted {said} key (Reply s) f b =
-    still-one (core b) (core (with_end key (Reply s) f b))
-    (failures_change (core b) (core (with_end key (Reply s) f b)) (removes key) refl)
-end-noted {said} key (Failure why) f b = noted key why f b
+end-noted {said} key end f b = by (f.generation == b.generation)
+  where
+    by : (same : Bool) → Stills said (core b) (record (core b) {
+      failures = if same then failures_after key end f.began b.stalled (second_of b) b.failures else b.failures;
+    })
+    by true = noted-by key end f b
+    by false = as_before (core b) (core b) refl
 
-ends-fetch : {said : WireMessage → Type 0}
+ends-fetch : {said : Source → Type 0}
     (key : List ℕ) (end : FetchEnd) (f g : FetchValue) (b a : ForwarderValue) → b.replying ≡ None
-    → fetch_at key b.fetches ≡ Some f → IsSame f g → IsEndOf said b.cache f.lookup g.lookup.count end
+    → fetch_at key b.fetches ≡ Some f → IsSame f g → IsEndOf said b.cache f g.lookup.count end
     → EndsFetch key end g b a → Stills said (core b) (core a)
 ends-fetch {said} key end f g b a none found same is h =
     stills-then (core b) (core (with_end key end g b)) (core a) (end-noted key end g b)
@@ -126,14 +143,6 @@ storing f b = record {
   second = first_second f b;
 }
 
--- it is no later than now
-first-early : (f : FetchValue) (b : ForwarderValue) → first_second f b ≤ second_of b
-first-early f b = by f.heard
-  where
-    by : (o : Option ℕ) → option_map_or (λ second. min second (second_of b)) o (second_of b) ≤ second_of b
-    by None = omega arith
-    by (Some second) = omega arith
-
 -- ---- the end of a chain
 
 abbrev led-to : FetchValue → Query
@@ -148,29 +157,35 @@ keeping f b = record {
   second = second_of b;
 }
 
+-- a reply that is told now
+abbrev told-now : WireMessage → ForwarderValue → ToldReply
+told-now m b = record { message = m; second = second_of b }
+
 no-next : (f : FetchValue) (m : WireMessage) (o : Option Query) → next_question (led-to f) m.message ≡ o
     → is_none o ≡ true → next_question (led-to f) m.message ≡ None
 no-next f m None is none = is
 no-next f m (Some q) is none = absurd cc
 
-module _ {said : WireMessage → Type 0} (b : ForwarderValue) (e : ChainEndValue) (f : FetchValue) (m : WireMessage)
-    (told-so : said m) where
+module _ {said : Source → Type 0} (b : ForwarderValue) (e : ChainEndValue) (f : FetchValue) (m : WireMessage)
+    (told-so : said (told_reply (told-now m b))) where
   with-key : (kept : KeptValue) → kept_of (led-to f) f.lookup.dnssec m ≡ Some kept
-      → next_question (led-to f) m.message ≡ None → (key : Option (List ℕ)) (end : FetchEnd)
+      → next_question (led-to f) m.message ≡ None → (key : Option (List ℕ)) → next_key f ≡ key → (end : FetchEnd)
       → end_so (led-to f) kept (keeping f b) ≡ end → chain_end_with key end f.generation ≡ Some e → IsChainEnd said e
-  with-key kept keeps ends None end is h = absurd cc
-  with-key kept keeps ends (Some key) (Failure why) is h = absurd cc
-  with-key kept keeps ends (Some key) (Reply r) is h =
+  with-key kept keeps ends None own end is h = absurd cc
+  with-key kept keeps ends (Some key) own (Failure why) is h = absurd cc
+  with-key kept keeps ends (Some key) own (Reply r) is h =
       let same : r ≡ e.reply = cc in
+      let same-key : key ≡ e.key = cc in
+      let asks : key_dnssec e.key ≡ f.lookup.dnssec = next-dnssec f e.key (own ∙ ap Some same-key) in
       record {
-        reply = m;
+        reply = told-now m b;
         told = told-so;
         question = led-to f;
-        dnssec = f.lookup.dnssec;
         kept = kept;
-        keeps = keeps;
+        keeps = ap (λ (d : Bool). kept_of (led-to f) d m) asks ∙ keeps;
         ends = ends;
         how = keeping f b;
+        since = refl;
         stored = sym same
             ∙ stored-at (led-to f) (capped (keeping f b).greatest (without_denied (keeping f b).allowed (keeping f b).denied kept))
             (keeping f b).second r is;
@@ -180,7 +195,8 @@ module _ {said : WireMessage → Type 0} (b : ForwarderValue) (e : ChainEndValue
       → option_and_then (chain_end_of f b) k ≡ Some e → IsChainEnd said e
   unfolding as_told
   of-kept None keeps ends h = absurd cc
-  of-kept (Some kept) keeps ends h = with-key kept keeps ends (next_key f) (end_so (led-to f) kept (keeping f b)) refl h
+  of-kept (Some kept) keeps ends h =
+      with-key kept keeps ends (next_key f) refl (end_so (led-to f) kept (keeping f b)) refl h
 
   in-chain : (ends : Bool) → ends_chain f m ≡ ends
       → (if ends then option_and_then (chain_end_of f b) (kept_of (led-to f) f.lookup.dnssec m) else None) ≡ Some e
@@ -190,17 +206,18 @@ module _ {said : WireMessage → Type 0} (b : ForwarderValue) (e : ChainEndValue
       let none = both-true (nat_lt 1 f.lookup.count) (is_none (next_question (led-to f) m.message)) is in
       of-kept (kept_of (led-to f) f.lookup.dnssec m) refl (no-next f m (next_question (led-to f) m.message) refl none.1) h
 
-is-chain-end : {said : WireMessage → Type 0} (over : OverValue) (asker : ℕ) (b : ForwarderValue) (e : ChainEndValue)
-    → ((m : WireMessage) → response_of over ≡ Some m → said m) → chain_end_for over asker b ≡ Some e
+is-chain-end : {said : Source → Type 0} (over : OverValue) (asker : ℕ) (b : ForwarderValue) (e : ChainEndValue)
+    → ((m : WireMessage) → response_of over ≡ Some m → said (told_reply (told-now m b)))
+    → chain_end_for over asker b ≡ Some e
     → IsChainEnd said e
 is-chain-end {said} over asker b e says h = by (response_of over) refl h
   where
-    by-fetch : (m : WireMessage) → said m → (o : Option FetchValue)
+    by-fetch : (m : WireMessage) → said (told_reply (told-now m b)) → (o : Option FetchValue)
         → option_and_then (λ f. chain_end_in f b m) o ≡ Some e → IsChainEnd said e
     by-fetch m told None h = absurd cc
     by-fetch m told (Some f) h = in-chain b e f m told (ends_chain f m) refl h
 
-    by-key : (m : WireMessage) → said m → (o : Option (List ℕ))
+    by-key : (m : WireMessage) → said (told_reply (told-now m b)) → (o : Option (List ℕ))
         → option_and_then (λ key. option_and_then (λ f. chain_end_in f b m) (fetch_at key b.fetches)) o ≡ Some e
         → IsChainEnd said e
     by-key m told None h = absurd cc
@@ -213,8 +230,9 @@ is-chain-end {said} over asker b e says h = by (response_of over) refl h
     by (Some m) is h = by-key m (says m is) (asked_for asker b.fetches) h
 
 -- it is noted, with the asker
-counts-asker : {said : WireMessage → Type 0} (t : TellingValue) (asker : ℕ) (b : ForwarderValue)
-    → ((m : WireMessage) → response_of t.over ≡ Some m → said m) → Still said (core b) (core (counts_asker t asker b))
+counts-asker : {said : Source → Type 0} (t : TellingValue) (asker : ℕ) (b : ForwarderValue)
+    → ((m : WireMessage) → response_of t.over ≡ Some m → said (told_reply (told-now m b)))
+    → Still said (core b) (core (counts_asker t asker b))
 counts-asker {said} t asker b says = by (chain_end_for t.over asker b) refl
   where
     by : (o : Option ChainEndValue) → chain_end_for t.over asker b ≡ o
@@ -262,12 +280,14 @@ heard-same over second f = record { waiting = refl; asked = by (response_of over
     by (Some m) = after-asked m f.lookup
 
 -- by what the reply is
-hears-so : {said : WireMessage → Type 0}
+hears-so : {said : Source → Type 0}
     (over : OverValue) (key : List ℕ) (f g : FetchValue) (b a : ForwarderValue) → b.replying ≡ None
     → fetch_at key b.fetches ≡ Some f → IsSame f g → g.lookup ≡ lookup_after over f
-    → ((m : WireMessage) → response_of over ≡ Some m → said m) → Hears (told_of over f) key g b a → Stills said (core b) (core a)
+    → g.heard ≡ heard_after (told_of over f) (second_of b) f.heard
+    → ((m : WireMessage) → response_of over ≡ Some m → said (told_reply (told-now m b)))
+    → Hears (told_of over f) key g b a → Stills said (core b) (core a)
 unfolding as_told
-hears-so {said} over key f g b a none found same led says h = by (response_of over) refl
+hears-so {said} over key f g b a none found same led since says h = by (response_of over) refl
   where
     after-reply : (m : WireMessage) → response_of over ≡ Some m → lookup_after over f ≡ whole.after m f.lookup
     after-reply m is = ap (λ (o : Option WireMessage). option_map_or (λ x. whole.after x f.lookup) o f.lookup) is
@@ -278,14 +298,21 @@ hears-so {said} over key f g b a none found same led says h = by (response_of ov
         let asks = rw (is, how) at h in
         still-one (core b) (core a)
         (is_heard (core b) (core a) key f g found same
-        (record { reply = m; told = says m is; asks = how; led = led ∙ after-reply m is }) asks.0.puts
+        (record {
+          reply = told-now m b;
+          told = says m is;
+          asks = how;
+          led = led ∙ after-reply m is;
+          since = rw (is, how) at since;
+        }) asks.0.puts
         (ap core asks.1))
     by-heard m is (heard_as.Whole kept) how =
         let ends = rw (is, how) at h in
+        let first : g.heard ≡ f.heard = rw (is, how) at since in
         ends-fetch key (whole_end kept g b) f g b a none found same
-        (has_heard m kept (says m is) how
+        (has_heard (told-now m b) kept (says m is) how
         (ap (λ (l : LookupValue). l.count) (led ∙ after-reply m is) ∙ whole-count m f.lookup kept how)
-        (storing g b) (ap (λ (q : Query). end_so q kept (storing g b)) same.asked))
+        (storing g b) (ap (λ (o : Option ℕ). earlier_second o (second_of b)) first) (ap (λ (q : Query). end_so q kept (storing g b)) same.asked))
         ends
     by-heard m is heard_as.Fails how =
         let ends = rw (is, how) at h in
@@ -298,8 +325,8 @@ hears-so {said} over key f g b a none found same led says h = by (response_of ov
         (has_failed (reason_of over.outcome) refl) ends
     by (Some m) is = by-heard m is (heard m f.lookup) refl
 
-tells-asker : {said : WireMessage → Type 0} (over : OverValue) (asker : ℕ) (b a : ForwarderValue) → b.replying ≡ None
-    → ((m : WireMessage) → response_of over ≡ Some m → said m) → TellsAsker over asker b a
+tells-asker : {said : Source → Type 0} (over : OverValue) (asker : ℕ) (b a : ForwarderValue) → b.replying ≡ None
+    → ((m : WireMessage) → response_of over ≡ Some m → said (told_reply (told-now m b))) → TellsAsker over asker b a
     → Stills said (core b) (core a)
 tells-asker {said} over asker b a none says h = by (asked_for asker b.fetches) h
   where
@@ -309,14 +336,15 @@ tells-asker {said} over asker b a none says h = by (asked_for asker b.fetches) h
     by-key key None is h = as_before (core b) (core a) (ap core h)
     by-key key (Some f) is h =
         hears-so over key f (heard_so over (second_of b) f) (forgets_asker asker b) a none is
-        (heard-same over (second_of b) f) refl says h
+        (heard-same over (second_of b) f) refl refl says h
 
     by : (o : Option (List ℕ)) → MatchOption o (a ≡ b) (TellsKey over asker b a) → Stills said (core b) (core a)
     by None h = as_before (core b) (core a) (ap core h)
     by (Some key) h = by-key key (fetch_at key b.fetches) refl h
 
-tells : {said : WireMessage → Type 0} (t : TellingValue) (b a : ForwarderValue) → b.replying ≡ None
-    → ((m : WireMessage) → response_of t.over ≡ Some m → said m) → Tells b a t → Stills said (core b) (core a)
+tells : {said : Source → Type 0} (t : TellingValue) (b a : ForwarderValue) → b.replying ≡ None
+    → ((m : WireMessage) → response_of t.over ≡ Some m → said (told_reply (told-now m b))) → Tells b a t
+    → Stills said (core b) (core a)
 tells {said} t b a none says h = by (slice_get t.over.askers t.told) h
   where
     by : (o : Option ℕ) → MatchOption o (a ≡ record b { telling = None }) (TellsNext t b a) → Stills said (core b) (core a)
@@ -331,13 +359,13 @@ tells {said} t b a none says h = by (slice_get t.over.askers t.told) h
 -- what is kept of it, which may be put behind what came
 ends-by-kept : (f : FetchValue) (b : ForwarderValue) (cached : CachedValue) → found_end f b ≡ Some cached
     → EndsByKept b.cache f.lookup (min (f.lookup.count - 1 + cached.replies) (2 ^ 32 - 1)) (second_of b) cached
-ends-by-kept f b cached h = by-key (next_key f) h
+ends-by-kept f b cached h = by-key (next_key f) refl h
   where
-    may : (x : CachedValue) (key : List ℕ) → told key (second_of b) b.cache.entries ≡ Some x
+    may : (x : CachedValue) (key : List ℕ) → next_key f ≡ Some key → told key (second_of b) b.cache.entries ≡ Some x
         → nat_le (second_of b) x.told_until ≡ true → (ok : Bool) → may_end f b x ≡ ok → (if ok then Some x else None) ≡ Some cached
         → EndsByKept b.cache f.lookup (min (f.lookup.count - 1 + cached.replies) (2 ^ 32 - 1)) (second_of b) cached
-    may x key found current false is h = absurd cc
-    may x key found current true is h =
+    may x key own found current false is h = absurd cc
+    may x key own found current true is h =
         let same : x ≡ cached = cc in
         let alike = is_same_question (asked_octets f.lookup.next) (own_question x.reply) in
         let few = nat_le (f.lookup.count + x.replies) (MOST_QUESTIONS + 1) in
@@ -346,31 +374,61 @@ ends-by-kept f b cached h = by-key (next_key f) h
         EndsByKept b.cache f.lookup (min (f.lookup.count - 1 + y.replies) (2 ^ 32 - 1)) (second_of b) y) same (record {
           key = key;
           found = found;
+          alike = next-dnssec f key own;
           current = leb-true (second_of b) x.told_until current;
           same = parts.0;
           few = leb-true (f.lookup.count + x.replies) (MOST_QUESTIONS + 1) parts.1;
           many = refl;
         })
 
-    by-told : (x : CachedValue) (key : List ℕ) → told key (second_of b) b.cache.entries ≡ Some x → (current : Bool)
+    by-told : (x : CachedValue) (key : List ℕ) → next_key f ≡ Some key → told key (second_of b) b.cache.entries ≡ Some x → (current : Bool)
         → nat_le (second_of b) x.told_until ≡ current → option_and_then (if_may_end f b) (if current then Some x else None) ≡ Some cached
         → EndsByKept b.cache f.lookup (min (f.lookup.count - 1 + cached.replies) (2 ^ 32 - 1)) (second_of b) cached
-    by-told x key found false is h = absurd cc
-    by-told x key found true is h = may x key found is (may_end f b x) refl h
+    by-told x key own found false is h = absurd cc
+    by-told x key own found true is h = may x key own found is (may_end f b x) refl h
 
-    by-entry : (key : List ℕ) (o : Option CachedValue) → told key (second_of b) b.cache.entries ≡ o
+    by-entry : (key : List ℕ) → next_key f ≡ Some key → (o : Option CachedValue) → told key (second_of b) b.cache.entries ≡ o
         → option_and_then (if_may_end f b) (option_and_then (if_told (second_of b)) o) ≡ Some cached
         → EndsByKept b.cache f.lookup (min (f.lookup.count - 1 + cached.replies) (2 ^ 32 - 1)) (second_of b) cached
-    by-entry key None found h = absurd cc
-    by-entry key (Some x) found h = by-told x key found (nat_le (second_of b) x.told_until) refl h
+    by-entry key own None found h = absurd cc
+    by-entry key own (Some x) found h = by-told x key own found (nat_le (second_of b) x.told_until) refl h
 
-    by-key : (o : Option (List ℕ))
+    by-key : (o : Option (List ℕ)) → next_key f ≡ o
         → option_and_then (if_may_end f b) (option_and_then (kept_under b) o) ≡ Some cached
         → EndsByKept b.cache f.lookup (min (f.lookup.count - 1 + cached.replies) (2 ^ 32 - 1)) (second_of b) cached
-    by-key None h = absurd cc
-    by-key (Some key) h = by-entry key (told key (second_of b) b.cache.entries) refl h
+    by-key None own h = absurd cc
+    by-key (Some key) own h = by-entry key own (told key (second_of b) b.cache.entries) refl h
 
-asks-by : {said : WireMessage → Type 0}
+-- that counts as asked for again
+marks : {said : Source → Type 0} (key : Option (List ℕ)) (b : ForwarderValue)
+    → Stills said (core b) (core (with_asked_where key b))
+marks {said} None b = as_before (core b) (core b) refl
+marks {said} (Some key) b =
+    still-one (core b) (core (with_asked_where (Some key) b))
+    (cache_changes (core b) (core (with_asked_where (Some key) b)) (asks key (second_of b)) tt refl)
+
+-- and is told as before
+told-where : (where-key : Option (List ℕ)) (key : List ℕ) (now : ℕ) (es : List (Entry CachedValue))
+    → told key now (asked_where where-key now es) ≡ told key now es
+told-where None key now es = refl
+told-where (Some other) key now es = told-asked-any key now other es
+
+ends-by-marked : (f : FetchValue) (b : ForwarderValue) (cached : CachedValue) → found_end f b ≡ Some cached
+    → EndsByKept (with_asked_where (next_key f) b).cache f.lookup
+    (min (f.lookup.count - 1 + cached.replies) (2 ^ 32 - 1)) (second_of b) cached
+ends-by-marked f b cached is =
+    let kept = ends-by-kept f b cached is in
+    record {
+      key = kept.key;
+      found = told-where (next_key f) kept.key (second_of b) b.cache.entries ∙ kept.found;
+      alike = kept.alike;
+      current = kept.current;
+      same = kept.same;
+      few = kept.few;
+      many = kept.many;
+    }
+
+asks-by : {said : Source → Type 0}
     (what : pool_asked.Asked) (key : List ℕ) (f : FetchValue) (b a : ForwarderValue) → b.replying ≡ None
     → fetch_at key b.fetches ≡ Some f → AsksBy what key f b a → Stills said (core b) (core a)
 asks-by {said} (asked.Asker x) key f b a none found h = as_before (core b) (core a) (ap core h)
@@ -381,14 +439,17 @@ asks-by {said} asked.NoServers key f b a none found h =
     still-one (core b) (core a) (finishes key (Failure reason.NoReachableAuthority) f f b a none found (same-fetch f)
     (has_failed reason.NoReachableAuthority refl) h)
 
-asks-or : {said : WireMessage → Type 0}
+asks-or : {said : Source → Type 0}
     (what : Decision) (key : List ℕ) (f : FetchValue) (b a : ForwarderValue) → b.replying ≡ None
-    → fetch_at key b.fetches ≡ Some f → AsksOr what key f b a → Stills said (core b) (core a)
+    → fetch_at key b.fetches ≡ Some f
+    → ((here : KeptValue) → what ≡ decision.Answer here → said (known_here f.lookup.next here (second_of b)))
+    → AsksOr what key f b a → Stills said (core b) (core a)
 unfolding as_told
-asks-or {said} (decision.Answer kept) key f b a none found h =
+asks-or {said} (decision.Answer kept) key f b a none found knows h =
     ends-fetch key (whole_end (whole_with kept f.lookup) f b) f (ended_by 0 f) b a none found
-    (record { waiting = refl; asked = refl }) (is_known kept refl (storing f b) refl) h
-asks-or {said} (decision.Ask group) key f b a none found h = by (found_end f b) refl h
+    (record { waiting = refl; asked = refl })
+    (is_known kept (second_of b) (knows kept refl) refl (storing f b) refl refl) h
+asks-or {said} (decision.Ask group) key f b a none found knows h = by (found_end f b) refl h
   where
     asks : AsksPool group key f b a → Stills said (core b) (core a)
     asks h = asks-by (pool_says group (asks_with f b) b) key f (after_ask group (asks_with f b) b) a none found h
@@ -396,43 +457,71 @@ asks-or {said} (decision.Ask group) key f b a none found h = by (found_end f b) 
     by-read : (cached : CachedValue) → found_end f b ≡ Some cached → (readable : Bool)
         → MatchOption (option_map {U = KeptValue × ℕ} (λ kept. (kept, cached.replies))
         (if readable then Some (aged (elapsed cached.reply (second_of b)) cached.reply.kept) else None))
-        (AsksPool group key f b a) (λ end. EndsWith key end.0 end.1 f b a) → Stills said (core b) (core a)
+        (AsksPool group key f b a) (λ end. EndsWith key end.0 end.1 f (with_asked_where (next_key f) b) a)
+        → Stills said (core b) (core a)
     by-read cached is false h = asks h
     by-read cached is true h =
         let here = aged (elapsed cached.reply (second_of b)) cached.reply.kept in
-        ends-fetch key (whole_end (whole_with here f.lookup) f b) f (ended_by cached.replies f) b a none
+        let marked = with_asked_where (next_key f) b in
+        stills-then (core b) (core marked) (core a) (marks (next_key f) b)
+        (ends-fetch key (whole_end (whole_with here f.lookup) f b) f (ended_by cached.replies f) marked a none
         found (record { waiting = refl; asked = refl })
-        (is_kept (second_of b) cached (ends-by-kept f b cached is) (storing f b) (first-early f b) refl) h
+        (is_kept (second_of b) cached (ends-by-marked f b cached is) (storing f b) refl refl) h)
 
     by : (o : Option CachedValue) → found_end f b ≡ o
         → MatchOption (option_and_then (as_end b) o) (AsksPool group key f b a)
-        (λ end. EndsWith key end.0 end.1 f b a) → Stills said (core b) (core a)
+        (λ end. EndsWith key end.0 end.1 f (with_asked_where (next_key f) b) a) → Stills said (core b) (core a)
     by None is h = asks h
     by (Some cached) is h = by-read cached is (is_readable cached.reply) h
 
-asks-for : {said : WireMessage → Type 0}
-    (key : List ℕ) (b a : ForwarderValue) → b.replying ≡ None → AsksFor b a key → Stills said (core b) (core a)
-asks-for {said} key b a none h = by (fetch_at key b.fetches) refl h
+asks-for : (key : List ℕ) (b a : ForwarderValue) → b.replying ≡ None → AsksFor b a key
+    → Stills (IsSaid b) (core b) (core a)
+asks-for key b a none h = by (fetch_at key b.fetches) refl h
   where
+    knows : (f : FetchValue) (what : Decision) → IsDecided b.local f.lookup.next (second_of b) what
+        → (here : KeptValue) → what ≡ decision.Answer here → IsKnown b f.lookup.next here (second_of b)
+    knows f what decided here is =
+        (refl, subst (λ (x : Decision). IsDecided b.local f.lookup.next (second_of b) x) is decided)
+
     by : (o : Option FetchValue) → fetch_at key b.fetches ≡ o
-        → MatchOption o (a ≡ has_turn b) (AsksNext key (has_turn b) a) → Stills said (core b) (core a)
+        → MatchOption o (a ≡ has_turn b) (AsksNext key (has_turn b) a) → Stills (IsSaid b) (core b) (core a)
     by None is h = as_before (core b) (core a) (ap core h)
-    by (Some f) is h = asks-or h.found key f (has_turn b) a none is h.asks
+    by (Some f) is h = asks-or h.found key f (has_turn b) a none is (knows f h.found h.decided) h.asks
 
 -- ---- a reply
 
 lasts : (s : StoredValue) (b : ForwarderValue) → LastsTo s (cached_until s b)
 lasts s b = omega arith
 
-a-day : (o : OptionsValue) (until now : ℕ) → kept_until o until now ≤ until + LONGEST_STALE
-a-day o until now = by (nat_lt now until)
+a-day : (o : OptionsValue) (until : ℕ) → kept_until o until ≤ until + LONGEST_STALE
+a-day o until = omega arith
+
+-- a reply is stored, or what was kept before it goes
+stores-or-drops : {said : Source → Type 0} (key : List ℕ) (s : StoredValue) (replies : ℕ) (b : ForwarderValue)
+    → ((r : ReplyingValue) × StoresTold (core b) key (as_cached s replies b) r)
+    ⊎ ((e : ChainEndValue) × StoresChainEnd (core b) key (as_cached s replies b) e)
+    → Still said (core b) (core (with_stored key s replies b))
+stores-or-drops {said} key s replies b such = by (nat_lt (second_of b) (cached_until s b))
   where
-    by : (b : Bool) → (if b then saturated (until + stale_seconds o) else until) ≤ until + LONGEST_STALE
-    by true = omega arith
-    by false = omega arith
+    deadline : ℕ
+    deadline = kept_until b.options (cached_until s b)
+
+    by : (kept : Bool) → Still said (core b) (record (core b) {
+      cache =
+          if kept then stored key (as_cached s replies b) (weight_of s) deadline (second_of b) b.cache
+          else record b.cache { entries = without key b.cache.entries };
+    })
+    by true =
+        cache_changes (core b) (record (core b) {
+          cache = stored key (as_cached s replies b) (weight_of s) deadline (second_of b) b.cache;
+        }) (stores key (as_cached s replies b) (weight_of s) deadline (second_of b))
+        (such, lasts s b, a-day b.options (cached_until s b)) refl
+    by false =
+        cache_changes (core b)
+        (record (core b) { cache = record b.cache { entries = without key b.cache.entries } }) (removes key) tt refl
 
 -- a reply is stored, and then let go
-let-go-by : {said : WireMessage → Type 0}
+let-go-by : {said : Source → Type 0}
     (same : Bool) (end : FetchEnd) (r : ReplyingValue) (b : ForwarderValue) → b.replying ≡ Some r
     → r.waiting ≡ [] → r.end ≡ end
     → Stills said (core b)
@@ -441,13 +530,7 @@ let-go-by {said} true (Reply s) r b was none is =
     let gone = record b { replying = None } in
     let kept = core (with_stored r.key s r.replies b) in
     more (core b) kept (core (with_stored r.key s r.replies gone))
-    (cache_changes (core b) kept
-    (stores r.key (as_cached s r.replies b) (weight_of s) (kept_until b.options (cached_until s b) (second_of b))
-    (second_of b)) (
-      inl (r, record { was = was; end = is; many = refl }),
-      lasts s b,
-      a-day b.options (cached_until s b) (second_of b),
-    ) refl)
+    (stores-or-drops r.key s r.replies b (inl (r, record { was = was; own = refl; end = is; many = refl })))
     (still-one kept (core (with_stored r.key s r.replies gone))
     (is_let_go kept (core (with_stored r.key s r.replies gone)) r was none refl))
 let-go-by {said} true (Failure why) r b was none is =
@@ -457,7 +540,7 @@ let-go-by {said} false end r b was none is =
     still-one (core b) (core (record b { replying = None }))
     (is_let_go (core b) (core (record b { replying = None })) r was none refl)
 
-let-go : {said : WireMessage → Type 0}
+let-go : {said : Source → Type 0}
     (r : ReplyingValue) (b a : ForwarderValue) → b.replying ≡ Some r → r.waiting ≡ [] → a ≡ lets_go r b
     → Stills said (core b) (core a)
 let-go {said} r b a was none h =
@@ -465,7 +548,7 @@ let-go {said} r b a was none h =
     (let-go-by (r.generation == b.generation) r.end r b was none refl)
 
 -- the end of a chain is stored, and then let go
-keeps-end-by : {said : WireMessage → Type 0} (same : Bool) (e : ChainEndValue) (b : ForwarderValue)
+keeps-end-by : {said : Source → Type 0} (same : Bool) (e : ChainEndValue) (b : ForwarderValue)
     → b.chain_end ≡ Some e
     → Stills said (core b)
     (core (if same then without_failure e.key (with_stored e.key e.reply 1 (without_chain_end b))
@@ -475,19 +558,13 @@ keeps-end-by {said} true e b was =
     let let-go = core (with_stored e.key e.reply 1 (without_chain_end b)) in
     let gone = core (without_failure e.key (with_stored e.key e.reply 1 (without_chain_end b))) in
     more (core b) kept gone
-    (cache_changes (core b) kept
-    (stores e.key (as_cached e.reply 1 b) (weight_of e.reply)
-    (kept_until b.options (cached_until e.reply b) (second_of b)) (second_of b)) (
-      inr (e, record { was = was; end = refl; many = refl }),
-      lasts e.reply b,
-      a-day b.options (cached_until e.reply b) (second_of b),
-    ) refl)
+    (stores-or-drops e.key e.reply 1 b (inr (e, record { was = was; own = refl; end = refl; many = refl })))
     (more kept let-go gone (no_chain_ends kept let-go refl)
     (still-one let-go gone (failures_change let-go gone (removes e.key) refl)))
 keeps-end-by {said} false e b was =
     still-one (core b) (core (without_chain_end b)) (no_chain_ends (core b) (core (without_chain_end b)) refl)
 
-keeps-chain-end : {said : WireMessage → Type 0} (e : ChainEndValue) (b a : ForwarderValue) → b.chain_end ≡ Some e
+keeps-chain-end : {said : Source → Type 0} (e : ChainEndValue) (b a : ForwarderValue) → b.chain_end ≡ Some e
     → a ≡ keeps_chain_end e (without_chain_end b) → Stills said (core b) (core a)
 keeps-chain-end {said} e b a was h =
     subst (λ (x : ForwarderValue). Stills said (core b) (core x)) (sym h)
@@ -501,7 +578,7 @@ IsReply other = ⊥
 
 -- It replies to nobody, or to the first who waits.
 pub data StepMoves (before after : ForwarderValue) (action : Option ForwarderAction) : Type 0 where
-  step_stays : (IsReply action → ⊥) → Stills (IsTelling before) (core before) (core after) → StepMoves before after action
+  step_stays : (IsReply action → ⊥) → Stills (IsSaid before) (core before) (core after) → StepMoves before after action
   step_replies : (w : RequestValue) (leaves : Leaves w (core before) (core after))
       → action ≡ Some (act.Reply w.client.number)
       → after.reply ≡ told_end w leaves.replying.key leaves.replying.end before
@@ -525,17 +602,17 @@ steps-pool b a action h =
 
 -- ---- what is looked up anew
 
-lone : {said : WireMessage → Type 0}
+lone : {said : Source → Type 0}
     (what : pool_asked.Asked) (q : Query) (key : List ℕ) (b a : ForwarderValue) → fetch_at key b.fetches ≡ None
     → BeginsLoneBy what q key b a → Stills said (core b) (core a)
 lone {said} (asked.Asker x) q key b a none h =
     still-one (core b) (core a)
-    (begins_alone (core b) (core a) key (lone_fetch q key b.generation b.clock) none refl (q, key_dnssec key, refl)
+    (begins_alone (core b) (core a) key (lone_fetch q key b.generation b.clock) none refl (q, refl)
     h.begins.puts (ap core h.others_are))
 lone {said} asked.Overloaded q key b a none h = as_before (core b) (core a) (ap core h)
 lone {said} asked.NoServers q key b a none h = as_before (core b) (core a) (ap core h)
 
-lone-or : {said : WireMessage → Type 0}
+lone-or : {said : Source → Type 0}
     (what : Decision) (q : Query) (key : List ℕ) (b a : ForwarderValue) → fetch_at key b.fetches ≡ None
     → AsksLone what q key b a → Stills said (core b) (core a)
 lone-or {said} (decision.Answer kept) q key b a none h = as_before (core b) (core a) (ap core h)
@@ -543,7 +620,7 @@ lone-or {said} (decision.Ask group) q key b a none h =
     let question = pool_question q (key_dnssec key) (key_unchecked key) b in
     lone (pool_says group question b) q key (after_ask group question b) a none h
 
-prefetches : {said : WireMessage → Type 0}
+prefetches : {said : Source → Type 0}
     (key : List ℕ) (b a : ForwarderValue) → Prefetches b a key → Stills said (core b) (core a)
 prefetches {said} key b a h = by (fetch_at key b.fetches) refl h
   where
@@ -552,15 +629,22 @@ prefetches {said} key b a h = by (fetch_at key b.fetches) refl h
     by-query None none h = as_before (core b) (core a) (ap core h)
     by-query (Some q) none h = lone-or h.found q key (without_prefetch b) a none h.asks
 
-    by : (o : Option FetchValue) → fetch_at key b.fetches ≡ o
-        → MatchOption o (PrefetchesUnasked key (without_prefetch b) a) (λ f. a ≡ without_prefetch b)
+    where-may : (may : Bool) → fetch_at key b.fetches ≡ None → PrefetchesWhere may key (without_prefetch b) a
         → Stills said (core b) (core a)
-    by None is h = by-query (key_query key) is h
+    where-may true none h = by-query (key_query key) none h
+    where-may false none h = as_before (core b) (core a) (ap core h)
+
+    by : (o : Option FetchValue) → fetch_at key b.fetches ≡ o
+        → MatchOption o
+        (PrefetchesWhere (may_prefetch key (without_prefetch b)) key (without_prefetch b) a)
+        (λ f. a ≡ without_prefetch b)
+        → Stills said (core b) (core a)
+    by None is h = where-may (may_prefetch key (without_prefetch b)) is h
     by (Some f) is h = as_before (core b) (core a) (ap core h)
 
 -- ---- who waits for a look-up that is late
 
-tells-waiting : {said : WireMessage → Type 0}
+tells-waiting : {said : Source → Type 0}
     (key : List ℕ) (b a : ForwarderValue) → b.replying ≡ None → TellsWaitingOf key b a → Stills said (core b) (core a)
 tells-waiting {said} key b a none h = by (fetch_at key b.fetches) refl h
   where
@@ -570,7 +654,7 @@ tells-waiting {said} key b a none h = by (fetch_at key b.fetches) refl h
     by (Some f) is h =
         still-one (core b) (core a) (is_told_late (core b) (core a) key f none is h.holds.puts (ap core h.others_are))
 
-tells-late : {said : WireMessage → Type 0}
+tells-late : {said : Source → Type 0}
     (key : List ℕ) (b a : ForwarderValue) → b.replying ≡ None → TellsLate b a key → Stills said (core b) (core a)
 tells-late {said} key b a none h = by (is_late_key key b) h
   where
@@ -606,7 +690,7 @@ tells-first b a action none h = by b.telling refl h
         → MatchOption o (PrefetchesFirst b action a) (λ t. (action ≡ Some act.Continue) × Tells b a t)
         → StepMoves b a action
     by None is h = prefetches-first b a action none h
-    by (Some t) is h = step_stays (continues action h.0) (tells t b a none (λ m told. (t, is, told)) h.1)
+    by (Some t) is h = step_stays (continues action h.0) (tells t b a none (λ m told. (t, is, told, refl)) h.1)
 
 asks-first : (b a : ForwarderValue) (action : Option ForwarderAction) → b.replying ≡ None → AsksFirst b action a
     → StepMoves b a action
@@ -656,16 +740,16 @@ steps b a action h = by b.chain_end refl h
 
 -- ---- a step that is refused
 
-ends-for-memory : {said : WireMessage → Type 0}
+ends-for-memory : {said : Source → Type 0}
     (key : List ℕ) (f g : FetchValue) (b a : ForwarderValue) → b.replying ≡ None
     → fetch_at key b.fetches ≡ Some f → IsSame f g → EndsForMemory key g b a → Stills said (core b) (core a)
 ends-for-memory {said} key f g b a none found same h =
     still-one (core b) (core a)
     (finishes key (Failure reason.Other) f g b a none found same (has_failed reason.Other refl) h)
 
-stops-next : {said : WireMessage → Type 0}
+stops-next : {said : Source → Type 0}
     (t : TellingValue) (asker : ℕ) (b a : ForwarderValue) → b.replying ≡ None
-    → ((m : WireMessage) → response_of t.over ≡ Some m → said m) → StopsNext t b a asker
+    → ((m : WireMessage) → response_of t.over ≡ Some m → said (told_reply (told-now m b))) → StopsNext t b a asker
     → Stills said (core b) (core a)
 stops-next {said} t asker b a none says h =
     more (core b) (core (counts_asker t asker b)) (core a) (counts-asker t asker b says)
@@ -688,9 +772,9 @@ stops-next {said} t asker b a none says h =
     by None h = absurd h
     by (Some key) h = by-key key (fetch_at key b.fetches) refl h
 
-stops-telling : {said : WireMessage → Type 0}
+stops-telling : {said : Source → Type 0}
     (t : TellingValue) (b a : ForwarderValue) → b.replying ≡ None
-    → ((m : WireMessage) → response_of t.over ≡ Some m → said m) → StopsTelling b a t
+    → ((m : WireMessage) → response_of t.over ≡ Some m → said (told_reply (told-now m b))) → StopsTelling b a t
     → Stills said (core b) (core a)
 stops-telling {said} t b a none says (inl h) = as_before (core b) (core a) (ap core h)
 stops-telling {said} t b a none says (inr h) = by (slice_get t.over.askers t.told) h
@@ -699,7 +783,7 @@ stops-telling {said} t b a none says (inr h) = by (slice_get t.over.askers t.tol
     by None h = absurd h
     by (Some asker) h = stops-next t asker b a none says h
 
-stops-prefetching : {said : WireMessage → Type 0}
+stops-prefetching : {said : Source → Type 0}
     (b a : ForwarderValue) → StopsPrefetchingFirst b a → Stills said (core b) (core a)
 stops-prefetching {said} b a h = by b.prefetch h
   where
@@ -708,47 +792,47 @@ stops-prefetching {said} b a h = by b.prefetch h
     by (Some key) h = as_before (core b) (core a) (ap core h)
 
 stops-telling-first : (b a : ForwarderValue) → b.replying ≡ None → StopsTellingFirst b a
-    → Stills (IsTelling b) (core b) (core a)
+    → Stills (IsSaid b) (core b) (core a)
 stops-telling-first b a none h = by b.telling refl h
   where
     by : (o : Option TellingValue) → b.telling ≡ o → MatchOption o (StopsPrefetchingFirst b a) (StopsTelling b a)
-        → Stills (IsTelling b) (core b) (core a)
+        → Stills (IsSaid b) (core b) (core a)
     by None is h = stops-prefetching b a h
-    by (Some t) is h = stops-telling t b a none (λ m told. (t, is, told)) h
+    by (Some t) is h = stops-telling t b a none (λ m told. (t, is, told, refl)) h
 
 stops-asking : (key : List ℕ) (b a : ForwarderValue) → b.replying ≡ None → StopsAsking b a key
-    → Stills (IsTelling b) (core b) (core a)
+    → Stills (IsSaid b) (core b) (core a)
 stops-asking key b a none (inl h) = as_before (core b) (core a) (ap core h)
 stops-asking key b a none (inr h) = by (fetch_at key b.fetches) refl h
   where
     by : (o : Option FetchValue) → fetch_at key b.fetches ≡ o
-        → MatchOption o ⊥ (λ f. EndsForMemory key f (has_turn b) a) → Stills (IsTelling b) (core b) (core a)
+        → MatchOption o ⊥ (λ f. EndsForMemory key f (has_turn b) a) → Stills (IsSaid b) (core b) (core a)
     by None is h = absurd h
     by (Some f) is h = ends-for-memory key f f (has_turn b) a none is (same-fetch f) h
 
 stops-first : (b a : ForwarderValue) → b.replying ≡ None → StopsAskingFirst b a
-    → Stills (IsTelling b) (core b) (core a)
+    → Stills (IsSaid b) (core b) (core a)
 stops-first b a none h = by (slice_get b.fetches.to_ask 0) h
   where
     by : (o : Option (List ℕ)) → MatchOption o (StopsTellingFirst b a) (StopsAsking b a)
-        → Stills (IsTelling b) (core b) (core a)
+        → Stills (IsSaid b) (core b) (core a)
     by None h = stops-telling-first b a none h
     by (Some key) h = stops-asking key b a none h
 
-stops-replying-first : (b a : ForwarderValue) → StopsReplyingFirst b a → Stills (IsTelling b) (core b) (core a)
+stops-replying-first : (b a : ForwarderValue) → StopsReplyingFirst b a → Stills (IsSaid b) (core b) (core a)
 stops-replying-first b a h = by b.replying refl h
   where
     by : (o : Option ReplyingValue) → b.replying ≡ o → MatchOption o (StopsAskingFirst b a) (IsLetGo b a)
-        → Stills (IsTelling b) (core b) (core a)
+        → Stills (IsSaid b) (core b) (core a)
     by None is stop = stops-first b a is stop
     by (Some r) is stop =
         still-one (core b) (core a) (is_let_go (core b) (core a) r is (none-first r.waiting stop.0) (ap core stop.1))
 
-pub is-refused : (b a : ForwarderValue) → StopsStep b a → Stills (IsTelling b) (core b) (core a)
+pub is-refused : (b a : ForwarderValue) → StopsStep b a → Stills (IsSaid b) (core b) (core a)
 is-refused b a h = by b.chain_end h
   where
     by : (o : Option ChainEndValue) → MatchOption o (StopsReplyingFirst b a) (λ e. a ≡ without_chain_end b)
-        → Stills (IsTelling b) (core b) (core a)
+        → Stills (IsSaid b) (core b) (core a)
     by None stop = stops-replying-first b a stop
     by (Some e) stop =
         still-one (core b) (core a) (no_chain_ends (core b) (core a) (ap core stop))

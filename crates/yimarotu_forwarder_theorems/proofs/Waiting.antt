@@ -5,7 +5,6 @@ use Rattle.std.specs.Option.{option_map}
 use Rattle.std.proofs.lemmas.List.{append-nil, append_assoc}
 use Rattle.std.proofs.lemmas.List.Elements.{filter-append}
 use Rattle.std.proofs.lemmas.Map.Made.{lookup-map_values}
-use Rattle.hickory_proto_wire.specs.declared.wire_message.WireMessage.{WireMessage}
 use Rattle.client_requests.specs.Keys.{key_eq, key_of}
 use Rattle.client_requests.specs.Requests.{RequestValue}
 use Rattle.client_requests.specs.declared.fetch_end.FetchEnd.{FetchEnd}
@@ -15,7 +14,7 @@ use Rattle.yimarotu_forwarder.specs.Late.{late_replying, with_nobody}
 use Rattle.yimarotu_forwarder.specs.Leaving.{fetch_without, replying_without}
 use Rattle.yimarotu_forwarder.specs.Telling.{replying_of}
 use Rattle.yimarotu_forwarder_theorems.specs.Replies.{under, untold_under}
-use Rattle.yimarotu_forwarder_theorems.proofs.Cores.{Core, Fetching, Joins, Leaves, Puts, Still, Stills, as_before, begins_alone, cache_changes, chain_ends, failures_change, is_flushed, is_heard, is_let_go, is_over, is_told_late, left_by, more, no_chain_ends, waiting_for}
+use Rattle.yimarotu_forwarder_theorems.proofs.Cores.{Core, Fetching, Joins, Leaves, Puts, Source, Still, Stills, as_before, begins_alone, cache_changes, chain_ends, failures_change, is_flushed, is_heard, is_let_go, is_over, is_told_late, left_by, more, no_chain_ends, waiting_for}
 use Rattle.yimarotu_forwarder_theorems.proofs.Keys.{own-key, put-waits, same-key, turned}
 
 abbrev pub waiting : List ℕ → Core → List RequestValue
@@ -65,7 +64,7 @@ none-untold key r none = by (key_eq key r.key)
     by true = none
     by false = refl
 
-still-waits : {said : WireMessage → Type 0} (key : List ℕ) (c d : Core) → Still said c d → waiting key d ≡ waiting key c
+still-waits : {said : Source → Type 0} (key : List ℕ) (c d : Core) → Still said c d → waiting key d ≡ waiting key c
 still-waits key c d (cache_changes c' d' event such e) = ap (waiting key) e
 still-waits key c d (failures_change c' d' event e) = ap (waiting key) e
 still-waits key c d (is_heard c' d' k f g found same led puts e) =
@@ -90,7 +89,7 @@ still-waits key c d (begins_alone c' d' k f none waits begins puts e) =
     ∙ ap (λ (ws : List RequestValue). untold_under key c.replying ++ ws)
     (put-waits k key (Some f) c.fetches d.fetches puts (waits ∙ sym (ap waiting_for none)))
 
-pub stills-wait : {said : WireMessage → Type 0}
+pub stills-wait : {said : Source → Type 0}
     (key : List ℕ) (c d : Core) → Stills said c d → waiting key d ≡ waiting key c
 stills-wait key c d (as_before c' d' e) = ap (waiting key) e
 stills-wait key c d (more c' m d' first rest) = stills-wait key m d rest ∙ still-waits key c m first

@@ -1,5 +1,5 @@
 -- What look-ups come to, and what is kept of it.
-use Rattle.std.specs.Prelude.{◌≡◌, ◌⊎◌, ℕ, ◌+◌, ◌<◌, ◌≤◌, Bool, true, List, [], ◌∷◌, ◌++◌, length, Some}
+use Rattle.std.specs.Prelude.{◌≡◌, ◌⊎◌, ℕ, ◌+◌, ◌<◌, ◌≤◌, Bool, true, List, [], ◌∷◌, ◌++◌, length, map, Some}
 use Rattle.std.specs.List.{AllByRecursion}
 use Rattle.hickory_proto_core.specs.Records.{RecordValue}
 use Rattle.hickory_proto_core.specs.declared.query.Query.{Query}
@@ -7,6 +7,7 @@ use Rattle.hickory_proto_names.specs.declared.ip.IpNet.{IpNet}
 use Rattle.hickory_proto_wire.specs.declared.wire_message.WireMessage.{WireMessage}
 use Rattle.hickory_resolver_pool.specs.Pool.{PoolState}
 use Rattle.client_requests.specs.declared.fetch_end.FetchEnd.TheVariants.{Reply}
+use Rattle.local_answers.specs.declared.local_data.Decision.TheVariants.{Answer}
 use Rattle.second_chance_cache.specs.SecondChance.{Entry}
 use Rattle.second_chance_cache.specs.declared.bounds.CacheBounds.{CacheBounds}
 use Rattle.stored_replies.specs.Key.{is_same_question}
@@ -22,9 +23,10 @@ use Rattle.whole_replies.specs.Kept.{KeptValue, aged}
 use Rattle.yimarotu_forwarder.specs.Cached.{CachedValue}
 use Rattle.yimarotu_forwarder.specs.Fetches.{FetchValue, fetch_at}
 use Rattle.yimarotu_forwarder.specs.Forwarders.{ChainEndValue, ForwarderValue, ReplyingValue, TellingValue, new_forwarder, second_of}
-use Rattle.yimarotu_forwarder.specs.Local.{LocalValue}
+use Rattle.yimarotu_forwarder.specs.Local.{IsDecided, LocalValue}
 use Rattle.yimarotu_forwarder.specs.NextQuestions.{asked_octets}
 use Rattle.yimarotu_forwarder.specs.Options.{OptionsValue, stale_seconds}
+use Rattle.yimarotu_forwarder.specs.Prefetching.{key_dnssec}
 use Rattle.yimarotu_forwarder.specs.Stale.{stale_in}
 use Rattle.yimarotu_forwarder.specs.Telling.{response_of}
 use Rattle.yimarotu_forwarder.specs.declared.choices.TheConstants.{LONGEST_STALE}
@@ -32,23 +34,46 @@ use Rattle.yimarotu_forwarder_theorems.specs.Runs.{Happening, Runs, happened}
 
 -- ---- replies that were told
 
--- a transaction is told that came to this reply
-abbrev pub IsTelling : ForwarderValue → WireMessage → Type 0
-IsTelling s m = (t : TellingValue) × (s.telling ≡ Some t) × (response_of t.over ≡ Some m)
+-- a reply, and the second at which it was told
+pub record ToldReply : Type 0 where
+  pub message : WireMessage
+  pub second : ℕ
 
-abbrev pub WasTold : List Happening → WireMessage → Type 0
-WasTold [] m = ⊥
-WasTold (happened event before after ∷ past) m = IsTelling before m ⊎ WasTold past m
+-- a transaction is told that came to this reply
+abbrev pub IsTelling : ForwarderValue → ToldReply → Type 0
+IsTelling s r =
+    (t : TellingValue) × (s.telling ≡ Some t) × (response_of t.over ≡ Some r.message) × (r.second ≡ second_of s)
+
+abbrev pub WasTold : List Happening → ToldReply → Type 0
+WasTold [] r = ⊥
+WasTold (happened event before after ∷ past) r = IsTelling before r ⊎ WasTold past r
+
+abbrev pub messages : List ToldReply → List WireMessage
+messages replies = map (λ r. r.message) replies
+
+-- none of them was told before this second
+abbrev pub AreSince : ℕ → List ToldReply → Type 0
+AreSince second replies = AllByRecursion (λ (r : ToldReply). second ≤ r.second) replies
+
+-- ---- what is known here
+
+-- it is what local data say of a question at this second
+abbrev pub IsKnown : ForwarderValue → Query → KeptValue → ℕ → Type 0
+IsKnown s q here second = (second ≡ second_of s) × IsDecided s.local q second (Answer here)
+
+abbrev pub WasKnown : List Happening → Query → KeptValue → ℕ → Type 0
+WasKnown [] q here second = ⊥
+WasKnown (happened event before after ∷ past) q here second =
+    IsKnown before q here second ⊎ WasKnown past q here second
 
 -- ---- what they make
 
--- how far a look-up of this question is: it heard these replies, and asked few questions
-pub record HeardReplies (past : List Happening) (l : LookupValue) : Type 0 where
+-- how far a look-up of this question is, with DO or without: it heard these replies, and asked few questions
+pub record HeardReplies (past : List Happening) (dnssec : Bool) (l : LookupValue) : Type 0 where
   pub question : Query
-  pub dnssec : Bool
-  pub replies : List WireMessage
+  pub replies : List ToldReply
   pub told : AllByRecursion (WasTold past) replies
-  pub heard : l ≡ after_all (begun question dnssec) replies
+  pub heard : l ≡ after_all (begun question dnssec) (messages replies)
   pub few : l.count ≤ MOST_QUESTIONS
 
 -- Up to this second it is no older than the least of its TTLs.
@@ -67,43 +92,50 @@ abbrev pub stored_so : Query → KeptValue → Storing → StoredValue
 stored_so q kept how =
     stored_at q (capped how.greatest (without_denied how.allowed how.denied kept)) how.second
 
--- These replies to a question and to what it led to make the whole reply that was stored. Or they lead to a name of which
--- is known here what is put behind them; or to a question for which such a reply was kept, which is put behind them as
--- it had aged at a second at which it could be told, and from which on, or from an earlier one, the whole ages.
-pub data IsMadeOf : List WireMessage → StoredValue → Type 0 where
-  by_servers : (q : Query) (dnssec : Bool) (replies : List WireMessage) (kept : KeptValue) (how : Storing)
-      (s : StoredValue) → whole_of (begun q dnssec) replies ≡ Some kept → s ≡ stored_so q kept how
-      → IsMadeOf replies s
-  by_local_data : (q : Query) (dnssec : Bool) (replies : List WireMessage) (here : KeptValue) (how : Storing)
-      (s : StoredValue) → s ≡ stored_so q (whole_with here (after_all (begun q dnssec) replies)) how
-      → IsMadeOf replies s
-  by_kept_end : (q : Query) (dnssec : Bool) (first last : List WireMessage) (end : StoredValue) (second : ℕ)
-      (how : Storing) (s : StoredValue) → IsMadeOf last end → LastsTo end second → how.second ≤ second
-      → is_same_question (asked_octets (after_all (begun q dnssec) first).next) (own_question end) ≡ true
-      → s ≡ stored_so q (whole_with (aged (elapsed end second) end.kept) (after_all (begun q dnssec) first)) how
-      → IsMadeOf (first ++ last) s
+-- These replies to a question and to what it led to, with DO or without, make the whole reply that was stored. Or they
+-- lead to a name of which is known here what is put behind them; or to a question for which such a reply was kept, with
+-- DO as well or without as well, which is put behind them as it had aged at a second at which it could be told. The
+-- whole ages from a second on at which none of them was told yet: so no record outlives what was received.
+pub data IsMadeOf (past : List Happening) (dnssec : Bool) : List ToldReply → StoredValue → Type 0 where
+  by_servers : (q : Query) (replies : List ToldReply) (kept : KeptValue) (how : Storing) (s : StoredValue)
+      → whole_of (begun q dnssec) (messages replies) ≡ Some kept → AreSince how.second replies
+      → s ≡ stored_so q kept how → IsMadeOf past dnssec replies s
+  by_local_data : (q : Query) (replies : List ToldReply) (here : KeptValue) (second : ℕ) (how : Storing)
+      (s : StoredValue) → WasKnown past (after_all (begun q dnssec) (messages replies)).next here second
+      → how.second ≤ second → AreSince how.second replies
+      → s ≡ stored_so q (whole_with here (after_all (begun q dnssec) (messages replies))) how
+      → IsMadeOf past dnssec replies s
+  by_kept_end : (q : Query) (first last : List ToldReply) (end : StoredValue) (second : ℕ) (how : Storing)
+      (s : StoredValue) → IsMadeOf past dnssec last end → LastsTo end second → how.second ≤ second
+      → AreSince how.second first
+      → is_same_question (asked_octets (after_all (begun q dnssec) (messages first)).next) (own_question end) ≡ true
+      → s ≡ stored_so q
+      (whole_with (aged (elapsed end second) end.kept) (after_all (begun q dnssec) (messages first))) how
+      → IsMadeOf past dnssec (first ++ last) s
 
--- what few replies that were told make
-pub record IsAnswer (past : List Happening) (s : StoredValue) : Type 0 where
-  pub replies : List WireMessage
+-- what few replies that were told make, with DO or without
+pub record IsAnswer (past : List Happening) (dnssec : Bool) (s : StoredValue) : Type 0 where
+  pub replies : List ToldReply
   pub told : AllByRecursion (WasTold past) replies
   pub few : length replies ≤ MOST_QUESTIONS
-  pub made : IsMadeOf replies s
+  pub made : IsMadeOf past dnssec replies s
 
--- It is an answer; as it ages it is told up to no later second than it lasts; and it is kept for a day after that at
--- the most.
-pub record IsKeptAnswer (past : List Happening) (cached : CachedValue) (deadline : ℕ) : Type 0 where
-  pub answer : IsAnswer past cached.reply
+-- It is an answer, with DO where its key says so, and else without; as it ages it is told up to no later second than it
+-- lasts; and it is kept for a day after that at the most.
+pub record IsKeptAnswer (past : List Happening) (key : List ℕ) (cached : CachedValue) (deadline : ℕ) : Type 0 where
+  pub answer : IsAnswer past (key_dnssec key) cached.reply
   pub lasts : LastsTo cached.reply cached.told_until
   pub a_day : deadline ≤ cached.told_until + LONGEST_STALE
 
 -- Look-ups that go on, what those who waited are told of one that is over, the end of a chain that is to be kept, and
--- what is kept
+-- what is kept: of each its key says whether it is with DO
 pub record AreOfReplies (past : List Happening) (s : ForwarderValue) : Type 0 where
-  pub going_on : (key : List ℕ) (f : FetchValue) → fetch_at key s.fetches ≡ Some f → HeardReplies past f.lookup
-  pub told : (r : ReplyingValue) (end : StoredValue) → s.replying ≡ Some r → r.end ≡ Reply end → IsAnswer past end
-  pub chain_end : (e : ChainEndValue) → s.chain_end ≡ Some e → IsAnswer past e.reply
-  pub kept : AllByRecursion (λ (e : Entry CachedValue). IsKeptAnswer past e.value e.deadline) s.cache.entries
+  pub going_on : (key : List ℕ) (f : FetchValue) → fetch_at key s.fetches ≡ Some f
+      → HeardReplies past (key_dnssec key) f.lookup
+  pub told : (r : ReplyingValue) (end : StoredValue) → s.replying ≡ Some r → r.end ≡ Reply end
+      → IsAnswer past (key_dnssec r.key) end
+  pub chain_end : (e : ChainEndValue) → s.chain_end ≡ Some e → IsAnswer past (key_dnssec e.key) e.reply
+  pub kept : AllByRecursion (λ (e : Entry CachedValue). IsKeptAnswer past e.key e.value e.deadline) s.cache.entries
 
 -- The answer of a look-up is what at most eight replies that were told make, one after another, and so is all that is
 -- kept; what is told of it as it ages is told for no longer than the least of its TTLs.
@@ -120,8 +152,9 @@ HasShortTtl r = r.ttl ≡ 30
 
 -- It was an answer up to a second that is over, by no more seconds than the options say, and a day at the most. What is
 -- told in place of it has TTLs of 30 seconds (RFC 8767, section 4).
-pub record IsStaleAnswer (past : List Happening) (s : StoredValue) (options : OptionsValue) (now : ℕ) : Type 0 where
-  pub answer : IsAnswer past s
+pub record IsStaleAnswer (past : List Happening) (dnssec : Bool) (s : StoredValue) (options : OptionsValue) (now : ℕ)
+    : Type 0 where
+  pub answer : IsAnswer past dnssec s
   pub told_until : ℕ
   pub lasts : LastsTo s told_until
   pub over : told_until < now
@@ -136,4 +169,4 @@ StaleAnswersAreOfReplies =
     (options : OptionsValue) (local : LocalValue) (cache failures : CacheBounds) (pool : PoolState)
     → (past : List Happening) (s : ForwarderValue) → Runs (new_forwarder options local cache failures pool) past s
     → (key : List ℕ) (stored : StoredValue) → stale_in s.cache key s.options (second_of s) ≡ Some stored
-    → IsStaleAnswer past stored s.options (second_of s)
+    → IsStaleAnswer past (key_dnssec key) stored s.options (second_of s)
