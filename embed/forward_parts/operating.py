@@ -9,6 +9,8 @@ import stat
 import time
 from pathlib import Path
 
+import dns.name
+
 from live_parts import servers, stub, zone
 
 from . import asking
@@ -142,6 +144,16 @@ def dumped_whole(cases, daemon):
     kinds = {(*line[1:3], *line[5:]) for line in found}
     cases.equal("type, code and DO", kinds, {("A", "NXDOMAIN", "do")})
     cases.tell("seconds and octets", all(0 < int(line[3]) <= 300 and int(line[4]) > 200 for line in found), found[:3])
+
+
+def dumped_escaped(cases, daemon):
+    """Octets of a name that would not stand in a word, or would end the line, are told as three digits (RFC 1035)."""
+    labels = [b"www.example\0x y", b"a\\\n", b"example", b"test", b""]
+    with stub.running() as server, daemon.over(server) as running:
+        asking.by_udp(running.port, dns.name.Name(labels))
+        found = [line[:3] for line in dumped(running)]
+    wanted = [r"www\046example\000x\032y.a\092\010.example.test.", "A", "NXDOMAIN"]
+    cases.equal("octets that are told as digits", found, [wanted])
 
 
 def answered(cases, running):
@@ -358,5 +370,5 @@ def activated(cases, daemon):
             os.close(fd)
 
 
-ALL = (checked, in_use, reloaded, hosts, controlled, dumped_whole, counted, logged, unprivileged, many_processes,
-       many_logs, one_control, notified, activated)
+ALL = (checked, in_use, reloaded, hosts, controlled, dumped_whole, dumped_escaped, counted, logged, unprivileged,
+       many_processes, many_logs, one_control, notified, activated)

@@ -24,6 +24,9 @@ static size_t octets_of_digits(const char *digits, uint8_t *octets) {
     return length;
 }
 
+/* Whether it stands in a name as it is. An octet 0 does not, since it ends a text. */
+static bool is_plain(uint8_t octet) { return isalnum(octet) || (octet != 0 && strchr("-_/*", octet) != NULL); }
+
 /* A name as text (RFC 1035, section 5.1); gives how many octets it takes in the key. */
 static size_t write_name(const uint8_t *name, char *text) {
     size_t at = 0;
@@ -31,7 +34,7 @@ static size_t write_name(const uint8_t *name, char *text) {
     while (name[at] != 0) {
         size_t end = at + 1 + name[at];
         for (at++; at < end; at++)
-            text += sprintf(text, isalnum(name[at]) || strchr("-_/*", name[at]) != NULL ? "%c" : "\\%03u", name[at]);
+            text += sprintf(text, is_plain(name[at]) ? "%c" : "\\%03u", name[at]);
         text += sprintf(text, ".");
     }
     return at + 1;
