@@ -31,6 +31,8 @@ RECORDS = [
     "mirror.example.test. 60 IN CNAME web.example.test.",
 ]
 PAGES, SHELLS = 8080, 2222
+# How many connections a network of IPv6 has, and how many of them one address.
+OF_NETWORK, OF_ADDRESS = 256, 64
 # The one package of a small repository, for every machine.
 PACKAGE = b"""Package: from-the-tests
 Version: 1.0
@@ -88,6 +90,35 @@ def scoped(cases, run_daemon):
         with run_daemon.running(f"resolv_conf {file}", port=53) as running:
             found = asking.addresses(asking.by_udp(53, "five.example.test"))
             cases.equal("a server with a link-local address", found, ["192.0.2.5"])
+
+
+def is_closed(sock):
+    """Whether the other end has closed a connection on which nothing comes."""
+    sock.setblocking(False)
+    try:
+        return sock.recv(1) == b""
+    except BlockingIOError:
+        return False
+    except ConnectionError:
+        return True
+
+
+def one_of_a_network(cases, run_daemon):
+    """A host whose connections all wait leaves other hosts of its network of 64 bits a part of what they have together."""
+    with contextlib.ExitStack() as stack:
+        silent = stack.enter_context(socket.socket(socket.AF_INET, socket.SOCK_DGRAM))
+        silent.bind(("127.0.0.1", 0))
+        lines = [f"server 127.0.0.1 {silent.getsockname()[1]} udp", "option timeout 60"]
+        running = stack.enter_context(run_daemon.running(*lines, port=53, listens=("fd00::1",)))
+        socks = [stack.enter_context(asking.stream(53, "fd00::1", source="fd00::2")) for _ in range(OF_NETWORK)]
+        for sock in socks:
+            with contextlib.suppress(ConnectionError):
+                sock.sendall(asking.pipelined(asking.query("slow.example.test")))
+        daemon.wait_until(lambda: sum(map(is_closed, socks)) + running.counts()["waiting"] == OF_NETWORK,
+                          "each connection waits, or is closed")
+        cases.equal(f"of {OF_NETWORK} connections of one address so many wait", running.counts()["waiting"], OF_ADDRESS)
+        reply = asking.by_tcp(53, "localhost", address="fd00::1")
+        cases.equal("another host of its network", reply and asking.addresses(reply), ["127.0.0.1"])
 
 
 def release():
@@ -197,6 +228,8 @@ def main(out, folder, name):
                 programs(cases, folder)
         with cases.guard("a server with a link-local address"):
             scoped(cases, run_daemon)
+        with cases.guard("hosts of one network"):
+            one_of_a_network(cases, run_daemon)
     print(f"{cases.passed} passed, {cases.failed} failed")
 
 

@@ -1,7 +1,10 @@
 """Clients by TCP: slow ones, ones that read nothing, and files that run out."""
 import contextlib
 import functools
+import os
+import re
 import resource
+import signal
 import socket
 import threading
 import time
@@ -20,6 +23,10 @@ PIPELINED = 1_000
 # How many connections one client has. How many always have something to be told, and for how many seconds a reply is
 # waited for beside them at the most.
 SHARE, GREEDY, MOST_WAITED = 256, 64, 0.5
+# How many connections all clients have, and how many of each of some clients are more than that.
+PLACES, CLIENTS, OF_EACH = 1008, range(2, 7), 210
+# For how many seconds it is seen that no more queries come to wait.
+QUIET = 0.5
 
 
 def slow(cases, daemon):
@@ -187,7 +194,49 @@ def many_connections(cases, daemon):
                 stack.enter_context(asking.stream(running.port, source=f"127.0.0.{client}"))
         found = asking.addresses(asking.by_tcp(running.port, "four.example.test"))
         cases.equal("a connection more than there are places", found, ["192.0.2.4"])
-        cases.tell("there are no more than places", 1000 < running.counts()["connections"] <= 1024, running.counts())
+        count = running.counts()["connections"]
+        cases.tell("there are no more than places", 1000 < count <= PLACES + 1, count)
+
+
+def waiting(running):
+    """How many queries wait, as it is told without a connection."""
+    told = running.said().count(" waiting=")
+    os.kill(running.pid, signal.SIGUSR1)
+    wait_until(lambda: running.said().count(" waiting=") > told, "it tells its counts")
+    return int(re.findall(r" waiting=(\d+) ", running.said())[-1])
+
+
+def all_wait(cases, daemon):
+    """Where all connections wait for servers, yimarotu-control is answered, and one more client when one is closed."""
+    with contextlib.ExitStack() as stack:
+        silent = stack.enter_context(bounds.datagrams())
+        silent.bind(("127.0.0.1", 0))
+        lines = [f"server 127.0.0.1 {silent.getsockname()[1]} udp", f"option timeout {bounds.PATIENT}"]
+        running, counts = stack.enter_context(daemon.running(*lines)), [0]
+
+        def is_settled():
+            time.sleep(QUIET)
+            counts.append(waiting(running))
+            return counts[-1] > 0 and counts[-1] == counts[-2]
+
+        with contextlib.ExitStack() as connections:
+            for client in CLIENTS:
+                wire = asking.pipelined(asking.query(f"w{client}.example.test"))
+                for _ in range(OF_EACH):
+                    sock = connections.enter_context(asking.stream(running.port, source=f"127.0.0.{client}"))
+                    # (it is closed with a reset)
+                    sock.setsockopt(socket.SOL_SOCKET, socket.SO_LINGER, b"\1\0\0\0\0\0\0\0")
+                    with contextlib.suppress(ConnectionError):
+                        sock.sendall(wire)
+            wait_until(is_settled, "no more queries come to wait")
+            cases.equal(f"of {len(CLIENTS) * OF_EACH} connections so many wait", counts[-1], PLACES)
+            status, told, error = running.control("statistics")
+            cases.equal("yimarotu-control, while they do", (status, error), (0, ""))
+            cases.tell("there are as many as places", f"connections={PLACES + 1}" in told.splitlines(), told)
+            sock = stack.enter_context(asking.stream(running.port, source="127.0.0.9"))
+            sock.sendall(asking.pipelined(asking.query("localhost")))
+        reply = asking.read_reply(stack.enter_context(sock.makefile("rb")))
+        cases.equal("one more client, when they are closed", reply and asking.addresses(reply), ["127.0.0.1"])
 
 
 def write_and_read(socks, is_over):
@@ -226,4 +275,4 @@ def greedy(cases, daemon):
             writer.join()
 
 
-ALL = (slow, in_pieces, not_kept, unread, dribbling, half_closed, gone, no_files, many_connections, greedy)
+ALL = (slow, in_pieces, not_kept, unread, dribbling, half_closed, gone, no_files, many_connections, all_wait, greedy)

@@ -134,8 +134,8 @@ extern struct counts {       /* of the program; the library has its own */
 } counts;
 
 bool watch(int change, int fd, uint32_t events, uint64_t what);
-void accept_again(void); /* connections are accepted, where files had run out */
-void pause_accepting(void);
+void accept_again(void); /* connections are accepted, where files or places had run out */
+void pause_accepting(const struct listener *listener);
 bool reload(void);
 
 #endif

@@ -47,19 +47,16 @@ bool watch(int change, int fd, uint32_t events, uint64_t what) {
     return epoll_ctl(epoll, change, fd, &event) == 0;
 }
 
-static void watch_streams(uint32_t events) {
-    for (size_t at = 0; at < own->count; at++)
-        if (own->at[at].is_stream) watch(EPOLL_CTL_MOD, own->at[at].fd, events, at);
-}
-
-/* Where there is no file for another connection those that wait are not told of: they would be again and again. */
-void pause_accepting(void) {
+/* Where there is no file, or no place, for another connection those that wait are not told of: they would be again and
+ * again. */
+void pause_accepting(const struct listener *listener) {
     is_paused = true;
-    watch_streams(0);
+    watch(EPOLL_CTL_MOD, listener->fd, 0, (uint64_t)(listener - own->at));
 }
 
 void accept_again(void) {
-    if (is_paused) watch_streams(EPOLLIN);
+    for (size_t at = 0; is_paused && at < own->count; at++)
+        if (own->at[at].is_stream) watch(EPOLL_CTL_MOD, own->at[at].fd, EPOLLIN, at);
     is_paused = false;
 }
 

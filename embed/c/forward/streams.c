@@ -8,13 +8,15 @@
 #include <string.h>
 #include <unistd.h>
 
-/* How many connections there may be, and for how many milliseconds one may be idle. */
-enum { CONNECTIONS = 1024, IDLE = 10000 };
+/* How many connections there may be, and how many of them clients have: the other places are for yimarotu-control, which
+ * nobody keeps out. For how many milliseconds one may be idle. */
+enum { CONNECTIONS = 1024, OF_CLIENTS = CONNECTIONS - 16, IDLE = 10000 };
 /* How many octets wait to be sent on one; how many may, while more of its queries are taken; how many of these wait. */
 enum { MOST_KEPT = 1 << 18, FEW_KEPT = 1 << 16, MOST_WAITING = 128 };
 enum { LONGEST_LINE = 1100, ANSWER = 65536 };
-/* How many queries of one connection are taken before others have their turn; how many connections one client has. */
-enum { MOST_AT_ONCE = 16, MOST_OF_CLIENT = 256 };
+/* How many queries of one connection are taken before others have their turn; how many connections one client has, and of
+ * these one address of IPv6: one client is a network of 64 bits, as the library counts them, which may be a whole LAN. */
+enum { MOST_AT_ONCE = 16, MOST_OF_CLIENT = 256, MOST_OF_ADDRESS = 64, NETWORK = 8, ADDRESS = 16 /* octets */ };
 
 struct connection {
     uint64_t number; /* 0 where the place is free */
@@ -165,36 +167,37 @@ void on_connection(uint64_t number, uint32_t events) {
 
 /* ---- connections come and go */
 
-/* Whether both are of one client, as the library counts them: of IPv6 a network of 64 bits is one. */
-static bool is_of(const struct connection *connection, const union address *client) {
+/* Whether so many octets of both addresses are the same; of IPv4 all of them. */
+static bool is_of(const struct connection *connection, const union address *client, size_t octets) {
     const uint8_t *one, *other;
     size_t length = octets_of_address(&connection->client, &one);
-    return !connection->is_control && length == octets_of_address(client, &other)
-        && memcmp(one, other, length == 4 ? 4 : 8) == 0;
+    return length == octets_of_address(client, &other) && memcmp(one, other, length < octets ? length : octets) == 0;
 }
 
 /* The connection, of this client or (NULL) of all, that has been idle for the longest time, or NULL. */
-static struct connection *longest_idle(const union address *client) {
+static struct connection *longest_idle(const union address *client, size_t octets) {
     struct connection *found = NULL;
-    for (struct connection *at = connections; at < connections + CONNECTIONS; at++)
-        if (at->number != 0 && at->waiting == 0 && (client == NULL || is_of(at, client))
+    for (struct connection *at = connections; at < connections + OF_CLIENTS; at++)
+        if (at->number != 0 && at->waiting == 0 && (client == NULL || is_of(at, client, octets))
             && (found == NULL || at->since < found->since))
             found = at;
     return found;
 }
 
-/* A free place; where all are taken, that of the connection that was idle for the longest time. */
-static struct connection *free_place(void) {
-    struct connection *at = connections;
-    if (counts.connections == CONNECTIONS) close_connection(longest_idle(NULL));
-    while (at->number != 0) at++;
-    return at;
+/* A free place, or else that of the client's connection that was idle for the longest time, or NULL. No command of
+ * yimarotu-control gives way to another one. */
+static struct connection *place_for(bool is_control) {
+    struct connection *at = connections + (is_control ? OF_CLIENTS : 0);
+    struct connection *end = connections + (is_control ? CONNECTIONS : OF_CLIENTS);
+    while (at < end && at->number != 0) at++;
+    return at < end ? at : is_control ? NULL : longest_idle(NULL, 0);
 }
 
 static void begin(struct connection *connection, const struct listener *listener, int fd, const union address *client) {
     static uint64_t turn;
     int on = 1;
     uint64_t number = 1ull << FROM_STREAM | ++turn * CONNECTIONS | (uint64_t)(connection - connections);
+    if (connection->number != 0) close_connection(connection);
     if (!watch(EPOLL_CTL_ADD, fd, EPOLLIN, number)) return (void)close(fd);
     if (!listener->is_control) setsockopt(fd, IPPROTO_TCP, TCP_NODELAY, &on, sizeof on);
     *connection = (struct connection){
@@ -204,14 +207,21 @@ static void begin(struct connection *connection, const struct listener *listener
     counts.connections++;
 }
 
-/* One client has no more than its share: one connection more takes the place of another of its own. */
-static bool has_share(const union address *client) {
+/* One connection more than a share takes the place of another one of that, which is idle. */
+static bool has_share(const union address *client, size_t octets, size_t most) {
     size_t count = 0;
-    for (struct connection *at = connections; at < connections + CONNECTIONS; at++)
-        if (at->number != 0 && is_of(at, client)) count++;
-    struct connection *idle = count < MOST_OF_CLIENT ? NULL : longest_idle(client);
+    for (struct connection *at = connections; at < connections + OF_CLIENTS; at++)
+        if (at->number != 0 && is_of(at, client, octets)) count++;
+    struct connection *idle = count < most ? NULL : longest_idle(client, octets);
     if (idle != NULL) close_connection(idle);
-    return count < MOST_OF_CLIENT || idle != NULL;
+    return count < most || idle != NULL;
+}
+
+/* No client has more than its share, and no host of a network of IPv6 has all of that. */
+static bool may_connect(const union address *client) {
+    const uint8_t *octets;
+    bool is_v6 = octets_of_address(client, &octets) == ADDRESS;
+    return (!is_v6 || has_share(client, ADDRESS, MOST_OF_ADDRESS)) && has_share(client, NETWORK, MOST_OF_CLIENT);
 }
 
 /* Without a file, or a place, for another connection, those that come wait until one is closed. */
@@ -219,12 +229,12 @@ void on_connecting(const struct listener *listener) {
     for (int turn = 0; turn < BATCH; turn++) {
         union address client = {0};
         socklen_t length = sizeof client;
-        if (counts.connections == CONNECTIONS && longest_idle(NULL) == NULL) return pause_accepting();
+        if (place_for(listener->is_control) == NULL) return pause_accepting(listener);
         int fd = accept4(listener->fd, &client.any, &length, SOCK_NONBLOCK | SOCK_CLOEXEC);
-        if (fd >= 0 && !listener->is_control && !has_share(&client)) close(fd);
-        else if (fd >= 0) begin(free_place(), listener, fd, &client);
+        if (fd >= 0 && !listener->is_control && !may_connect(&client)) close(fd);
+        else if (fd >= 0) begin(place_for(listener->is_control), listener, fd, &client);
         else if (errno == EAGAIN) return;
-        else if (errno != ECONNABORTED && errno != EINTR) return pause_accepting();
+        else if (errno != ECONNABORTED && errno != EINTR) return pause_accepting(listener);
     }
 }
 
