@@ -229,6 +229,20 @@ def logged(cases, daemon):
                 wait_until(lambda: b"www.example.test" in reader.read(1 << 16), "the log goes on")
 
 
+def log_stays(cases, daemon):
+    """Where the log cannot be opened again that is told, the one before goes on, and all else is read again."""
+    log = daemon.folder / f"log{time.monotonic_ns()}"
+    with stub.running() as server, daemon.over(server, f"log {log}") as running:
+        lines = running.path.read_text().replace(f"log {log}\n", "log /proc/nowhere/log\n")
+        running.path.write_text(lines + "block four.example.test\n")
+        status, _, error = running.control("reload")
+        cases.tell("reload without the log", status == 1 and error.startswith("error: "), (status, error))
+        cases.tell("its standard error says why", "/proc/nowhere/log: No such file" in running.said(), running.said())
+        found = asking.addresses(asking.by_udp(running.port, "four.example.test"))
+        cases.equal("all else is read again", found, "NXDOMAIN")
+        wait_until(lambda: "four.example.test. A NXDOMAIN" in log.read_text(), "the log before goes on")
+
+
 def status_of(pid):
     return dict(line.split(":\t", 1) for line in Path(f"/proc/{pid}/status").read_text().splitlines() if ":\t" in line)
 
@@ -293,6 +307,29 @@ def many_processes(cases, daemon):
         children = children_of(running.pid)
     wait_until(lambda: not any(Path(f"/proc/{child}").exists() for child in children), "the processes end with it")
     cases.tell("the processes end with it", True, "")
+
+
+def octets_read(pid):
+    return int(Path(f"/proc/{pid}/io").read_text().split()[1])
+
+
+def reloaded_by_command(cases, daemon):
+    """A process that is started again has what `reload` read, where the settings have a fault by then."""
+    count = 2
+    with stub.running() as server, daemon.over(server, f"processes {count}") as running:
+        children = wait_until(lambda: len(found := children_of(running.pid)) == count and found, "all are there")
+        asking.by_udp(running.port, "four.example.test")
+        lines, before = running.path.read_text() + "block example.test\n", octets_read(running.pid)
+        running.path.write_text(lines)
+        cases.equal("reload of all", running.control("reload")[0], 0)
+        # (their parent checks the file, and reads it)
+        wait_until(lambda: octets_read(running.pid) >= before + 2 * len(lines), "their parent reads it, too")
+        running.path.write_text(lines + "sever 192.0.2.1\n")
+        for died in children:
+            os.kill(died, signal.SIGKILL)
+        wait_until(lambda: len(found := children_of(running.pid)) == count and not {*found} & {*children}, "they come")
+        found = [asking.addresses(asking.by_udp(running.port, "four.example.test")) for _ in range(30)]
+        cases.equal("after all were killed, and the settings have a fault", found, ["NXDOMAIN"] * 30)
 
 
 def many_logs(cases, daemon):
@@ -370,5 +407,5 @@ def activated(cases, daemon):
             os.close(fd)
 
 
-ALL = (checked, in_use, reloaded, hosts, controlled, dumped_whole, dumped_escaped, counted, logged, unprivileged,
-       many_processes, many_logs, one_control, notified, activated)
+ALL = (checked, in_use, reloaded, hosts, controlled, dumped_whole, dumped_escaped, counted, logged, log_stays,
+       unprivileged, many_processes, reloaded_by_command, many_logs, one_control, notified, activated)

@@ -28,6 +28,15 @@ static const char *flush(char *words) {
     return status == YIMAROTU_OK ? "ok\n" : "error: that is no name\n";
 }
 
+static const char *read_files(void) {
+    static const char *const told[] = {
+        [ALL_STAYS] = "error: all stays: its standard error says why\n",
+        [LOG_STAYS] = "error: all but the log was read again: its standard error says why\n",
+        [READ_AGAIN] = "ok\n",
+    };
+    return told[reload()];
+}
+
 size_t obey(const char *line, char *answer, size_t room_length) {
     char words[1100];
     size_t length = 0;
@@ -38,6 +47,6 @@ size_t obey(const char *line, char *answer, size_t room_length) {
     bool is_dump = strcmp(line, "dump") == 0 || strncmp(line, "dump ", 5) == 0;
     if (is_dump) length = write_kept(line + (line[4] == ' ' ? 5 : 4), answer, room_length), ended = "ok\n";
     if (strcmp(line, "statistics") == 0) length = write_counts(answer, room_length, '\n'), ended = "ok\n";
-    if (strcmp(line, "reload") == 0) ended = reload() ? "ok\n" : "error: all stays: its standard error says why\n";
+    if (strcmp(line, "reload") == 0) ended = read_files();
     return length + (size_t)snprintf(answer + length, room_length - length, "%s", ended);
 }

@@ -62,7 +62,9 @@ void drop(struct octets *octets, size_t length);
 size_t read_settings(const char *path, struct settings *settings, struct files *files);
 void free_files(struct files *files);
 bool open_forwarder(const char *path, const struct settings *settings, struct files *files);
-bool reload_forwarder(const char *path);
+enum reloaded { ALL_STAYS, LOG_STAYS, READ_AGAIN };
+/* Where the files have a fault all stays as it was; where only the log cannot be opened that does. */
+enum reloaded reload_forwarder(const char *path);
 /* Tells all faults, also those that the library finds; gives how many there are. */
 size_t check(const char *path);
 bool is_none(const struct word *path);
@@ -136,6 +138,6 @@ extern struct counts {       /* of the program; the library has its own */
 bool watch(int change, int fd, uint32_t events, uint64_t what);
 void accept_again(void); /* connections are accepted, where files or places had run out */
 void pause_accepting(const struct listener *listener);
-bool reload(void);
+enum reloaded reload(void);
 
 #endif

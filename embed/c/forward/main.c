@@ -3,11 +3,13 @@
 
 #include <errno.h>
 #include <getopt.h>
+#include <poll.h>
 #include <signal.h>
 #include <stddef.h>
 #include <stdio.h>
 #include <stdlib.h>
 #include <string.h>
+#include <sys/eventfd.h>
 #include <sys/prctl.h>
 #include <sys/resource.h>
 #include <sys/signalfd.h>
@@ -30,7 +32,8 @@ static struct settings settings;
 static struct files files;
 static struct listeners all[PROCESSES];
 static const struct listeners *own; /* of this process */
-static int epoll, signals;
+static int epoll, signals = -1;
+static int read_by_one = -1; /* of many processes: an eventfd, which tells their parent that one read the files again */
 static bool is_paused, is_ended, lacks_memory;
 
 /* By a clock that counts while the machine sleeps: else answers would be used for longer than they may be. */
@@ -62,13 +65,18 @@ void accept_again(void) {
 
 /* ---- what happens, and what is to be done */
 
-bool reload(void) { return reload_forwarder(settings_path); }
+/* By a command: the parent of many processes hears of it by this alone. */
+enum reloaded reload(void) {
+    enum reloaded ended = reload_forwarder(settings_path);
+    if (ended != ALL_STAYS && read_by_one >= 0) eventfd_write(read_by_one, 1);
+    return ended;
+}
 
 static void on_signal(void) {
     struct signalfd_siginfo signal;
     char text[1024];
     if (read(signals, &signal, sizeof signal) != sizeof signal) return;
-    if (signal.ssi_signo == SIGHUP) reload();
+    if (signal.ssi_signo == SIGHUP) reload_forwarder(settings_path);
     if (signal.ssi_signo == SIGUSR1) {
         write_counts(text, sizeof text, ' ');
         fprintf(stderr, "yimarotu-forward: %s\n", text);
@@ -148,7 +156,7 @@ static bool watch_all(void) {
     sigset_t set;
     block_signals(&set);
     epoll = epoll_create1(EPOLL_CLOEXEC);
-    signals = signalfd(-1, &set, SFD_NONBLOCK | SFD_CLOEXEC);
+    signals = signalfd(signals, &set, SFD_NONBLOCK | SFD_CLOEXEC);
     bool is_right = epoll >= 0 && signals >= 0 && watch(EPOLL_CTL_ADD, signals, EPOLLIN, 1ull << FROM_SIGNAL);
     for (size_t at = 0; is_right && at < own->count; at++) is_right = watch(EPOLL_CTL_ADD, own->at[at].fd, EPOLLIN, at);
     return is_right;
@@ -218,7 +226,7 @@ static void start(size_t process) {
     if (getppid() != parent) exit(ENDED);
     if (is_late) sleep(1);
     if (is_again) read_again();
-    if (!is_none(&settings.log)) open_log(settings.log.text);
+    if (!is_none(&settings.log) && !open_log(settings.log.text)) perror(settings.log.text);
     exit(run(&all[process]));
 }
 
@@ -241,19 +249,32 @@ static void signal_all(int number) {
         if (children[at] > 0) kill(children[at], number);
 }
 
+/* Waits for a signal, for a second at the most; gives its number, or 0. What a process read again is read at once: it may
+ * have a fault by the time that one is started again. */
+static int next_signal(void) {
+    struct pollfd both[] = {{.fd = signals, .events = POLLIN}, {.fd = read_by_one, .events = POLLIN}};
+    struct signalfd_siginfo signal;
+    eventfd_t count;
+    poll(both, 2, SECOND);
+    if (eventfd_read(read_by_one, &count) == 0) read_again();
+    return read(signals, &signal, sizeof signal) == sizeof signal ? (int)signal.ssi_signo : 0;
+}
+
 /* Passes signals on, and starts a process again that died, or could not be started. */
 static int supervise(void) {
-    static const struct timespec second = {.tv_sec = 1};
     sigset_t set;
     int number = 0;
     block_signals(&set);
+    signals = signalfd(-1, &set, SFD_NONBLOCK | SFD_CLOEXEC);
+    read_by_one = eventfd(0, EFD_NONBLOCK | EFD_CLOEXEC);
+    if (signals < 0 || read_by_one < 0) return perror("yimarotu-forward: signalfd, or eventfd"), NO_SOCKETS;
     close_log(); /* each process opens it */
     tell_that_it_is_ready();
     tell_that_it_listens();
     while (hopeless == ENDED && number != SIGTERM && number != SIGINT) {
         for (size_t at = 0; at < settings.processes; at++)
             if (children[at] <= 0) start(at);
-        number = sigtimedwait(&set, NULL, &second);
+        number = next_signal();
         if (number == SIGCHLD) bury();
         else if (number > 0) signal_all(number == SIGINT ? SIGTERM : number);
         if (number == SIGHUP) read_again();

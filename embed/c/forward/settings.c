@@ -190,15 +190,16 @@ bool open_forwarder(const char *path, const struct settings *settings, struct fi
     return tell_opened(path, settings, open_with(&forwarder, files));
 }
 
-bool reload_forwarder(const char *path) {
+enum reloaded reload_forwarder(const char *path) {
     static struct settings settings;
     struct files files;
     bool is_right = read_settings(path, &settings, &files) == 0
         && tell_opened(path, &settings, yimarotu_forwarder_reload(&forwarder, FILES(&files), moment));
-    if (is_right && is_none(&settings.log)) close_log();
-    else if (is_right && !open_log(settings.log.text)) tell(settings.log.text, 0, strerror(errno));
     free_files(&files);
-    return is_right;
+    if (!is_right) return ALL_STAYS;
+    if (is_none(&settings.log)) return close_log(), READ_AGAIN;
+    if (open_log(settings.log.text)) return READ_AGAIN;
+    return tell(settings.log.text, 0, strerror(errno)), LOG_STAYS;
 }
 
 /* Blanks a line, so that the next one with a fault is told; gives whether there is such a line. */
