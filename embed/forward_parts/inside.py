@@ -92,6 +92,40 @@ def scoped(cases, run_daemon):
             cases.equal("a server with a link-local address", found, ["192.0.2.5"])
 
 
+@contextlib.contextmanager
+def without_a_line(run_daemon):
+    """Runs it with the control socket that counts where no line names one; gives what it says."""
+    config = run_daemon.write("listen 127.0.0.1", "server 192.0.2.53", "hosts none")
+    said = config.with_suffix(".said")
+    with said.open("wb") as error:
+        words = [run_daemon.program, "--config", config]
+        running = daemon.Running(subprocess.Popen(words, stdin=subprocess.DEVNULL, stderr=error), said, None, 53)
+    try:
+        running.wait_for(daemon.LISTENS)
+        yield running.said()
+    finally:
+        running.process.terminate()
+        running.process.wait(daemon.SECONDS)
+
+
+def other_control(cases, run_daemon):
+    """When it ends it takes its own control socket away, and none of another program, for which it did without."""
+    subprocess.run(["mount", "-t", "tmpfs", "none", "/run"], check=True)
+    path = Path("/run/yimarotu-forward/control")
+    try:
+        with without_a_line(run_daemon):
+            cases.tell("a control socket where no line names one", path.is_socket(), path)
+        cases.tell("it goes with its program", not path.exists(), path)
+        with socket.socket(socket.AF_UNIX) as other:
+            other.bind(str(path))
+            other.listen()
+            with without_a_line(run_daemon) as said:
+                cases.tell("the control socket of another program", f"cannot listen at {path}: " in said, said)
+            cases.tell("it stays", path.is_socket(), path)
+    finally:
+        subprocess.run(["umount", "/run"], check=True)
+
+
 def is_closed(sock):
     """Whether the other end has closed a connection on which nothing comes."""
     sock.setblocking(False)
@@ -230,6 +264,8 @@ def main(out, folder, name):
             scoped(cases, run_daemon)
         with cases.guard("hosts of one network"):
             one_of_a_network(cases, run_daemon)
+        with cases.guard("control sockets of others"):
+            other_control(cases, run_daemon)
     print(f"{cases.passed} passed, {cases.failed} failed")
 
 

@@ -133,10 +133,12 @@ bool listen_for_control(const char *path, struct listeners *listeners, uid_t use
     int fd = socket(AF_UNIX, SOCK_STREAM | SOCK_NONBLOCK | SOCK_CLOEXEC, 0);
     bool is_made = fd >= 0 && make_folder(path, user, group) && make_room(&at);
     mode_t before = umask(0177);
-    bool is_bound = is_made && bind(fd, (struct sockaddr *)&at, sizeof at) == 0 && listen(fd, BACKLOG) == 0;
+    bool is_bound = is_made && bind(fd, (struct sockaddr *)&at, sizeof at) == 0;
     umask(before);
-    if (is_bound && lchown(path, user, group) == 0) return add(listeners, fd, true, true), true;
+    if (is_bound && listen(fd, BACKLOG) == 0 && lchown(path, user, group) == 0)
+        return add(listeners, fd, true, true), true;
     fprintf(stderr, "yimarotu-forward: cannot listen at %s: %s\n", path, strerror(errno));
+    if (is_bound) unlink(path);
     if (fd >= 0) close(fd);
     return false;
 }

@@ -286,6 +286,28 @@ static int supervise(void) {
 
 /* ---- the beginning */
 
+static bool has_control[PROCESSES]; /* the control sockets that were made here */
+
+/* Where no line names one it goes on without. */
+static bool listen_for_controls(uid_t user, gid_t group) {
+    for (size_t at = 0; at < settings.processes && !is_none(&settings.control); at++) {
+        char path[PATH_MAX + 32];
+        control_path(&settings, at + 1, path);
+        has_control[at] = listen_for_control(path, &all[at], user, group);
+        if (!has_control[at] && settings.control.line > 0) return false;
+    }
+    return true;
+}
+
+/* Those of others stay: of another process of this program, or of systemd. */
+static void remove_controls(void) {
+    for (size_t at = 0; at < settings.processes; at++) {
+        char path[PATH_MAX + 32];
+        control_path(&settings, at + 1, path);
+        if (has_control[at]) unlink(path);
+    }
+}
+
 static bool prepare(void) {
     uid_t user = getuid();
     gid_t group = getgid();
@@ -300,12 +322,7 @@ static bool prepare(void) {
         if (is_activated && at > 0) all[at] = all[0];
         if (!is_activated && !listen_at(&settings, &all[at])) return false;
     }
-    for (size_t at = 0; at < settings.processes && !is_none(&settings.control); at++) {
-        char path[PATH_MAX + 32];
-        control_path(&settings, at + 1, path);
-        if (!listen_for_control(path, &all[at], user, group) && settings.control.line > 0) return false;
-    }
-    if (!drop_rights(user, group)) return false;
+    if (!listen_for_controls(user, group) || !drop_rights(user, group)) return false;
     return is_none(&settings.log) || open_log(settings.log.text) || (perror(settings.log.text), false);
 }
 
@@ -317,13 +334,8 @@ static int begin(void) {
     signal(SIGPIPE, SIG_IGN);
     if (read_settings(settings_path, &settings, &files) > 0) return FAULTS;
     if (settings.processes > 1 && check(settings_path) > 0) return FAULTS;
-    if (!prepare()) return NO_SOCKETS;
-    int ended = settings.processes > 1 ? supervise() : run(&all[0]);
-    for (size_t at = 0; at < settings.processes && !is_none(&settings.control); at++) {
-        char path[PATH_MAX + 32];
-        control_path(&settings, at + 1, path);
-        unlink(path);
-    }
+    int ended = !prepare() ? NO_SOCKETS : settings.processes > 1 ? supervise() : run(&all[0]);
+    remove_controls();
     return ended;
 }
 
