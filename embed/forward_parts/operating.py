@@ -1,11 +1,13 @@
 """How it is run: settings and their faults, signals, yimarotu-control, the log, rights, many processes, activation."""
 import contextlib
+import fcntl
 import os
 import pwd
 import re
 import signal
 import socket
 import stat
+import subprocess
 import time
 from pathlib import Path
 
@@ -265,9 +267,20 @@ def unprivileged(cases, daemon):
         cases.equal("the control socket is its own", running._control[1].stat().st_uid, user.pw_uid)
         cases.equal("it reads its files as that user", running.control("reload")[0], 0)
         cases.equal("statistics", running.counts()["queries"], 1)
-    listen = f"listen 127.0.0.1 {servers.free_port()}"
-    path = daemon.write("user no-such-user", listen, "server 192.0.2.53", "control none")
-    cases.equal("no such user", daemon.end_of("--config", path)[0], 3)
+
+
+def unfit(cases, daemon):
+    """What somebody has to mend has a status of its own, by which a unit of systemd knows it."""
+    lines = [f"listen 127.0.0.1 {servers.free_port()}", "server 192.0.2.53", "hosts none"]
+    for line in ("user no-such-user", "log /proc/nowhere/log"):
+        status, _, error = daemon.end_of("--config", daemon.write(*lines, "control none", line))
+        cases.equal(line, (status, line.split(" ")[1] in error), (5, True))
+    for control in ("none", daemon.next_control()):
+        path = daemon.write(*lines, f"control {control}", f"user {OTHER_USER}")
+        words = ["setpriv", "--bounding-set=-all", daemon.program, "--config", path]
+        done = subprocess.run(words, capture_output=True, text=True, timeout=SECONDS)
+        is_told = done.returncode == 5 and "Operation not permitted" in done.stderr
+        cases.tell(f"a user that it may not become, control {control}", is_told, done)
 
 
 def children_of(pid):
@@ -377,8 +390,18 @@ def notified(cases, daemon):
                 cases.equal("root is told", ROOT in running.said(), os.getuid() == 0)
 
 
+def passed_on(*socks):
+    """How a program is run that is given these sockets, as systemd does it, and told so by the environment."""
+    def pass_on():
+        for place, fd in enumerate([fcntl.fcntl(sock, fcntl.F_DUPFD_CLOEXEC, 100) for sock in socks]):
+            os.dup2(fd, 3 + place)
+
+    shell = ["/bin/sh", "-c", f'LISTEN_PID=$$ LISTEN_FDS={len(socks)} exec "$@"', "sh"]
+    return shell, {"preexec_fn": pass_on, "close_fds": False}
+
+
 def activated(cases, daemon):
-    """Sockets that systemd opened, of which it is told by the environment, count in place of its own."""
+    """Sockets that systemd opened count in place of its own."""
     with contextlib.ExitStack() as stack:
         server = stack.enter_context(stub.running())
         datagrams = stack.enter_context(socket.socket(socket.AF_INET, socket.SOCK_DGRAM))
@@ -387,25 +410,34 @@ def activated(cases, daemon):
         datagrams.bind(("127.0.0.1", port))
         streams.bind(("127.0.0.1", port))
         streams.listen()
-        given = [os.dup(sock.fileno()) for sock in (datagrams, streams)]
-
-        def pass_on():
-            for place, fd in enumerate([os.dup2(fd, 50 + at) for at, fd in enumerate(given)]):
-                os.dup2(fd, 3 + place)
-
-        shell = ["/bin/sh", "-c", 'LISTEN_PID=$$ LISTEN_FDS=2 exec "$@"', "sh"]
+        before, how = passed_on(datagrams, streams)
         for processes in (1, 3):
-            lines = [f"processes {processes}"]
-            with daemon.over(server, *lines, before=shell, preexec_fn=pass_on, close_fds=False) as running:
-                for how in (asking.by_udp, asking.by_tcp) * processes:
-                    found = asking.addresses(how(port, "four.example.test"))
-                    cases.equal(f"activated, {how.__name__}, processes: {processes}", found, ["192.0.2.4"])
+            with daemon.over(server, f"processes {processes}", before=before, **how) as running:
+                for asked in (asking.by_udp, asking.by_tcp) * processes:
+                    found = asking.addresses(asked(port, "four.example.test"))
+                    cases.equal(f"activated, {asked.__name__}, processes: {processes}", found, ["192.0.2.4"])
                 with contextlib.suppress(ConnectionRefusedError):
                     asking.stream(running.port).close()
                     cases.tell("nothing else is listened to", False, running.port)
-        for fd in given:
-            os.close(fd)
+
+
+def activated_control(cases, daemon):
+    """A control socket that systemd opened is for one process: with more of them it does not begin."""
+    path = daemon.folder / f"given{time.monotonic_ns()}"
+    with socket.socket(socket.AF_UNIX) as given, stub.running() as server:
+        given.bind(str(path))
+        given.listen()
+        before, how = passed_on(given)
+        with daemon.over(server, before=before, **how) as running:
+            running._control = (running._control[0], path)
+            cases.equal("a command by a control socket of systemd's", running.control("clear"), (0, "", ""))
+        cases.tell("it stays", path.is_socket(), path)
+        config = daemon.write(f"server 127.0.0.1 {server.port}", "hosts none", "control none", "processes 2")
+        words = [*before, daemon.program, "--config", config]
+        done = subprocess.run(words, capture_output=True, text=True, timeout=SECONDS, **how)
+        cases.tell("it for many processes", done.returncode == 5 and "control socket" in done.stderr, done)
 
 
 ALL = (checked, in_use, reloaded, hosts, controlled, dumped_whole, dumped_escaped, counted, logged, log_stays,
-       unprivileged, many_processes, reloaded_by_command, many_logs, one_control, notified, activated)
+       unprivileged, unfit, many_processes, reloaded_by_command, many_logs, one_control, notified, activated,
+       activated_control)

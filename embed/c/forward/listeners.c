@@ -137,8 +137,9 @@ bool listen_for_control(const char *path, struct listeners *listeners, uid_t use
     umask(before);
     if (is_bound && listen(fd, BACKLOG) == 0 && lchown(path, user, group) == 0)
         return add(listeners, fd, true, true), true;
-    fprintf(stderr, "yimarotu-forward: cannot listen at %s: %s\n", path, strerror(errno));
+    int error = errno;
+    fprintf(stderr, "yimarotu-forward: cannot listen at %s: %s\n", path, strerror(error));
     if (is_bound) unlink(path);
     if (fd >= 0) close(fd);
-    return false;
+    return errno = error, false;
 }

@@ -20,7 +20,7 @@
 #include <unistd.h>
 
 enum { SECOND = 1000, WITHOUT_MEMORY = 50 }; /* milliseconds */
-enum { ENDED = 0, FAULTS = 1, USAGE = 2, NO_SOCKETS = 3, NOT_CONFINED = 4 }; /* how the program ends */
+enum { ENDED = 0, FAULTS = 1, USAGE = 2, NO_SOCKETS = 3, NOT_CONFINED = 4, UNFIT = 5 }; /* how the program ends */
 
 yimarotu_forwarder forwarder = YIMAROTU_FORWARDER;
 uint64_t moment;
@@ -308,22 +308,39 @@ static void remove_controls(void) {
     }
 }
 
-static bool prepare(void) {
-    uid_t user = getuid();
-    gid_t group = getgid();
-    struct rlimit files;
-    if (settings.user.line > 0 && !find_user(settings.user.text, &user, &group))
-        return fprintf(stderr, "yimarotu-forward: there is no user %s\n", settings.user.text), false;
-    if (user == 0) fputs("yimarotu-forward: it keeps all rights of root: a line `user` is wanted\n", stderr);
-    if (getrlimit(RLIMIT_NOFILE, &files) == 0) files.rlim_cur = files.rlim_max, setrlimit(RLIMIT_NOFILE, &files);
-    if (!take_activated(&all[0])) return false;
+/* Sockets that systemd opened are those of each process. */
+static bool listen_for_clients(void) {
     bool is_activated = all[0].count > 0;
     for (size_t at = 0; at < settings.processes; at++) {
         if (is_activated && at > 0) all[at] = all[0];
         if (!is_activated && !listen_at(&settings, &all[at])) return false;
     }
-    if (!listen_for_controls(user, group) || !drop_rights(user, group)) return false;
-    return is_none(&settings.log) || open_log(settings.log.text) || (perror(settings.log.text), false);
+    return true;
+}
+
+static bool has_activated_control(void) {
+    bool is_there = false;
+    for (size_t at = 0; at < all[0].count; at++) is_there |= all[0].at[at].is_control;
+    return is_there;
+}
+
+/* Gives how it ends where it cannot begin, else ENDED. An address that is not there yet may come; a user does not. */
+static int prepare(void) {
+    uid_t user = getuid();
+    gid_t group = getgid();
+    struct rlimit files;
+    if (settings.user.line > 0 && !find_user(settings.user.text, &user, &group))
+        return fprintf(stderr, "yimarotu-forward: there is no user %s\n", settings.user.text), UNFIT;
+    if (user == 0) fputs("yimarotu-forward: it keeps all rights of root: a line `user` is wanted\n", stderr);
+    if (getrlimit(RLIMIT_NOFILE, &files) == 0) files.rlim_cur = files.rlim_max, setrlimit(RLIMIT_NOFILE, &files);
+    if (!take_activated(&all[0])) return NO_SOCKETS;
+    if (settings.processes > 1 && has_activated_control()) /* one of them would have each command */
+        return fputs("yimarotu-forward: a control socket of systemd is for one process\n", stderr), UNFIT;
+    if (!listen_for_clients()) return NO_SOCKETS;
+    if (!listen_for_controls(user, group)) return errno == EPERM ? UNFIT : NO_SOCKETS; /* chown(2) wants rights */
+    if (!drop_rights(user, group)) return UNFIT;
+    if (is_none(&settings.log) || open_log(settings.log.text)) return ENDED;
+    return perror(settings.log.text), UNFIT;
 }
 
 /* Of many processes each would find a fault of the settings, again and again: they are checked before. */
@@ -334,7 +351,8 @@ static int begin(void) {
     signal(SIGPIPE, SIG_IGN);
     if (read_settings(settings_path, &settings, &files) > 0) return FAULTS;
     if (settings.processes > 1 && check(settings_path) > 0) return FAULTS;
-    int ended = !prepare() ? NO_SOCKETS : settings.processes > 1 ? supervise() : run(&all[0]);
+    int ended = prepare();
+    if (ended == ENDED) ended = settings.processes > 1 ? supervise() : run(&all[0]);
     remove_controls();
     return ended;
 }
