@@ -322,6 +322,17 @@ def many_processes(cases, daemon):
     cases.tell("the processes end with it", True, "")
 
 
+def deaths_ignored(cases, daemon):
+    """A process that dies is started again, also where who began the program ignored such a signal."""
+    with stub.running() as server:
+        how = {"preexec_fn": lambda: signal.signal(signal.SIGCHLD, signal.SIG_IGN)}
+        with daemon.over(server, "processes 2", **how) as running:
+            children = wait_until(lambda: len(found := children_of(running.pid)) == 2 and found, "both are there")
+            os.kill(children[0], signal.SIGKILL)
+            wait_until(lambda: len(found := children_of(running.pid)) == 2 and children[0] not in found, "it comes again")
+            cases.tell("it is started again, where SIGCHLD was ignored", True, "")
+
+
 def octets_read(pid):
     return int(Path(f"/proc/{pid}/io").read_text().split()[1])
 
@@ -439,5 +450,5 @@ def activated_control(cases, daemon):
 
 
 ALL = (checked, in_use, reloaded, hosts, controlled, dumped_whole, dumped_escaped, counted, logged, log_stays,
-       unprivileged, unfit, many_processes, reloaded_by_command, many_logs, one_control, notified, activated,
-       activated_control)
+       unprivileged, unfit, many_processes, deaths_ignored, reloaded_by_command, many_logs, one_control, notified,
+       activated, activated_control)

@@ -349,6 +349,7 @@ static int begin(void) {
     moment = now();
     block_signals(&set);
     signal(SIGPIPE, SIG_IGN);
+    signal(SIGCHLD, SIG_DFL); /* where whoever began it ignored it, no death would be told */
     if (read_settings(settings_path, &settings, &files) > 0) return FAULTS;
     if (settings.processes > 1 && check(settings_path) > 0) return FAULTS;
     int ended = prepare();
