@@ -18,6 +18,9 @@ CLIENTS, RELOADS = 6, 20
 MOST_TO_BEGIN = 1
 # For how many milliseconds a machine sleeps, which is longer than any answer lives here, or any question waits.
 NIGHT, LIFE = 8 * 3600 * 1000, 3600
+# More connections than the program hears of at a time, and for how many milliseconds it stands still: for longer than one
+# may be idle.
+CONNECTIONS, STALL = 200, 15_000
 
 
 class Client(threading.Thread):
@@ -182,6 +185,25 @@ def waits(cases, daemon, machine):
         cases.equal("none waits", running.counts()["waiting"], 0)
 
 
+def stalled(cases, daemon):
+    """What came on a connection while the program could not run is answered, however long that was."""
+    if daemon.name.endswith(".sanitized"):
+        return
+    machine = Machine(daemon.folder, daemon.program.parent / "sleeping.so")
+    with contextlib.ExitStack() as stack:
+        server = stack.enter_context(stub.running())
+        running = stack.enter_context(daemon.over(server, env=machine.environment))
+        socks = [stack.enter_context(asking.stream(running.port)) for _ in range(CONNECTIONS)]
+        # (one is that by which the counts are asked for)
+        wait_until(lambda: running.counts()["connections"] == CONNECTIONS + 1, "all are taken in")
+        with running.stopped():
+            for sock in socks:
+                sock.sendall(asking.pipelined(asking.query("localhost")))
+            machine.sleep(STALL)
+        replies = [asking.read_reply(stack.enter_context(sock.makefile("rb"))) for sock in socks]
+        found = sum(reply is not None and asking.addresses(reply) == ["127.0.0.1"] for reply in replies)
+        cases.equal(f"of {CONNECTIONS} connections so many are answered behind a stall", found, CONNECTIONS)
+
 
 def stale(cases, daemon):
     """What ran out while the machine slept is told where its server is silent, and only where a setting says so."""
@@ -206,4 +228,4 @@ def stale(cases, daemon):
             cases.equal(f"{line}: what ran out, of a server that is silent", found, wanted)
 
 
-ALL = (under_load, killed, slept, stale)
+ALL = (under_load, killed, slept, stalled, stale)

@@ -1,7 +1,10 @@
 """Runs yimarotu-forward."""
 import contextlib
+import os
+import signal
 import subprocess
 import time
+from pathlib import Path
 
 from live_parts import servers
 
@@ -41,6 +44,16 @@ class Running:
             return text in self.said()
 
         wait_until(is_said, f"it says {text!r}: {self.said()!r}")
+
+    @contextlib.contextmanager
+    def stopped(self):
+        """Meanwhile it does nothing."""
+        os.kill(self.pid, signal.SIGSTOP)
+        wait_until(lambda: "T (stopped)" in Path(f"/proc/{self.pid}/status").read_text(), "it is stopped")
+        try:
+            yield
+        finally:
+            os.kill(self.pid, signal.SIGCONT)
 
     def control(self, *words):
         """What yimarotu-control ends with, and says."""

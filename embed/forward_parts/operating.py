@@ -176,6 +176,17 @@ def answered(cases, running):
         cases.tell(f"a line {said[:10]}", found.startswith(answer) and bool(found) == bool(answer), found)
 
 
+def sender_gone(cases, daemon):
+    """A command counts though its sender is gone by the time that it is read."""
+    with stub.running() as server, daemon.over(server) as running:
+        asking.by_udp(running.port, "four.example.test")
+        with running.stopped(), socket.socket(socket.AF_UNIX) as sock:
+            sock.connect(str(running._control[1]))
+            sock.sendall(b"clear\n")
+            sock.close()
+        cases.equal("a command whose sender is gone", running.counts()["entries"], 0)
+
+
 def counted(cases, daemon):
     """SIGUSR1 writes the counts to standard error."""
     with stub.running() as server, daemon.over(server) as running:
@@ -449,6 +460,6 @@ def activated_control(cases, daemon):
         cases.tell("it for many processes", done.returncode == 5 and "control socket" in done.stderr, done)
 
 
-ALL = (checked, in_use, reloaded, hosts, controlled, dumped_whole, dumped_escaped, counted, logged, log_stays,
-       unprivileged, unfit, many_processes, deaths_ignored, reloaded_by_command, many_logs, one_control, notified,
-       activated, activated_control)
+ALL = (checked, in_use, reloaded, hosts, controlled, dumped_whole, dumped_escaped, sender_gone, counted, logged,
+       log_stays, unprivileged, unfit, many_processes, deaths_ignored, reloaded_by_command, many_logs, one_control,
+       notified, activated, activated_control)

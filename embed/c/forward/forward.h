@@ -18,7 +18,7 @@
 
 #include "yimarotu.h"
 
-enum { MESSAGE = 65535, LISTENS = 32, PROCESSES = 64, BATCH = 64 };
+enum { MESSAGE = 65535, LISTENS = 32, PROCESSES = 64, BATCH = 64, SECOND = 1000 /* milliseconds */ };
 
 union address {
     struct sockaddr any;

@@ -19,7 +19,7 @@
 #include <time.h>
 #include <unistd.h>
 
-enum { SECOND = 1000, WITHOUT_MEMORY = 50 }; /* milliseconds */
+enum { WITHOUT_MEMORY = 50 }; /* milliseconds */
 enum { ENDED = 0, FAULTS = 1, USAGE = 2, NO_SOCKETS = 3, NOT_CONFINED = 4, UNFIT = 5 }; /* how the program ends */
 
 yimarotu_forwarder forwarder = YIMAROTU_FORWARDER;

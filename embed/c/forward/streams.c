@@ -157,10 +157,16 @@ static bool read_some(struct connection *connection) {
     return true;
 }
 
+/* Whether nothing is to be had of it. Of a command whose sender is gone the octets are there all the same. */
+static bool is_lost(const struct connection *connection, uint32_t events) {
+    bool has_command = connection->is_control && (events & EPOLLIN) != 0;
+    return (events & EPOLLERR) != 0 || ((events & EPOLLHUP) != 0 && !has_command);
+}
+
 void on_connection(uint64_t number, uint32_t events) {
     struct connection *connection = connection_of(number);
     if (connection == NULL) return;
-    if (events & (EPOLLERR | EPOLLHUP)) return close_connection(connection);
+    if (is_lost(connection, events)) return close_connection(connection);
     if (!send_now(connection) || ((events & EPOLLIN) && !read_some(connection))) return;
     if (connection->is_control ? take_line(connection) : take_queries(connection)) settle(connection);
 }
@@ -238,7 +244,12 @@ void on_connecting(const struct listener *listener) {
     }
 }
 
+/* Once a second. Where the program could not run for long, what came meanwhile is still to be read: so one is closed that
+ * was idle when it was looked at before, too, but for that second. */
 void expire_connections(void) {
+    static uint64_t looked_at;
     for (struct connection *at = connections; at < connections + CONNECTIONS; at++)
-        if (at->number != 0 && at->waiting == 0 && moment - at->since >= IDLE) close_connection(at);
+        if (at->number != 0 && at->waiting == 0 && moment - at->since >= IDLE && looked_at + SECOND >= at->since + IDLE)
+            close_connection(at);
+    looked_at = moment;
 }
