@@ -1,10 +1,13 @@
 """Octets that are no messages, from clients and from servers; and memory that runs out."""
 import contextlib
 import functools
+import os
 import random
 import resource
 import socket
+import struct
 import threading
+import time
 
 import dns.message
 import dns.rrset
@@ -19,6 +22,8 @@ DATAGRAMS, CONNECTIONS, NAMES = 5_000, 100, 100
 # rounds are a part of them; the questions of a round; and for how many seconds a reply is waited for, as none may come
 # where there is no memory for it.
 MEMORY, ROUNDS, PART, EACH, PATIENCE = 16 << 20, 1_000, 10, 40, 3
+# For how many seconds a server may be silent, and within how many it is known that one is gone.
+TIMEOUT, SOON = 60, 20
 
 
 def spoiled(chance, wire):
@@ -144,4 +149,31 @@ def without_memory(cases, daemon):
             cases.tell("it goes on", again.rcode() in (0, 2), again)
 
 
-ALL = (clients, servers, without_memory)
+def short_of_memory(cases, daemon):
+    """A stream that a server closed while there was no memory has failed once there is some, and not when its time ends."""
+    # (the library for the sanitizers has to be the first that is loaded)
+    if daemon.name.endswith(".sanitized"):
+        return
+    file = daemon.folder / f"short{time.monotonic_ns()}"
+    file.write_bytes(bytes(16))
+    environment = {**os.environ, "LD_PRELOAD": str(daemon.program.parent / "short_of_memory.so"), "SHORT": str(file)}
+    with contextlib.ExitStack() as stack:
+        listener = stack.enter_context(socket.create_server(("127.0.0.1", 0)))
+        lines = [f"server 127.0.0.1 {listener.getsockname()[1]} tcp", f"option timeout {TIMEOUT}", "option attempts 0"]
+        running = stack.enter_context(daemon.running(*lines, env=environment))
+        client = stack.enter_context(asking.datagrams(running.port))
+        client.send(asking.query("late.example.test").to_wire())
+        numbers = stack.enter_context(file.open("r+b", buffering=0))
+        with listener, listener.accept()[0] as connection:
+            connection.recv(512)
+            numbers.write(struct.pack("@Q", 1))
+        wait_until(lambda: struct.unpack("@2Q", file.read_bytes())[1] > 0, "it is refused memory")
+        began = time.monotonic()
+        numbers.seek(0)
+        numbers.write(struct.pack("@Q", 0))
+        told, taken = asking.addresses(dns.message.from_wire(client.recv(512))), time.monotonic() - began
+        is_right = told == "SERVFAIL" and taken < SOON
+        cases.tell("a server that was gone while there was no memory", is_right, f"{told} after {taken} s")
+
+
+ALL = (clients, servers, without_memory, short_of_memory)

@@ -107,6 +107,8 @@ void open_channel(const yimarotu_action *open);
 void send_on_channel(uint64_t number, const uint8_t *octets, size_t length);
 void close_channel(uint64_t number);
 void on_channel(uint64_t number, uint32_t events);
+bool has_untold_failures(void); /* of channels, for which the library had no memory */
+void tell_failures_again(void);
 void close_channels(void);
 
 /* ---- log.c, control.c, dump.c, rights.c */

@@ -114,7 +114,8 @@ static void act(void) {
 
 static int wait_time(void) {
     yimarotu_waits waits = yimarotu_forwarder_wait(&forwarder, now());
-    uint64_t most = lacks_memory ? WITHOUT_MEMORY : counts.connections > 0 || is_paused ? SECOND : 60 * SECOND;
+    bool tries_again = lacks_memory || has_untold_failures();
+    uint64_t most = tries_again ? WITHOUT_MEMORY : counts.connections > 0 || is_paused ? SECOND : 60 * SECOND;
     return (int)(waits.has_deadline && waits.milliseconds < most ? waits.milliseconds + 1 : most);
 }
 
@@ -132,6 +133,7 @@ static void serve(void) {
         moment = now();
         for (int at = 0; at < count; at++) moment = now(), on_event(&events[at]), act();
         if (count == BATCH) hear_datagrams();
+        tell_failures_again();
         yimarotu_forwarder_tick(&forwarder, moment);
         act();
         send_datagrams();

@@ -9,8 +9,8 @@
 #include <string.h>
 #include <unistd.h>
 
-/* So many octets wait to be sent on a stream at the most. */
-enum { BUCKETS = 1024, MOST_KEPT = 1 << 21 };
+/* So many octets wait to be sent on a stream at the most, and so many failures to be told. */
+enum { BUCKETS = 1024, MOST_KEPT = 1 << 21, MOST_UNTOLD = 256 };
 
 struct channel {
     uint64_t number;
@@ -20,7 +20,15 @@ struct channel {
     struct channel *next; /* in its bucket */
 };
 
+struct failure {
+    uint64_t channel;
+    uint8_t why;
+};
+
 static struct channel *channels[BUCKETS];
+/* Failures for which the library had no memory: until it is told of them, what it asked there waits. */
+static struct failure untold[MOST_UNTOLD];
+static size_t untold_count;
 
 static struct channel **link_of(uint64_t number) {
     struct channel **link = &channels[number % BUCKETS];
@@ -30,13 +38,27 @@ static struct channel **link_of(uint64_t number) {
 
 static uint64_t what(uint64_t number) { return 1ull << FROM_CHANNEL | number; }
 
+static bool is_told(const struct failure *failure) {
+    return yimarotu_forwarder_failed(&forwarder, failure->channel, failure->why, moment) != YIMAROTU_NO_MEMORY;
+}
+
 /* A channel failed with this error; where that is 0, its stream was closed. */
 static void tell_failure(uint64_t number, int error) {
     bool is_local = error == EMFILE || error == ENFILE || error == ENOBUFS || error == ENOMEM || error == EADDRNOTAVAIL
         || error == EAGAIN || error == ENOSPC; /* connect(2) of a datagram socket: no port; epoll_ctl(2): no watch */
     uint8_t of_server = error == ECONNREFUSED ? YIMAROTU_CHANNEL_REFUSED : YIMAROTU_CHANNEL_UNREACHABLE;
     uint8_t why = is_local ? YIMAROTU_CHANNEL_LOCAL : error == 0 ? YIMAROTU_CHANNEL_CLOSED : of_server;
-    yimarotu_forwarder_failed(&forwarder, number, why, moment);
+    struct failure failure = {number, why};
+    if (!is_told(&failure) && untold_count < MOST_UNTOLD) untold[untold_count++] = failure;
+}
+
+bool has_untold_failures(void) { return untold_count > 0; }
+
+void tell_failures_again(void) {
+    size_t left = 0;
+    for (size_t at = 0; at < untold_count; at++)
+        if (!is_told(&untold[at])) untold[left++] = untold[at];
+    untold_count = left;
 }
 
 /* A socket for datagrams is kept after an error, which ICMP told. */
