@@ -223,11 +223,12 @@ static bool has_share(const union address *client, size_t octets, size_t most) {
     return count < most || idle != NULL;
 }
 
-/* No client has more than its share, and no host of a network of IPv6 has all of that. */
+/* No client has more than its share, and no host of a network of IPv6 has all of that; ::1 is a network by itself. */
 static bool may_connect(const union address *client) {
     const uint8_t *octets;
-    bool is_v6 = octets_of_address(client, &octets) == ADDRESS;
-    return (!is_v6 || has_share(client, ADDRESS, MOST_OF_ADDRESS)) && has_share(client, NETWORK, MOST_OF_CLIENT);
+    bool has_neighbours = octets_of_address(client, &octets) == ADDRESS && memcmp(octets, &in6addr_loopback, ADDRESS) != 0;
+    return (!has_neighbours || has_share(client, ADDRESS, MOST_OF_ADDRESS))
+        && has_share(client, NETWORK, MOST_OF_CLIENT);
 }
 
 /* Without a file, or a place, for another connection, those that come wait until one is closed. */
