@@ -5,6 +5,7 @@ pub mod Cores
 pub mod Events
 pub mod Flushed
 pub mod Keys
+pub mod Lengths
 pub mod KeptValues
 pub mod Lookups
 pub mod Networks

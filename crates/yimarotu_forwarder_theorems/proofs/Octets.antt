@@ -1,10 +1,11 @@
 -- The first octets of replies.
-use Rattle.std.proofs.Common.{◌≡◌, ℕ, Bool, true, false, List, [], ◌∷◌, ◌++◌, length, take, refl, ap, subst}
+use Rattle.std.proofs.Common.{◌≡◌, ℕ, Bool, true, false, List, [], ◌∷◌, ◌++◌, ◌≤◌, length, take, drop, refl, ap, subst}
 use Rattle.std.specs.Prelude.{Option, None, Some, nat_le, unwrap_or, if◌then◌else◌}
 use Rattle.std.specs.Option.{option_and_then}
+use Rattle.hickory_proto_wire.specs.Writing.{u16_octets}
 use Rattle.client_queries.specs.declared.query.Refusal.{Refusal}
 use Rattle.client_requests.specs.Replies.{failure_reply, fits, refusal_reply, reply_to, stale_reply, stored_reply}
-use Rattle.client_requests.specs.Requests.{RequestValue, question_of}
+use Rattle.client_requests.specs.Requests.{IsShort, RequestValue, limit_of, question_of}
 use Rattle.client_requests.specs.declared.choices.TheConstants.{LONGEST_MESSAGE}
 use Rattle.client_requests.specs.declared.fetch_end.FetchEnd.{FetchEnd}
 use Rattle.client_requests.specs.declared.fetch_end.FetchEnd.TheVariants.{Reply, Failure}
@@ -17,6 +18,7 @@ use Rattle.yimarotu_forwarder.specs.Cached.{CachedValue}
 use Rattle.yimarotu_forwarder.specs.Options.{OptionsValue}
 use Rattle.yimarotu_forwarder.specs.Stale.{stale_hit_in, stale_in, told_end_in}
 use Rattle.stored_replies.specs.Told.{asks_for, bare_octets, cut_octets, cut_within, reply_within, told_message, told_octets, within}
+use Rattle.yimarotu_forwarder_theorems.proofs.Lengths.{failure-fits, refusal-fits, stale-fits, stored-fits}
 use Rattle.yimarotu_forwarder_theorems.specs.ReplyOctets.{IsOwnReply}
 
 front : (xs ys : List ℕ) → take (length xs) (xs ++ ys) ≡ xs
@@ -24,18 +26,27 @@ front [] ys = refl
 front (x ∷ xs) ys = ap (λ (l : List ℕ). x ∷ l) (front xs ys)
 
 pub failure-own : (r : RequestValue) (why : FailureReason) → IsOwnReply r (failure_reply r why)
-failure-own r why = record { id = refl; question = front (question_of r) _ }
+failure-own r why = record { id = refl; question = front (question_of r) _; fits = failure-fits r why }
 
 pub refusal-own : (r : RequestValue) (why : Refusal) → IsOwnReply r (refusal_reply r why)
-refusal-own r why = record { id = refl; question = front (question_of r) _ }
+refusal-own r why = record { id = refl; question = front (question_of r) _; fits = refusal-fits r why }
+
+-- the first octets of a reply, however long it is
+record IsBegun (r : RequestValue) (reply : List ℕ) : Type 0 where
+  pub id : take 2 reply ≡ u16_octets r.query.id
+  pub question : take (length (question_of r)) (drop 12 reply) ≡ question_of r
+
+own-so : (r : RequestValue) (reply : List ℕ) → IsBegun r reply → (IsShort r → length reply ≤ limit_of r)
+    → IsOwnReply r reply
+own-so r reply begun few = record { id = begun.id; question = begun.question; fits = few }
 
 told-own : (r : RequestValue) (s : StoredValue) (trust : Bool) (now : ℕ)
-    → IsOwnReply r (told_octets r.octets r.query s trust now)
+    → IsBegun r (told_octets r.octets r.query s trust now)
 unfolding told_message whole_octets
 told-own r s trust now = record { id = refl; question = front (question_of r) _ }
 
 cut-own : (r : RequestValue) (s : StoredValue) (trust : Bool) (now : ℕ)
-    → IsOwnReply r (cut_octets r.octets r.query s trust now)
+    → IsBegun r (cut_octets r.octets r.query s trust now)
 unfolding told_message bare_octets
 cut-own r s trust now = record { id = refl; question = front (question_of r) _ }
 
@@ -51,19 +62,20 @@ told-within most written octets true h = by (nat_le (length written) most) h
 
 pub stored-own : (r : RequestValue) (s : StoredValue) (trust : Bool) (now : ℕ) (octets : List ℕ)
     → stored_reply r s trust now ≡ Some octets → IsOwnReply r octets
-stored-own r s trust now octets h = by (fits r s) h
+stored-own r s trust now octets h =
+    own-so r octets (by (fits r s) h) (λ short. stored-fits r s trust now octets short h)
   where
     by : (b : Bool)
         → (if b then reply_within LONGEST_MESSAGE r.octets r.query s trust now
         else cut_within LONGEST_MESSAGE r.octets r.query s trust now) ≡ Some octets
-        → IsOwnReply r octets
+        → IsBegun r octets
     by true e =
-        subst (IsOwnReply r)
+        subst (IsBegun r)
         (told-within LONGEST_MESSAGE (told_octets r.octets r.query s trust now) octets
         (asks_for r.octets r.query s) e)
         (told-own r s trust now)
     by false e =
-        subst (IsOwnReply r)
+        subst (IsBegun r)
         (told-within LONGEST_MESSAGE (cut_octets r.octets r.query s trust now) octets (asks_for r.octets r.query s) e)
         (cut-own r s trust now)
 
@@ -78,19 +90,19 @@ reply-own r (Reply s) trust now = by (stored_reply r s trust now) refl
 -- ---- past its end
 
 stale-own : (r : RequestValue) (s : StoredValue) (octets : List ℕ) → stale_reply r s ≡ Some octets → IsOwnReply r octets
-stale-own r s octets h = by (fits r s) h
+stale-own r s octets h = own-so r octets (by (fits r s) h) (λ short. stale-fits r s octets short h)
   where
     by : (b : Bool)
         → (if b then reply_within LONGEST_MESSAGE r.octets r.query (stale_of s) false 0
         else cut_within LONGEST_MESSAGE r.octets r.query s false 0) ≡ Some octets
-        → IsOwnReply r octets
+        → IsBegun r octets
     by true e =
-        subst (IsOwnReply r)
+        subst (IsBegun r)
         (told-within LONGEST_MESSAGE (told_octets r.octets r.query (stale_of s) false 0) octets
         (asks_for r.octets r.query s) e)
         (told-own r (stale_of s) false 0)
     by false e =
-        subst (IsOwnReply r)
+        subst (IsBegun r)
         (told-within LONGEST_MESSAGE (cut_octets r.octets r.query s false 0) octets (asks_for r.octets r.query s) e)
         (cut-own r s false 0)
 

@@ -17,12 +17,12 @@ pub fn each_is_replied_to_once()
 {}
 
 /// A step that replies does so to the first request that waits for its question: it names the client of that request,
-/// and the octets tell that request what the look-up of its question came to.
+/// and the octets tell that request what the look-up of its question came to. They are no more than the client takes.
 pub fn each_reply_is_to_its_request()
     ensures { EachReplyIsToItsRequest }
 {}
 
-/// What is replied to a query at once begins with its number, and has its question.
+/// What is replied to a query at once begins with its number, has its question, and is no longer than its client takes.
 pub fn replies_at_once_are_own()
     ensures { RepliesAtOnceAreOwn }
 {}
