@@ -1,4 +1,5 @@
 pub mod Answering
+pub mod Believed
 pub mod Bounds
 pub mod Counted
 pub mod Cores
@@ -10,6 +11,7 @@ pub mod KeptValues
 pub mod Lookups
 pub mod Networks
 pub mod Octets
+pub mod Pools
 pub mod Replied
 pub mod Stepping
 pub mod Waiting

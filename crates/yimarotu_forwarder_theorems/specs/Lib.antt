@@ -1,3 +1,4 @@
+pub mod Believed
 pub mod Bounds
 pub mod Lookups
 pub mod Replies

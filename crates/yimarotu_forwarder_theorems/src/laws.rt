@@ -1,4 +1,5 @@
 //! What holds of a forwarder after every list of queries, events and steps.
+ghost use Rattle.yimarotu_forwarder_theorems.specs.Believed.{RepliesWereBelieved};
 ghost use Rattle.yimarotu_forwarder_theorems.specs.Bounds.{BoundsAreKept, WhoWaitsIsCounted};
 ghost use Rattle.yimarotu_forwarder_theorems.specs.Lookups.{AnswersAreOfReplies, StaleAnswersAreOfReplies};
 ghost use Rattle.yimarotu_forwarder_theorems.specs.Replies.{EachIsRepliedToOnce, EachReplyIsToItsRequest, QuestionsHaveQueues};
@@ -39,6 +40,12 @@ pub fn bounds_are_kept()
 /// no longer than the least of its TTLs.
 pub fn answers_are_of_replies()
     ensures { AnswersAreOfReplies }
+{}
+
+/// The pool of a forwarder is one as the pool's own laws have it, whatever happens; and each reply that it told was
+/// believed: octets that came on the channel on which its question was sent, and that spell it.
+pub fn replies_were_believed()
+    ensures { RepliesWereBelieved }
 {}
 
 /// What is told past its end, where a look-up failed or is late, was such an answer up to a second that is over: by no
