@@ -27,6 +27,7 @@ SHARE, GREEDY, MOST_WAITED = 256, 64, 0.5
 PLACES, CLIENTS, OF_EACH = 1008, range(2, 7), 210
 # For how many seconds it is seen that no more queries come to wait.
 QUIET = 0.5
+NEWCOMERS = 100
 
 
 def slow(cases, daemon):
@@ -239,6 +240,28 @@ def all_wait(cases, daemon):
         cases.equal("one more client, when they are closed", reply and asking.addresses(reply), ["127.0.0.1"])
 
 
+def is_answered(sock):
+    with contextlib.suppress(ConnectionError), sock.makefile("rb") as file:
+        return asking.read_reply(file) is not None
+    return False
+
+
+def asked_while_stopped(cases, daemon):
+    """Connections whose queries came while the program could not run give way to no newcomers of the same client."""
+    with stub.running() as server, daemon.over(server) as running, contextlib.ExitStack() as stack:
+        wire = asking.pipelined(asking.query("localhost"))
+        socks = [stack.enter_context(asking.stream(running.port)) for _ in range(SHARE)]
+        for sock in socks:
+            sock.sendall(wire)
+        cases.equal("each of a client's connections is answered", sum(map(is_answered, socks)), SHARE)
+        with running.stopped():
+            for _ in range(NEWCOMERS):
+                stack.enter_context(asking.stream(running.port))
+            for sock in socks:
+                sock.sendall(wire)
+        cases.equal(f"again, though {NEWCOMERS} more came meanwhile", sum(map(is_answered, socks)), SHARE)
+
+
 def write_and_read(socks, is_over):
     """Writes queries without a question to each connection, and reads what is told of them, without end."""
     wire = (b"\0\x0c" + bytes(12)) * 2_000
@@ -275,4 +298,5 @@ def greedy(cases, daemon):
             writer.join()
 
 
-ALL = (slow, in_pieces, not_kept, unread, dribbling, half_closed, gone, no_files, many_connections, all_wait, greedy)
+ALL = (slow, in_pieces, not_kept, unread, dribbling, half_closed, gone, no_files, many_connections, all_wait,
+       asked_while_stopped, greedy)

@@ -119,6 +119,7 @@ static bool take_queries(struct connection *connection) {
                                                             true, query, length, moment, room, sizeof room);
         at += 2 + length;
         connection->since = moment;
+        if (queried.status == YIMAROTU_NO_MEMORY) return close_connection(connection), false;
         if (queried.status == YIMAROTU_OK && queried.answered == YIMAROTU_QUERY_WAITS) connection->waiting++;
         if (queried.status == YIMAROTU_OK && queried.answered == YIMAROTU_REPLIED
             && !reply_on(connection, room, queried.length))
@@ -180,13 +181,23 @@ static bool is_of(const struct connection *connection, const union address *clie
     return length == octets_of_address(client, &other) && memcmp(one, other, length < octets ? length : octets) == 0;
 }
 
-/* The connection, of this client or (NULL) of all, that has been idle for the longest time, or NULL. */
+/* Whether something came of it that is read at its turn. */
+static bool is_heard(const struct connection *connection) {
+    uint8_t octet;
+    return (connection->events & EPOLLIN) != 0 && recv(connection->fd, &octet, 1, MSG_PEEK) > 0;
+}
+
+/* The connection, of this client or (NULL) of all, that has been idle for the longest time, or NULL. One of which
+ * something came by now is not idle: it is read at its turn. */
 static struct connection *longest_idle(const union address *client, size_t octets) {
-    struct connection *found = NULL;
-    for (struct connection *at = connections; at < connections + OF_CLIENTS; at++)
-        if (at->number != 0 && at->waiting == 0 && (client == NULL || is_of(at, client, octets))
-            && (found == NULL || at->since < found->since))
-            found = at;
+    struct connection *found;
+    do {
+        found = NULL;
+        for (struct connection *at = connections; at < connections + OF_CLIENTS; at++)
+            if (at->number != 0 && at->waiting == 0 && at->since < moment && (client == NULL || is_of(at, client, octets))
+                && (found == NULL || at->since < found->since))
+                found = at;
+    } while (found != NULL && is_heard(found) && (found->since = moment));
     return found;
 }
 
