@@ -1,9 +1,11 @@
 """How it is run: settings and their faults, signals, yimarotu-control, the log, rights, many processes, activation."""
 import contextlib
 import fcntl
+import functools
 import os
 import pwd
 import re
+import resource
 import signal
 import socket
 import stat
@@ -19,6 +21,8 @@ from . import asking
 from .daemon import ROOT, SECONDS, wait_until
 
 OTHER_USER = "nobody"
+# How many octets a file has at the most.
+LONGEST_FILE = 4096
 
 
 def checked(cases, daemon):
@@ -256,6 +260,17 @@ def log_stays(cases, daemon):
         wait_until(lambda: "four.example.test. A NXDOMAIN" in log.read_text(), "the log before goes on")
 
 
+def long_log(cases, daemon):
+    """Lines that a log does not take, since files may be no longer, are lost and counted, and clients are answered."""
+    log = daemon.folder / f"log{time.monotonic_ns()}"
+    limit = functools.partial(resource.setrlimit, resource.RLIMIT_FSIZE, (LONGEST_FILE, LONGEST_FILE))
+    with stub.running() as server, daemon.over(server, f"log {log}", preexec_fn=limit) as running:
+        for _ in range(LONGEST_FILE // 20):
+            found = asking.addresses(asking.by_udp(running.port, "four.example.test"))
+        cases.equal("a client, where the log is full", found, ["192.0.2.4"])
+        wait_until(lambda: running.counts()["log_lines_lost"] > 0, "lines of the log are lost")
+
+
 def status_of(pid):
     return dict(line.split(":\t", 1) for line in Path(f"/proc/{pid}/status").read_text().splitlines() if ":\t" in line)
 
@@ -397,6 +412,11 @@ def one_control(cases, daemon):
         cases.equal("it stays", file.read_text(), "# no socket\n")
         status, _, error = daemon.end_of("--config", daemon.write(*lines, "control /proc/nowhere/control"))
         cases.tell("no folder for it", status == 3 and "No such file" in error, (status, error))
+        os.unlink(path)
+        other = socket.socket(socket.AF_UNIX)
+        other.bind(str(path))
+    cases.tell("one that took its place stays", path.is_socket(), path)
+    other.close()
 
 
 def notified(cases, daemon):
@@ -460,6 +480,16 @@ def activated_control(cases, daemon):
         cases.tell("it for many processes", done.returncode == 5 and "control socket" in done.stderr, done)
 
 
+def activated_deaf(cases, daemon):
+    """A stream socket of systemd's that does not listen is none for it."""
+    with socket.socket() as given:
+        given.bind(("127.0.0.1", 0))
+        before, how = passed_on(given)
+        words = [*before, daemon.program, "--config", daemon.write("server 192.0.2.53", "hosts none", "control none")]
+        done = subprocess.run(words, capture_output=True, text=True, timeout=SECONDS, **how)
+        cases.tell("a socket of systemd's that does not listen", done.returncode == 3 and "no socket" in done.stderr, done)
+
+
 ALL = (checked, in_use, reloaded, hosts, controlled, dumped_whole, dumped_escaped, sender_gone, counted, logged,
-       log_stays, unprivileged, unfit, many_processes, deaths_ignored, reloaded_by_command, many_logs, one_control,
-       notified, activated, activated_control)
+       log_stays, long_log, unprivileged, unfit, many_processes, deaths_ignored, reloaded_by_command, many_logs, one_control,
+       notified, activated, activated_control, activated_deaf)

@@ -39,9 +39,11 @@ static void add(struct listeners *listeners, int fd, bool is_stream, bool is_con
 
 static bool take_socket(struct listeners *listeners, int fd) {
     union address at = {0};
-    int type = 0;
+    int type = 0, accepts = 0;
     socklen_t length = sizeof type, at_length = sizeof at;
     if (getsockopt(fd, SOL_SOCKET, SO_TYPE, &type, &length) != 0) return false;
+    if (getsockopt(fd, SOL_SOCKET, SO_ACCEPTCONN, &accepts, &length) != 0) return false;
+    if (type == SOCK_STREAM && !accepts) return false; /* it would be told of again and again */
     if (getsockname(fd, &at.any, &at_length) != 0 || listeners->count == 2 * LISTENS) return false;
     bool is_unix = at.any.sa_family == AF_UNIX, is_stream = type == SOCK_STREAM;
     if (is_unix && !is_stream) return false;
@@ -121,9 +123,9 @@ static bool make_room(const struct sockaddr_un *at) {
     if (lstat(at->sun_path, &found) != 0) return errno == ENOENT;
     if (!S_ISSOCK(found.st_mode)) return errno = EEXIST, false;
     int fd = socket(AF_UNIX, SOCK_STREAM | SOCK_NONBLOCK | SOCK_CLOEXEC, 0);
-    bool is_used = fd >= 0 && (connect(fd, (const struct sockaddr *)at, sizeof *at) == 0 || errno == EAGAIN);
+    bool is_left = fd >= 0 && connect(fd, (const struct sockaddr *)at, sizeof *at) != 0 && errno == ECONNREFUSED;
     if (fd >= 0) close(fd);
-    return is_used ? errno = EADDRINUSE, false : unlink(at->sun_path) == 0;
+    return is_left ? unlink(at->sun_path) == 0 : (errno = EADDRINUSE, false);
 }
 
 /* A socket of its user alone. */

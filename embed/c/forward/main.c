@@ -14,6 +14,7 @@
 #include <sys/resource.h>
 #include <sys/signalfd.h>
 #include <sys/socket.h>
+#include <sys/stat.h>
 #include <sys/un.h>
 #include <sys/wait.h>
 #include <time.h>
@@ -288,7 +289,9 @@ static int supervise(void) {
 
 /* ---- the beginning */
 
-static bool has_control[PROCESSES]; /* the control sockets that were made here */
+/* The control sockets that were made here. */
+static bool has_control[PROCESSES];
+static struct stat controls[PROCESSES];
 
 /* Where no line names one it goes on without. */
 static bool listen_for_controls(uid_t user, gid_t group) {
@@ -297,8 +300,14 @@ static bool listen_for_controls(uid_t user, gid_t group) {
         control_path(&settings, at + 1, path);
         has_control[at] = listen_for_control(path, &all[at], user, group);
         if (!has_control[at] && settings.control.line > 0) return false;
+        if (has_control[at]) lstat(path, &controls[at]);
     }
     return true;
+}
+
+static bool is_same(const char *path, const struct stat *made) {
+    struct stat found;
+    return lstat(path, &found) == 0 && found.st_ino == made->st_ino && found.st_dev == made->st_dev;
 }
 
 /* Those of others stay: of another process of this program, or of systemd. */
@@ -306,7 +315,7 @@ static void remove_controls(void) {
     for (size_t at = 0; at < settings.processes; at++) {
         char path[PATH_MAX + 32];
         control_path(&settings, at + 1, path);
-        if (has_control[at]) unlink(path);
+        if (has_control[at] && is_same(path, &controls[at])) unlink(path);
     }
 }
 
@@ -351,6 +360,7 @@ static int begin(void) {
     moment = now();
     block_signals(&set);
     signal(SIGPIPE, SIG_IGN);
+    signal(SIGXFSZ, SIG_IGN); /* a log as long as files may be: its lines are lost, and counted */
     signal(SIGCHLD, SIG_DFL); /* where whoever began it ignored it, no death would be told */
     if (read_settings(settings_path, &settings, &files) > 0) return FAULTS;
     if (settings.processes > 1 && check(settings_path) > 0) return FAULTS;
